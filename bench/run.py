@@ -1,0 +1,56 @@
+#!/usr/bin/env python3
+"""Times the program's commands on stated inputs and prints a table. It is no test.
+
+usage: bench/run.py [PROGRAM]      PROGRAM is crates/biostack/out/biostack if left out
+
+A peak is never below this script's own size, about 18 MiB, since the program is started from it.
+"""
+import os
+import subprocess
+import sys
+import time
+
+TOP = os.path.dirname(os.path.dirname(os.path.abspath(__file__)))
+ROUNDS = 5
+
+# name, words, text
+CASES = [
+    ("smallest run", ["run"], "disk a 64\nwrite 0 a 0 1 0\n"),
+    ("largest disk, 32 sectors at its end", ["run"], "disk a 262144\nwrite 0 a 262112 32 7\n"),
+    ("refused at the end of 4 MiB", ["run"], "\n" * 4194305),
+]
+
+
+def once(program, words, text):
+    """Runs the program once: seconds, peak memory in MiB, its output."""
+    start = time.perf_counter()
+    child = subprocess.Popen([program, *words], stdin=subprocess.PIPE, stdout=subprocess.PIPE, stderr=subprocess.DEVNULL)
+    child.stdin.write(text.encode())
+    child.stdin.close()
+    output = child.stdout.read().decode()
+    _, _, usage = os.wait4(child.pid, 0)
+    child.returncode = 0
+    return time.perf_counter() - start, usage.ru_maxrss / 1024, output
+
+
+def steps_of(output):
+    for line in output.splitlines():
+        if line.startswith("steps "):
+            return int(line.split()[1])
+    return 0
+
+
+def main():
+    program = sys.argv[1] if len(sys.argv) > 1 else os.path.join(TOP, "crates", "biostack", "out", "biostack")
+    if not os.access(program, os.X_OK):
+        sys.exit("no program at " + program + ": run ./biostack once, which builds it")
+    print(f"{'input':38} {'seconds':>8} {'peak MiB':>9} {'steps/s':>9}")
+    for name, words, text in CASES:
+        runs = [once(program, words, text) for _ in range(ROUNDS)]
+        seconds = min(run[0] for run in runs)
+        peak = max(run[1] for run in runs)
+        print(f"{name:38} {seconds:8.4f} {peak:9.1f} {steps_of(runs[0][2]) / seconds:9.0f}")
+
+
+if __name__ == "__main__":
+    main()

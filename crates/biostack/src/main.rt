@@ -1,0 +1,31 @@
+//! The program `biostack`: its top call over the standard streams.
+#![tactic(auto)]
+
+use biostack_top::biostack;
+use outside_io::{StdSink, StdSource, put_parts};
+use std::alloc::AllocError;
+use std::env;
+use std::io::ErrorKind;
+use std::process::ExitCode;
+use std::rt::Env;
+
+/// The words after the program's name. A word that is no text makes the whole list a faulty one, for which no words stand here.
+fn words(rt: &(impl Env + AllocGlobal)) -> Result<Vec<String>, AllocError> {
+    match env::args(rt) {
+        Ok(words) => words.skip(1).collect(rt.alloc()),
+        Err(error) if error.kind() == ErrorKind::OutOfMemory => Err(AllocError),
+        Err(_) => Ok(Vec::new(rt.alloc())),
+    }
+}
+
+fn main(rt: HostRuntime) -> ExitCode {
+    let mut errors = StdSink::new(rt.stderr());
+    let Ok(words) = words(&rt) else {
+        let _ = put_parts(&mut errors, &[b"biostack: want of memory\n"]);
+        return ExitCode::from(6);
+    };
+    let mut source = StdSource::new(rt.stdin());
+    let mut out = StdSink::new(rt.stdout());
+    let exit = biostack(rt.alloc(), &words, &mut source, &mut out, &mut errors);
+    ExitCode::from(exit.0)
+}

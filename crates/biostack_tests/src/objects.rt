@@ -1,0 +1,114 @@
+//! Each public call of the lower crates once.
+use mempool_core::{Facts, Fresh, Pool, Script, Taken};
+use outside_io::{Failed, MemSource, Sink, Source, StdSink, StdSource, read_up_to};
+use stack_base::{DevId, PoolId};
+use std::test::Fail;
+
+#[test]
+fn pools_have_their_numbers(rt: HostRuntime) {
+    for (pool, number) in [
+        (PoolId::FsBios, 65),
+        (PoolId::FsVecs, 64),
+        (PoolId::Bios(DevId(0)), 0),
+        (PoolId::Records(DevId(0)), 1),
+        (PoolId::Bios(DevId(31)), 62),
+        (PoolId::Records(DevId(31)), 63),
+    ] {
+        assert_eq!(rt; pool.no(), number);
+    }
+}
+
+#[derive(Debug, PartialEq, Eq, Drop)]
+struct Body(u8);
+
+impl Fresh for Body {
+    ghost is_clear = { λ _. Unit {0} };
+
+    fn fresh() -> Self {
+        Body(0)
+    }
+}
+
+// The spares, and the elements that are out and live.
+fn numbers(pool: &Pool<Body>) -> (u64, u64, u64) {
+    let facts = pool.facts();
+    (facts.spares, facts.out, facts.live)
+}
+
+#[test]
+fn a_pool_whose_script_allows_it_takes_ordinary_memory(rt: HostRuntime) -> Result<(), Fail> {
+    let mut pool: Pool<Body> = Pool::open(rt.alloc(), 65, 2, Script::new(true))?;
+    assert_eq!(rt; numbers(&pool), (2, 0, 0));
+    let taken = pool.take();
+    assert_eq!(rt; numbers(&pool), (2, 1, 1));
+    let Taken::Ordinary(element) = taken else {
+        return Err(Fail::from("no ordinary element"));
+    };
+    assert_eq!(rt; element.no(), 65);
+    pool.give(element);
+    assert_eq!(rt; numbers(&pool), (2, 0, 0));
+    let closed = pool.close();
+    assert!(rt;
+        matches!(
+            closed,
+            Ok(Facts {
+                ordinary: 1,
+                spare: 0,
+                ..
+            })
+        )
+    );
+    Ok(())
+}
+
+#[test]
+fn a_pool_whose_script_refuses_lends_its_spares_and_then_misses(
+    rt: HostRuntime,
+) -> Result<(), Fail> {
+    let mut pool: Pool<Body> = Pool::open(rt.alloc(), 64, 1, Script::new(false))?;
+    let taken = pool.take();
+    assert_eq!(rt; numbers(&pool), (0, 1, 0));
+    let Taken::Spare(element) = taken else {
+        return Err(Fail::from("no spare"));
+    };
+    let missed = pool.take();
+    assert!(rt; matches!(missed, Taken::Miss { used: false }));
+    assert_eq!(rt; numbers(&pool), (0, 1, 0));
+    let Err(mut pool) = pool.close() else {
+        return Err(Fail::from("closed with an element out"));
+    };
+    pool.give(element);
+    assert_eq!(rt; numbers(&pool), (1, 0, 0));
+    assert!(rt; pool.close().is_ok());
+    Ok(())
+}
+
+#[test]
+fn reading_stops_at_the_limit(rt: HostRuntime) -> Result<(), Fail> {
+    let mut source = MemSource::new(Vec::from_slice(rt.alloc(), b"0123456789")?);
+    let text = read_up_to(rt.alloc(), &mut source, 4)?;
+    assert_eq!(rt; text.as_slice(), b"0123".as_slice());
+    let mut rest = [0; 16];
+    assert_eq!(rt; source.take(&mut rest), Ok(6));
+    Ok(())
+}
+
+#[test]
+fn readers_and_writers_of_std_are_sources_and_sinks(rt: HostRuntime) -> Result<(), Fail> {
+    let mut source = StdSource::new(b"abc".as_slice());
+    let mut piece = [0; 2];
+    assert_eq!(rt; source.take(&mut piece), Ok(2));
+    assert_eq!(rt; source.take(&mut piece), Ok(1));
+    assert_eq!(rt; source.take(&mut piece), Ok(0));
+    let mut sink = StdSink::new(Vec::new(rt.alloc()));
+    assert_eq!(rt; sink.put(b"abc"), Ok(3));
+    Ok(())
+}
+
+#[test]
+fn a_writer_that_takes_no_byte_is_a_fault(rt: HostRuntime) {
+    let mut room = [0; 2];
+    let mut sink = StdSink::new(room.as_mut_slice());
+    assert_eq!(rt; sink.put(b"abc"), Ok(2));
+    assert_eq!(rt; sink.put(b"c"), Err(Failed));
+}

@@ -1,0 +1,48 @@
+-- The lines of the runs, one after the other.
+use Rattle.std.proofs.Common.{◌≡◌, ℕ, Bool, List, [], ◌∷◌, ◌++◌, Option, refl, sym, ap, ◌∙◌, subst, codes}
+use Rattle.std.proofs.lemmas.List.Concat.{flat_map-cons}
+use Rattle.stack_base.specs.declared.Range.{Range}
+use Rattle.outside_io.specs.Saying.{Says}
+use Rattle.outside_io.proofs.SaysLemmas.{says_then, says_silence}
+use Rattle.mempool_core.specs.declared.Facts.{Facts}
+use Rattle.biostack_top.specs.Report.{starts_run, IsApart, run_line, run_lines, Ended, report, write_lines, disk_line, sum_of_words, written_runs, pool_line, steps_line}
+
+-- the first sector is not inside a run
+pub apart_at_start : (flags : List Bool) → IsApart flags 0
+unfolding starts_run
+apart_at_start flags set = rw set refl
+
+more_lines : (name : List ℕ) (run : Range) (all rest : List Range) → all ≡ run ∷ rest → run_line name run ++ run_lines name rest ≡ run_lines name all
+unfolding run_lines
+more_lines name run all rest is = sym (flat_map-cons (run_line name) run rest) ∙ ap (run_lines name) (sym is)
+
+no_lines : (name : List ℕ) (all : List Range) → all ≡ [] → [] ≡ run_lines name all
+unfolding run_lines
+no_lines name all is = rw is refl
+
+-- the line of the first run, and then those of the others
+pub lines_on : {a b c : Option (List ℕ)} {f g h : ℕ} {was mid is : Bool} (name : List ℕ) (run : Range) (all rest : List Range) → all ≡ run ∷ rest
+    → Says a f was b g mid (run_line name run) → Says b g mid c h is (run_lines name rest) → Says a f was c h is (run_lines name all)
+lines_on {a} {b} {c} {f} {g} {h} {was} {mid} {is} name run all rest first here others =
+    subst (Says a f was c h is) (more_lines name run all rest first) (says_then here others)
+
+-- no run has no line
+pub lines_end : (a : Option (List ℕ)) (f : ℕ) (was : Bool) (name : List ℕ) (all : List Range) → all ≡ [] → Says a f was a f was (run_lines name all)
+lines_end a f was name all none = subst (Says a f was a f was) (no_lines name all none) (says_silence a f was)
+
+-- the lines of what has ended, one after the other, are its report
+pub lines_are_report : {a b c d k l m : Option (List ℕ)} {fa fb fc fd fk fl fm : ℕ} {was pb pc pd pk pl is : Bool} (e : Ended)
+    (words : ℕ) (image : List (List ℕ)) (bios vecs : Facts) → words ≡ sum_of_words e.image → image ≡ e.image → bios ≡ e.bios → vecs ≡ e.vecs
+    → Says a fa was b fb pb (write_lines 0 e.statuses)
+    → Says b fb pb c fc pc (disk_line e.name words)
+    → Says c fc pc d fd pd (run_lines e.name (written_runs image))
+    → Says d fd pd k fk pk (pool_line (codes "fs.bios") bios)
+    → Says k fk pk l fl pl (pool_line (codes "fs.vecs") vecs)
+    → Says l fl pl m fm is (steps_line e.steps e.bound)
+    → Says a fa was m fm is (report e)
+lines_are_report {a} {b} {c} {d} {k} {l} {m} {fa} {fb} {fc} {fd} {fk} {fl} {fm} {was} {pb} {pc} {pd} {pk} {pl} {is} e words image bios vecs same_words same_image same_bios same_vecs writes disk runs first second steps =
+    says_then writes
+    (says_then (subst (λ n. Says b fb pb c fc pc (disk_line e.name n)) same_words disk)
+    (says_then (subst (λ i. Says c fc pc d fd pd (run_lines e.name (written_runs i))) same_image runs)
+    (says_then (subst (λ f. Says d fd pd k fk pk (pool_line (codes "fs.bios") f)) same_bios first)
+    (says_then (subst (λ f. Says k fk pk l fl pl (pool_line (codes "fs.vecs") f)) same_vecs second) steps))))

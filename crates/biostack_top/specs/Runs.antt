@@ -1,0 +1,55 @@
+-- What holds of every run of the machine, whatever comes next in it.
+use Rattle.std.specs.Prelude.{◌≡◌, ◌+◌, ◌*◌, ◌<◌, ◌≤◌, Bool, true, false, List, ℕ, length, count_by, IfSome}
+use Rattle.stack_base.specs.declared.Status.TheVariants as status
+use Rattle.mempool_core.specs.Facts.{AddsUp}
+use Rattle.biostack_top.specs.Scenario.{Scenario, laid}
+use Rattle.biostack_top.specs.declared.path.Got.TheVariants.{Ordinary}
+use Rattle.biostack_top.specs.Machine.{State, Event, Take, Complete, Done, Step, RunsTo, HasEnded, start}
+
+-- 8 steps an element, 2 a fragment and 1 a script entry: this path has one bio, one fragment and no entry
+abbrev pub elements : ℕ
+elements = 1
+
+abbrev pub fragments : ℕ
+fragments = 1
+
+abbrev pub entries : ℕ
+entries = 0
+
+abbrev pub bound : ℕ
+bound = 8 * elements + 2 * fragments + entries
+
+-- a step that uses no ordinary memory
+abbrev pub IsFree : Event → Type 0
+IsFree (Take Ordinary) = ⊥
+IsFree _ = Unit {0}
+
+abbrev pub is_complete : Event → Bool
+is_complete (Complete index) = true
+is_complete _ = false
+
+abbrev pub is_done : Event → Bool
+is_done Done = true
+is_done _ = false
+
+-- what holds of a run that these events made, and of the state that it has reached
+pub record Holds (s : Scenario) (events : List Event) (x : State) : Type 0 where
+  -- each pool adds up
+  pub bios : AddsUp x.bios.facts
+  pub vecs : AddsUp x.vecs.facts
+  -- the write is told done at most once, after exactly its one fragment, with the status that this gave
+  pub once : count_by is_done events + x.left ≡ 1
+  pub fragment : x.left ≡ 0 → count_by is_complete events ≡ 1
+  pub status : IfSome x.status (λ told. told ≡ status.Ok)
+  -- an ended run leaves exactly the laid-out image, and one take got an element
+  pub image : x.left ≡ 0 → x.image ≡ laid s
+  pub taken : x.left ≡ 0 → x.bios.facts.ordinary + x.bios.facts.spare ≡ 1
+  -- while the write is unfinished, a step that needs no ordinary memory can be made
+  pub free : 0 < x.left → (e : Event) × IsFree e × ((y : State) × Step x e y)
+  -- a run that no step can lengthen has ended, and none is longer than the bound
+  pub ended : x.left ≡ 0 → HasEnded x
+  pub bounded : length events ≤ bound
+
+-- whatever events come, in whatever order, and whatever ordinary attempts succeed
+abbrev pub EveryRunHolds : Scenario → Type 0
+EveryRunHolds s = (events : List Event) (x : State) → RunsTo (start s) events x → Holds s events x

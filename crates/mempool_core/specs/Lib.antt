@@ -1,0 +1,5 @@
+pub mod Script
+pub mod Facts
+pub mod Move
+pub mod Taken
+pub mod Pool

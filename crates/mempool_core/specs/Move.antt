@@ -1,0 +1,94 @@
+-- What a pool can do, and how each move changes it. No body is named here, so a larger machine can cite it.
+use Rattle.std.specs.Prelude.{◌≡◌, ℕ, ◌+◌, ◌-◌, ◌^◌, ◌<◌, ◌⊎◌, Bool, IsTrue, nat_lt, if◌then◌else◌}
+use Rattle.mempool_core.specs.declared.Script.{Script}
+use Rattle.mempool_core.specs.declared.Facts.{Facts}
+use Rattle.mempool_core.specs.Script.{allows_at, uses_entry, next_pos}
+use Rattle.mempool_core.specs.Facts.{counted}
+
+-- what is seen of a pool
+pub record PoolState : Type 0 where
+  pub number : ℕ
+  pub script : Script
+  pub facts : Facts
+
+pub data Move : Type 0 where
+  -- a take has an element of ordinary memory
+  takes_ordinary : Move
+  -- a take has a spare
+  takes_spare : Move
+  -- a take has neither; whether it used up an entry of the script
+  misses : (used : Bool) → Move
+  -- an element is given back
+  gives : Move
+
+-- a pool as it is opened
+abbrev pub opened : ℕ → ℕ → Script → PoolState
+opened number min script = record {
+  number = number;
+  script = script;
+  facts = record { min = min; spares = min; out = 0; live = 0; pos = 0; ordinary = 0; spare = 0 };
+}
+
+-- after a take that had ordinary memory
+abbrev pub took_ordinary : PoolState → PoolState
+took_ordinary pool = record pool {
+  facts = record pool.facts {
+    out = pool.facts.out + 1;
+    live = pool.facts.live + 1;
+    pos = next_pos pool.script pool.facts.pos;
+    ordinary = counted pool.facts.ordinary;
+  };
+}
+
+-- after a take that had a spare
+abbrev pub took_spare : PoolState → PoolState
+took_spare pool = record pool {
+  facts = record pool.facts {
+    spares = pool.facts.spares - 1;
+    out = pool.facts.out + 1;
+    pos = next_pos pool.script pool.facts.pos;
+    spare = counted pool.facts.spare;
+  };
+}
+
+-- after a take that missed
+abbrev pub missed : PoolState → PoolState
+missed pool = record pool { facts = record pool.facts { pos = next_pos pool.script pool.facts.pos } }
+
+-- whether an element that is given back becomes a spare
+abbrev pub keeps_spare : PoolState → Bool
+keeps_spare pool = nat_lt pool.facts.spares pool.facts.min
+
+-- after an element was given back: one more spare while there are fewer than min, and else one less live
+abbrev pub was_given : PoolState → PoolState
+was_given pool = record pool {
+  facts = record pool.facts {
+    spares = (if keeps_spare pool then pool.facts.spares + 1 else pool.facts.spares);
+    out = pool.facts.out - 1;
+    live = (if keeps_spare pool then pool.facts.live else pool.facts.live - 1);
+  };
+}
+
+-- after a move
+abbrev pub after_move : PoolState → Move → PoolState
+after_move pool takes_ordinary = took_ordinary pool
+after_move pool takes_spare = took_spare pool
+after_move pool (misses used) = missed pool
+after_move pool gives = was_given pool
+
+-- one more element can be out
+abbrev pub HasRoom : PoolState → Type 0
+HasRoom pool = pool.facts.out < 2 ^ 64 - 1
+
+-- when a move can come
+abbrev pub CanMove : PoolState → Move → Type 0
+CanMove pool takes_ordinary = IsTrue (allows_at pool.script pool.facts.pos) × HasRoom pool
+CanMove pool takes_spare = (0 < pool.facts.spares) × HasRoom pool
+CanMove pool (misses used) =
+    ((pool.facts.spares ≡ 0) ⊎ (pool.facts.out ≡ 2 ^ 64 - 1)) × (used ≡ uses_entry pool.script pool.facts.pos)
+CanMove pool gives = 0 < pool.facts.out
+
+-- a move leads from one state of a pool to another
+pub record Moves (old : PoolState) (move : Move) (new : PoolState) : Type 0 where
+  pub can : CanMove old move
+  pub after : new ≡ after_move old move

@@ -1,0 +1,2 @@
+pub mod PoolNumbers
+pub mod SectorLemmas

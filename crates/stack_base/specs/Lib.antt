@@ -1,0 +1,2 @@
+pub mod PoolId
+pub mod Words
