@@ -1,7 +1,7 @@
 //! The program `biostack`: its top call over the standard streams.
 #![tactic(auto)]
 
-use biostack_top::biostack;
+use biostack_top::{Ending, biostack};
 use outside_io::{StdSink, StdSource, put_parts};
 use std::alloc::AllocError;
 use std::env;
@@ -9,7 +9,7 @@ use std::io::ErrorKind;
 use std::process::ExitCode;
 use std::rt::Env;
 
-/// The words after the program's name. A word that is no text makes the whole list a faulty one, for which no words stand here.
+/// The words after the program's name. Where one of them is no UTF-8 it answers no words at all, which the top call refuses too.
 fn words(rt: &(impl Env + AllocGlobal)) -> Result<Vec<String>, AllocError> {
     match env::args(rt) {
         Ok(words) => words.skip(1).collect(rt.alloc()),
@@ -21,8 +21,8 @@ fn words(rt: &(impl Env + AllocGlobal)) -> Result<Vec<String>, AllocError> {
 fn main(rt: HostRuntime) -> ExitCode {
     let mut errors = StdSink::new(rt.stderr());
     let Ok(words) = words(&rt) else {
-        let _ = put_parts(&mut errors, &[b"biostack: want of memory\n"]);
-        return ExitCode::from(6);
+        let _ = put_parts(&mut errors, &[Ending::Memory.line()]);
+        return ExitCode::from(Ending::Memory.exit().0);
     };
     let mut source = StdSource::new(rt.stdin());
     let mut out = StdSink::new(rt.stdout());

@@ -43,10 +43,11 @@ fn source_fails_at(rt: &(impl Abort + AllocGlobal), call: u64) -> Result<u8, All
     let mut out = MemSink::new(rt.alloc(), ROOM)?;
     let mut errors = MemSink::new(rt.alloc(), ROOM)?;
     let exit = run(rt.alloc(), &mut source, &mut out, &mut errors)?;
-    if exit == 4 {
-        assert!(rt; out.held().is_empty(), "at call {call}");
-        assert_eq!(rt; errors.held(), READ_FAULT, "at call {call}");
-    }
+    let failed = exit == 4;
+    let report = if failed { "" } else { ONE_SECTOR_REPORT };
+    assert_eq!(rt; out.held(), report.as_bytes(), "at call {call}");
+    let line = if failed { READ_FAULT } else { b"" };
+    assert_eq!(rt; errors.held(), line, "at call {call}");
     Ok(exit)
 }
 
@@ -131,5 +132,17 @@ fn errors_that_fail_change_nothing_else(rt: HostRuntime) -> Result<(), Fail> {
     for call in 1..READ_FAULT.len() as u64 + 1 {
         assert_eq!(rt; errors_fail_at(&rt, call)?, 4, "at call {call}");
     }
+    Ok(())
+}
+
+#[test]
+fn output_and_errors_may_both_fail(rt: HostRuntime) -> Result<(), Fail> {
+    let mut source = one_sector(rt.alloc())?;
+    let mut out = failing_sink(rt.alloc(), 3)?;
+    let mut errors = failing_sink(rt.alloc(), 4)?;
+    let exit = run(rt.alloc(), &mut source, &mut out, &mut errors)?;
+    assert_eq!(rt; exit, 5);
+    assert_eq!(rt; out.held(), b"wr".as_slice());
+    assert_eq!(rt; errors.held(), b"bio".as_slice());
     Ok(())
 }

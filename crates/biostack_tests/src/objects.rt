@@ -1,7 +1,8 @@
-//! Each public call of the lower crates once.
+//! The calls of the lower crates that the program does not make, and each that allocates once.
 use mempool_core::{Facts, Fresh, Pool, Script, Taken};
 use outside_io::{Failed, MemSource, Sink, Source, StdSink, StdSource, read_up_to};
 use stack_base::{DevId, PoolId};
+use std::io::{self, ErrorKind, Read, Write};
 use std::test::Fail;
 
 #[test]
@@ -111,4 +112,54 @@ fn a_writer_that_takes_no_byte_is_a_fault(rt: HostRuntime) {
     let mut sink = StdSink::new(room.as_mut_slice());
     assert_eq!(rt; sink.put(b"abc"), Ok(2));
     assert_eq!(rt; sink.put(b"c"), Err(Failed));
+}
+
+// A reader and a writer that fail once and work from then on.
+#[derive(Drop)]
+struct FailsOnce {
+    kind: ErrorKind,
+    failed: bool,
+}
+
+impl Read for FailsOnce {
+    fn read(&mut self, _buf: &mut [u8]) -> io::Result<usize> {
+        if self.failed {
+            return Ok(0);
+        }
+        self.failed = true;
+        Err(io::Error::from(self.kind))
+    }
+}
+
+impl Write for FailsOnce {
+    fn write(&mut self, buf: &[u8]) -> io::Result<usize> {
+        if self.failed {
+            return Ok(buf.len());
+        }
+        self.failed = true;
+        Err(io::Error::from(self.kind))
+    }
+
+    fn flush(&mut self) -> io::Result<()> {
+        Ok(())
+    }
+}
+
+#[test]
+fn each_error_of_std_is_a_fault_and_is_not_tried_again(rt: HostRuntime) {
+    for kind in [ErrorKind::Interrupted, ErrorKind::Other] {
+        let mut piece = [0; 4];
+        let mut source = StdSource::new(FailsOnce {
+            kind,
+            failed: false,
+        });
+        assert_eq!(rt; source.take(&mut piece), Err(Failed));
+        assert_eq!(rt; source.take(&mut piece), Ok(0));
+        let mut sink = StdSink::new(FailsOnce {
+            kind,
+            failed: false,
+        });
+        assert_eq!(rt; sink.put(b"abc"), Err(Failed));
+        assert_eq!(rt; sink.put(b"abc"), Ok(3));
+    }
 }

@@ -6,3 +6,4 @@ pub mod RunLemmas
 pub mod WrittenLemmas
 pub mod ReportLemmas
 pub mod ServeLemmas
+pub mod EndingLemmas

@@ -1,5 +1,5 @@
 -- Every run of the machine goes through the same stages, whatever comes next in it and wherever the take had its element from.
-use Rattle.std.proofs.Common.{◌≡◌, ◌+◌, ◌<◌, ◌≤◌, ℕ, zero, suc, Bool, List, [], ◌∷◌, length, count_by, cond, Some, None, IfSome, refl, sym, ap, ◌∙◌, subst, arith, lit<, lit≤}
+use Rattle.std.proofs.Common.{◌≡◌, ◌+◌, ◌<◌, ◌≤◌, ℕ, zero, suc, Bool, List, [], ◌∷◌, length, count_by, cond, Some, None, ◌==◌, if◌then◌else◌, refl, sym, ap, ◌∙◌, subst, arith, lit<, lit≤}
 use Rattle.std.proofs.lemmas.List.Sums.{sum_by-cons}
 use Rattle.stack_base.specs.declared.Status.TheVariants as status
 use Rattle.mempool_core.specs.Move.{Moves, after_move, was_given, gives}
@@ -10,7 +10,10 @@ use Rattle.biostack_top.specs.declared.path.Got.TheVariants.{Ordinary, Spare}
 use Rattle.biostack_top.specs.declared.path.Writing.TheVariants.{Links, Pushes, Rests}
 use Rattle.biostack_top.specs.declared.path.Completing.TheVariants.{Waits, Drops, GivesBack, Tells}
 use Rattle.biostack_top.specs.Machine.{State, Event, Take, Link, Push, Complete, Drop, Give, Done, Step, RunsTo, HasEnded, start, bio_of, written, move_of}
-use Rattle.biostack_top.specs.Runs.{Holds, EveryRunHolds, IsFree, is_complete, is_done}
+use Rattle.biostack_top.specs.Report.{Ended, ended_as}
+use Rattle.biostack_top.specs.Ending.{IsTold, MayEndAs}
+use Rattle.std.specs.Option.{option_to_list}
+use Rattle.biostack_top.specs.Runs.{bound, Holds, EveryRunHolds, IsFree, is_complete, is_done}
 use Rattle.biostack_top.proofs.LaidLemmas.{written_is_laid}
 
 data Stage : Type 0 where
@@ -223,9 +226,14 @@ last : (s : Scenario) (got : Got) (P : Stage → Type 0) (stage : Stage) → P t
 last s got P told at_told none = at_told
 last s got P _ at_told none = absurd (omega arith)
 
-status_told : (s : Scenario) (got : Got) (stage : Stage) → IfSome (state_at s got stage).status (λ told. told ≡ status.Ok)
+status_told : (s : Scenario) (got : Got) (stage : Stage)
+    → (state_at s got stage).status ≡ (if (state_at s got stage).left == 0 then Some status.Ok else None)
 status_told s got told = refl
-status_told s got _ = tt
+status_told s got _ = refl
+
+vecs_stay : (s : Scenario) (got : Got) (stage : Stage) → (state_at s got stage).vecs ≡ (start s).vecs
+vecs_stay s got told = refl
+vecs_stay s got _ = refl
 
 taken_once : (s : Scenario) (got : Got) → (at_told s got).bios.facts.ordinary + (at_told s got).bios.facts.spare ≡ 1
 taken_once s Ordinary = refl
@@ -268,6 +276,7 @@ holds_at s within events got stage places complete_count done_count = record {
   status = status_told s got stage;
   image = λ none. last s got (λ at. (state_at s got at).image ≡ laid s) stage (written_is_laid s within) none;
   taken = λ none. last s got (λ at. (state_at s got at).bios.facts.ordinary + (state_at s got at).bios.facts.spare ≡ 1) stage (taken_once s got) none;
+  idle = vecs_stay s got stage;
   free = free_at s got stage;
   ended = λ none. last s got (λ at. HasEnded (state_at s got at)) stage (ended_at s got) none;
   bounded = omega (arith, few stage, places);
@@ -278,3 +287,18 @@ pub every_run_holds : (s : Scenario) → EndsWithin s → EveryRunHolds s
 every_run_holds s within events x run =
     let to = reach s Ordinary opened events x run in
     subst (Holds s events) (sym to.is) (holds_at s within events to.got to.at (omega (arith, to.places)) (to.completed_so_far) (to.done_so_far))
+
+-- what is told of a state that has ended
+told_at_end : (s : Scenario) → EndsWithin s → (events : List Event) (x : State) → RunsTo (start s) events x → x.left ≡ 0 → IsTold s (ended_as s x (length events) (bound s))
+told_at_end s within events x run none =
+    let holds = every_run_holds s within events x run in
+    record {
+      image = holds.image none;
+      statuses = ap option_to_list (rw none at holds.status);
+      bios = holds.taken none;
+      vecs = ap (λ pool. pool.facts.ordinary + pool.facts.spare) holds.idle;
+    }
+
+-- what may be told is so
+pub may_be_told : (s : Scenario) → EndsWithin s → (e : Ended) → MayEndAs s e → IsTold s e
+may_be_told s within e may = subst (IsTold s) (sym may.4) (told_at_end s within may.0 may.1 may.2 may.3.0)

@@ -4,6 +4,7 @@ use Rattle.std.specs.Bool.{MatchBool}
 use Rattle.std.specs.Str.{bytes_eq}
 use Rattle.std.proofs.lemmas.Slice.Eq.{bytes_eq-Decides}
 use Rattle.std.proofs.lemmas.Bool.{false≢true}
+use Rattle.std.specs.Io.KnownBytes.{Consumes}
 use Rattle.outside_io.specs.Reading.{IsRead}
 use Rattle.biostack_top.specs.declared.ending.Ending.{Ending}
 use Rattle.biostack_top.specs.declared.ending.Ending.TheVariants.{Done, Usage, NotBuilt, PastEnd, ReadFault, WriteFault, Memory}
@@ -22,11 +23,12 @@ only_word bytes (x ∷ []) word text b one is test = same_word (bytes x) text b 
 only_word bytes (x ∷ y ∷ more) word text b one is test = absurd (omega arith)
 
 -- a text that was read ends the call as it ends
-pub text_ends : (ending : Ending) (c : Call) (text : List ℕ) → Reads c → IsRead limit c.source.old text → TextEndsBy ending text c.out → EndsBy ending c
-text_ends Done c text asked was_read ends = (asked, (text, was_read, ends))
-text_ends WriteFault c text asked was_read ends = (asked, (text, was_read, ends))
-text_ends NotBuilt c text asked was_read ends = (asked, (text, was_read, ends))
-text_ends PastEnd c text asked was_read ends = (asked, (text, was_read, ends))
-text_ends Memory c text asked was_read ends = (asked, ends)
-text_ends Usage c text asked was_read ends = absurd ends
-text_ends ReadFault c text asked was_read ends = absurd ends
+pub text_ends : (ending : Ending) (c : Call) (text : List ℕ) → Reads c → IsRead limit c.source.old text
+    → Consumes c.source.old c.source.new text → c.source.now ≡ c.source.before → TextEndsBy ending text c.out → EndsBy ending c
+text_ends Done c text asked was_read taken quiet ends = (asked, (text, was_read, taken, quiet, ends))
+text_ends WriteFault c text asked was_read taken quiet ends = (asked, (text, was_read, taken, quiet, ends))
+text_ends NotBuilt c text asked was_read taken quiet ends = (asked, (text, was_read, taken, quiet, ends))
+text_ends PastEnd c text asked was_read taken quiet ends = (asked, (text, was_read, taken, quiet, ends))
+text_ends Memory c text asked was_read taken quiet ends = (asked, quiet, ends)
+text_ends Usage c text asked was_read taken quiet ends = absurd ends
+text_ends ReadFault c text asked was_read taken quiet ends = absurd ends

@@ -1,10 +1,11 @@
 -- How a call of the program may end, and what stands then.
-use Rattle.std.specs.Prelude.{◌≡◌, ◌+◌, ◌<◌, List, [], ◌∷◌, ℕ, length, codes, Option, None, Some}
-use Rattle.std.specs.Io.KnownBytes.{Appends, Keeps}
+use Rattle.std.specs.Prelude.{◌≡◌, ◌+◌, ◌<◌, ◌⊎◌, List, [], ◌∷◌, ℕ, length, codes, Option, None, Some}
+use Rattle.std.specs.Io.KnownBytes.{Appends, Consumes, Keeps}
+use Rattle.stack_base.specs.declared.Status.TheVariants.{Ok as no_error}
 use Rattle.outside_io.specs.Causes.{Rose}
 use Rattle.outside_io.specs.Reading.{IsRead, TakesWithin}
 use Rattle.outside_io.specs.Saying.{AppendsFront}
-use Rattle.biostack_top.specs.Scenario.{Scenario, EndsWithin}
+use Rattle.biostack_top.specs.Scenario.{Scenario, EndsWithin, laid}
 use Rattle.biostack_top.specs.Form.{scenario_of}
 use Rattle.biostack_top.specs.Machine.{State, Event, RunsTo, HasEnded, start}
 use Rattle.biostack_top.specs.Runs.{EveryRunHolds, bound}
@@ -59,33 +60,47 @@ Accepts text s = (scenario_of text ≡ Some s) × EndsWithin s
 -- an ended run of the machine leads from the scenario's start to what is told
 abbrev pub MayEndAs : Scenario → Ended → Type 0
 MayEndAs s e = (events : List Event) × (x : State)
-    × RunsTo (start s) events x × HasEnded x × (e ≡ ended_as s x (length events) bound)
+    × RunsTo (start s) events x × HasEnded x × (e ≡ ended_as s x (length events) (bound s))
 
--- a text that was read ends the call so only where this holds
+-- what is told of an ended run of the scenario: the laid-out image, a write that is ok, and one element that was had
+pub record IsTold (s : Scenario) (e : Ended) : Type 0 where
+  pub image : e.image ≡ laid s
+  pub statuses : e.statuses ≡ no_error ∷ []
+  pub bios : e.bios.ordinary + e.bios.spare ≡ 1
+  pub vecs : e.vecs.ordinary + e.vecs.spare ≡ 0
+
+-- a scenario that the text says was run to its end, and this is told of it
+abbrev pub HasEndedAs : List ℕ → Ended → Type 0
+HasEndedAs text e = (s : Scenario) × Accepts text s × EveryRunHolds s × MayEndAs s e × IsTold s e
+
+-- a text that was read ends the call so only where this holds of the output
 abbrev pub TextEndsBy : Ending → List ℕ → Stream → Type 0
 TextEndsBy NotBuilt text out = (scenario_of text ≡ None) × Keeps out.old out.new
 TextEndsBy PastEnd text out = ((s : Scenario) × (scenario_of text ≡ Some s) × (s.sectors < s.start + s.count)) × Keeps out.old out.new
 TextEndsBy Memory text out = Keeps out.old out.new
-TextEndsBy WriteFault text out = Rose out.before out.now
-    × ((s : Scenario) × Accepts text s × EveryRunHolds s × ((e : Ended) × MayEndAs s e × AppendsFront out.old out.new (report e)))
-TextEndsBy Done text out =
-    (s : Scenario) × Accepts text s × EveryRunHolds s × ((e : Ended) × MayEndAs s e × Appends out.old out.new (report e))
+TextEndsBy WriteFault text out = Rose out.before out.now × ((e : Ended) × HasEndedAs text e × AppendsFront out.old out.new (report e))
+TextEndsBy Done text out = (out.now ≡ out.before) × ((e : Ended) × HasEndedAs text e × Appends out.old out.new (report e))
 TextEndsBy _ text out = ⊥
 
 -- the words ask for a run, and no byte past the limit was taken
 abbrev pub Reads : Call → Type 0
 Reads c = IsRun c.words × TakesWithin limit c.source.old c.source.new
 
--- a text was read, and it ends the call so
+-- a text was read without a fault, to its end or to the limit, and it ends the call so
 abbrev pub OfText : Ending → Call → Type 0
-OfText ending c = (text : List ℕ) × IsRead limit c.source.old text × TextEndsBy ending text c.out
+OfText ending c = (text : List ℕ)
+    × IsRead limit c.source.old text × Consumes c.source.old c.source.new text × (c.source.now ≡ c.source.before) × TextEndsBy ending text c.out
 
 -- the call ends so only where this holds
 abbrev pub EndsBy : Ending → Call → Type 0
-EndsBy Usage c = (¬ (IsRun c.words)) × Keeps c.source.old c.source.new × Keeps c.out.old c.out.new
+EndsBy Usage c = (¬ (IsRun c.words)) × Keeps c.source.old c.source.new × (c.source.now ≡ c.source.before) × Keeps c.out.old c.out.new
 EndsBy ReadFault c = Reads c × Rose c.source.before c.source.now × Keeps c.out.old c.out.new
-EndsBy Memory c = Reads c × Keeps c.out.old c.out.new
+EndsBy Memory c = Reads c × (c.source.now ≡ c.source.before) × Keeps c.out.old c.out.new
 EndsBy NotBuilt c = Reads c × OfText NotBuilt c
 EndsBy PastEnd c = Reads c × OfText PastEnd c
 EndsBy WriteFault c = Reads c × OfText WriteFault c
 EndsBy Done c = Reads c × OfText Done c
+
+-- the text that was read has another form, or its write ends past its disk
+abbrev pub IsRefused : List ℕ → Type 0
+IsRefused text = (scenario_of text ≡ None) ⊎ ((s : Scenario) × (scenario_of text ≡ Some s) × (s.sectors < s.start + s.count))

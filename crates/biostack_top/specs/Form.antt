@@ -63,8 +63,8 @@ disk_of _ = None
 unfoldable pub write_of : List (List ℕ) → Option WriteLine
 write_of (word ∷ task ∷ name ∷ start ∷ count ∷ tag ∷ []) =
     if bytes_eq word (codes "write") && bytes_eq task (codes "0")
-    then option_and_then (λ from. option_and_then (λ sectors. option_and_then (λ first.
-    Some (record { name = name; start = from; count = sectors; tag = first }))
+    then option_and_then (λ at. option_and_then (λ sectors. option_and_then (λ first_word.
+    Some (record { name = name; start = at; count = sectors; tag = first_word }))
     (number_of tag)) (number_up_to 32 count)) (number_of start)
     else None
 write_of _ = None

@@ -5,6 +5,8 @@ use Rattle.std.specs.Prelude.{◌≡◌, ◌+◌, ◌*◌, ◌-◌, ◌<◌, tru
 use Rattle.std.specs.List.{range_with_len}
 use Rattle.stack_base.specs.declared.Status.{Status}
 use Rattle.stack_base.specs.declared.Status.TheVariants as status
+use Rattle.stack_base.specs.declared.PoolId.TheVariants.{FsBios, FsVecs}
+use Rattle.stack_base.specs.PoolId.{pool_number}
 use Rattle.stack_base.specs.Words.{sector_from, zero_sector}
 use Rattle.mempool_core.specs.Script.{only_tail}
 use Rattle.mempool_core.specs.Move.{PoolState, Move, takes_ordinary, takes_spare, gives, Moves, opened}
@@ -49,11 +51,15 @@ pub data Event : Type 0 where
 abbrev pub bio_of : Scenario → Bio
 bio_of s = record { start = s.start; count = s.count; word = s.tag }
 
+-- how many elements each pool keeps
+abbrev pub reserve : ℕ
+reserve = 2
+
 -- the pools open full, the disk is zeros, and the one write is unfinished
 abbrev pub start : Scenario → State
 start s = record {
-  bios = opened 65 2 (only_tail true);
-  vecs = opened 64 2 (only_tail true);
+  bios = opened (pool_number FsBios) reserve (only_tail true);
+  vecs = opened (pool_number FsVecs) reserve (only_tail true);
   write = bio_of s;
   writer = Takes;
   completer = Waits;

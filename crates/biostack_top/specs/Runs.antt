@@ -1,23 +1,24 @@
 -- What holds of every run of the machine, whatever comes next in it.
-use Rattle.std.specs.Prelude.{◌≡◌, ◌+◌, ◌*◌, ◌<◌, ◌≤◌, Bool, true, false, List, ℕ, length, count_by, IfSome}
+use Rattle.std.specs.Prelude.{◌≡◌, ◌+◌, ◌*◌, ◌<◌, ◌≤◌, Bool, true, false, List, ℕ, length, count_by, Some, None, ◌==◌, if◌then◌else◌}
 use Rattle.stack_base.specs.declared.Status.TheVariants as status
 use Rattle.mempool_core.specs.Facts.{AddsUp}
 use Rattle.biostack_top.specs.Scenario.{Scenario, laid}
 use Rattle.biostack_top.specs.declared.path.Got.TheVariants.{Ordinary}
 use Rattle.biostack_top.specs.Machine.{State, Event, Take, Complete, Done, Step, RunsTo, HasEnded, start}
 
--- 8 steps an element, 2 a fragment and 1 a script entry: this path has one bio, one fragment and no entry
-abbrev pub elements : ℕ
-elements = 1
+-- what a scenario needs: its one write has one bio and one fragment, and no pool's script has an entry
+abbrev pub elements : Scenario → ℕ
+elements s = 1
 
-abbrev pub fragments : ℕ
-fragments = 1
+abbrev pub fragments : Scenario → ℕ
+fragments s = 1
 
-abbrev pub entries : ℕ
-entries = 0
+abbrev pub entries : Scenario → ℕ
+entries s = 0
 
-abbrev pub bound : ℕ
-bound = 8 * elements + 2 * fragments + entries
+-- 8 steps an element, 2 a fragment and 1 a script entry
+abbrev pub bound : Scenario → ℕ
+bound s = 8 * elements s + 2 * fragments s + entries s
 
 -- a step that uses no ordinary memory
 abbrev pub IsFree : Event → Type 0
@@ -40,15 +41,17 @@ pub record Holds (s : Scenario) (events : List Event) (x : State) : Type 0 where
   -- the write is told done at most once, after exactly its one fragment, with the status that this gave
   pub once : count_by is_done events + x.left ≡ 1
   pub fragment : x.left ≡ 0 → count_by is_complete events ≡ 1
-  pub status : IfSome x.status (λ told. told ≡ status.Ok)
+  pub status : x.status ≡ (if x.left == 0 then Some status.Ok else None)
   -- an ended run leaves exactly the laid-out image, and one take got an element
   pub image : x.left ≡ 0 → x.image ≡ laid s
   pub taken : x.left ≡ 0 → x.bios.facts.ordinary + x.bios.facts.spare ≡ 1
+  pub idle : x.vecs ≡ (start s).vecs
   -- while the write is unfinished, a step that needs no ordinary memory can be made
   pub free : 0 < x.left → (e : Event) × IsFree e × ((y : State) × Step x e y)
-  -- a run that no step can lengthen has ended, and none is longer than the bound
+  -- where the write is finished every element is at home, so a run that no step can lengthen has ended
   pub ended : x.left ≡ 0 → HasEnded x
-  pub bounded : length events ≤ bound
+  -- no run is longer than the bound
+  pub bounded : length events ≤ bound s
 
 -- whatever events come, in whatever order, and whatever ordinary attempts succeed
 abbrev pub EveryRunHolds : Scenario → Type 0

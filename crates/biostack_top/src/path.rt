@@ -59,42 +59,64 @@ impl Fresh for Vector {
 /// Where a take had its element from.
 #[derive(Clone, Copy, Debug, PartialEq, Eq)]
 pub enum Got {
+    /// Ordinary memory.
     Ordinary,
+    /// The pool's spares.
     Spare,
 }
 
 /// What the writer does next.
 #[derive(Clone, Copy, Debug, PartialEq, Eq)]
 pub enum Writing {
+    /// It takes a bio.
     Takes,
+    /// It opens the write's node.
     Links,
+    /// It pushes the bio to the disk.
     Pushes,
+    /// It has nothing more to do.
     Rests,
 }
 
 /// What the disk's completer does next.
 #[derive(Clone, Copy, Debug, PartialEq, Eq)]
 pub enum Completing {
+    /// It waits for a pending bio.
     Waits,
+    /// It drops the bio's part of the node.
     Drops,
+    /// It gives the bio back.
     GivesBack,
+    /// It tells the write done.
     Tells,
 }
 
 /// All that the events work on.
 #[derive(Drop)]
 pub struct Objects {
+    /// The pool `fs.bios`.
     pub bios: Pool<Bio>,
+    /// The pool `fs.vecs`.
     pub vecs: Pool<Vector>,
+    /// The write's run and its first word.
     pub write: Bio,
+    /// What the writer does next.
     pub writer: Writing,
+    /// What the completer does next.
     pub completer: Completing,
+    /// The status that the completer carries.
     pub carried: Status,
+    /// The write's open node, by the status that it keeps.
     pub node: Option<Status>,
+    /// The bio that waits in the disk.
     pub pending: Option<Element<Bio>>,
+    /// The disk's sectors.
     pub image: Vec<Sector>,
+    /// How many writes are unfinished.
     pub left: u32,
+    /// The status of the write that was told done.
     pub status: Option<Status>,
+    /// How many events there were.
     pub steps: u64,
 }
 
@@ -147,6 +169,10 @@ fn write_bio(image: &mut [Sector], bio: Bio)
 
 impl Objects {
     /// Opens the pools and the disk, with the write still to do.
+    ///
+    /// # Errors
+    ///
+    /// Where there is no memory for a reserve or for the image.
     fn open(alloc: Global, scenario: &Scenario<'_>) -> Result<Objects, AllocError>
         ensures start { IfOk result (λ objects. state_of objects ≡ start (scenario_view scenario.now)) }
         ensures fresh { IfOk result (λ objects. objects.steps ≡ 0) }
@@ -177,7 +203,7 @@ impl Objects {
         requires turn { self.old.writer ≡ Writing.Takes }
         requires spare { 0 < self.old.bios.facts.spares }
         requires room { self.old.bios.facts.out < 2 ^ 64 - 1 }
-        requires few { self.old.steps < 10 }
+        requires countable { self.old.steps < 2 ^ 64 - 1 }
         ensures step { Step (state_of self.old) (Take result.0) (state_of self.new) }
         ensures element { result.1.pool ≡ self.old.bios.number }
         ensures pending { self.new.pending ≡ self.old.pending }
@@ -196,7 +222,7 @@ impl Objects {
     fn link(&mut self)
         requires turn { self.old.writer ≡ Writing.Links }
         requires closed { self.old.node ≡ None }
-        requires few { self.old.steps < 10 }
+        requires countable { self.old.steps < 2 ^ 64 - 1 }
         ensures step { Step (state_of self.old) Link (state_of self.new) }
         ensures pending { self.new.pending ≡ self.old.pending }
         ensures counted { self.new.steps ≡ self.old.steps + 1 }
@@ -210,7 +236,7 @@ impl Objects {
     fn push(&mut self, mut element: Element<Bio>)
         requires turn { self.old.writer ≡ Writing.Pushes }
         requires empty { self.old.pending ≡ None }
-        requires few { self.old.steps < 10 }
+        requires countable { self.old.steps < 2 ^ 64 - 1 }
         ensures step { Step (state_of self.old) Push (state_of self.new) }
         ensures pending { IsSomeAnd self.new.pending (λ pushed. (pushed.pool ≡ element.pool) × (pushed.body.value ≡ self.old.write)) }
         ensures counted { self.new.steps ≡ self.old.steps + 1 }
@@ -225,7 +251,7 @@ impl Objects {
     fn complete(&mut self) -> Element<Bio>
         requires turn { self.old.completer ≡ Completing.Waits }
         requires waits { IsSomeAnd self.old.pending (λ e. e.body.value.start + e.body.value.count ≤ vec_len self.old.image) }
-        requires few { self.old.steps < 10 }
+        requires countable { self.old.steps < 2 ^ 64 - 1 }
         ensures step { Step (state_of self.old) (Complete 0) (state_of self.new) }
         ensures element { self.old.pending ≡ Some result }
         ensures counted { self.new.steps ≡ self.old.steps + 1 }
@@ -238,11 +264,12 @@ impl Objects {
         element
     }
 
-    /// The completer drops the bio's part of the node. It was the last one, so the node closes and tells the status that it kept.
+    /// The completer drops the bio's part of the node, which brings the status `ok`, as the node has kept. It was the last part, so the
+    /// node closes with that status.
     fn drop_one(&mut self)
         requires turn { self.old.completer ≡ Completing.Drops }
         requires open { self.old.node ≡ Some status.Ok }
-        requires few { self.old.steps < 10 }
+        requires countable { self.old.steps < 2 ^ 64 - 1 }
         ensures step { Step (state_of self.old) Dropped (state_of self.new) }
         ensures counted { self.new.steps ≡ self.old.steps + 1 }
     {
@@ -256,7 +283,7 @@ impl Objects {
         requires turn { self.old.completer ≡ Completing.GivesBack }
         requires pool { element.pool ≡ self.old.bios.number }
         requires out { 0 < self.old.bios.facts.out }
-        requires few { self.old.steps < 10 }
+        requires countable { self.old.steps < 2 ^ 64 - 1 }
         ensures step { Step (state_of self.old) Give (state_of self.new) }
         ensures counted { self.new.steps ≡ self.old.steps + 1 }
     {
@@ -269,7 +296,7 @@ impl Objects {
     fn done(&mut self)
         requires turn { self.old.completer ≡ Completing.Tells }
         requires left { 0 < self.old.left }
-        requires few { self.old.steps < 10 }
+        requires countable { self.old.steps < 2 ^ 64 - 1 }
         ensures step { Step (state_of self.old) Done (state_of self.new) }
         ensures counted { self.new.steps ≡ self.old.steps + 1 }
     {
@@ -281,6 +308,10 @@ impl Objects {
 }
 
 /// Opens a scenario's objects and carries out its seven events, one after the other.
+///
+/// # Errors
+///
+/// Where there is no memory for the opening. From then on none is needed.
 pub fn run_scenario(alloc: Global, scenario: &Scenario<'_>) -> Result<Objects, AllocError>
     requires { EndsWithin (scenario_view scenario.now) }
     ensures { IfOk result (HasRun (scenario_view scenario.now)) }

@@ -193,7 +193,7 @@ fn steps_line<K: Sink>(pen: &mut Pen, out: &mut K, steps: u64, bound: u64)
 /// Writes the whole report, or a front of it where the sink fails.
 pub fn write_report<K: Sink>(pen: &mut Pen, out: &mut K, scenario: &Scenario<'_>, objects: &Objects)
     ensures { Says (K.held out.old) (K.faults out.old) pen.old.failed (K.held out.new) (K.faults out.new) pen.new.failed
-        (report (ended_as (scenario_view scenario.now) (state_of objects.now) objects.now.steps bound)) }
+        (report (ended_as (scenario_view scenario.now) (state_of objects.now) objects.now.steps (bound (scenario_view scenario.now)))) }
 {
     write_lines(pen, out, objects.status);
     disk_line(pen, out, scenario.name, sum_of_words(&objects.image));

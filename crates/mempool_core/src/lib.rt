@@ -1,7 +1,7 @@
 //! Memory pools as Linux 6.1 has them (`mm/mempool.c`): a pool is made with `min` elements, and keeps up to as many as
 //! spares, so that a taker who is refused ordinary memory can still be served once an element has come back.
 //!
-//! `Pool::open` is `mempool_create`, `Pool::give` is `mempool_free`, and `Pool::close` is `mempool_destroy`. `Pool::take`
+//! `Pool::open` is `mempool_create`, `Pool::give` is `mempool_free`, and `Pool::close` stands for `mempool_destroy`. `Pool::take`
 //! is `mempool_alloc` for a taker who may not wait: it tries once, and what follows a miss is the taker's affair.
 //! A `Script` says which takes may have ordinary memory at all, so that a run can ask for a shortage of it.
 #![tactic(auto)]
@@ -99,8 +99,11 @@ impl<P> Element<P> {
 /// `used` says whether the take that missed used up an entry of the script.
 #[derive(Drop)]
 pub enum Taken<P> {
+    /// An element in ordinary memory.
     Ordinary(Element<P>),
+    /// A spare.
     Spare(Element<P>),
+    /// Neither.
     Miss { used: bool },
 }
 
@@ -160,7 +163,9 @@ impl<P: Fresh + Drop> Model for Pool<P> {
 impl<P: Fresh + Drop> Pool<P> {
     /// Makes pool `number` with `min` elements (`mempool_create`).
     ///
-    /// The error says that they could not all be had. Those that were had are then gone again.
+    /// # Errors
+    ///
+    /// Where they cannot all be had. Those that were had are given up again.
     pub fn open(alloc: Global, number: u32, min: u32, script: Script) -> Result<Pool<P>, AllocError>
         requires { 1 ≤ min }
         ensures { IfOk result (λ pool. pool ≡ opened number min script) }
@@ -249,7 +254,7 @@ impl<P: Fresh + Drop> Pool<P> {
         self.facts
     }
 
-    /// Ends the pool and tells its numbers (`mempool_destroy`). A pool with an element out is handed back as it was.
+    /// Ends the pool and tells its numbers. A pool with an element out is handed back as it was, where `mempool_destroy` would not look.
     pub fn close(self) -> Result<Facts, Pool<P>>
         ensures ends { MatchResult result
             (λ facts. (self.facts.out ≡ 0) × (facts ≡ self.facts))

@@ -17,6 +17,7 @@ says_then {a} {b} {c} {f} {g} {h} {was} {mid} {is} {x} {y} first second = record
   stays = λ w. let kept = first.stays w in let last = second.stays kept.1 in (last.0 ∙ kept.0, last.1);
   whole = λ done. let last = second.whole done in let before = first.whole last.0 in (before.0, Appends-trans a b c x y before.1 last.1);
   front = λ w. front_of mid refl w;
+  quiet = λ done. let last = second.whole done in second.quiet done ∙ first.quiet last.0;
   cause = λ failed. cause_of (second.cause failed);
   later = omega (arith, first.later, second.later);
 } where
@@ -34,6 +35,7 @@ says_silence a f was = record {
   stays = λ w. (refl, w);
   whole = λ done. (done, Appends-nil a);
   front = λ w. (0, omega arith, Appends-nil a);
+  quiet = λ done. refl;
   cause = λ failed. inl failed;
   later = omega arith;
 }

@@ -1,5 +1,5 @@
 -- What a count of faults says of the calls behind it.
-use Rattle.std.specs.Prelude.{◌≡◌, ℕ, ◌+◌, ◌-◌, ◌^◌, ◌≤◌, min, Result, MatchResult, OnErr}
+use Rattle.std.specs.Prelude.{◌≡◌, ℕ, ◌+◌, ◌-◌, ◌^◌, ◌≤◌, min, Result, MatchResult, OnOk, OnErr}
 
 -- the count after one more: a count stays at the last number of a `u64`
 abbrev pub risen : ℕ → ℕ
@@ -9,10 +9,11 @@ risen count = min (count + 1) (2 ^ 64 - 1)
 abbrev pub Rose : ℕ → ℕ → Type 0
 Rose before now = risen before ≤ now
 
--- the count has not fallen, and an error came only where it rose
+-- the count has not fallen; it rose where there was an error, and stayed where there was none
 pub record HasCause {T E : Type 0} (before now : ℕ) (result : Result T E) : Type 0 where
   pub later : before ≤ now
   pub failed : OnErr result (Rose before now)
+  pub quiet : OnOk result (now ≡ before)
 
 -- the count rose by one at an error, and else it stayed
 abbrev pub Counts : {T E : Type 0} → ℕ → ℕ → Result T E → Type 0

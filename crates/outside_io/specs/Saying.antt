@@ -17,10 +17,11 @@ abbrev pub AppendsFront : Option (List ℕ) → Option (List ℕ) → List ℕ �
 AppendsFront old new text = (n : ℕ) × (n ≤ length text) × Appends old new (take n text)
 
 -- A pen that had failed or not said the text to a sink, and has failed by now or not. It says nothing
--- once it has failed, a front of the text up to its fault, and the whole text without one.
+-- once it has failed, a front of the text up to its fault, and the whole text without one. The count stays until a fault.
 pub record Says (old : Option (List ℕ)) (before : ℕ) (was : Bool) (new : Option (List ℕ)) (now : ℕ) (is : Bool) (text : List ℕ) : Type 0 where
   pub stays : was ≡ true → (new ≡ old) × (is ≡ true)
   pub whole : is ≡ false → (was ≡ false) × Appends old new text
   pub front : was ≡ false → AppendsFront old new text
+  pub quiet : is ≡ false → now ≡ before
   pub cause : is ≡ true → (was ≡ true) ⊎ Rose before now
   pub later : before ≤ now

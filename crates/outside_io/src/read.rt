@@ -3,7 +3,7 @@ ghost use Rattle.std.specs.Prelude.{◌≡◌, ◌≤◌, Err, IfOk, OnErr, vec_
 ghost use Rattle.std.specs.Io.KnownBytes.{Consumes};
 ghost use Rattle.outside_io.specs.declared.read.ReadError.TheVariants.{Memory, Source as SourceFailed};
 ghost use Rattle.outside_io.specs.Causes.{Rose};
-ghost use Rattle.outside_io.specs.Reading.{IsRead, TakesWithin};
+ghost use Rattle.outside_io.specs.Reading.{IsRead, TakesWithin, ReadCause};
 
 use crate::{Failed, Source};
 use std::alloc::{AllocError, Global};
@@ -55,9 +55,7 @@ pub fn read_up_to<S: Source>(
     ensures taken { IfOk result
         (λ text. Consumes (S.left source.old) (S.left source.new) text.items) }
     ensures err { OnErr result (TakesWithin limit (S.left source.old) (S.left source.new)) }
-    ensures later { S.faults source.old ≤ S.faults source.new }
-    ensures cause { result ≡ Err ReadError.Source →
-        Rose (S.faults source.old) (S.faults source.new) }
+    ensures cause { ReadCause (S.faults source.old) (S.faults source.new) result }
 {
     let mut text = Vec::new(alloc);
     let mut piece = [0; PIECE];

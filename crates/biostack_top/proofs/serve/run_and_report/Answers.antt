@@ -13,9 +13,9 @@ returns-clause-said g c =
     let s = scenario_view c.args.scenario.now in
     let objects = c.in_ok-objects.objects in
     let ran = c.in_ok-objects.ensures in
-    let end = ended_as s (state_of objects) objects.steps bound in (
+    let end = ended_as s (state_of objects) objects.steps (bound s) in (
       end,
-      (ran.0, state_of objects, ran.1, ran.2, ap (λ n. ended_as s (state_of objects) n bound) ran.3),
+      (ran.0, state_of objects, ran.1, ran.2, ap (λ n. ended_as s (state_of objects) n (bound s)) ran.3),
       subst (λ failed. Says (g.K.Sink.held c.args.out.now) (g.K.Sink.faults c.args.out.now) false (g.K.Sink.held c.write_report.new.out) (g.K.Sink.faults c.write_report.new.out) failed (report end))
           (sym c.failed.ensures) (says_fresh c.new-pen.ensures c.write_report.ensures),
     )

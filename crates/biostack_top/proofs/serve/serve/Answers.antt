@@ -8,5 +8,5 @@ pub returns-in-Ok : goal.returns-in-Ok
 returns-in-Ok g c =
     let text = c.in-Ok.text in
     let short : length text.items ≤ limit = search (rules, c.in-Ok.ensures.within) in
-    text_ends c.run_text.result _ text.items (c.if-not-is_run.ensures, (text.items, short, c.in-Ok.ensures.taken)) c.in-Ok.ensures.text
+    text_ends c.run_text.result _ text.items (c.if-not-is_run.ensures, (text.items, short, c.in-Ok.ensures.taken)) c.in-Ok.ensures.text c.in-Ok.ensures.taken c.in-Ok.ensures.cause
     (rw c.deref.ensures.value at c.run_text.ensures)

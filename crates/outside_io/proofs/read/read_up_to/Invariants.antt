@@ -7,7 +7,7 @@ invariant-reading g l = record {
   within : vec_len l.text ≤ l.limit;
   piece : length l.piece ≡ 4096;
   taken : Consumes (g.S.Source.left l.fn.source) (g.S.Source.left l.source) l.text.items;
-  later : g.S.Source.faults l.fn.source ≤ g.S.Source.faults l.source;
+  quiet : g.S.Source.faults l.source ≡ g.S.Source.faults l.fn.source;
 }
 
 abbrev pub decreases-reading : goal.decreases-reading
