@@ -1,7 +1,7 @@
 -- The lines of the runs, one after the other.
 use Rattle.std.proofs.Common.{◌≡◌, ℕ, Bool, List, [], ◌∷◌, ◌++◌, Option, refl, sym, ap, ◌∙◌, subst, codes}
 use Rattle.std.proofs.lemmas.List.Concat.{flat_map-cons}
-use Rattle.stack_base.specs.declared.Range.{Range}
+use Rattle.stack_base.specs.declared.ids.Range.{Range}
 use Rattle.outside_io.specs.Saying.{Says}
 use Rattle.outside_io.proofs.SaysLemmas.{says_then, says_silence}
 use Rattle.mempool_core.specs.declared.Facts.{Facts}

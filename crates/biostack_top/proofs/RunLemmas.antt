@@ -1,7 +1,7 @@
 -- Every run of the machine goes through the same stages, whatever comes next in it and wherever the take had its element from.
 use Rattle.std.proofs.Common.{◌≡◌, ◌+◌, ◌<◌, ◌≤◌, ℕ, zero, suc, Bool, List, [], ◌∷◌, length, count_by, cond, Some, None, ◌==◌, if◌then◌else◌, refl, sym, ap, ◌∙◌, subst, arith, lit<, lit≤}
 use Rattle.std.proofs.lemmas.List.Sums.{sum_by-cons}
-use Rattle.stack_base.specs.declared.Status.TheVariants as status
+use Rattle.stack_base.specs.declared.ids.Status.TheVariants as status
 use Rattle.mempool_core.specs.Move.{Moves, after_move, was_given, gives}
 use Rattle.mempool_core.specs.Facts.{AddsUp}
 use Rattle.biostack_top.specs.Scenario.{Scenario, EndsWithin, laid}

@@ -1,7 +1,7 @@
 -- How a call of the program may end, and what stands then.
 use Rattle.std.specs.Prelude.{◌≡◌, ◌+◌, ◌<◌, ◌⊎◌, List, [], ◌∷◌, ℕ, length, codes, Option, None, Some}
 use Rattle.std.specs.Io.KnownBytes.{Appends, Consumes, Keeps}
-use Rattle.stack_base.specs.declared.Status.TheVariants.{Ok as no_error}
+use Rattle.stack_base.specs.declared.ids.Status.TheVariants.{Ok as no_error}
 use Rattle.outside_io.specs.Causes.{Rose}
 use Rattle.outside_io.specs.Reading.{IsRead, TakesWithin}
 use Rattle.outside_io.specs.Saying.{AppendsFront}

@@ -3,9 +3,9 @@
 -- the node, gives it back and tells the write done. Later scenarios have more tasks, pools, nodes and disks; the shape stays.
 use Rattle.std.specs.Prelude.{◌≡◌, ◌+◌, ◌*◌, ◌-◌, ◌<◌, true, List, [], ◌∷◌, ◌++◌, map, ℕ, take, drop, replicate, remove, slice_get, Option, None, Some, IsSomeAnd}
 use Rattle.std.specs.List.{range_with_len}
-use Rattle.stack_base.specs.declared.Status.{Status}
-use Rattle.stack_base.specs.declared.Status.TheVariants as status
-use Rattle.stack_base.specs.declared.PoolId.TheVariants.{FsBios, FsVecs}
+use Rattle.stack_base.specs.declared.ids.Status.{Status}
+use Rattle.stack_base.specs.declared.ids.Status.TheVariants as status
+use Rattle.stack_base.specs.declared.ids.PoolId.TheVariants.{FsBios, FsVecs}
 use Rattle.stack_base.specs.PoolId.{pool_number}
 use Rattle.stack_base.specs.Words.{sector_from, zero_sector}
 use Rattle.mempool_core.specs.Script.{only_tail}

@@ -4,9 +4,9 @@ use Rattle.std.specs.List.{range_with_len, flat_map, prefix_len}
 use Rattle.std.specs.Option.{option_to_list}
 use Rattle.std.specs.Int.{w64, to_be_bytes}
 use Rattle.hex.specs.Hex.{encode_lower}
-use Rattle.stack_base.specs.declared.Status.{Status}
-use Rattle.stack_base.specs.declared.Status.TheVariants as status
-use Rattle.stack_base.specs.declared.Range.{Range}
+use Rattle.stack_base.specs.declared.ids.Status.{Status}
+use Rattle.stack_base.specs.declared.ids.Status.TheVariants as status
+use Rattle.stack_base.specs.declared.ids.Range.{Range}
 use Rattle.stack_base.specs.Words.{is_written}
 use Rattle.outside_io.specs.Saying.{joined_text}
 use Rattle.mempool_core.specs.declared.Facts.{Facts}

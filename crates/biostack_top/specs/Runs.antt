@@ -1,6 +1,6 @@
 -- What holds of every run of the machine, whatever comes next in it.
 use Rattle.std.specs.Prelude.{◌≡◌, ◌+◌, ◌*◌, ◌<◌, ◌≤◌, Bool, true, false, List, ℕ, length, count_by, Some, None, ◌==◌, if◌then◌else◌}
-use Rattle.stack_base.specs.declared.Status.TheVariants as status
+use Rattle.stack_base.specs.declared.ids.Status.TheVariants as status
 use Rattle.mempool_core.specs.Facts.{AddsUp}
 use Rattle.biostack_top.specs.Scenario.{Scenario, laid}
 use Rattle.biostack_top.specs.declared.path.Got.TheVariants.{Ordinary}

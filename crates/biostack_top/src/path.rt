@@ -2,7 +2,7 @@
 ghost use Rattle.std.specs.Prelude.{◌≡◌, ◌+◌, ◌-◌, ◌*◌, ◌^◌, ◌<◌, ◌≤◌, [], ◌∷◌, List, ℕ, length, map, replicate, Some, None, IfOk, IsSomeAnd, vec_len};
 ghost use Rattle.std.specs.List.{range_with_len};
 ghost use Rattle.stack_base.specs.Words.{sector_from, zero_sector};
-ghost use Rattle.stack_base.specs.declared.Status.TheVariants as status;
+ghost use Rattle.stack_base.specs.declared.ids.Status.TheVariants as status;
 ghost use Rattle.biostack_top.specs.Machine.{Step, Take, Link, Push, Complete, Drop as Dropped, Give, Done, start, written};
 ghost use Rattle.biostack_top.specs.Scenario.{EndsWithin};
 ghost use Rattle.biostack_top.specs.FormViews.{scenario_view};

@@ -1,2 +1,12 @@
 pub mod PoolNumbers
 pub mod SectorLemmas
+pub mod Blocks
+pub mod Members
+pub mod KindCuts
+pub mod Heads
+pub mod Pieces
+pub mod KindHeads
+pub mod Smallest
+pub mod Inside
+pub mod Unfolded
+pub mod MemberSizes

@@ -1,7 +1,7 @@
 -- Pools of a stack have different numbers.
 use Rattle.std.proofs.Common.{◌≡◌, ◌<◌, ◌≤◌, arith}
-use Rattle.stack_base.specs.declared.PoolId.{PoolId}
-use Rattle.stack_base.specs.declared.PoolId.TheVariants.{FsBios, FsVecs, Bios, Records}
+use Rattle.stack_base.specs.declared.ids.PoolId.{PoolId}
+use Rattle.stack_base.specs.declared.ids.PoolId.TheVariants.{FsBios, FsVecs, Bios, Records}
 use Rattle.stack_base.specs.PoolId.{pool_number}
 
 -- a pool of the file system, or of one of 32 devices

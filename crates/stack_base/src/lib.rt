@@ -1,61 +1,14 @@
-//! What every part of a storage stack speaks of: its devices, its pools, runs of sectors, and how a bio ended.
+//! The words that every part of a storage stack shares: its devices, its pools, runs of sectors and how a bio ended.
 //!
-//! A sector is 512 bytes, as in Linux (`SECTOR_SIZE`). `specs/Words.antt` reads it as 64 words.
+//! A sector is 512 bytes, as in Linux (`SECTOR_SIZE`), which `specs/Words.antt` reads as 64 words.
 #![tactic(auto)]
 
-ghost use Rattle.std.specs.Prelude.{◌≡◌, ◌^◌, ◌<◌};
-ghost use Rattle.stack_base.specs.PoolId.{pool_number};
+mod ids;
+pub mod laws;
+mod mapping;
+mod sizes;
+mod stack;
 
-/// A device, by its place in the declaration of the stack, from 0 to 31.
-#[derive(Clone, Copy, Debug, PartialEq, Eq, PartialOrd, Ord, Hash)]
-pub struct DevId(pub u32);
-
-/// A pool of elements that the stack serves writes from.
-#[derive(Clone, Copy, Debug, PartialEq, Eq, Hash)]
-pub enum PoolId {
-    /// The bios of the writers above the stack (`bio_pool` of `fs_bio_set`, `block/bio.c`).
-    FsBios,
-    /// Their vectors of segments (`bvec_pool` of `fs_bio_set`).
-    FsVecs,
-    /// The bios that a device makes of those it is given (the `bio_set` of its driver).
-    Bios(DevId),
-    /// The records of a mirror, one for each bio that it copies (`r1bio_pool`, `drivers/md/raid1.c`).
-    Records(DevId),
-}
-
-impl PoolId {
-    /// The pool's number: from 0 to 65 in a stack of up to 32 devices, and no two pools have the same.
-    pub fn no(&self) -> u32
-        requires { pool_number self.now < 2 ^ 32 }
-        ensures { result ≡ pool_number self.now }
-    {
-        match *self {
-            PoolId::FsBios => 65,
-            PoolId::FsVecs => 64,
-            PoolId::Bios(DevId(place)) => 2 * place,
-            PoolId::Records(DevId(place)) => 2 * place + 1,
-        }
-    }
-}
-
-/// A run of sectors.
-#[derive(Clone, Copy, Debug, PartialEq, Eq, Hash)]
-pub struct Range {
-    /// The first sector.
-    pub start: u64,
-    /// How many sectors there are.
-    pub len: u64,
-}
-
-/// How a bio ended (`blk_status_t`, `include/linux/blk_types.h`).
-#[derive(Clone, Copy, Debug, PartialEq, Eq, Hash)]
-pub enum Status {
-    /// All of it was done (`BLK_STS_OK`).
-    Ok,
-    /// An error of the device, or of no kind that is told (`BLK_STS_IOERR`).
-    Io,
-    /// An error of the medium (`BLK_STS_MEDIUM`).
-    Medium,
-    /// There was no room for it (`BLK_STS_NOSPC`).
-    NoSpace,
-}
+pub use ids::{Bad, DevId, PoolId, Range, SetId, Status};
+pub use mapping::{MapLaw, Piece};
+pub use stack::{Device, Kind, Stack};

@@ -1,0 +1,32 @@
+//! How a device that cuts runs maps a piece of one to a member.
+ghost use Rattle.std.specs.Prelude.{◌≡◌, ℕ, List, ◌+◌, ◌<◌, ◌≤◌};
+ghost use Rattle.stack_base.specs.declared.stack.Kind.{Kind as Kinds};
+ghost use Rattle.stack_base.specs.Mapping.{size_of, slot, head};
+ghost use Rattle.stack_base.specs.Piece.{IsPiece};
+
+/// The first piece of a run: how many sectors it has, the member that it goes to, and its first sector there.
+#[derive(Clone, Copy, Debug, PartialEq, Eq)]
+pub struct Piece {
+    pub len: u64,
+    pub member: u32,
+    pub at: u64,
+}
+
+/// What a device that cuts runs promises: how large it is, and where the first piece of a run ends and goes.
+pub trait MapLaw {
+    /// The device's kind, with its numbers.
+    ghost kind: { Self → Kinds };
+
+    /// The sizes of its members, in their order.
+    ghost sizes: { Self → List ℕ };
+
+    /// The device's size in sectors.
+    fn size(&self) -> u64
+        ensures { result ≡ size_of (kind self.now) (sizes self.now) };
+
+    /// The first piece of the run of `len` sectors from `start` on.
+    fn piece(&self, start: u64, len: u64) -> Piece
+        requires some { 1 ≤ len }
+        requires within { start + len ≤ size_of (kind self.now) (sizes self.now) }
+        ensures { IsPiece (kind self.now) (sizes self.now) start len result };
+}

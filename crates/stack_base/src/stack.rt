@@ -1,0 +1,89 @@
+//! A stack of devices, and how large each of them is.
+ghost use Rattle.std.specs.Prelude.{◌≡◌, ◌<◌, length, map, slice_get};
+ghost use Rattle.stack_base.specs.Mapping.{size_of};
+ghost use Rattle.stack_base.specs.Stack.{IsDevice, IsStack};
+ghost use Rattle.stack_base.specs.Tree.{over, size, tree};
+
+use crate::sizes::kind_size;
+use crate::{Bad, DevId};
+use arrayvec::{ArrayString, ArrayVec};
+
+/// What a device does with the bios that it serves, with the numbers of its declaration.
+#[derive(Debug, Drop)]
+pub enum Kind {
+    /// Keeps the data, but for the bad ranges. `sectors` is its size.
+    Disk { sectors: u64, bad: Vec<Bad> },
+    /// Its members stand one behind the other (`drivers/md/md-linear.c`).
+    Linear,
+    /// Chunks of `chunk` sectors go round its members (`drivers/md/raid0.c`).
+    Stripe { chunk: u64 },
+    /// Each sector is the same sector of its one member; a piece has at most `max` sectors and does not cross a multiple of `chunk`,
+    /// where that is not 0 (`blk_bio_segment_split`, `block/blk-merge.c`).
+    Limit { max: u64, chunk: u64 },
+    /// Each member has a copy (`drivers/md/raid1.c`). `records` is the reserve of its pool of records.
+    Mirror { records: u32 },
+}
+
+/// A device of the stack.
+#[derive(Debug, Drop)]
+pub struct Device {
+    pub name: ArrayString<16>,
+    pub kind: Kind,
+    /// The devices below it, in their order. Each was declared before it.
+    pub members: ArrayVec<DevId, 8>,
+    /// The reserve of its pool of bios.
+    pub reserve: u32,
+    /// Whether its set has a rescuer (`BIOSET_NEED_RESCUER`).
+    pub rescuer: bool,
+}
+
+/// A declaration of devices, and the reserves of the writers' set.
+#[derive(Debug, Drop)]
+pub struct Stack {
+    pub devices: Vec<Device>,
+    pub fs_bios: u32,
+    pub fs_vecs: u32,
+}
+
+impl Stack {
+    /// The device with this number. Its tree is the device over the trees of its members, and its size goes by their sizes.
+    pub fn device(&self, d: DevId) -> &Device
+        requires stack { IsStack self.now }
+        requires device { d.0 < length self.now.devices.items }
+        ensures found { slice_get self.now.devices.items d.0 ≡ Some result.now }
+        ensures is_device { IsDevice self.now d.0 result.now }
+        ensures over_members { tree self.now d.0 ≡ over d.0 result.now.kind (map (λ m. tree self.now m.0) result.now.members.items) }
+        ensures sized { size (tree self.now d.0) ≡ size_of result.now.kind (map (λ m. size (tree self.now m.0)) result.now.members.items) }
+    {
+        &self.devices[d.0 as usize]
+    }
+
+    /// How many sectors the device has (`get_capacity`, `include/linux/blkdev.h`). A disk has its own number of them, and each other
+    /// device as many as its members give it (`linear_size`, `drivers/md/md-linear.c`; `raid0_size`, `drivers/md/raid0.c`;
+    /// `raid1_size`, `drivers/md/raid1.c`).
+    #[cycle(sizes)]
+    pub fn size(&self, d: DevId) -> u64
+        requires stack { IsStack self.now }
+        requires device { d.0 < length self.now.devices.items }
+        ensures { result ≡ size (tree self.now d.0) }
+    {
+        let device = self.device(d);
+        let sizes = self.member_sizes(d);
+        kind_size(&device.kind, &sizes)
+    }
+
+    /// The sizes of the device's members, in their order.
+    #[cycle(sizes)]
+    pub fn member_sizes(&self, d: DevId) -> ArrayVec<u64, 8>
+        requires stack { IsStack self.now }
+        requires device { d.0 < length self.now.devices.items }
+        ensures { (device : Device) → slice_get self.now.devices.items d.0 ≡ Some device → result.items ≡ map (λ m. size (tree self.now m.0)) device.members.items }
+    {
+        let device = self.device(d);
+        let mut sizes = ArrayVec::new();
+        for member in device.members.iter() {
+            sizes.push(self.size(*member));
+        }
+        sizes
+    }
+}
