@@ -1,0 +1,40 @@
+-- The laws of the plan, over every sound tree.
+use Rattle.std.proofs.Common.{◌↔◌, Contains, sym, subst, arith}
+use Rattle.stack_base.specs.Mapping.{slot, head}
+use Rattle.stack_base.specs.Cutting.{next}
+use Rattle.layout_model.specs.Fragments.{IsFragmentOf}
+use Rattle.layout_model.specs.Laws.{IsCutOff, PlanOfPieces, PlanOfLegs, PlanOfDisk, PlanGivesFragments, PlanKeepsOrder, PlanTakesNeeded}
+use Rattle.layout_model.proofs.Sound.{cut_of_split}
+use Rattle.layout_model.proofs.Whole.{frags_are}
+use Rattle.layout_model.proofs.PieceLength.{piece_length}
+use Rattle.layout_model.proofs.Planned.{pieces_first, legs_are, whole_is, leaves_plan, takes_plan}
+
+-- a run's first piece, wherever its number of sectors comes from
+pub plan_of_pieces : PlanOfPieces
+plan_of_pieces number kind sizes members write offset start len piece sound is =
+    let cut = cut_of_split number kind sizes members sound in
+    subst (λ place. IsCutOff number kind sizes members write offset start len place.member place.at piece.len) is.place
+    (pieces_first number kind sizes members write offset start len piece.len cut (omega (arith, is.some, is.within))
+    (piece_length (head kind sizes) (next kind sizes) (slot kind sizes) cut start len piece.len is.some is.within is.exact))
+
+-- a mirror's plan
+pub plan_of_legs : PlanOfLegs
+plan_of_legs = legs_are
+
+-- a disk's plan
+pub plan_of_disk : PlanOfDisk
+plan_of_disk = whole_is
+
+-- the plan's fragments, one by one
+pub plan_gives_fragments : PlanGivesFragments
+plan_gives_fragments t write offset start len sound some f =
+    subst (λ fragments. Contains fragments f ↔ IsFragmentOf t write offset start len f) (sym (leaves_plan t write offset start len))
+    (frags_are t sound write offset start len some f)
+
+-- the plan's fragments, in their order
+pub plan_keeps_order : PlanKeepsOrder
+plan_keeps_order = leaves_plan
+
+-- what the plan takes
+pub plan_takes_needed : PlanTakesNeeded
+plan_takes_needed = takes_plan

@@ -1,0 +1,27 @@
+-- What a write needs, by the bounds on its run.
+use Rattle.std.proofs.Common.{◌+◌, ◌≤◌, ◌/◌, cond, ltb, Bool, true, false, arith}
+use Rattle.stack_base.specs.declared.stack.Stack.{Stack}
+use Rattle.stack_base.specs.Stack.{IsStack}
+use Rattle.stack_base.specs.Tree.{tree}
+use Rattle.layout_model.specs.declared.write.Write.{Write}
+use Rattle.layout_model.specs.Needs.{elements, parts}
+use Rattle.layout_model.specs.Writes.{IsWrite}
+use Rattle.layout_model.proofs.AtMost.{fragments_le_needed}
+use Rattle.layout_model.proofs.SmallCounts.{needed_small}
+use Rattle.layout_model.proofs.Stacks.{tree_sound}
+
+-- a choice between one and nothing
+one_or_none : (b : Bool) → cond b 1 0 ≤ 1
+one_or_none true = omega arith
+one_or_none false = omega arith
+
+module _ (stack : Stack) (good : IsStack stack) (write : Write) (served : IsWrite stack write) where
+  -- a write needs its own bio and a vector besides what its run needs
+  pub elements_small : elements stack write ≤ 75497474
+  elements_small =
+      omega (arith, one_or_none (ltb 4 ((write.count + 7) / 8)), needed_small stack good write.dev.0 write.start write.count served.known served.within)
+
+  -- it has no more fragments than it needs elements
+  pub parts_le_elements : parts stack write ≤ elements stack write
+  parts_le_elements =
+      omega (arith, fragments_le_needed (tree stack write.dev.0) write.start write.count (tree_sound stack good write.dev.0 served.known) served.some)

@@ -1,0 +1,44 @@
+use Rattle.std.proofs.Common.{map, sum, sym, ap, ◌∙◌, arith}
+use Rattle.std.proofs.lemmas.List.{length-map}
+use Rattle.stack_base.specs.declared.ids.DevId.{DevId}
+use Rattle.stack_base.specs.Mapping.{size_of}
+use Rattle.stack_base.specs.Tree.{size, tree}
+use Rattle.stack_base.proofs.Unfolded.{size-tree}
+use Rattle.layout_model.proofs.piece.kind_piece.Goals as goal
+
+-- the numbers of the kind, and how many members it has
+pub stripe_piece-requires-clause-chunk : goal.stripe_piece-requires-clause-chunk
+stripe_piece-requires-clause-chunk c =
+    (rw c.in-Stripe.is at (c.requires.stack.each c.args.dev.0 c.args.device.now c.requires.found).shape).0
+
+pub stripe_piece-requires-clause-member : goal.stripe_piece-requires-clause-member
+stripe_piece-requires-clause-member c =
+    omega (arith, (rw c.in-Stripe.is at (c.requires.stack.each c.args.dev.0 c.args.device.now c.requires.found).shape).1)
+
+pub limit_piece-requires-clause-max : goal.limit_piece-requires-clause-max
+limit_piece-requires-clause-max c =
+    (rw c.in-Limit.is at (c.requires.stack.each c.args.dev.0 c.args.device.now c.requires.found).shape).0
+
+-- the run is within all members together
+pub linear_piece-requires-clause-within : goal.linear_piece-requires-clause-within
+unfolding size_of
+linear_piece-requires-clause-within c =
+    let found = c.member_sizes.ensures c.args.device.now c.requires.found in
+    let all = ap sum (c.deref.ensures.0 ∙ found) in
+    let whole = size-tree c.args.stack.now c.requires.stack c.args.dev.0 c.args.device.now c.requires.found in
+    let linear = rw c.in-Linear.is at whole in
+    omega (arith, all, linear)
+
+-- the piece is that of the kind over the members' sizes
+pub returns-in-Stripe : goal.returns-in-Stripe
+returns-in-Stripe c =
+    let size_at = λ (m : DevId). size (tree c.args.stack.now m.0) in
+    rw c.in-Stripe.is (c.stripe_piece.ensures (map size_at c.args.device.now.members.items)
+    (length-map c.args.device.now.members.items size_at ∙ sym c.len.ensures.value))
+
+pub returns-in-Limit : goal.returns-in-Limit
+returns-in-Limit c = rw c.in-Limit.is (c.limit_piece.ensures _)
+
+pub returns-in-Linear : goal.returns-in-Linear
+returns-in-Linear c =
+    rw (c.in-Linear.is, ← c.member_sizes.ensures c.args.device.now c.requires.found, ← c.deref.ensures.0) c.linear_piece.ensures

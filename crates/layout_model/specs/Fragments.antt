@@ -1,0 +1,34 @@
+-- The fragments of a run: which of its sectors come to a disk together.
+use Rattle.std.specs.Prelude.{◌≡◌, ◌↔◌, ◌+◌, ◌*◌, ◌^◌, ◌<◌, ◌≤◌, ℕ, List, map, Contains}
+use Rattle.std.specs.List.Sorted.{IsStrictlyIncreasing}
+use Rattle.stack_base.specs.Tree.{Tree}
+use Rattle.layout_model.specs.declared.fragment.Fragment.{Fragment}
+use Rattle.layout_model.specs.Way.{Fits, place, heads}
+
+-- the choices lead the other sector too, and its heads agree with those of s at every device of the way
+pub record Together (t : Tree) (r : ℕ) (choices : List ℕ) (s other : ℕ) : Type 0 where
+  pub fits : Fits t other choices
+  pub same : heads t r other choices ≡ heads t r s choices
+
+-- a fragment of the run of len sectors from r on, whose first sector has this offset in the write: some choices and the sectors
+-- that are together by them, all of these and no others
+pub record IsFragmentOf (t : Tree) (write offset r len : ℕ) (f : Fragment) : Type 0 where
+  -- its first sector, as a place in the run, and the choices
+  pub from : ℕ
+  pub choices : List ℕ
+  pub of_write : f.write ≡ write
+  pub begins : f.offset ≡ offset + from
+  pub some : 0 < f.len
+  pub within : from + f.len ≤ len
+  pub fits : Fits t (r + from) choices
+  pub lies : place t (r + from) choices ≡ record { disk = f.disk.0; at = f.at }
+  pub whole : (j : ℕ) → j < len → Together t r choices (r + from) (r + j) ↔ ((from ≤ j) × (j < from + f.len))
+
+-- fragments stand by their offsets, and by their disks where these are the same
+abbrev pub rank : Fragment → ℕ
+rank f = f.offset * 2 ^ 32 + f.disk.0
+
+-- the fragments of the run, each once and in this order
+pub record AreFragments (t : Tree) (write r len : ℕ) (fragments : List Fragment) : Type 0 where
+  pub each : (f : Fragment) → Contains fragments f ↔ IsFragmentOf t write 0 r len f
+  pub order : IsStrictlyIncreasing (map rank fragments)

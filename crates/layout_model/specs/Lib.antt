@@ -1,0 +1,10 @@
+pub mod Way
+pub mod Fragments
+pub mod Need
+pub mod Plan
+pub mod Sound
+pub mod Laws
+pub mod Pieces
+pub mod Writes
+pub mod Needs
+pub mod Bound

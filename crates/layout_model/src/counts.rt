@@ -1,0 +1,123 @@
+//! What a write needs, as counts. No memory is taken.
+ghost use Rattle.std.specs.Prelude.{◌≡◌, ℕ, ◌+◌, ◌<◌, ◌≤◌, length, slice_get};
+ghost use Rattle.stack_base.specs.Stack.{IsStack};
+ghost use Rattle.stack_base.specs.Tree.{Copies, Cuts, shape_of, size, tree};
+ghost use Rattle.layout_model.specs.Need.{fragments_of, needed};
+ghost use Rattle.layout_model.specs.Needs.{IsNeeds};
+ghost use Rattle.layout_model.specs.Writes.{IsWrite};
+
+use crate::Write;
+use crate::piece::first_piece;
+use stack_base::{DevId, Device, Kind, Stack};
+
+/// The sectors of a segment.
+const SEGMENT_SECTORS: u64 = 8;
+
+/// How many segments a bio keeps itself.
+const OWN_SEGMENTS: u64 = 4;
+
+/// What a write needs, as counts.
+#[derive(Clone, Copy, Debug, PartialEq, Eq)]
+pub struct Needs {
+    /// The elements of pools: bios, vectors and records.
+    pub elements: u64,
+    /// The bios and records among them.
+    pub nodes: u64,
+    /// The parts in which it comes to the disks.
+    pub fragments: u64,
+}
+
+/// What a run needs besides its own bio.
+#[derive(Clone, Copy)]
+struct Counts {
+    /// The bios and records.
+    needed: u64,
+    /// The parts in which the run comes to the disks.
+    fragments: u64,
+}
+
+/// What the write needs: its own bio, a vector where this bio has more segments than a bio keeps itself, and what its run needs below.
+pub fn need(stack: &Stack, write: &Write) -> Needs
+    requires stack { IsStack stack.now }
+    requires write { IsWrite stack.now write.now }
+    ensures { IsNeeds stack.now write.now result }
+{
+    let below = count(stack, write.dev, write.start, write.count);
+    let vectors = u64::from(write.count.div_ceil(SEGMENT_SECTORS) > OWN_SEGMENTS);
+    Needs {
+        elements: 1 + vectors + below.needed,
+        nodes: 1 + below.needed,
+        fragments: below.fragments,
+    }
+}
+
+/// What the run of `len` sectors from `start` on needs at a device.
+#[cycle(counts)]
+fn count(stack: &Stack, dev: DevId, start: u64, len: u64) -> Counts
+    requires stack { IsStack stack.now }
+    requires known { dev.0 < length stack.now.devices.items }
+    requires some { 1 ≤ len }
+    requires within { start + len ≤ size (tree stack.now dev.0) }
+    ensures needed { result.needed ≡ needed (tree stack.now dev.0) start len }
+    ensures fragments { result.fragments ≡ fragments_of (tree stack.now dev.0) start len }
+{
+    let device = stack.device(dev);
+    match device.kind {
+        Kind::Disk { .. } => Counts {
+            needed: 0,
+            fragments: 1,
+        },
+        Kind::Linear | Kind::Stripe { .. } | Kind::Limit { .. } => count_pieces(
+            stack, device, dev, start, len,
+        ),
+        Kind::Mirror { .. } => count_legs(stack, dev, start, len),
+    }
+}
+
+/// What the run needs at a device that cuts it: a bio for each piece but the last, and what the pieces need.
+#[cycle(counts)]
+fn count_pieces(stack: &Stack, device: &Device, dev: DevId, start: u64, len: u64) -> Counts
+    requires stack { IsStack stack.now }
+    requires found { slice_get stack.now.devices.items dev.0 ≡ Some device.now }
+    requires cuts { shape_of device.now.kind ≡ Cuts }
+    requires some { 1 ≤ len }
+    requires within { start + len ≤ size (tree stack.now dev.0) }
+    ensures needed { result.needed ≡ needed (tree stack.now dev.0) start len }
+    ensures fragments { result.fragments ≡ fragments_of (tree stack.now dev.0) start len }
+{
+    let mut needed = 0;
+    let mut fragments = 0;
+    let mut done = 0;
+    while done < len {
+        let piece = first_piece(stack, device, dev, start + done, len - done);
+        let below = count(stack, piece.dev, piece.at, piece.len);
+        done += piece.len;
+        // The last piece keeps the run's own bio.
+        let split = u64::from(done < len);
+        needed += below.needed + split;
+        fragments += below.fragments;
+    }
+    Counts { needed, fragments }
+}
+
+/// What the run needs at a mirror: a record, a bio for each member, and what the run needs at each of them.
+#[cycle(counts)]
+fn count_legs(stack: &Stack, dev: DevId, start: u64, len: u64) -> Counts
+    requires stack { IsStack stack.now }
+    requires known { dev.0 < length stack.now.devices.items }
+    requires copies { (device : Device) → slice_get stack.now.devices.items dev.0 ≡ Some device → shape_of device.kind ≡ Copies }
+    requires some { 1 ≤ len }
+    requires within { start + len ≤ size (tree stack.now dev.0) }
+    ensures needed { result.needed ≡ needed (tree stack.now dev.0) start len }
+    ensures fragments { result.fragments ≡ fragments_of (tree stack.now dev.0) start len }
+{
+    let device = stack.device(dev);
+    let mut needed = 1 + device.members.len() as u64;
+    let mut fragments = 0;
+    for member in device.members.iter() {
+        let below = count(stack, *member, start, len);
+        needed += below.needed;
+        fragments += below.fragments;
+    }
+    Counts { needed, fragments }
+}

@@ -1,0 +1,112 @@
+//! The first piece of a run at a device that cuts runs, and the member that it goes to.
+ghost use Rattle.std.specs.Prelude.{◌≡◌, ℕ, ◌+◌, ◌^◌, ◌<◌, ◌≤◌, List, length, sum, map, slice_get};
+ghost use Rattle.stack_base.specs.Piece.{IsPiece};
+ghost use Rattle.stack_base.specs.Stack.{IsStack};
+ghost use Rattle.stack_base.specs.Tree.{Cuts, shape_of, size, tree};
+ghost use Rattle.layout_model.specs.Pieces.{IsFirstRun};
+
+use stack_base::{DevId, Device, Kind, Piece, Stack};
+
+/// A run of sectors of a device.
+#[derive(Clone, Copy, Debug, PartialEq, Eq)]
+pub struct FirstRun {
+    /// The device.
+    pub dev: DevId,
+    /// Its first sector there.
+    pub at: u64,
+    /// How many sectors it has.
+    pub len: u64,
+}
+
+/// The first piece at a device whose chunks go round its members: it ends with its chunk (`raid0_make_request`,
+/// `drivers/md/raid0.c`).
+pub fn stripe_piece(chunk: u64, members: u64, start: u64, len: u64) -> Piece
+    requires chunk { 1 ≤ chunk }
+    requires member { 1 ≤ members }
+    requires few { members < 2 ^ 32 }
+    requires some { 1 ≤ len }
+    ensures { (sizes : List ℕ) → length sizes ≡ members → IsPiece (Kind.Stripe chunk) sizes start len result }
+{
+    let number = start / chunk;
+    let within = start % chunk;
+    Piece {
+        len: (chunk - within).min(len),
+        member: (number % members) as u32,
+        at: number / members * chunk + within,
+    }
+}
+
+/// The first piece at a device that limits the length of pieces and lets none cross a multiple of `chunk`, where that is not 0
+/// (`blk_bio_segment_split`, `block/blk-merge.c`).
+pub fn limit_piece(max: u64, chunk: u64, start: u64, len: u64) -> Piece
+    requires max { 1 ≤ max }
+    requires some { 1 ≤ len }
+    ensures { (sizes : List ℕ) → IsPiece (Kind.Limit max chunk) sizes start len result }
+{
+    let longest = if chunk == 0 {
+        max
+    } else {
+        max.min(chunk - start % chunk)
+    };
+    Piece {
+        len: longest.min(len),
+        member: 0,
+        at: start,
+    }
+}
+
+/// The first piece at a device whose members stand one behind the other: it ends with its member (`linear_make_request`,
+/// `drivers/md/md-linear.c`).
+pub fn linear_piece(sizes: &[u64], start: u64, len: u64) -> Piece
+    requires few { length sizes.now < 2 ^ 32 }
+    requires some { 1 ≤ len }
+    requires within { start < sum sizes.now }
+    ensures { IsPiece Kind.Linear sizes.now start len result }
+{
+    let mut at = start;
+    for (member, size) in sizes.iter().enumerate() {
+        if at < *size {
+            return Piece {
+                len: (*size - at).min(len),
+                member: member as u32,
+                at,
+            };
+        }
+        at -= *size;
+    }
+    unreachable!()
+}
+
+/// The first piece of a run at a device that cuts. Only at a linear device does it go by the members' sizes.
+fn kind_piece(stack: &Stack, device: &Device, dev: DevId, start: u64, len: u64) -> Piece
+    requires stack { IsStack stack.now }
+    requires found { slice_get stack.now.devices.items dev.0 ≡ Some device.now }
+    requires cuts { shape_of device.now.kind ≡ Cuts }
+    requires some { 1 ≤ len }
+    requires within { start + len ≤ size (tree stack.now dev.0) }
+    ensures { IsPiece device.now.kind (map (λ m. size (tree stack.now m.0)) device.now.members.items) start len result }
+{
+    match device.kind {
+        Kind::Stripe { chunk } => stripe_piece(chunk, device.members.len() as u64, start, len),
+        Kind::Limit { max, chunk } => limit_piece(max, chunk, start, len),
+        Kind::Linear => linear_piece(&stack.member_sizes(dev), start, len),
+        Kind::Disk { .. } | Kind::Mirror { .. } => unreachable!(),
+    }
+}
+
+/// Where a device that cuts sends the first piece of a run.
+pub fn first_piece(stack: &Stack, device: &Device, dev: DevId, start: u64, len: u64) -> FirstRun
+    requires stack { IsStack stack.now }
+    requires found { slice_get stack.now.devices.items dev.0 ≡ Some device.now }
+    requires cuts { shape_of device.now.kind ≡ Cuts }
+    requires some { 1 ≤ len }
+    requires within { start + len ≤ size (tree stack.now dev.0) }
+    ensures { IsFirstRun stack.now dev.0 start len result }
+{
+    let piece = kind_piece(stack, device, dev, start, len);
+    FirstRun {
+        dev: device.members[piece.member as usize],
+        at: piece.at,
+        len: piece.len,
+    }
+}
