@@ -8,6 +8,7 @@ use Rattle.stack_base.specs.Cutting.{next}
 use Rattle.stack_base.specs.Tree.{Tree, Leaf, Split, Mirrored}
 use Rattle.layout_model.specs.declared.fragment.Fragment.{Fragment}
 use Rattle.layout_model.specs.Way.{Fits, Place, place}
+use Rattle.layout_model.specs.Fragments.{AreOther}
 use Rattle.layout_model.specs.Plan.{frags}
 use Rattle.layout_model.proofs.Sound.{Sound, cut_of_split, sound_piece, sound_leg}
 use Rattle.layout_model.proofs.Cutting.{frags_none, frags_first}
@@ -26,10 +27,6 @@ Apart (Leaf number sectors) = Unit {0}
 Apart (Split number kind sizes members) = (k : ℕ) → Apart (members k)
 Apart (Mirrored number sizes members) =
     ((j k disk : ℕ) → j < k → k < length sizes → HasDisk (members j) disk → HasDisk (members k) disk → ⊥) × ((k : ℕ) → Apart (members k))
-
--- two fragments that do not both begin at one sector of the write and lie on one disk
-abbrev pub AreOther : Fragment → Fragment → Type 0
-AreOther a b = a.offset ≡ b.offset → a.disk.0 ≡ b.disk.0 → ⊥
 
 -- a way ends at a disk of the tree
 place_has : (t : Tree) (s : ℕ) (choices : List ℕ) → Fits t s choices → HasDisk t (place t s choices).disk

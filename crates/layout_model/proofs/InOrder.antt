@@ -11,11 +11,11 @@ use Rattle.std.proofs.lemmas.Map.Keys.{IsDistinct-from_apart, IsDistinct-IsPermu
 use Rattle.std.proofs.lemmas.Nat.{same_from_place}
 use Rattle.stack_base.specs.Tree.{Tree}
 use Rattle.layout_model.specs.declared.fragment.Fragment.{Fragment}
-use Rattle.layout_model.specs.Fragments.{IsFragmentOf, rank, AreFragments}
+use Rattle.layout_model.specs.Fragments.{IsFragmentOf, AreOther, rank, AreFragments}
 use Rattle.layout_model.specs.Plan.{frags}
 use Rattle.layout_model.proofs.Sound.{Sound}
 use Rattle.layout_model.proofs.Whole.{frags_are}
-use Rattle.layout_model.proofs.Apart.{HasDisk, Apart, AreOther, frags_have, frags_distinct}
+use Rattle.layout_model.proofs.Apart.{HasDisk, Apart, frags_have, frags_distinct}
 
 -- fragments that differ in offset or disk differ in rank, where disks have numbers of 32 bits
 rank_apart : (a b : Fragment) → a.disk.0 < 2 ^ 32 → b.disk.0 < 2 ^ 32 → AreOther a b → rank a ≡ rank b → ⊥

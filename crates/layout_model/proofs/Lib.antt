@@ -3,6 +3,7 @@ pub mod Lists
 pub mod Cutting
 pub mod Parts
 pub mod Whole
+pub mod Covered
 pub mod RangeSums
 pub mod Counted
 pub mod Begun
@@ -29,3 +30,4 @@ pub mod MirrorLemmas
 pub mod SmallCounts
 pub mod CountSteps
 pub mod WriteSizes
+pub mod Ways

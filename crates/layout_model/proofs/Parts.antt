@@ -11,7 +11,7 @@ use Rattle.layout_model.specs.Way.{Fits, place, heads}
 use Rattle.layout_model.specs.Fragments.{Together, IsFragmentOf}
 
 -- sectors that are equal as numbers are together alike
-together_same : (t : Tree) (choices : List ℕ) (a b c d e f : ℕ) → a ≡ b → c ≡ d → e ≡ f → Together t a choices c e → Together t b choices d f
+pub together_same : (t : Tree) (choices : List ℕ) (a b c d e f : ℕ) → a ≡ b → c ≡ d → e ≡ f → Together t a choices c e → Together t b choices d f
 together_same t choices a b c d e f p q u h = rw (← p, ← q, ← u) h
 
 module _ (number : ℕ) (kind : Kind) (sizes : List ℕ) (members : ℕ → Tree) (cut : IsCut (head kind sizes) (next kind sizes) (slot kind sizes)) where
@@ -67,7 +67,7 @@ module _ (number : ℕ) (kind : Kind) (sizes : List ℕ) (members : ℕ → Tree
       absurd (omega (arith, cut.ahead r, cut.here r s from before, cut.later r other behind, head_from other (next kind sizes r) other (omega arith) behind))
 
   -- two sectors of the first piece are together where they are so in the member
-  together_here : (r i j : ℕ) (choices : List ℕ) → r + i < next kind sizes r → r + j < next kind sizes r
+  pub together_here : (r i j : ℕ) (choices : List ℕ) → r + i < next kind sizes r → r + j < next kind sizes r
       → Together (Split number kind sizes members) r choices (r + i) (r + j)
       ↔ Together (members (slot kind sizes r).member) (slot kind sizes r).at choices ((slot kind sizes r).at + i) ((slot kind sizes r).at + j)
   together_here r i j choices before also = (
@@ -82,7 +82,7 @@ module _ (number : ℕ) (kind : Kind) (sizes : List ℕ) (members : ℕ → Tree
   )
 
   -- two sectors behind the first piece are together where they are so in a run that begins there
-  together_later : (r s other : ℕ) (choices : List ℕ) → next kind sizes r ≤ s → next kind sizes r ≤ other
+  pub together_later : (r s other : ℕ) (choices : List ℕ) → next kind sizes r ≤ s → next kind sizes r ≤ other
       → Together (Split number kind sizes members) r choices s other ↔ Together (Split number kind sizes members) (next kind sizes r) choices s other
   together_later r s other choices behind also = (
     λ h. record { fits = h.fits; same = cc (heads_later r s choices behind, heads_later r other choices also) },
@@ -90,17 +90,17 @@ module _ (number : ℕ) (kind : Kind) (sizes : List ℕ) (members : ℕ → Tree
   )
 
   -- a sector of the first piece and one behind it are not together, from either side
-  apart_behind : (r s other : ℕ) (choices : List ℕ) → r ≤ s → s < next kind sizes r → next kind sizes r ≤ other
+  pub apart_behind : (r s other : ℕ) (choices : List ℕ) → r ≤ s → s < next kind sizes r → next kind sizes r ≤ other
       → Together (Split number kind sizes members) r choices s other → ⊥
   apart_behind r s other choices from before behind h = heads_apart r s other choices from before behind (sym h.same)
 
-  apart_before : (r s other : ℕ) (choices : List ℕ) → r ≤ other → other < next kind sizes r → next kind sizes r ≤ s
+  pub apart_before : (r s other : ℕ) (choices : List ℕ) → r ≤ other → other < next kind sizes r → next kind sizes r ≤ s
       → Together (Split number kind sizes members) r choices s other → ⊥
   apart_before r s other choices from before behind h = heads_apart r other s choices from before behind h.same
 
   module _ (write offset r len n : ℕ) (f : Fragment) (is : n ≡ min (next kind sizes r - r) len) where
     -- a fragment of the first piece is one of the run
-    pub from_piece : IsFragmentOf (members (slot kind sizes r).member) write offset (slot kind sizes r).at n f
+    unfoldable pub from_piece : IsFragmentOf (members (slot kind sizes r).member) write offset (slot kind sizes r).at n f
         → IsFragmentOf (Split number kind sizes members) write offset r len f
     from_piece h =
         let inside : r + h.from < next kind sizes r = omega (arith, h.some, h.within) in
@@ -150,7 +150,7 @@ module _ (number : ℕ) (kind : Kind) (sizes : List ℕ) (members : ℕ → Tree
         }
 
     -- a fragment of the rest is one of the run
-    pub from_rest : IsFragmentOf (Split number kind sizes members) write (offset + n) (r + n) (len - n) f
+    unfoldable pub from_rest : IsFragmentOf (Split number kind sizes members) write (offset + n) (r + n) (len - n) f
         → IsFragmentOf (Split number kind sizes members) write offset r len f
     from_rest h =
         let over : r + n ≡ next kind sizes r = omega (arith, h.some, h.within) in

@@ -1,11 +1,16 @@
 -- The laws of the plan, over every sound tree.
-use Rattle.std.proofs.Common.{◌↔◌, Contains, sym, subst, arith}
+use Rattle.std.proofs.Common.{◌↔◌, Contains, length, sym, ap, ◌∙◌, subst, arith}
+use Rattle.std.specs.List.{AllPairs}
 use Rattle.stack_base.specs.Mapping.{slot, head}
 use Rattle.stack_base.specs.Cutting.{next}
-use Rattle.layout_model.specs.Fragments.{IsFragmentOf}
-use Rattle.layout_model.specs.Laws.{IsCutOff, PlanOfPieces, PlanOfLegs, PlanOfDisk, PlanGivesFragments, PlanKeepsOrder, PlanTakesNeeded}
+use Rattle.stack_base.specs.Tree.{tree}
+use Rattle.layout_model.specs.Fragments.{IsFragmentOf, AreOther}
+use Rattle.layout_model.specs.Laws.{IsCutOff, PlanOfPieces, PlanOfLegs, PlanOfDisk, PlanGivesFragments, PlanKeepsOrder, PlanTakesNeeded, FragmentsAreCounted, TreesAreSound, PlanFragmentsDiffer}
 use Rattle.layout_model.proofs.Sound.{cut_of_split}
 use Rattle.layout_model.proofs.Whole.{frags_are}
+use Rattle.layout_model.proofs.Apart.{frags_distinct}
+use Rattle.layout_model.proofs.CountFrags.{fragments_of_is_length}
+use Rattle.layout_model.proofs.Stacks.{tree_sound, tree_apart}
 use Rattle.layout_model.proofs.PieceLength.{piece_length}
 use Rattle.layout_model.proofs.Planned.{pieces_first, legs_are, whole_is, leaves_plan, takes_plan}
 
@@ -38,3 +43,18 @@ plan_keeps_order = leaves_plan
 -- what the plan takes
 pub plan_takes_needed : PlanTakesNeeded
 plan_takes_needed = takes_plan
+
+-- how many fragments there are
+pub fragments_are_counted : FragmentsAreCounted
+fragments_are_counted t write offset start len sound some =
+    fragments_of_is_length t write offset start len sound some ∙ sym (ap length (leaves_plan t write offset start len))
+
+-- the trees of a stack
+pub trees_are_sound : TreesAreSound
+trees_are_sound stack number good within = tree_sound stack good number within
+
+-- no two fragments at one place of the write and on one disk
+pub plan_fragments_differ : PlanFragmentsDiffer
+plan_fragments_differ stack number write offset start len good within some =
+    subst (AllPairs AreOther) (sym (leaves_plan (tree stack number) write offset start len))
+    (frags_distinct (tree stack number) (tree_sound stack good number within) (tree_apart stack good number within) write offset start len some)

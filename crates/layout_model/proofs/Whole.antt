@@ -22,7 +22,7 @@ AreExact t = (write offset r len : ℕ) → 0 < len → (f : Fragment) → Conta
 
 module _ (number sectors write offset r len : ℕ) (f : Fragment) where
   -- a run at a disk is one fragment
-  from_disk : 0 < len → Contains (frags (Leaf number sectors) write offset r len) f → IsFragmentOf (Leaf number sectors) write offset r len f
+  unfoldable pub from_disk : 0 < len → Contains (frags (Leaf number sectors) write offset r len) f → IsFragmentOf (Leaf number sectors) write offset r len f
   unfolding frags Fits heads place
   from_disk some c =
       let is = contains_one _ f c in
@@ -54,7 +54,7 @@ module _ (number sectors write offset r len : ℕ) (f : Fragment) where
 
 module _ (number : ℕ) (sizes : List ℕ) (members : ℕ → Tree) (write offset r len : ℕ) (f : Fragment) where
   -- a fragment of a leg is one of the run
-  from_leg : (k : ℕ) → k < length sizes → IsFragmentOf (members k) write offset r len f → IsFragmentOf (Mirrored number sizes members) write offset r len f
+  unfoldable pub from_leg : (k : ℕ) → k < length sizes → IsFragmentOf (members k) write offset r len f → IsFragmentOf (Mirrored number sizes members) write offset r len f
   unfolding Fits heads place
   from_leg k lt h = record {
     from = h.from;

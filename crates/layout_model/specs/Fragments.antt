@@ -24,6 +24,10 @@ pub record IsFragmentOf (t : Tree) (write offset r len : ℕ) (f : Fragment) : T
   pub lies : place t (r + from) choices ≡ record { disk = f.disk.0; at = f.at }
   pub whole : (j : ℕ) → j < len → Together t r choices (r + from) (r + j) ↔ ((from ≤ j) × (j < from + f.len))
 
+-- two fragments that do not both begin at one sector of the write and lie on one disk
+abbrev pub AreOther : Fragment → Fragment → Type 0
+AreOther a b = a.offset ≡ b.offset → a.disk.0 ≡ b.disk.0 → ⊥
+
 -- fragments stand by their offsets, and by their disks where these are the same
 abbrev pub rank : Fragment → ℕ
 rank f = f.offset * 2 ^ 32 + f.disk.0

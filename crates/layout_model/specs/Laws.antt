@@ -1,13 +1,17 @@
--- The laws of the plan: how it is made step by step, and what it has to do with the layout and with what a run needs.
-use Rattle.std.specs.Prelude.{◌≡◌, ◌↔◌, ◌+◌, ◌-◌, ◌<◌, ℕ, List, length, Contains}
-use Rattle.std.specs.List.{range_with_len}
+-- The laws of the plan: how it is made step by step, and what it has to do with the layout and with what a run needs. With them, that
+-- the fragments of a run leave no sector out, and that the laws hold over every stack.
+use Rattle.std.specs.Prelude.{◌≡◌, ◌↔◌, ◌+◌, ◌-◌, ◌<◌, ◌≤◌, ℕ, List, [], ◌∷◌, ◌++◌, length, map, Contains}
+use Rattle.std.specs.List.{range_with_len, AllPairs}
 use Rattle.stack_base.specs.declared.stack.Kind.{Kind}
+use Rattle.stack_base.specs.declared.stack.Stack.{Stack}
 use Rattle.stack_base.specs.declared.mapping.Piece.{Piece}
 use Rattle.stack_base.specs.Piece.{IsPiece}
-use Rattle.stack_base.specs.Tree.{Tree, Leaf, Split, Mirrored}
+use Rattle.stack_base.specs.Tree.{Tree, Leaf, Split, Mirrored, tree}
+use Rattle.stack_base.specs.Stack.{IsStack}
 use Rattle.layout_model.specs.declared.fragment.Fragment.{Fragment}
-use Rattle.layout_model.specs.Fragments.{IsFragmentOf}
-use Rattle.layout_model.specs.Need.{needed}
+use Rattle.layout_model.specs.Way.{Fits, place, Step, way, heads}
+use Rattle.layout_model.specs.Fragments.{IsFragmentOf, AreOther}
+use Rattle.layout_model.specs.Need.{needed, fragments_of}
 use Rattle.layout_model.specs.Plan.{Plans, Whole, Pieces, Legs, none, also, each, plan, frags, leaves, takes}
 use Rattle.layout_model.specs.Sound.{Sound}
 
@@ -49,3 +53,41 @@ PlanKeepsOrder = (t : Tree) (write offset start len : ℕ) → leaves (plan t wr
 -- the plan takes the elements that the run needs
 abbrev pub PlanTakesNeeded : Type 0
 PlanTakesNeeded = (t : Tree) (write offset start len : ℕ) → Sound t → 0 < len → takes (plan t write offset start len) ≡ needed t start len
+
+-- the plan has as many fragments as the layout counts
+abbrev pub FragmentsAreCounted : Type 0
+FragmentsAreCounted = (t : Tree) (write offset start len : ℕ) → Sound t → 0 < len
+    → fragments_of t start len ≡ length (leaves (plan t write offset start len))
+
+-- over a stack, the tree of each device is sound
+abbrev pub TreesAreSound : Type 0
+TreesAreSound = (stack : Stack) (number : ℕ) → IsStack stack → number < length stack.devices.items → Sound (tree stack number)
+
+-- over a stack, no two fragments of a plan begin at one sector of the write and lie on one disk
+abbrev pub PlanFragmentsDiffer : Type 0
+PlanFragmentsDiffer = (stack : Stack) (number write offset start len : ℕ) → IsStack stack → number < length stack.devices.items → 0 < len
+    → AllPairs AreOther (leaves (plan (tree stack number) write offset start len))
+
+-- a fragment of a run by these choices, and among its sectors the one that stands j behind the run's first
+pub record IsIn (t : Tree) (write offset r len : ℕ) (choices : List ℕ) (j : ℕ) (f : Fragment) : Type 0 where
+  pub fragment : IsFragmentOf t write offset r len f
+  pub chosen : fragment.choices ≡ choices
+  pub from : fragment.from ≤ j
+  pub before : j < fragment.from + f.len
+
+-- each sector of a run is in a fragment of the run, by whatever choices lead it
+abbrev pub FragmentsCover : Type 0
+FragmentsCover = (t : Tree) (write offset r len j : ℕ) (choices : List ℕ) → Sound t → j < len → Fits t (r + j) choices
+    → (f : Fragment) × IsIn t write offset r len choices j f
+
+-- a way's heads are those of its steps, and it ends at its sector's place
+pub record IsTold (t : Tree) (r s : ℕ) (choices : List ℕ) : Type 0 where
+  pub at_steps : heads t r s choices ≡ map (λ (step : Step). step.head) (way t r s choices)
+  -- the last step, and those before it
+  pub before : List Step
+  pub end : Step
+  pub whole : way t r s choices ≡ before ++ (end ∷ [])
+  pub there : place t s choices ≡ record { disk = end.device; at = end.sector }
+
+abbrev pub WaysAreTold : Type 0
+WaysAreTold = (t : Tree) (r s : ℕ) (choices : List ℕ) → IsTold t r s choices

@@ -22,20 +22,21 @@ place (Split number kind sizes members) s choices = place (members (slot kind si
 place (Mirrored number sizes members) s [] = record { disk = number; at = s }
 place (Mirrored number sizes members) s (choice ∷ choices) = place (members choice) s choices
 
--- a step of the way: the device, where the run that comes to it starts, and the sector
+-- a step of the way: the device, where the run that comes to it starts, the sector, and the first sector of the piece that holds it
 pub record Step : Type 0 where
   pub device : ℕ
   pub run : ℕ
   pub sector : ℕ
+  pub head : ℕ
 
--- the way of sector s in a run that starts at r: each device on it cuts the run at its heads, and hands the piece on
+-- the way of sector s in a run that starts at r: a device that cuts hands on the piece that begins at the head, others the whole run
 unfoldable pub way : Tree → ℕ → ℕ → List ℕ → List Step
-way (Leaf number sectors) r s choices = record { device = number; run = r; sector = s } ∷ []
+way (Leaf number sectors) r s choices = record { device = number; run = r; sector = s; head = r } ∷ []
 way (Split number kind sizes members) r s choices =
-    record { device = number; run = r; sector = s }
+    record { device = number; run = r; sector = s; head = head kind sizes r s }
     ∷ way (members (slot kind sizes s).member) (slot kind sizes (head kind sizes r s)).at (slot kind sizes s).at choices
-way (Mirrored number sizes members) r s [] = record { device = number; run = r; sector = s } ∷ []
-way (Mirrored number sizes members) r s (choice ∷ choices) = record { device = number; run = r; sector = s } ∷ way (members choice) r s choices
+way (Mirrored number sizes members) r s [] = record { device = number; run = r; sector = s; head = r } ∷ []
+way (Mirrored number sizes members) r s (choice ∷ choices) = record { device = number; run = r; sector = s; head = r } ∷ way (members choice) r s choices
 
 -- the heads at the devices of the way, from the top down
 unfoldable pub heads : Tree → ℕ → ℕ → List ℕ → List ℕ

@@ -1,5 +1,5 @@
-//! The laws of the plan, over every tree of devices that cut as their kinds say.
-ghost use Rattle.layout_model.specs.Laws.{PlanOfPieces, PlanOfLegs, PlanOfDisk, PlanGivesFragments, PlanKeepsOrder, PlanTakesNeeded};
+//! The laws of the plan and of its fragments, over every tree of devices that cut as their kinds say, and so over every stack.
+ghost use Rattle.layout_model.specs.Laws.{PlanOfPieces, PlanOfLegs, PlanOfDisk, PlanGivesFragments, PlanKeepsOrder, PlanTakesNeeded, FragmentsAreCounted, TreesAreSound, PlanFragmentsDiffer, FragmentsCover, WaysAreTold};
 
 /// Where a device cuts a run, the plan of the run is the plan of its first piece in the member that the piece goes to, and then the
 /// plans of the other pieces. These are the plan that the rest has as a run of its own, and there are none where there is no rest. So a
@@ -33,4 +33,32 @@ pub fn plan_keeps_order()
 /// for each member of a mirror.
 pub fn plan_takes_needed()
     ensures { PlanTakesNeeded }
+{}
+
+/// A run's plan has as many fragments as the layout counts, sector by sector and without a cut. So what a write needs tells in how many
+/// bios it comes to the disks.
+pub fn fragments_are_counted()
+    ensures { FragmentsAreCounted }
+{}
+
+/// The devices of a stack cut as their kinds say, and its mirrors have members. So what the laws say of such trees holds of every
+/// device of a stack.
+pub fn trees_are_sound()
+    ensures { TreesAreSound }
+{}
+
+/// Over a stack, no two fragments of a run's plan begin at one sector of the write and lie on one disk. So each fragment stands there
+/// once, and is known by its offset and its disk.
+pub fn plan_fragments_differ()
+    ensures { PlanFragmentsDiffer }
+{}
+
+/// Each sector of a run is in a fragment of the run, by whatever choices lead the sector down: a member at each mirror on its way.
+pub fn fragments_cover()
+    ensures { FragmentsCover }
+{}
+
+/// The heads of a sector's way are those of its steps, and the way ends where the sector lies.
+pub fn ways_are_told()
+    ensures { WaysAreTold }
 {}

@@ -37,7 +37,7 @@ pub fn stripe_piece(chunk: u64, members: u64, start: u64, len: u64) -> Piece
 }
 
 /// The first piece at a device that limits the length of pieces and lets none cross a multiple of `chunk`, where that is not 0
-/// (`blk_bio_segment_split`, `block/blk-merge.c`).
+/// (`bio_split_rw`, `block/blk-merge.c`).
 pub fn limit_piece(max: u64, chunk: u64, start: u64, len: u64) -> Piece
     requires max { 1 ≤ max }
     requires some { 1 ≤ len }

@@ -1,5 +1,5 @@
 //! What all writes of a scenario need together. No memory is taken.
-ghost use Rattle.std.specs.Prelude.{◌≡◌, ◌+◌, ◌*◌, ◌^◌, ◌<◌, IfErr, IfOk, Contains, length};
+ghost use Rattle.std.specs.Prelude.{◌≡◌, ◌+◌, ◌*◌, ◌^◌, ◌<◌, IfErr, IfOk, Contains};
 ghost use Rattle.stack_base.specs.Stack.{IsStack};
 ghost use Rattle.layout_model.specs.Bound.{IsBound, IsTooMuch};
 ghost use Rattle.layout_model.specs.Writes.{IsWrite};
@@ -22,7 +22,7 @@ pub struct Bounds {
 }
 
 impl Bounds {
-    /// The most steps of a run: eight for each element, two for each fragment, and one for each entry of a script.
+    /// `8e + 2g + z`, the bound on the steps of a run.
     pub fn total(&self) -> u64
         requires { 8 * self.now.e + 2 * self.now.g + self.now.z < 2 ^ 64 }
         ensures { result ≡ 8 * self.now.e + 2 * self.now.g + self.now.z }
@@ -48,7 +48,6 @@ pub struct TooMuchWork {
 pub fn bound(stack: &Stack, writes: &[Write], z: u64) -> Result<Bounds, TooMuchWork>
     requires stack { IsStack stack.now }
     requires served { (write : Write) → Contains writes.now write → IsWrite stack.now write }
-    requires few { length writes.now < 2 ^ 32 }
     ensures bounds { IfOk result (λ bounds. IsBound stack.now writes.now z bounds) }
     ensures refused { IfErr result (λ refusal. IsTooMuch stack.now writes.now refusal) }
 {

@@ -45,6 +45,25 @@ module _ (head : ℕ → ℕ → ℕ) (next : ℕ → ℕ) (slot : ℕ → Slot)
   pub head_again : (r r2 s : ℕ) → r ≤ r2 → head r r2 ≡ r2 → r2 ≤ s → head r2 s ≡ head r s
   head_again r r2 s le is le2 = again_within r2 r r2 s (omega arith) le is le2
 
+  -- the head of a head is the head itself, with so many sectors to go at the most
+  twice_within : (steps r s : ℕ) → s ≤ r + steps → r ≤ s → head r (head r s) ≡ head r s
+  twice_within zero r s near le =
+      let same : head r s ≡ r = cut.here r s le (omega (arith, cut.ahead r)) in
+      ap (head r) same ∙ head_first r ∙ sym same
+  twice_within (suc steps) r s near le =
+      elim (cases_lt s (next r)) [
+        | inl lt ↦ let same : head r s ≡ r = cut.here r s le lt in ap (head r) same ∙ head_first r ∙ sym same
+        | inr ge ↦
+            let same : head r s ≡ head (next r) s = cut.later r s ge in
+            let behind = head_bounds (next r) s ge in
+            ap (head r) same ∙ cut.later r (head (next r) s) behind.0
+            ∙ twice_within steps (next r) s (omega (arith, cut.ahead r)) ge ∙ sym same
+      ]
+
+  -- a head is its own head
+  pub head_twice : (r s : ℕ) → r ≤ s → head r (head r s) ≡ head r s
+  head_twice r s le = twice_within s r s (omega arith) le
+
   -- a sector at or behind the first piece's end has another head
   pub head_behind : (r s : ℕ) → next r ≤ s → r < head r s
   head_behind r s ge =

@@ -33,11 +33,25 @@ pub record IsCut (head : ℕ → ℕ → ℕ) (next : ℕ → ℕ) (slot : ℕ �
   pub later : (r s : ℕ) → next r ≤ s → head r s ≡ head (next r) s
   pub along : (r s : ℕ) → r ≤ s → s < next r → slot s ≡ record { member = (slot r).member; at = (slot r).at + (s - r) }
 
--- a rest that is submitted again is cut where the whole run is: behind a head of the run, the heads are the same from there
+-- the lengths of a kind's pieces are not 0
+abbrev pub HasLengths : Kind → Type 0
+HasLengths (Stripe chunk) = 1 ≤ chunk
+HasLengths (Limit longest chunk) = 1 ≤ longest
+HasLengths Linear = Unit {0}
+HasLengths (Disk sectors bad) = Unit {0}
+HasLengths (Mirror records) = Unit {0}
+
+-- a rest that is submitted again is cut where the whole run is: from a head of the run on, the heads are the same
 abbrev pub HeadsStay : Type 0
 HeadsStay =
-    (kind : Kind) (sizes : List ℕ) (r r2 s : ℕ) → CanCut kind → r ≤ r2 → head kind sizes r r2 ≡ r2 → r2 ≤ s
+    (kind : Kind) (sizes : List ℕ) (r r2 s : ℕ) → HasLengths kind → r ≤ r2 → head kind sizes r r2 ≡ r2 → r2 ≤ s
     → head kind sizes r2 s ≡ head kind sizes r s
+
+-- the head of a sector is a head, in the run and not behind the sector
+abbrev pub HeadsAreHeads : Type 0
+HeadsAreHeads =
+    (kind : Kind) (sizes : List ℕ) (r s : ℕ) → HasLengths kind → r ≤ s
+    → (r ≤ head kind sizes r s) × (head kind sizes r s ≤ s) × (head kind sizes r (head kind sizes r s) ≡ head kind sizes r s)
 
 -- at each kind that cuts, the sectors from one on to the next end are one piece
 abbrev pub PiecesAreCuts : Type 0

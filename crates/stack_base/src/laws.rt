@@ -1,15 +1,26 @@
 //! What holds of the definitions, as functions that do nothing.
-ghost use Rattle.stack_base.specs.Cutting.{HeadsStay, PiecesAreCuts};
+ghost use Rattle.stack_base.specs.Cutting.{HeadsAreHeads, HeadsStay, PiecesAreCuts};
+ghost use Rattle.stack_base.specs.PoolId.{NumbersAreApart};
 
-/// A rest that is submitted again is cut where the whole run is, at each kind that cuts. So a device that takes the first piece off
-/// and hands the rest back to itself cuts as one that cuts the run at once (`submit_bio_noacct_nocheck` of a split bio's rest,
-/// `block/blk-core.c`).
+/// A rest that is submitted again is cut where the whole run is, at each kind. So a device that takes the first piece off and hands
+/// the rest back to itself cuts as one that cuts the run at once (`submit_bio_noacct` of a split bio's rest, `block/blk-core.c`).
 pub fn heads_stay()
     ensures { HeadsStay }
+{}
+
+/// The head of a sector is a sector of the run, at or before it, and is its own head. So the heads of a run are the first sectors of
+/// its pieces, one each.
+pub fn heads_are_heads()
+    ensures { HeadsAreHeads }
 {}
 
 /// At each kind that cuts, the sectors from one on up to the next end are one piece, which lies in one member without a gap, and
 /// the sectors behind it are cut as a run that begins there. So a run can be cut piece by piece (`bio_split`, `block/bio.c`).
 pub fn pieces_are_cuts()
     ensures { PiecesAreCuts }
+{}
+
+/// No two pools of a stack have the same number, and none has one above 65.
+pub fn numbers_are_apart()
+    ensures { NumbersAreApart }
 {}

@@ -11,14 +11,14 @@ use arrayvec::{ArrayString, ArrayVec};
 /// What a device does with the bios that it serves, with the numbers of its declaration.
 #[derive(Debug, Drop)]
 pub enum Kind {
-    /// Keeps the data, but for the bad ranges. `sectors` is its size.
+    /// Keeps the data. `sectors` is its size, and writes to one of the ranges in `bad` fail.
     Disk { sectors: u64, bad: Vec<Bad> },
     /// Its members stand one behind the other (`drivers/md/md-linear.c`).
     Linear,
     /// Chunks of `chunk` sectors go round its members (`drivers/md/raid0.c`).
     Stripe { chunk: u64 },
     /// Each sector is the same sector of its one member; a piece has at most `max` sectors and does not cross a multiple of `chunk`,
-    /// where that is not 0 (`blk_bio_segment_split`, `block/blk-merge.c`).
+    /// where that is not 0 (`bio_split_rw`, `block/blk-merge.c`).
     Limit { max: u64, chunk: u64 },
     /// Each member has a copy (`drivers/md/raid1.c`). `records` is the reserve of its pool of records.
     Mirror { records: u32 },
@@ -27,6 +27,7 @@ pub enum Kind {
 /// A device of the stack.
 #[derive(Debug, Drop)]
 pub struct Device {
+    /// Its name, of 1 to 16 characters.
     pub name: ArrayString<16>,
     pub kind: Kind,
     /// The devices below it, in their order. Each was declared before it.
@@ -40,13 +41,16 @@ pub struct Device {
 /// A declaration of devices, and the reserves of the writers' set.
 #[derive(Debug, Drop)]
 pub struct Stack {
+    /// The devices, each by its place in this list.
     pub devices: Vec<Device>,
+    /// The reserve of the writers' pool of bios.
     pub fs_bios: u32,
+    /// The reserve of the writers' pool of vectors.
     pub fs_vecs: u32,
 }
 
 impl Stack {
-    /// The device with this number. Its tree is the device over the trees of its members, and its size goes by their sizes.
+    /// The device with this number. The definitions see it as a tree over its members (`specs/Tree.antt`), and its size goes by theirs.
     pub fn device(&self, d: DevId) -> &Device
         requires stack { IsStack self.now }
         requires device { d.0 < length self.now.devices.items }

@@ -57,4 +57,5 @@ loop-number-preserved c =
         c.need-needs.ensures.fragments,
         parts_le_elements c.args.stack.now c.requires.stack write served,
       );
+      counted = omega (arith, c.need-needs.ensures.elements, c.loop-number.invariant.counted);
     }

@@ -8,4 +8,6 @@ invariant-loop-number l = record {
   allowed : l.e ≤ most_elements;
   fragments : l.g ≡ all_parts l.stack (take l.number l.writes);
   fewer : l.g ≤ l.e;
+  -- each write so far needs its own bio
+  counted : l.number ≤ l.e;
 }
