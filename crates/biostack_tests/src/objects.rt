@@ -1,5 +1,6 @@
 //! The calls of the lower crates that the program does not make, and each that allocates once.
-use mempool_core::{Facts, Fresh, Pool, Script, Taken};
+use fail_script::Script;
+use mempool_core::{Facts, Fresh, Pool, Taken};
 use outside_io::{Failed, MemSource, Sink, Source, StdSink, StdSource, read_up_to};
 use stack_base::{DevId, PoolId};
 use std::io::{self, ErrorKind, Read, Write};
@@ -38,7 +39,12 @@ fn numbers(pool: &Pool<Body>) -> (u64, u64, u64) {
 
 #[test]
 fn a_pool_whose_script_allows_it_takes_ordinary_memory(rt: HostRuntime) -> Result<(), Fail> {
-    let mut pool: Pool<Body> = Pool::open(rt.alloc(), 65, 2, Script::new(true))?;
+    let mut pool: Pool<Body> = Pool::open(
+        rt.alloc(),
+        65,
+        2,
+        Script::new(Vec::new(rt.alloc()), true),
+    )?;
     assert_eq!(rt; numbers(&pool), (2, 0, 0));
     let taken = pool.take();
     assert_eq!(rt; numbers(&pool), (2, 1, 1));
@@ -66,7 +72,12 @@ fn a_pool_whose_script_allows_it_takes_ordinary_memory(rt: HostRuntime) -> Resul
 fn a_pool_whose_script_refuses_lends_its_spares_and_then_misses(
     rt: HostRuntime,
 ) -> Result<(), Fail> {
-    let mut pool: Pool<Body> = Pool::open(rt.alloc(), 64, 1, Script::new(false))?;
+    let mut pool: Pool<Body> = Pool::open(
+        rt.alloc(),
+        64,
+        1,
+        Script::new(Vec::new(rt.alloc()), false),
+    )?;
     let taken = pool.take();
     assert_eq!(rt; numbers(&pool), (0, 1, 0));
     let Taken::Spare(element) = taken else {
@@ -81,6 +92,68 @@ fn a_pool_whose_script_refuses_lends_its_spares_and_then_misses(
     pool.give(element);
     assert_eq!(rt; numbers(&pool), (1, 0, 0));
     assert!(rt; pool.close().is_ok());
+    Ok(())
+}
+
+// The spares, the elements that are out and live, and the script's position.
+fn numbers_and_position(pool: &Pool<Body>) -> (u64, u64, u64, u64) {
+    let facts = pool.facts();
+    (facts.spares, facts.out, facts.live, facts.pos)
+}
+
+#[test]
+fn a_pool_goes_by_its_script(rt: HostRuntime) -> Result<(), Fail> {
+    let script = Script::new(vec![in rt.alloc(); true, false]?, false);
+    let mut pool: Pool<Body> = Pool::open(rt.alloc(), 65, 1, script)?;
+    assert_eq!(rt; numbers_and_position(&pool), (1, 0, 0, 0));
+    let Taken::Ordinary(first) = pool.take() else {
+        return Err(Fail::from("no ordinary element"));
+    };
+    assert_eq!(rt; numbers_and_position(&pool), (1, 1, 1, 1));
+    let Taken::Spare(second) = pool.take() else {
+        return Err(Fail::from("no spare"));
+    };
+    assert_eq!(rt; numbers_and_position(&pool), (0, 2, 1, 2));
+    pool.give(first);
+    assert_eq!(rt; numbers_and_position(&pool), (1, 1, 1, 2));
+    pool.give(second);
+    assert_eq!(rt; numbers_and_position(&pool), (1, 0, 0, 2));
+    let Taken::Spare(third) = pool.take() else {
+        return Err(Fail::from("no spare"));
+    };
+    assert_eq!(rt; numbers_and_position(&pool), (0, 1, 0, 2));
+    assert!(rt; matches!(pool.take(), Taken::Miss { used: false }));
+    assert_eq!(rt; numbers_and_position(&pool), (0, 1, 0, 2));
+    let Err(mut pool) = pool.close() else {
+        return Err(Fail::from("closed with an element out"));
+    };
+    pool.give(third);
+    assert!(rt; pool.close().is_ok());
+    Ok(())
+}
+
+#[test]
+fn a_take_that_misses_uses_up_an_entry(rt: HostRuntime) -> Result<(), Fail> {
+    let script = Script::new(vec![in rt.alloc(); false, false, true]?, false);
+    assert_eq!(rt; (script.entries(), script.tail()), (3, false));
+    for (pos, allowed) in [
+        (0, false),
+        (1, false),
+        (2, true),
+        (3, false),
+        (u64::MAX, false),
+    ] {
+        assert_eq!(rt; script.allows(pos), allowed);
+    }
+    let mut pool: Pool<Body> = Pool::open(rt.alloc(), 65, 1, script)?;
+    let Taken::Spare(element) = pool.take() else {
+        return Err(Fail::from("no spare"));
+    };
+    assert!(rt; matches!(pool.take(), Taken::Miss { used: true }));
+    assert_eq!(rt; numbers_and_position(&pool), (0, 1, 0, 2));
+    assert!(rt; matches!(pool.take(), Taken::Ordinary(_)));
+    assert_eq!(rt; numbers_and_position(&pool), (0, 2, 1, 3));
+    pool.give(element);
     Ok(())
 }
 

@@ -8,7 +8,7 @@ use Rattle.stack_base.specs.declared.ids.Status.TheVariants as status
 use Rattle.stack_base.specs.declared.ids.PoolId.TheVariants.{FsBios, FsVecs}
 use Rattle.stack_base.specs.PoolId.{pool_number}
 use Rattle.stack_base.specs.Words.{sector_from, zero_sector}
-use Rattle.mempool_core.specs.Script.{only_tail}
+use Rattle.fail_script.specs.Script.{only_tail}
 use Rattle.mempool_core.specs.Move.{PoolState, Move, takes_ordinary, takes_spare, gives, Moves, opened}
 use Rattle.biostack_top.specs.Scenario.{Scenario}
 use Rattle.biostack_top.specs.declared.path.Bio.{Bio}

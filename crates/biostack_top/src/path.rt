@@ -9,7 +9,8 @@ ghost use Rattle.biostack_top.specs.FormViews.{scenario_view};
 ghost use Rattle.biostack_top.specs.Path.{state_of, HasRun};
 
 use crate::form::Scenario;
-use mempool_core::{Element, Fresh, Pool, Script, Taken};
+use fail_script::Script;
+use mempool_core::{Element, Fresh, Pool, Taken};
 use stack_base::{PoolId, Status};
 use std::alloc::{AllocError, Global};
 
@@ -179,8 +180,18 @@ impl Objects {
         ensures idle { IfOk result (λ objects. objects.pending ≡ None) }
     {
         Ok(Objects {
-            bios: Pool::open(alloc, PoolId::FsBios.no(), RESERVE, Script::new(true))?,
-            vecs: Pool::open(alloc, PoolId::FsVecs.no(), RESERVE, Script::new(true))?,
+            bios: Pool::open(
+                alloc,
+                PoolId::FsBios.no(),
+                RESERVE,
+                Script::new(Vec::new(alloc), true),
+            )?,
+            vecs: Pool::open(
+                alloc,
+                PoolId::FsVecs.no(),
+                RESERVE,
+                Script::new(Vec::new(alloc), true),
+            )?,
             write: Bio {
                 start: scenario.start,
                 count: scenario.count,

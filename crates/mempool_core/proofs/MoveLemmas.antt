@@ -1,12 +1,12 @@
 -- What every move of a pool keeps.
 use Rattle.std.proofs.Common.{◌≡◌, ℕ, refl, ap, sym, ◌∙◌, subst, arith}
 use Rattle.std.proofs.lemmas.Bool.Decides.{nat_tests}
-use Rattle.mempool_core.specs.declared.Script.{Script}
+use Rattle.fail_script.specs.Script.{Answers}
 use Rattle.mempool_core.specs.Facts.{AddsUp}
 use Rattle.mempool_core.specs.Move.{PoolState, Move, takes_ordinary, takes_spare, misses, gives, CanMove, Moves, after_move, opened}
 
 -- a pool adds up when it is opened
-pub opened_adds_up : (number min : ℕ) (script : Script) → AddsUp (opened number min script).facts
+pub opened_adds_up : (number min : ℕ) (script : Answers) → AddsUp (opened number min script).facts
 opened_adds_up number min script = record { elements = refl; spares = omega arith }
 
 -- a pool that adds up adds up after a move that can come

@@ -1,4 +1,4 @@
-pub mod Script
+pub mod Position
 pub mod Facts
 pub mod Move
 pub mod Taken

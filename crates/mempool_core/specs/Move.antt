@@ -1,14 +1,15 @@
 -- What a pool can do, and how each move changes it. No body is named here, so a larger machine can cite it.
 use Rattle.std.specs.Prelude.{◌≡◌, ℕ, ◌+◌, ◌-◌, ◌^◌, ◌<◌, ◌⊎◌, Bool, IsTrue, nat_lt, if◌then◌else◌}
-use Rattle.mempool_core.specs.declared.Script.{Script}
+use Rattle.fail_script.specs.Script.{Answers}
 use Rattle.mempool_core.specs.declared.Facts.{Facts}
-use Rattle.mempool_core.specs.Script.{allows_at, uses_entry, next_pos}
+use Rattle.fail_script.specs.Script.{allows_at}
+use Rattle.mempool_core.specs.Position.{uses_entry, next_pos}
 use Rattle.mempool_core.specs.Facts.{counted}
 
 -- what is seen of a pool
 pub record PoolState : Type 0 where
   pub number : ℕ
-  pub script : Script
+  pub script : Answers
   pub facts : Facts
 
 pub data Move : Type 0 where
@@ -22,7 +23,7 @@ pub data Move : Type 0 where
   gives : Move
 
 -- a pool as it is opened
-abbrev pub opened : ℕ → ℕ → Script → PoolState
+abbrev pub opened : ℕ → ℕ → Answers → PoolState
 opened number min script = record {
   number = number;
   script = script;

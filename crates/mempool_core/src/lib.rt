@@ -3,67 +3,28 @@
 //!
 //! `Pool::open` is `mempool_create`, `Pool::give` is `mempool_free`, and `Pool::close` stands for `mempool_destroy`. `Pool::take`
 //! is `mempool_alloc` for a taker who may not wait: it tries once, and what follows a miss is the taker's affair.
-//! A `Script` says which takes may have ordinary memory at all, so that a run can ask for a shortage of it.
+//! A script says which takes may have ordinary memory at all, so that a run can ask for a shortage of it.
 #![tactic(auto)]
 
 ghost use Rattle.std.specs.Prelude.{◌≡◌, ℕ, ◌<◌, ◌≤◌, All, IfOk, MatchResult, vec_len, vec_capacity};
-ghost use Rattle.mempool_core.specs.Script.{allows_at, entries_of, tail_of, only_tail, uses_entry, next_pos};
+ghost use Rattle.mempool_core.specs.Position.{uses_entry, next_pos};
 ghost use Rattle.mempool_core.specs.Facts.{AddsUp};
 ghost use Rattle.mempool_core.specs.Move.{Moves, gives, opened};
 ghost use Rattle.mempool_core.specs.Taken.{TakeOf};
 
+use fail_script::Script;
 use std::alloc::{AllocError, Global};
 use std::marker::Model;
 
-/// Which takes of a pool may have ordinary memory, by their position.
-///
-/// Each take has an entry of the script until the entries are used up, and the tail answers for all takes from there on.
-/// A script of today has no entries.
-#[derive(Debug, PartialEq, Eq, Drop)]
-pub struct Script {
-    tail: bool,
-}
-
-impl Script {
-    /// The script that has only its tail.
-    pub fn new(tail: bool) -> Script
-        ensures { result ≡ only_tail tail }
-    {
-        Script { tail }
-    }
-
-    /// Whether the take at position `pos` may have ordinary memory.
-    pub fn allows(&self, pos: u64) -> bool
-        ensures { result ≡ allows_at self.now pos }
-    {
-        self.tail
-    }
-
-    /// How many entries the script has.
-    pub fn entries(&self) -> u64
-        ensures { result ≡ entries_of self.now }
-    {
-        0
-    }
-
-    /// The answer for all takes behind the entries.
-    pub fn tail(&self) -> bool
-        ensures tail { result ≡ tail_of self.now }
-        ensures decides { (pos : ℕ) → entries_of self.now ≤ pos → allows_at self.now pos ≡ result }
-    {
-        self.tail
-    }
-
-    // The position behind a take at `pos`, and whether that take uses up an entry.
-    fn advance(&self, pos: u64) -> (u64, bool)
-        ensures next { result.0 ≡ next_pos self.now pos }
-        ensures used { result.1 ≡ uses_entry self.now pos }
-    {
-        if pos < self.entries() {
-            (pos + 1, true)
-        } else {
-            (pos, false)
-        }
+// The position behind a take at `pos`, and whether that take uses up an entry of the script.
+fn advance(script: &Script, pos: u64) -> (u64, bool)
+    ensures next { result.0 ≡ next_pos script.now pos }
+    ensures used { result.1 ≡ uses_entry script.now pos }
+{
+    if pos < script.entries() {
+        (pos + 1, true)
+    } else {
+        (pos, false)
     }
 }
 
@@ -199,7 +160,7 @@ impl<P: Fresh + Drop> Pool<P> {
         ensures adds_up { AddsUp self.new.facts }
     {
         let is_allowed = self.script.allows(self.facts.pos);
-        let (pos, used) = self.script.advance(self.facts.pos);
+        let (pos, used) = advance(&self.script, self.facts.pos);
         self.facts.pos = pos;
         if self.facts.out == u64::MAX {
             return Taken::Miss { used };

@@ -10,3 +10,6 @@ pub mod Smallest
 pub mod Inside
 pub mod Unfolded
 pub mod MemberSizes
+pub mod DeclaredSums
+pub mod DeclaredKinds
+pub mod DeclaredBounds

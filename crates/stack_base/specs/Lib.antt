@@ -5,3 +5,4 @@ pub mod Tree
 pub mod Stack
 pub mod Piece
 pub mod Cutting
+pub mod Declaration

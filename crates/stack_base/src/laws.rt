@@ -1,5 +1,6 @@
 //! What holds of the definitions, as functions that do nothing.
 ghost use Rattle.stack_base.specs.Cutting.{HeadsAreHeads, HeadsStay, PiecesAreCuts};
+ghost use Rattle.stack_base.specs.Declaration.{DeclaredIsStack};
 ghost use Rattle.stack_base.specs.PoolId.{NumbersAreApart};
 
 /// A rest that is submitted again is cut where the whole run is, at each kind. So a device that takes the first piece off and hands
@@ -23,4 +24,10 @@ pub fn pieces_are_cuts()
 /// No two pools of a stack have the same number, and none has one above 65.
 pub fn numbers_are_apart()
     ensures { NumbersAreApart }
+{}
+
+/// What a declaration is checked for, device by device, makes a stack: that no device is too large, and that little can begin at one
+/// sector of it, follows from each device being a member at most once and from the sum of all disks.
+pub fn declared_is_stack()
+    ensures { DeclaredIsStack }
 {}

@@ -1,0 +1,59 @@
+-- How much larger or heavier than its members together a device of each kind can be.
+use Rattle.std.proofs.Common.{◌≡◌, ℕ, ◌+◌, ◌*◌, ◌/◌, ◌<◌, ◌≤◌, List, [], ◌∷◌, length, map, sum, ap, ◌∙◌, refl, sym, arith}
+use Rattle.std.specs.List.{range_with_len}
+use Rattle.std.proofs.lemmas.List.{same_lists, get_or-map, length-map}
+use Rattle.std.proofs.lemmas.List.FromFn.{get_or-map-range_with_len, length-map-range_with_len}
+use Rattle.std.proofs.lemmas.List.Sums.{get_or-le-sum_by}
+use Rattle.std.proofs.Math.Nat.{mul_assoc, mul_comm}
+use Rattle.stack_base.specs.declared.stack.Kind.{Kind}
+use Rattle.stack_base.specs.declared.stack.Kind.TheVariants.{Disk, Linear, Stripe, Limit, Mirror}
+use Rattle.stack_base.specs.Declaration.{own_sectors}
+use Rattle.stack_base.specs.Mapping.{size_of, smallest}
+use Rattle.stack_base.specs.Stack.{HasShape}
+use Rattle.stack_base.specs.Tree.{Tree, Leaf, size, member_at, over, over_shape, weight}
+use Rattle.stack_base.proofs.MemberSizes.{shape_few}
+use Rattle.stack_base.proofs.Smallest.{smallest_le, chunks_times_le}
+
+-- the smallest of some sizes is at most their sum
+smallest_le_sum : (sizes : List ℕ) → smallest sizes ≤ sum sizes
+unfolding smallest
+smallest_le_sum [] = omega arith
+smallest_le_sum (first ∷ sizes) =
+    omega (arith, smallest_le (first ∷ sizes) 0 (omega arith), get_or-le-sum_by (λ x. x) (first ∷ sizes) 0 0 (omega arith))
+
+-- a device has no more sectors than its own and its members'
+pub size_of_le : (kind : Kind) (sizes : List ℕ) → size_of kind sizes ≤ own_sectors kind + sum sizes
+unfolding size_of
+size_of_le (Disk sectors bad) sizes = omega arith
+size_of_le Linear sizes = omega arith
+size_of_le (Stripe chunk) sizes =
+    let n = length sizes in
+    let rows = smallest sizes / chunk in
+    let turned : n * chunk * rows ≡ rows * chunk * n = mul_assoc n chunk rows ∙ ap (λ x. n * x) (mul_comm chunk rows) ∙ mul_comm n (rows * chunk) in
+    omega (arith, turned, chunks_times_le chunk (smallest sizes) sizes refl)
+size_of_le (Limit longest chunk) sizes = omega (arith, smallest_le_sum sizes)
+size_of_le (Mirror records) sizes = omega (arith, smallest_le_sum sizes)
+
+-- the weights of the members by their places
+weights_by_place :
+    (number : ℕ) (members : List Tree)
+    → map (λ k. weight (member_at number members k)) (range_with_len 0 (length (map size members))) ≡ map weight members
+weights_by_place number members =
+    let at = λ (k : ℕ). weight (member_at number members k) in
+    let n = length (map size members) in
+    let many : n ≡ length members = length-map members size in
+    same_lists (map at (range_with_len 0 n)) (map weight members) (length-map-range_with_len at 0 n ∙ many ∙ sym (length-map members weight)) (λ k d lt.
+    let within : k < length members = omega (arith, length-map-range_with_len at 0 n) in
+    get_or-map-range_with_len at 0 n k k d (omega arith) (omega arith) ∙ sym (get_or-map weight members k (Leaf number 0) d within))
+
+-- a device over its members is no heavier than they are, and a record and a clone for each of at most eight
+pub weight_over_le :
+    (number : ℕ) (kind : Kind) (members : List Tree) → HasShape kind (length members)
+    → weight (over number kind members) ≤ 9 + sum (map weight members)
+unfolding over_shape weight
+weight_over_le number (Disk sectors bad) members shape = omega arith
+weight_over_le number Linear members shape = omega (arith, ap sum (weights_by_place number members))
+weight_over_le number (Stripe chunk) members shape = omega (arith, ap sum (weights_by_place number members))
+weight_over_le number (Limit longest chunk) members shape = omega (arith, ap sum (weights_by_place number members))
+weight_over_le number (Mirror records) members shape =
+    omega (arith, ap sum (weights_by_place number members), length-map members size, shape_few (Mirror records) (length members) shape)
