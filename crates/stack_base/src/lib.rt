@@ -11,4 +11,5 @@ mod stack;
 
 pub use ids::{Bad, DevId, PoolId, Range, SetId, Status};
 pub use mapping::{MapLaw, Piece};
+pub use sizes::kind_size;
 pub use stack::{Device, Kind, Stack};

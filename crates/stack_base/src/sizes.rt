@@ -9,7 +9,7 @@ use crate::Kind;
 /// other (`linear_size`, `drivers/md/md-linear.c`), as often the smallest in whole chunks as there are members at a stripe
 /// (`raid0_size`, `drivers/md/raid0.c`), and else the smallest (`raid1_size`, `drivers/md/raid1.c`).
 #[tactic(auto, unfolding(crate::specs::Mapping::size_of))]
-pub(crate) fn kind_size(kind: &Kind, sizes: &[u64]) -> u64
+pub fn kind_size(kind: &Kind, sizes: &[u64]) -> u64
     requires shape { HasShape kind.now (length sizes.now) }
     requires fits { sum sizes.now < 2 ^ 64 }
     ensures { result ≡ size_of kind.now sizes.now }

@@ -1,0 +1,109 @@
+-- What an accepted declaration means: its stack and the scripts of its pools.
+use Rattle.std.specs.Prelude.{◌≡◌, ◌==◌, not, List, [], ◌∷◌, ℕ, length, map, filter, flat_map, reverse, zip, find, slice_get, unwrap_or, Option, None, Some}
+use Rattle.std.specs.List.{range_with_len}
+use Rattle.std.specs.Option.{option_map}
+use native.Mathlib.Nat.{ℕ_set}
+use native.Mathlib.Bridge.{le_prop}
+use Rattle.fail_script.specs.Script.{Answers, only_tail}
+use Rattle.stack_base.specs.declared.ids.Bad.{Bad}
+use Rattle.stack_base.specs.declared.ids.PoolId.{PoolId}
+use Rattle.stack_base.specs.declared.ids.PoolId.TheVariants.{FsBios, FsVecs, Bios, Records}
+use Rattle.stack_base.specs.declared.stack.Kind.{Kind}
+use Rattle.stack_base.specs.declared.stack.Kind.TheVariants as kind
+use Rattle.stack_base.specs.declared.stack.Device.{Device}
+use Rattle.stack_base.specs.declared.stack.Stack.{Stack}
+use Rattle.decl_text.specs.Known.{Known, Declared, Reserves, nothing}
+use Rattle.stack_base.specs.Stack.{HasShape, IsStack}
+use Rattle.decl_text.specs.Reasons.{number_of_reason}
+use Rattle.decl_text.specs.Checks.{is_of_pool}
+use Rattle.decl_text.specs.Refusals.{Check, item_checks}
+use Rattle.decl_text.specs.Reading.{refusal_of_items, known_of_items}
+use Rattle.decl_text.specs.declared.decl.Numbered.{Numbered}
+use Rattle.decl_text.specs.declared.item.What.{What}
+use Rattle.decl_text.specs.declared.item.Item.{Item}
+use Rattle.decl_text.specs.declared.item.What.TheVariants as what
+
+abbrev pub what_of : Kind → What
+what_of (kind.Disk sectors bad) = what.Disk sectors
+what_of kind.Linear = what.Linear
+what_of (kind.Stripe chunk) = what.Stripe chunk
+what_of (kind.Limit longest chunk) = what.Limit longest chunk
+what_of (kind.Mirror records) = what.Mirror records
+
+abbrev pub bad_of : Kind → List Bad
+bad_of (kind.Disk sectors bad) = bad.items
+bad_of kind.Linear = []
+bad_of (kind.Stripe chunk) = []
+bad_of (kind.Limit longest chunk) = []
+bad_of (kind.Mirror records) = []
+
+-- a device of a stack as it was declared
+abbrev pub shown : Device → Declared
+shown device = record {
+  name = device.name.bytes;
+  what = what_of device.kind;
+  members = map (λ m. m.0) device.members.items;
+  reserve = device.reserve;
+  rescuer = device.rescuer;
+}
+
+abbrev pub shown_devices : Stack → List Declared
+shown_devices stack = map shown stack.devices.items
+
+-- the bad ranges of a disk, in the order of their lines
+abbrev pub bad_ranges : Known → ℕ → List Bad
+bad_ranges known number = map (λ b. b.bad) (filter (λ b. b.disk == number) known.bad)
+
+-- the reserves of the writers' set, which are 2 where no line says otherwise
+abbrev pub reserves_or_two : Option Reserves → Reserves
+reserves_or_two None = record { bios = 2; vecs = 2 }
+reserves_or_two (Some reserves) = reserves
+
+-- the pools of a device, by falling number
+abbrev pub device_pools : ℕ → What → List PoolId
+device_pools number (what.Disk sectors) = []
+device_pools number (what.Mirror records) = Records (record { 0 = number }) ∷ Bios (record { 0 = number }) ∷ []
+device_pools number what.Linear = Bios (record { 0 = number }) ∷ []
+device_pools number (what.Stripe chunk) = Bios (record { 0 = number }) ∷ []
+device_pools number (what.Limit longest chunk) = Bios (record { 0 = number }) ∷ []
+
+-- all pools, by falling number
+abbrev pub pools : List Declared → List PoolId
+pools devices = FsBios ∷ FsVecs ∷ flat_map (λ at. device_pools at.0 at.1.what) (reverse (zip (range_with_len 0 (length devices)) devices))
+
+-- the script of a pool: its line's, or none of entries, with memory for all takes unless a line says otherwise
+abbrev pub script_of : Known → PoolId → Answers
+script_of known pool = unwrap_or (option_map (λ s. s.script) (find (is_of_pool pool) known.scripts)) (only_tail (not known.no_memory))
+
+abbrev pub scripts_of : Known → List (PoolId × Answers)
+scripts_of known = map (λ pool. (pool, script_of known pool)) (pools known.devices)
+
+-- the stack and the scripts that these declarations mean
+pub record Means (known : Known) (stack : Stack) (pool_scripts : List (PoolId × Answers)) : Type 0 where
+  pub devices : shown_devices stack ≡ known.devices
+  pub bad : (number : ℕ) (device : Device) → slice_get stack.devices.items number ≡ Some device → bad_of device.kind ≡ bad_ranges known number
+  pub fs_bios : stack.fs_bios ≡ (reserves_or_two known.fs).bios
+  pub fs_vecs : stack.fs_vecs ≡ (reserves_or_two known.fs).vecs
+  pub scripts : pool_scripts ≡ scripts_of known
+
+-- they have no refusal by these checks
+abbrev pub Passes : List (Check Item) → List Numbered → Type 0
+Passes checks items = refusal_of_items checks nothing items None ≡ None
+
+-- the checks but for the one of rescuers, without which a stack can be shared out and run, but may hang
+abbrev pub loose_checks : List (Check Item)
+loose_checks = filter (λ check. not (number_of_reason check.reason == 10)) item_checks
+
+-- some declarations, which have no refusal but perhaps that of rescuers, mean this stack and these scripts
+abbrev pub IsDeclaredSo : Stack → List (PoolId × Answers) → Type 0
+IsDeclaredSo stack pool_scripts = (items : List Numbered) × Passes loose_checks items × Means (known_of_items nothing items) stack pool_scripts
+
+pub HasShape-prop : (kind : Kind) (members : ℕ) → IsProp (HasShape kind members)
+HasShape-prop (kind.Disk sectors bad) members = hlevel (ℕ_set, le_prop)
+HasShape-prop kind.Linear members = hlevel (ℕ_set, le_prop)
+HasShape-prop (kind.Stripe chunk) members = hlevel (ℕ_set, le_prop)
+HasShape-prop (kind.Limit longest chunk) members = hlevel (ℕ_set, le_prop)
+HasShape-prop (kind.Mirror records) members = hlevel (ℕ_set, le_prop)
+
+pub IsStack-prop : (stack : Stack) → IsProp (IsStack stack)
+IsStack-prop stack = hlevel (HasShape-prop, ℕ_set, le_prop)

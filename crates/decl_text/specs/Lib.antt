@@ -1,0 +1,15 @@
+pub mod Reasons
+pub mod Text
+pub mod Commands
+pub mod Words
+pub mod Forms
+pub mod Items
+pub mod Known
+pub mod Checks
+pub mod Refusals
+pub mod Lines
+pub mod Places
+pub mod Read
+pub mod Reading
+pub mod Accepting
+pub mod Steps

@@ -1,0 +1,76 @@
+-- The lines of a text, their words, and what a word may be.
+use Rattle.std.specs.Prelude.{◌^◌, ◌==◌, ◌&&◌, ◌||◌, if◌then◌else◌, nat_lt, nat_le, not, Bool, true, false, List, [], ◌∷◌, ℕ, filter, length, codes, Option, None, Some}
+use Rattle.std.specs.List.{slice_split, list_all, list_any, before_first, after_first}
+use Rattle.std.specs.Char.{is_ascii_alphabetic, is_ascii_alphanumeric, is_ascii_digit}
+use Rattle.std.specs.Str.{bytes_eq}
+use Rattle.std.specs.Str.Parse.{digits_value}
+
+-- a text may have so many bytes
+abbrev pub most_bytes : ℕ
+most_bytes = 4194304
+
+-- parts between separators, but for an empty last one
+unfoldable pub without_empty_end : List (List ℕ) → List (List ℕ)
+without_empty_end [] = []
+without_empty_end ([] ∷ []) = []
+without_empty_end (part ∷ parts) = part ∷ without_empty_end parts
+
+-- the lines of a text, separated by byte 10, which the last one may lack
+abbrev pub lines : List ℕ → List (List ℕ)
+lines text = without_empty_end (slice_split (λ byte. byte == 10) text)
+
+-- blanks are a space, a tab and a carriage return
+abbrev pub is_blank : ℕ → Bool
+is_blank byte = byte == 32 || byte == 9 || byte == 13
+
+abbrev pub is_some_text : List ℕ → Bool
+is_some_text [] = false
+is_some_text (byte ∷ bytes) = true
+
+-- the words of a line: its maximal parts without blanks
+abbrev pub words : List ℕ → List (List ℕ)
+words line = filter is_some_text (slice_split is_blank line)
+
+-- blanks and the visible characters of ASCII
+abbrev pub is_text_byte : ℕ → Bool
+is_text_byte byte = is_blank byte || (nat_lt 32 byte && nat_lt byte 127)
+
+abbrev pub is_text : List ℕ → Bool
+is_text line = list_all is_text_byte line
+
+-- an option is a word with `=` in it: its key stands before the first one, its value behind it
+abbrev pub is_option : List ℕ → Bool
+is_option word = list_any (λ byte. byte == 61) word
+
+abbrev pub key : List ℕ → List ℕ
+key word = before_first (λ byte. byte == 61) word
+
+abbrev pub value : List ℕ → List ℕ
+value word = after_first (λ byte. byte == 61) word
+
+-- letters, digits, `_` and `-`
+abbrev pub is_name_byte : ℕ → Bool
+is_name_byte byte = is_ascii_alphanumeric byte || byte == 95 || byte == 45
+
+abbrev pub begins_with_letter : List ℕ → Bool
+begins_with_letter [] = false
+begins_with_letter (first ∷ more) = is_ascii_alphabetic first
+
+-- 1 to 16 letters, digits, `_` and `-`, a letter first, and not the name of the writers' set
+unfoldable pub is_name : List ℕ → Bool
+is_name word = nat_le (length word) 16 && not (bytes_eq word (codes "fs")) && begins_with_letter word && list_all is_name_byte word
+
+-- 1 to 20 decimal digits that write a number below 2 ^ 64
+abbrev pub is_number : List ℕ → Bool
+is_number word = nat_lt 0 (length word) && nat_le (length word) 20 && list_all is_ascii_digit word && nat_lt (digits_value 10 word) (2 ^ 64)
+
+unfoldable pub number_of : List ℕ → Option ℕ
+number_of word = if is_number word then Some (digits_value 10 word) else None
+
+-- an entry of a script: `+` where the attempt may succeed, `-` where it fails
+abbrev pub is_entry : ℕ → Bool
+is_entry byte = byte == 43 || byte == 45
+
+-- entries of a script, one or more, or a dot for none
+abbrev pub is_pattern : List ℕ → Bool
+is_pattern word = bytes_eq word (codes ".") || (is_some_text word && list_all is_entry word)

@@ -1,0 +1,23 @@
+//! Reads the declarations of a scenario's text, and says what every line of a text means and which are refused.
+#![tactic(auto)]
+
+mod accepted;
+mod command;
+mod decl;
+mod form;
+mod item;
+mod line;
+mod meaning;
+mod reason;
+mod text;
+mod word;
+mod wrong;
+
+pub use accepted::Accepted;
+pub use command::Command;
+pub use decl::{Decl, DeclParts, Numbered, read_decl};
+pub use item::{Item, What};
+pub use line::{Line, LineFault};
+pub use reason::{ReadFault, Reason, Refusal};
+pub use text::Lines;
+pub use word::{Word, Words};

@@ -1,0 +1,228 @@
+//! One line of a text: its words, and what it says.
+ghost use Rattle.std.specs.Prelude.{◌≡◌, ◌<◌, ◌∷◌, ◌++◌, [], filter, length, position, IfOk, MatchOption};
+ghost use Rattle.std.specs.List.{list_all, slice_split};
+ghost use Rattle.decl_text.specs.Text.{is_blank, is_some_text, is_text, is_text_byte, words, words as words_in};
+ghost use Rattle.decl_text.specs.Forms.{form, is_malformed, is_misnumbered};
+ghost use Rattle.decl_text.specs.Items.{declares, is_comment, is_write, writes};
+ghost use Rattle.decl_text.specs.Lines.{CommandSays, Says, command_first};
+
+use crate::meaning::meaning;
+use crate::wrong::{is_malformed, is_misnumbered};
+use crate::{Command, Item, Reason, Word};
+use std::alloc::{AllocError, Global};
+use std::marker::Model;
+use thiserror::Error;
+
+/// Why a line says nothing.
+#[derive(Clone, Copy, Debug, PartialEq, Eq, Error)]
+pub enum LineFault {
+    #[error("the line is wrong")]
+    Wrong(Reason),
+    #[error("out of memory")]
+    Memory,
+}
+
+impl From<AllocError> for LineFault {
+    ghost use Rattle.std.specs.Prelude.{◌≡◌};
+    ghost use Rattle.decl_text.specs.declared.line.LineFault.TheVariants.{Memory};
+
+    ghost from_gives = { λ _ fault. fault ≡ Memory };
+
+    fn from(_: AllocError) -> Self {
+        LineFault::Memory
+    }
+}
+
+/// A line, which contracts see as its bytes.
+#[derive(Debug, Drop)]
+pub struct Line<'a> {
+    bytes: &'a [u8],
+    words: Vec<Word<'a>>,
+}
+
+impl<'a> Model for Line<'a> {
+    ghost use Rattle.std.specs.Prelude.{◌≡◌, List, ℕ};
+    ghost use Rattle.decl_text.specs.Text.{words as words_in};
+
+    ghost Value = { List ℕ };
+
+    ghost view = { λ line. line.bytes.now };
+
+    ghost invariant = { λ line. line.words.items ≡ words_in line.bytes.now };
+}
+
+impl<'a> Line<'a> {
+    /// These bytes as a line.
+    ///
+    /// # Errors
+    ///
+    /// Where there is no memory for its words.
+    pub fn of(alloc: Global, bytes: &'a [u8]) -> Result<Line<'a>, AllocError>
+        ensures { IfOk result (λ line. line ≡ bytes.now) }
+    {
+        let words = words_of(alloc, bytes)?;
+        Ok(Line { bytes, words })
+    }
+
+    /// Whether it is a write, by its first word.
+    pub fn writes(&self) -> bool
+        ensures { result ≡ writes (words self.now) }
+    {
+        matches!(first_of(&self.words), First::Command(Command::Write))
+    }
+
+    /// Whether it is a line of declarations: it has a first word of another kind, which may be unknown.
+    pub fn declares(&self) -> bool
+        ensures { result ≡ declares (words self.now) }
+    {
+        match first_of(&self.words) {
+            First::Skipped => false,
+            First::Unknown => true,
+            First::Command(command) => command != Command::Write,
+        }
+    }
+
+    /// What it says by itself, and nothing where it is skipped.
+    ///
+    /// # Errors
+    ///
+    /// Where it has a byte that no text has, a wrong word, or a wrong number, in this order, or where there is no memory.
+    pub fn said(&self, alloc: Global) -> Result<Option<Item<'a>>, LineFault>
+        ensures { Says self.now result }
+    {
+        read(alloc, self.bytes, &self.words)
+    }
+}
+
+/// What the first word of a line says.
+#[derive(Clone, Copy, Debug, PartialEq, Eq)]
+pub enum First {
+    /// There is none, or it begins a comment.
+    Skipped,
+    /// It is no word of a line.
+    Unknown,
+    /// What the line is about.
+    Command(Command),
+}
+
+// What the first of these words says.
+fn first_of(words: &[Word<'_>]) -> First
+    ensures { result ≡ command_first words.now }
+{
+    match words.first() {
+        None => First::Skipped,
+        Some(word) if is_comment(word) => First::Skipped,
+        Some(word) => match Command::of(word) {
+            None => First::Unknown,
+            Some(command) => First::Command(command),
+        },
+    }
+}
+
+// Whether the word begins a comment.
+fn is_comment(word: &Word<'_>) -> bool
+    ensures { result ≡ is_comment word.now }
+{
+    word.bytes().first() == Some(&b'#')
+}
+
+fn is_text(line: &[u8]) -> bool
+    ensures { result ≡ is_text line.now }
+{
+    line.iter()
+        .all(|byte| is_blank(*byte) || (b' ' < *byte && *byte < 127))
+}
+
+fn is_blank(byte: u8) -> bool
+    ensures { result ≡ is_blank byte }
+{
+    byte == b' ' || byte == b'\t' || byte == b'\r'
+}
+
+// The place of the first blank.
+fn blank_place(line: &[u8]) -> Option<usize>
+    ensures { result ≡ position is_blank line.now }
+{
+    line.iter().position(|byte| is_blank(*byte))
+}
+
+// What stands before the first blank, and what stands behind it, where there is one.
+fn cut(line: &[u8]) -> (&[u8], Option<&[u8]>)
+    ensures parts { MatchOption result.1 (slice_split is_blank line.now ≡ result.0.now ∷ [])
+        (λ rest. slice_split is_blank line.now ≡ result.0.now ∷ slice_split is_blank rest.now) }
+    ensures shorter { MatchOption result.1 (Unit {0}) (λ rest. length rest.now < length line.now) }
+{
+    match blank_place(line) {
+        Some(end) => {
+            let (part, _) = line.split_at(end);
+            let (_, rest) = line.split_at(end + 1);
+            (part, Some(rest))
+        }
+        None => (line, None),
+    }
+}
+
+// Keeps a part that is a word.
+fn keep_word<'a>(all: &mut Vec<Word<'a>>, part: &'a [u8]) -> Result<(), AllocError>
+    ensures { IfOk result (λ _. all.new.items ≡ all.old.items ++ filter is_some_text (part.now ∷ [])) }
+{
+    if !part.is_empty() {
+        all.push(Word::of(part))?;
+    }
+    Ok(())
+}
+
+// The words of a line.
+fn words_of<'a>(alloc: Global, line: &'a [u8]) -> Result<Vec<Word<'a>>, AllocError>
+    ensures { IfOk result (λ all. all.items ≡ words line.now) }
+{
+    let mut all = Vec::new(alloc);
+    let mut left = line;
+    loop {
+        let (part, rest) = cut(left);
+        keep_word(&mut all, part)?;
+        match rest {
+            Some(rest) => left = rest,
+            None => return Ok(all),
+        }
+    }
+}
+
+// What the words behind the first one say.
+fn read_command<'a>(
+    alloc: Global,
+    command: Command,
+    words: &[Word<'a>],
+) -> Result<Item<'a>, LineFault>
+    ensures { CommandSays command words.now result }
+{
+    if is_malformed(command, words) {
+        return Err(LineFault::Wrong(Reason::BadWord));
+    }
+    if is_misnumbered(command, words) {
+        return Err(LineFault::Wrong(Reason::BadNumber));
+    }
+    let item = meaning(alloc, command, words)?;
+    Ok(item)
+}
+
+// What a line of these words says.
+fn read<'a>(alloc: Global, line: &[u8], words: &[Word<'a>]) -> Result<Option<Item<'a>>, LineFault>
+    requires { words.now ≡ words_in line.now }
+    ensures { Says line.now result }
+{
+    if !is_text(line) {
+        return Err(LineFault::Wrong(Reason::NotText));
+    }
+    match first_of(words) {
+        First::Skipped => Ok(None),
+        First::Unknown => Err(LineFault::Wrong(Reason::BadWord)),
+        First::Command(command) => {
+            let (_, rest) = words.split_at(1);
+            match read_command(alloc, command, rest) {
+                Ok(item) => Ok(Some(item)),
+                Err(fault) => Err(fault),
+            }
+        }
+    }
+}
