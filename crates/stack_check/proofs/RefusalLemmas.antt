@@ -1,0 +1,70 @@
+-- The refusal of lines, one after the other.
+use Rattle.std.proofs.Common.{◌≡◌, List, [], ◌∷◌, Option, None, Some, Result, Ok, Err, refl, ap, ◌∙◌, sym, subst}
+use Rattle.std.specs.Option.{option_map, option_or}
+use Rattle.decl_text.specs.Known.{Known, after, nothing}
+use Rattle.decl_text.specs.Refusals.{Check, first_found, item_checks, refused}
+use Rattle.decl_text.specs.Reading.{refusal_of_items}
+use Rattle.decl_text.specs.declared.decl.Numbered.{Numbered}
+use Rattle.decl_text.specs.declared.item.Item.{Item}
+use Rattle.decl_text.specs.declared.reason.Refusal.{Refusal}
+use Rattle.decl_text.specs.declared.reason.ReadFault.{ReadFault}
+use Rattle.decl_text.specs.declared.reason.ReadFault.TheVariants.{Refused, Memory}
+use Rattle.decl_text.specs.declared.accepted.Accepted.{Accepted}
+use Rattle.decl_text.specs.Accepting.{Means}
+use Rattle.decl_text.specs.Read.{Read}
+use Rattle.stack_check.specs.Accept.{Accepts}
+use Rattle.stack_check.specs.Adding.{AddsLine}
+use Rattle.stack_check.specs.Drafting.{Closes, Drafts}
+use Rattle.stack_check.proofs.LooseLemmas.{map_or_none}
+
+module _ (checks : List (Check Item)) where
+  -- a line that is not refused leaves the rest
+  pub refusal_later :
+      (known new : Known) (next : Numbered) (items : List Numbered) (fault : Option Refusal) → first_found checks known next.item ≡ None → new ≡ after known next.item
+      → refusal_of_items checks new items fault ≡ refusal_of_items checks known (next ∷ items) fault
+  unfolding refusal_of_items
+  refusal_later known new next items fault right is =
+      ap (λ k. refusal_of_items checks k items fault) is
+      ∙ sym (ap (λ o. option_or (option_map (refused next.line) o) (refusal_of_items checks (after known next.item) items fault)) right)
+
+  -- and one that is refused is the first
+  pub refusal_now :
+      (known : Known) (next : Numbered) (items : List Numbered) (fault : Option Refusal) (refusal : Refusal) → option_map (refused next.line) (first_found checks known next.item) ≡ Some refusal
+      → refusal_of_items checks known (next ∷ items) fault ≡ Some refusal
+  unfolding refusal_of_items
+  refusal_now known next items fault refusal wrong =
+      ap (λ o. option_or o (refusal_of_items checks (after known next.item) items fault)) wrong
+
+  pub refusal_end : (known : Known) (fault : Option Refusal) → refusal_of_items checks known [] fault ≡ fault
+  unfolding refusal_of_items
+  refusal_end known fault = refl
+
+  -- where no line is refused, the fault behind them is left
+  pub fault_left : (known : Known) (items : List Numbered) (fault : Option Refusal) → refusal_of_items checks known items None ≡ None → refusal_of_items checks known items fault ≡ fault
+  unfolding refusal_of_items
+  fault_left known [] fault none = refl
+  fault_left known (next ∷ items) fault none =
+      let parts = map_or_none next.line (first_found checks known next.item) (refusal_of_items checks (after known next.item) items None) none in
+      ap (λ o. option_or (option_map (refused next.line) o) (refusal_of_items checks (after known next.item) items fault)) parts.0
+      ∙ fault_left (after known next.item) items fault parts.1
+
+-- what a line that is not added makes of all
+pub drafts_fault :
+    (known new : Known) (next : Numbered) (items all : List Numbered) (wrong : ReadFault) → AddsLine known next new (Err wrong)
+    → ((fault : Option Refusal) → refusal_of_items item_checks known (next ∷ items) fault ≡ refusal_of_items item_checks nothing all fault)
+    → Drafts all (Err wrong)
+drafts_fault known new next items all (Refused refusal) wrong same = λ fault. sym (same fault) ∙ refusal_now item_checks known next items fault refusal wrong
+drafts_fault known new next items all Memory wrong same = tt
+
+-- what closes the draft of all lines is what becomes of the text
+pub accepts_closed :
+    (decl : Read) (known : Known) (result : Result Accepted ReadFault) → Drafts decl.items (Ok known) → Closes known decl.fault decl.rest decl.line result
+    → Accepts decl result
+accepts_closed decl known (Ok accepted) drafted closed = (
+  fault_left item_checks nothing decl.items decl.fault drafted.0 ∙ closed.0,
+  subst (λ (k : Known). Means k accepted.stack accepted.scripts.items) (sym drafted.1) closed.1,
+  closed.2,
+  closed.3,
+)
+accepts_closed decl known (Err (Refused refusal)) drafted closed = fault_left item_checks nothing decl.items decl.fault drafted.0 ∙ closed
+accepts_closed decl known (Err Memory) drafted closed = tt

@@ -1,0 +1,107 @@
+-- The trees of devices, each over the trees of those before it.
+use Rattle.std.proofs.Common.{◌≡◌, ℕ, zero, suc, ◌+◌, ◌<◌, ◌≤◌, List, [], ◌∷◌, ◌++◌, length, get_or, map, take, drop, fold, Some, refl, ap, ◌∙◌, sym, arith}
+use Rattle.std.specs.Prelude.{slice_get, sum}
+use Rattle.std.proofs.lemmas.List.{get_or_append_left, get_or_push, length_push, take-append-drop, length-take}
+use Rattle.std.proofs.lemmas.List.Sums.{fold-append, fold_push}
+use Rattle.std.proofs.lemmas.Option.{slice_get_within}
+use Rattle.stack_base.specs.Tree.{Tree, Leaf, size}
+use Rattle.stack_base.specs.declared.stack.Kind.TheVariants as kind
+use Rattle.stack_base.proofs.Unfolded.{size-over}
+use Rattle.stack_base.proofs.DeclaredKinds.{size_of_le}
+use Rattle.decl_text.specs.declared.item.What.{What}
+use Rattle.decl_text.specs.declared.item.What.TheVariants as what
+use Rattle.decl_text.specs.Known.{Declared, trees, tree_of, tree_over, grown, sectors_of}
+use Rattle.stack_check.specs.Sound.{what_size}
+use Rattle.stack_check.specs.Rows.{size_with}
+use Rattle.std.proofs.lemmas.Simd.{map-map}
+
+-- the trees behind one more device
+abbrev one_more : List Tree → Declared → List Tree
+one_more below device = below ++ tree_over below device ∷ []
+
+pub trees_push : (devices : List Declared) (device : Declared) → trees (devices ++ device ∷ []) ≡ trees devices ++ tree_over (trees devices) device ∷ []
+trees_push devices device = fold_push one_more [] devices device
+
+grown_length : (below : List Tree) (devices : List Declared) → length (fold one_more below devices) ≡ length below + length devices
+grown_length below [] = omega arith
+grown_length below (device ∷ devices) =
+    omega (arith, grown_length (one_more below device) devices, length_push below (tree_over below device))
+
+-- there are as many as devices
+pub trees_length : (devices : List Declared) → length (trees devices) ≡ length devices
+trees_length devices = omega (arith, grown_length [] devices)
+
+-- the first trees stay
+grown_stays : (below : List Tree) (devices : List Declared) (k : ℕ) (d : Tree) → k < length below → get_or (fold one_more below devices) k d ≡ get_or below k d
+grown_stays below [] k d lt = refl
+grown_stays below (device ∷ devices) k d lt =
+    grown_stays (one_more below device) devices k d (omega (arith, length_push below (tree_over below device)))
+    ∙ get_or_append_left below (tree_over below device ∷ []) d k lt
+
+grown_at :
+    (below : List Tree) (devices : List Declared) (p : ℕ) (device : Declared) (n : ℕ) (d : Tree) → slice_get devices p ≡ Some device → n ≡ length below + p
+    → get_or (fold one_more below devices) n d ≡ tree_over (fold one_more below (take p devices)) device
+grown_at below [] p device n d found is = absurd (grind arith)
+grown_at below (first ∷ devices) zero device n d found is =
+    let same : first ≡ device = grind arith in
+    grown_stays (one_more below first) devices n d (omega (arith, length_push below (tree_over below first)))
+    ∙ get_or_push below (tree_over below first) d n (omega arith) ∙ ap (tree_over below) same
+grown_at below (first ∷ devices) (suc p) device n d found is =
+    grown_at (one_more below first) devices p device n d found (omega (arith, length_push below (tree_over below first)))
+
+-- the tree of a device stands over those of the devices before it
+pub tree_before :
+    (devices : List Declared) (p : ℕ) (device : Declared) (d : Tree) → slice_get devices p ≡ Some device
+    → get_or (trees devices) p d ≡ tree_over (trees (take p devices)) device
+tree_before devices p device d found = grown_at [] devices p device p d found (omega arith)
+
+-- and these are the first ones of all
+pub first_trees : (devices : List Declared) (p k : ℕ) (d : Tree) → p ≤ length devices → k < p → get_or (trees (take p devices)) k d ≡ get_or (trees devices) k d
+first_trees devices p k d le lt =
+    sym (
+    ap (λ ds. get_or (trees ds) k d) (sym (take-append-drop p devices))
+    ∙ ap (λ ts. get_or ts k d) (fold-append one_more [] (take p devices) (drop p devices))
+    ∙ grown_stays (trees (take p devices)) (drop p devices) k d (omega (arith, trees_length (take p devices), length-take p devices))
+    )
+
+-- functions that agree at the elements of a list make one list of it
+pub map_agree : {A B : Type 0} (f g : A → B) (xs : List A) → ((i : ℕ) (x : A) → slice_get xs i ≡ Some x → f x ≡ g x) → map f xs ≡ map g xs
+map_agree f g [] same = refl
+map_agree f g (x ∷ xs) same =
+    let first : f x ≡ g x = same 0 x refl in
+    let rest : map f xs ≡ map g xs = map_agree f g xs (λ i y is. same (suc i) y is) in
+    cc
+
+-- the tree of a device stands over the trees of its members
+pub tree_at :
+    (devices : List Declared) (p : ℕ) (device : Declared) → slice_get devices p ≡ Some device
+    → ((i m : ℕ) → slice_get device.members i ≡ Some m → m < p)
+    → tree_of devices p ≡ grown p device.what (map (tree_of devices) device.members)
+tree_at devices p device found below =
+    let within = slice_get_within devices p device found in
+    let many : length (trees (take p devices)) ≡ p = omega (arith, trees_length (take p devices), length-take p devices) in
+    tree_before devices p device (Leaf p 0) found
+    ∙ ap (λ n. grown n device.what (map (λ (m : ℕ). get_or (trees (take p devices)) m (Leaf m 0)) device.members)) many
+    ∙ ap (grown p device.what) (map_agree (λ (m : ℕ). get_or (trees (take p devices)) m (Leaf m 0)) (tree_of devices) device.members (λ i m is.
+    first_trees devices p m (Leaf m 0) (omega arith) (below i m is)))
+
+-- the size of a device goes by those of its members
+pub size-grown : (number : ℕ) (does : What) (members : List Tree) → size (grown number does members) ≡ what_size does (map size members)
+size-grown number (what.Disk sectors) members = refl
+size-grown number what.Linear members = size-over number kind.Linear members
+size-grown number (what.Stripe chunk) members = size-over number (kind.Stripe chunk) members
+size-grown number (what.Limit longest chunk) members = size-over number (kind.Limit longest chunk) members
+size-grown number (what.Mirror records) members = size-over number (kind.Mirror 0) members
+
+-- and is at most its own sectors and theirs
+pub what_size_le : (does : What) (sizes : List ℕ) → what_size does sizes ≤ sectors_of does + sum sizes
+what_size_le (what.Disk sectors) sizes = omega arith
+what_size_le what.Linear sizes = size_of_le kind.Linear sizes
+what_size_le (what.Stripe chunk) sizes = size_of_le (kind.Stripe chunk) sizes
+what_size_le (what.Limit longest chunk) sizes = size_of_le (kind.Limit longest chunk) sizes
+what_size_le (what.Mirror records) sizes = size_of_le (kind.Mirror 0) sizes
+
+-- so a device over some members has the size that theirs give it
+pub size_with_is : (devices : List Declared) (does : What) (members : List ℕ) → size_with devices does members ≡ what_size does (map (λ m. size (tree_of devices m)) members)
+size_with_is devices does members =
+    size-grown (length (trees devices)) does (map (tree_of devices) members) ∙ ap (what_size does) (map-map size (tree_of devices) members)

@@ -1,0 +1,24 @@
+-- What the items of a text make of a draft.
+use Rattle.std.specs.Prelude.{◌≡◌, ℕ, List, Option, None, Some, Result, Ok, Err}
+use Rattle.decl_text.specs.Known.{Known, nothing}
+use Rattle.decl_text.specs.Refusals.{item_checks}
+use Rattle.decl_text.specs.Reading.{known_of_items, refusal_of_items}
+use Rattle.decl_text.specs.Accepting.{Means}
+use Rattle.decl_text.specs.declared.accepted.Accepted.{Accepted}
+use Rattle.decl_text.specs.declared.decl.Numbered.{Numbered}
+use Rattle.decl_text.specs.declared.reason.Refusal.{Refusal}
+use Rattle.decl_text.specs.declared.reason.ReadFault.{ReadFault}
+use Rattle.decl_text.specs.declared.reason.ReadFault.TheVariants.{Refused, Memory}
+
+-- none is refused and this is known, or this is the first refusal, whatever the fault of the line behind them
+abbrev pub Drafts : List Numbered → Result Known ReadFault → Type 0
+Drafts items (Ok known) = (refusal_of_items item_checks nothing items None ≡ None) × (known_of_items nothing items ≡ known)
+Drafts items (Err (Refused refusal)) = (fault : Option Refusal) → refusal_of_items item_checks nothing items fault ≡ Some refusal
+Drafts items (Err Memory) = Unit {0}
+
+-- what is known means this, or the line behind it has a fault
+abbrev pub Closes : Known → Option Refusal → ℕ → ℕ → Result Accepted ReadFault → Type 0
+Closes known fault rest line (Ok accepted) =
+    (fault ≡ None) × Means known accepted.stack accepted.scripts.items × (accepted.rest ≡ rest) × (accepted.line ≡ line)
+Closes known fault rest line (Err (Refused refusal)) = fault ≡ Some refusal
+Closes known fault rest line (Err Memory) = Unit {0}

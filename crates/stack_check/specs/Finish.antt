@@ -1,0 +1,23 @@
+-- What is looked up of a draft when it is made a stack.
+use Rattle.std.specs.Prelude.{◌≡◌, ◌==◌, Bool, ℕ, List, filter, find, map, slice_get, unwrap_or, Some}
+use Rattle.std.specs.Option.{option_map}
+use Rattle.fail_script.specs.Script.{Answers, only_tail}
+use Rattle.stack_base.specs.declared.ids.Bad.{Bad}
+use Rattle.stack_base.specs.declared.ids.PoolId.{PoolId}
+use Rattle.stack_base.specs.declared.stack.Device.{Device}
+use Rattle.decl_text.specs.Known.{BadOf, Declared, Scripted}
+use Rattle.decl_text.specs.Accepting.{bad_of, shown}
+use Rattle.decl_text.specs.Checks.{is_of_pool}
+
+-- the script of a pool: the one given to it, or one of this tail alone
+abbrev pub script_among : List Scripted → Bool → PoolId → Answers
+script_among given tail pool = unwrap_or (option_map (λ s. s.script) (find (is_of_pool pool) given)) (only_tail tail)
+
+-- the bad ranges of a disk among all
+abbrev pub ranges_of : List BadOf → ℕ → List Bad
+ranges_of bad number = map (λ b. b.bad) (filter (λ b. b.disk == number) bad)
+
+-- these devices are those declared, with the bad ranges of their numbers
+pub record AreBuilt (devices : List Declared) (bad : List BadOf) (built : List Device) : Type 0 where
+  pub shown : map shown built ≡ devices
+  pub ranges : (number : ℕ) (device : Device) → slice_get built number ≡ Some device → bad_of device.kind ≡ ranges_of bad number
