@@ -1,0 +1,148 @@
+-- The writes so far: what each of them is, and one more.
+use Rattle.std.proofs.Common.{◌≡◌, ℕ, ◌+◌, ◌<◌, ◌≤◌, ◌||◌, Bool, false, List, [], ◌∷◌, ◌++◌, length, get_or, map, Some, None, Option, cond, nat_lt, true, refl, ap, sym, ◌∙◌, subst, inl, inr, arith}
+use Rattle.std.specs.Prelude.{All, Contains, sum_by, is_none, unwrap_or}
+use Rattle.std.specs.List.{list_any}
+use Rattle.std.proofs.lemmas.List.Elements.{All-map, All-head, All-tail, Contains-get_or, Contains-push_cases}
+use Rattle.std.proofs.lemmas.List.Sums.{sum_by-cons, sum_by_push}
+use Rattle.stack_base.specs.declared.stack.Stack.{Stack}
+use Rattle.stack_base.specs.Stack.{IsStack}
+use Rattle.stack_base.specs.Tree.{Tree, size, tree}
+use Rattle.layout_model.specs.declared.write.Write.{Write}
+use Rattle.layout_model.specs.declared.counts.Needs.{Needs}
+use Rattle.layout_model.specs.declared.totals.Bounds.{Bounds}
+use Rattle.layout_model.specs.Need.{needed, vectors}
+use Rattle.layout_model.specs.Needs.{IsNeeds, elements, parts}
+use Rattle.layout_model.specs.Bound.{IsBound, most_elements, all_elements}
+use Rattle.layout_model.specs.Writes.{IsWrite}
+use Rattle.layout_model.proofs.WriteSizes.{parts_le_elements}
+use Rattle.decl_text.specs.Accepting.{shown_devices}
+use Rattle.decl_text.specs.Checks.{is_among, shares}
+use Rattle.decl_text.specs.Known.{Known, Written, all_members, device_of, tree_of}
+use Rattle.decl_text.specs.Refusals.{first_found}
+use Rattle.decl_text.specs.declared.reason.Reason.{Reason}
+use Rattle.decl_text.specs.declared.reason.Reason.TheVariants as reason
+use Rattle.decl_text.specs.declared.item.Item.TheVariants as item
+use Rattle.decl_text.proofs.ShownTrees.{shown_trees}
+use Rattle.work_text.specs.Work.{all_checks, elements_in, written}
+use Rattle.work_text.specs.Marks.{is_member}
+use Rattle.work_text.specs.Draft.{item_with, known_with}
+
+abbrev Served : Stack → List Write → Type 0
+Served stack writes = (write : Write) → Contains writes write → IsWrite stack write
+
+all_served : (stack : Stack) (writes : List Write) → Served stack writes → All (IsWrite stack) writes
+all_served stack writes served = λ k d lt. served (get_or writes k d) (Contains-get_or writes k d lt)
+
+-- each has a sector
+pub counts : (stack : Stack) (writes : List Write) → Served stack writes → All (λ (w : Written). 1 ≤ w.count) (map written writes)
+counts stack writes served =
+    All-map (λ (w : Written). 1 ≤ w.count) written writes (λ k d lt. (all_served stack writes served k d lt).some)
+
+-- what a text says that a write needs is what it needs
+tree_same : (stack : Stack) → IsStack stack → (number : ℕ) → number < length stack.devices.items → tree_of (shown_devices stack) number ≡ tree stack number
+tree_same stack good = shown_trees stack (λ number device i m found is. (good.each number device found).below i m is)
+
+elements_same : (stack : Stack) → IsStack stack → (write : Write) → write.dev.0 < length stack.devices.items → elements_in (shown_devices stack) (written write) ≡ elements stack write
+elements_same stack good write known =
+    ap (λ (t : Tree). 1 + vectors write.count + needed t write.start write.count) (tree_same stack good write.dev.0 known)
+
+sum_same : (stack : Stack) → IsStack stack → (writes : List Write) → All (IsWrite stack) writes
+    → sum_by (elements_in (shown_devices stack)) (map written writes) ≡ all_elements stack writes
+sum_same stack good [] served = refl
+sum_same stack good (write ∷ writes) served =
+    let first : IsWrite stack write = All-head (IsWrite stack) write writes served in
+    let rest = sum_same stack good writes (All-tail (IsWrite stack) write writes served) in
+    let one = elements_same stack good write first.known in
+    sum_by-cons (elements_in (shown_devices stack)) (written write) (map written writes)
+    ∙ ap (λ n. n + sum_by (elements_in (shown_devices stack)) (map written writes)) one
+    ∙ ap (λ n. elements stack write + n) rest
+    ∙ sym (sum_by-cons (λ (w : Write). elements stack w) write writes)
+
+-- the checks that can find a write, one behind the other
+abbrev pub row_of : Bool → Bool → Bool → Bool → Bool → Option Reason
+row_of member past shared long much =
+    cond member (Some reason.NotATop) (cond past (Some reason.PastEnd) (cond shared (Some reason.Overlap)
+    (cond long (Some reason.TooManySegments) (cond much (Some reason.TooMuchWork) None))))
+
+abbrev at_number : Known → ℕ → ℕ → ℕ → ℕ → ℕ → Option Reason
+at_number known task start count tag n =
+    row_of (is_among (all_members known.devices) n) (nat_lt (size (tree_of known.devices n)) (start + count)) (list_any (shares n start count) known.writes) (nat_lt 2048 count)
+    (nat_lt most_elements (sum_by (elements_in known.devices) known.writes + elements_in known.devices (record { task = task; dev = n; start = start; count = count; tag = tag })))
+
+abbrev by_place : Known → ℕ → ℕ → ℕ → ℕ → Option ℕ → Option Reason
+by_place known task start count tag place = cond (is_none place || false) (Some reason.NoSuchDevice) (at_number known task start count tag (unwrap_or place 0))
+
+found_by : (known : Known) (name : List ℕ) (task start count tag : ℕ)
+    → first_found all_checks known (item.Write task name (record { start = start; len = count }) tag) ≡ by_place known task start count tag (device_of known.devices name)
+unfolding first_found
+found_by known name task start count tag = refl
+
+-- no device has the name
+pub found_nowhere : (known : Known) (name : List ℕ) (task start count tag : ℕ) → device_of known.devices name ≡ None
+    → first_found all_checks known (item.Write task name (record { start = start; len = count }) tag) ≡ Some reason.NoSuchDevice
+found_nowhere known name task start count tag none = found_by known name task start count tag ∙ ap (by_place known task start count tag) none
+
+-- the checks of a write, by what the stack and the writes so far say
+pub found_with : (stack : Stack) → IsStack stack → (writes : List Write) → Served stack writes → (write : Write) → write.dev.0 < length stack.devices.items
+    → (name : List ℕ) → device_of (shown_devices stack) name ≡ Some write.dev.0
+    → first_found all_checks (known_with stack writes) (item_with name write)
+    ≡ row_of (is_member stack write.dev.0) (nat_lt (size (tree stack write.dev.0)) (write.start + write.count))
+    (list_any (shares write.dev.0 write.start write.count) (map written writes)) (nat_lt 2048 write.count)
+    (nat_lt most_elements (all_elements stack writes + elements stack write))
+found_with stack good writes served write there name named =
+    let known = known_with stack writes in
+    let dev = write.dev.0 in
+    let shared = list_any (shares dev write.start write.count) (map written writes) in
+    let past = λ (t : Tree). nat_lt (size t) (write.start + write.count) in
+    let much = λ (n : ℕ). nat_lt most_elements n in
+    found_by known name write.task write.start write.count write.tag
+    ∙ ap (by_place known write.task write.start write.count write.tag) named
+    ∙ ap (λ (t : Tree). row_of (is_member stack dev) (past t) shared (nat_lt 2048 write.count)
+    (much (sum_by (elements_in (shown_devices stack)) (map written writes) + elements_in (shown_devices stack) (written write))))
+    (tree_same stack good dev there)
+    ∙ ap (λ (n : ℕ). row_of (is_member stack dev) (past (tree stack dev)) shared (nat_lt 2048 write.count) (much (n + elements_in (shown_devices stack) (written write))))
+    (sum_same stack good writes (all_served stack writes served))
+    ∙ ap (λ (n : ℕ). row_of (is_member stack dev) (past (tree stack dev)) shared (nat_lt 2048 write.count) (much (all_elements stack writes + n)))
+    (elements_same stack good write there)
+
+-- the first that finds something
+pub row_member : (a b c d e : Bool) → a ≡ true → row_of a b c d e ≡ Some reason.NotATop
+row_member a b c d e is = rw is
+
+pub row_past : (a b c d e : Bool) → a ≡ false → b ≡ true → row_of a b c d e ≡ Some reason.PastEnd
+row_past a b c d e first is = rw (first, is)
+
+pub row_shared : (a b c d e : Bool) → a ≡ false → b ≡ false → c ≡ true → row_of a b c d e ≡ Some reason.Overlap
+row_shared a b c d e first second is = rw (first, second, is)
+
+pub row_long : (a b c d e : Bool) → a ≡ false → b ≡ false → c ≡ false → d ≡ true → row_of a b c d e ≡ Some reason.TooManySegments
+row_long a b c d e first second third is = rw (first, second, third, is)
+
+pub row_much : (a b c d e : Bool) → a ≡ false → b ≡ false → c ≡ false → d ≡ false → e ≡ true → row_of a b c d e ≡ Some reason.TooMuchWork
+row_much a b c d e first second third fourth is = rw (first, second, third, fourth, is)
+
+pub row_none : (a b c d e : Bool) → a ≡ false → b ≡ false → c ≡ false → d ≡ false → e ≡ false → row_of a b c d e ≡ None
+row_none a b c d e first second third fourth fifth = rw (first, second, third, fourth, fifth)
+
+-- one more write, and what it needs
+pub served_more : (stack : Stack) (writes : List Write) (write : Write) → Served stack writes → IsWrite stack write → Served stack (writes ++ write ∷ [])
+served_more stack writes write served is other there =
+    elim (Contains-push_cases writes write other there) [
+      | inl before ↦ served other before
+      | inr same ↦ subst (IsWrite stack) same is
+    ]
+
+pub bound_more : (stack : Stack) → IsStack stack → (writes : List Write) (z : ℕ) (bound : Bounds) (write : Write) (needs : Needs) → IsBound stack writes z bound
+    → IsNeeds stack write needs → IsWrite stack write → bound.e + needs.elements ≤ most_elements
+    → IsBound stack (writes ++ write ∷ []) z (record { e = bound.e + needs.elements; g = bound.g + needs.fragments; z = bound.z })
+bound_more stack good writes z bound write needs so_far need is allowed =
+    let more = sum_by_push (λ (w : Write). elements stack w) writes write in
+    let more_parts = sum_by_push (λ (w : Write). parts stack w) writes write in
+    let fewer = parts_le_elements stack good write is in
+    record {
+      allowed = omega (arith, so_far.elements, need.elements);
+      elements = omega (arith, so_far.elements, need.elements);
+      fragments = omega (arith, so_far.fragments, need.fragments);
+      entries = so_far.entries;
+      fewer = omega (arith, so_far.fewer, need.elements, need.fragments);
+    }

@@ -1,0 +1,5 @@
+use Rattle.work_text.proofs.Wholes.{refused_first}
+use Rattle.work_text.proofs.laws.declarations_refuse.Goals as goal
+
+pub returns : goal.returns
+returns c = refused_first

@@ -1,0 +1,6 @@
+pub mod Work
+pub mod Reading
+pub mod Lines
+pub mod Marks
+pub mod Draft
+pub mod Whole

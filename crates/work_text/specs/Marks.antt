@@ -1,0 +1,25 @@
+-- What the marks of sectors tell of the writes so far.
+use Rattle.std.specs.Prelude.{◌≡◌, ◌+◌, ◌<◌, ◌==◌, ◌&&◌, nat_le, nat_lt, Bool, false, List, ℕ, length, slice_get, slice_index_or, Some}
+use Rattle.std.specs.List.{list_any}
+use Rattle.stack_base.specs.Tree.{tree, size}
+use Rattle.stack_base.specs.declared.stack.Stack.{Stack}
+use Rattle.decl_text.specs.Accepting.{shown_devices}
+use Rattle.decl_text.specs.Checks.{is_among}
+use Rattle.decl_text.specs.Known.{Written, all_members}
+
+-- a device that is a member of another
+abbrev pub is_member : Stack → ℕ → Bool
+is_member stack dev = is_among (all_members (shown_devices stack)) dev
+
+-- the write has this sector of the device
+abbrev pub covers : ℕ → ℕ → Written → Bool
+covers dev at write = (write.dev == dev) && (nat_le write.start at && nat_lt at (write.start + write.count))
+
+-- the marks of a device stand where a write has the sector; one that is no member has a mark for each sector
+pub record IsRow (stack : Stack) (writes : List Written) (dev : ℕ) (row : List Bool) : Type 0 where
+  pub long : is_member stack dev ≡ false → length row ≡ size (tree stack dev)
+  pub told : (at : ℕ) → at < length row → slice_index_or row at false ≡ list_any (covers dev at) writes
+
+pub record AreMarks (stack : Stack) (writes : List Written) (marks : List (List Bool)) : Type 0 where
+  pub count : length marks ≡ length stack.devices.items
+  pub each : (dev : ℕ) (row : List Bool) → slice_get marks dev ≡ Some row → IsRow stack writes dev row

@@ -1,0 +1,43 @@
+-- The first refusal of a whole text, and what an accepted text means.
+use Rattle.std.specs.Prelude.{◌≡◌, ◌≤◌, if◌then◌else◌, nat_lt, ℕ, List, [], drop, length, Option, None, Some}
+use Rattle.fail_script.specs.Script.{Answers}
+use Rattle.stack_base.specs.declared.ids.PoolId.{PoolId}
+use Rattle.stack_base.specs.declared.stack.Stack.{Stack}
+use Rattle.decl_text.specs.Text.{lines, most_bytes}
+use Rattle.decl_text.specs.Known.{Known, nothing}
+use Rattle.decl_text.specs.Refusals.{refusal, refused, item_checks, known_after}
+use Rattle.decl_text.specs.Read.{Read}
+use Rattle.decl_text.specs.Reading.{IsRead, declarations, refusal_of_items, known_of_items}
+use Rattle.decl_text.specs.Accepting.{Means}
+use Rattle.decl_text.specs.declared.reason.Reason.TheVariants.{TooLong}
+use Rattle.decl_text.specs.declared.reason.Refusal.{Refusal}
+use Rattle.work_text.specs.Work.{all_checks, known_of}
+
+-- a text that is too long is refused as a whole, and another by its first line that is refused
+abbrev pub text_refusal : List ℕ → Option Refusal
+text_refusal text = if nat_lt most_bytes (length text) then Some (refused 0 TooLong) else refusal all_checks nothing 1 (lines text)
+
+-- what a text declares, and its writes
+abbrev pub known_of_text : List ℕ → Known
+known_of_text text = known_after nothing (lines text)
+
+-- the declarations were read, and are refused so: so is the text
+abbrev pub DeclarationsRefuse : Type 0
+DeclarationsRefuse =
+    (text : List ℕ) (read : Read) (first : Refusal) → length text ≤ most_bytes → IsRead text read
+    → refusal_of_items item_checks nothing read.items read.fault ≡ Some first → text_refusal text ≡ Some first
+
+-- they are not, and mean this stack and these scripts: the rest of the text decides, by this stack
+pub record RestDecides (text : List ℕ) (read : Read) (stack : Stack) (scripts : List (PoolId × Answers)) : Type 0 where
+  -- the rest begins with a write, or has no line
+  pub begins : declarations (lines (drop read.rest text)) ≡ []
+  pub refusals : text_refusal text ≡ refusal all_checks (known_of stack) read.line (lines (drop read.rest text))
+  -- where the text is not refused, it means this stack and these scripts, and the writes of the rest
+  pub means : text_refusal text ≡ None → Means (known_of_text text) stack scripts
+  pub writes : text_refusal text ≡ None → (known_of_text text).writes ≡ (known_after (known_of stack) (lines (drop read.rest text))).writes
+
+abbrev pub RestsDecide : Type 0
+RestsDecide =
+    (text : List ℕ) (read : Read) (stack : Stack) (scripts : List (PoolId × Answers)) → length text ≤ most_bytes → IsRead text read
+    → refusal_of_items item_checks nothing read.items read.fault ≡ None → Means (known_of_items nothing read.items) stack scripts
+    → RestDecides text read stack scripts

@@ -1,0 +1,89 @@
+//! Which sectors of a device have a write.
+ghost use Rattle.std.specs.Prelude.{◌≡◌, ℕ, ◌+◌, ◌&&◌, ◌||◌, ◌<◌, ◌≤◌, [], nat_lt, nat_le, false, IfOk, length, replicate, slice_index_or};
+ghost use Rattle.std.specs.List.{list_any, range_with_len};
+ghost use Rattle.stack_base.specs.Stack.{IsStack};
+ghost use Rattle.work_text.specs.Marks.{AreMarks, IsRow};
+
+use crate::names::is_member;
+use stack_base::{DevId, Stack};
+use std::alloc::{AllocError, Global};
+use std::marker::Model;
+
+/// No mark, for each device of a stack.
+pub(crate) fn no_marks(alloc: Global, stack: &Stack) -> Result<Vec<Marks>, AllocError>
+    requires { IsStack stack.now }
+    ensures { IfOk result (λ marks. AreMarks stack.now [] marks.items) }
+{
+    let mut all = Vec::new(alloc);
+    for place in 0..stack.devices.len() {
+        all.push(no_mark_of(alloc, stack, DevId(place as u32))?)?;
+    }
+    Ok(all)
+}
+
+// No mark, at each sector of a device. A member has no sector that is written to, and no mark at all.
+fn no_mark_of(alloc: Global, stack: &Stack, dev: DevId) -> Result<Marks, AllocError>
+    requires stack { IsStack stack.now }
+    requires known { dev.0 < length stack.now.devices.items }
+    ensures { IfOk result (λ row. IsRow stack.now [] dev.0 row) }
+{
+    let sectors = if is_member(stack, dev) {
+        0
+    } else {
+        stack.size(dev)
+    };
+    Marks::none(alloc, sectors)
+}
+
+/// A mark for each sector of a device.
+#[derive(Debug, Drop)]
+pub(crate) struct Marks {
+    sectors: Vec<bool>,
+}
+
+impl Model for Marks {
+    ghost use Rattle.std.specs.Prelude.{Bool, List};
+
+    ghost Value = { List Bool };
+
+    ghost view = { λ marks. marks.sectors.items };
+}
+
+impl Marks {
+    /// No mark, at so many sectors.
+    pub(crate) fn none(alloc: Global, sectors: u64) -> Result<Marks, AllocError>
+        ensures { IfOk result (λ marks. marks ≡ replicate sectors false) }
+    {
+        let sectors = vec![in alloc; false; sectors as usize]?;
+        Ok(Marks { sectors })
+    }
+
+    /// Whether one of the `count` sectors from `start` on has a mark.
+    pub(crate) fn any(&self, start: u64, count: u64) -> bool
+        requires { start + count ≤ length self.now }
+        ensures { result ≡ list_any (λ at. slice_index_or self.now at false) (range_with_len start count) }
+    {
+        let (_, from) = self.sectors.split_at(start as usize);
+        let (run, _) = from.split_at(count as usize);
+        has_mark(run)
+    }
+
+    /// Marks the `count` sectors from `start` on.
+    pub(crate) fn set(&mut self, start: u64, count: u64)
+        requires { start + count ≤ length self.old }
+        ensures long { length self.new ≡ length self.old }
+        ensures marked { (at : ℕ) → slice_index_or self.new at false ≡ (slice_index_or self.old at false || (nat_le start at && nat_lt at (start + count))) }
+    {
+        let sectors = &mut self.sectors;
+        for at in start..start + count {
+            sectors[at as usize] = true;
+        }
+    }
+}
+
+// Whether one of these is a mark.
+fn has_mark(run: &[bool]) -> bool
+    ensures { result ≡ list_any (λ mark. mark) run.now }
+{
+    run.iter().any(|mark| *mark)
+}

@@ -1,0 +1,49 @@
+//! Devices of a stack, as a text names them.
+ghost use Rattle.std.specs.Prelude.{◌≡◌, ◌≤◌, ◌==◌, length, position};
+ghost use Rattle.std.specs.List.{list_any};
+ghost use Rattle.std.specs.Option.{option_map};
+ghost use Rattle.std.specs.Str.{bytes_eq};
+ghost use Rattle.decl_text.specs.Accepting.{shown_devices};
+ghost use Rattle.decl_text.specs.Checks.{is_among};
+ghost use Rattle.decl_text.specs.Known.{all_members, device_of};
+
+use decl_text::Word;
+use stack_base::{DevId, Device, Stack};
+
+/// The device with this name, where there is one.
+pub(crate) fn device_of(stack: &Stack, name: &Word<'_>) -> Option<DevId>
+    requires { length stack.now.devices.items ≤ 32 }
+    ensures { option_map (λ dev. dev.0) result ≡ device_of (shown_devices stack.now) name.now }
+{
+    let place = place_of(&stack.devices, name)?;
+    Some(DevId(place as u32))
+}
+
+// The place of the first device with this name.
+fn place_of(devices: &[Device], name: &Word<'_>) -> Option<usize>
+    ensures { result ≡ position (λ device. bytes_eq device.name.bytes name.now) devices.now }
+{
+    devices
+        .iter()
+        .position(|device| device.name.as_str().as_bytes() == name.bytes())
+}
+
+/// Whether the device is a member of another.
+pub(crate) fn is_member(stack: &Stack, dev: DevId) -> bool
+    ensures { result ≡ is_among (all_members (shown_devices stack.now)) dev.0 }
+{
+    holds(&stack.devices, dev)
+}
+
+// Whether the device is a member of one of these.
+fn holds(devices: &[Device], dev: DevId) -> bool
+    ensures { result ≡ list_any (λ device. list_any (λ member. member.0 == dev.0) device.members.items) devices.now }
+{
+    devices.iter().any(|device| has_member(device, dev))
+}
+
+fn has_member(device: &Device, dev: DevId) -> bool
+    ensures { result ≡ list_any (λ member. member.0 == dev.0) device.now.members.items }
+{
+    device.members.iter().any(|member| member.0 == dev.0)
+}
