@@ -13,11 +13,27 @@ import time
 TOP = os.path.dirname(os.path.dirname(os.path.abspath(__file__)))
 ROUNDS = 5
 
+MOST_BYTES = 4194304
+
+
+def filled(text):
+    """The text, and a comment up to the most bytes that a text may have."""
+    return text + "#" * (MOST_BYTES - len(text) - 1) + "\n"
+
+
+def writes(count):
+    return "disk a 262144\n" + "".join(f"write {k % 8} a {k} 1 {64 * k}\n" for k in range(count))
+
+
 # name, words, text
 CASES = [
     ("smallest run", ["run"], "disk a 64\nwrite 0 a 0 1 0\n"),
     ("largest disk, 32 sectors at its end", ["run"], "disk a 262144\nwrite 0 a 262112 32 7\n"),
-    ("refused at the end of 4 MiB", ["run"], "\n" * 4194305),
+    ("refused at the end of 4 MiB", ["run"], "\n" * (MOST_BYTES + 1)),
+    ("4 MiB of comments", ["check"], filled("# a comment line of 32 bytes....\n" * 127000)),
+    ("4 MiB with 159,000 writes", ["check"], filled(writes(159000))),
+    ("a line of two million members", ["check"], "disk a 64\nlinear n " + "a " * 2000000 + "\n"),
+    ("layout of 2,048 fragments", ["layout"], "disk a 262144\nlimit l max=1 a\nwrite 0 l 0 2048 0\n"),
 ]
 
 

@@ -2,7 +2,7 @@
 #![tactic(auto)]
 
 use biostack_top::{Ending, biostack};
-use outside_io::{StdSink, StdSource, put_parts};
+use outside_io::{Pen, StdSink, StdSource};
 use std::alloc::AllocError;
 use std::env;
 use std::io::ErrorKind;
@@ -21,7 +21,7 @@ fn words(rt: &(impl Env + AllocGlobal)) -> Result<Vec<String>, AllocError> {
 fn main(rt: HostRuntime) -> ExitCode {
     let mut errors = StdSink::new(rt.stderr());
     let Ok(words) = words(&rt) else {
-        let _ = put_parts(&mut errors, &[Ending::Memory.line()]);
+        Ending::Memory.tell(&mut Pen::new(), &mut errors);
         return ExitCode::from(Ending::Memory.exit().0);
     };
     let mut source = StdSource::new(rt.stdin());

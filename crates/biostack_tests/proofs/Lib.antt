@@ -1,9 +1,3 @@
-pub mod Ordered
-pub mod MemberOnce
-pub mod Shapes
-pub mod Together
-pub mod Tables
-pub mod Weights
 pub mod SlowAmong
 pub mod SlowSteps
 pub mod SlowLegs

@@ -1,74 +1,31 @@
 //! Layouts that were worked out by hand: where the sectors of a write go, and what the write needs.
-use crate::stacks::{Has, Line, stack_of, stands};
-use crate::writes::{are_writes, is_way, is_write};
+ghost use Rattle.stack_base.specs.Stack.{IsStack};
+ghost use Rattle.layout_model.specs.Writes.{IsWrite};
+
+use crate::made::{Part, text_of};
+use crate::scenes::{are_writes, scene_of};
+use crate::slow::is_way;
 use layout_model::{Bounds, TooMuchWork, Write, bound, fragments, need, place};
-use stack_base::DevId;
+use stack_base::{DevId, Stack};
 use std::process::Abort;
 use std::test::Fail;
 
-const NONE: &[u32] = &[];
-
-const A: Line = ("a", Has::Disk(64), &[]);
-
-const B: Line = ("b", Has::Disk(64), &[]);
-
-const DISK: &[Line] = &[("a", Has::Disk(4096), &[])];
-
-const STRIPE: &[Line] = &[A, B, ("s", Has::Stripe(8), &[0, 1])];
-
-const LIMIT: &[Line] = &[A, ("l", Has::Limit(3, 8), &[0])];
-
-const LIMIT_WITHOUT_A_CHUNK: &[Line] = &[A, ("l", Has::Limit(3, 0), &[0])];
-
-const LINEAR: &[Line] = &[
-    ("a", Has::Disk(8), &[]),
-    ("b", Has::Disk(8), &[]),
-    ("n", Has::Linear, &[0, 1]),
-];
-
-const MIRROR: &[Line] = &[A, B, ("m", Has::Mirror, &[0, 1])];
-
-/// A mirror of a disk and of a limit over another disk.
-const MIRROR_OVER_LIMIT: &[Line] = &[
-    A,
-    B,
-    ("l", Has::Limit(3, 8), &[1]),
-    ("m", Has::Mirror, &[0, 2]),
-];
-
-/// Three mirrors of two, each the first member of the next.
-const MIRRORS: &[Line] = &[
-    A,
-    B,
-    ("c", Has::Disk(64), &[]),
-    ("d", Has::Disk(64), &[]),
-    ("x", Has::Mirror, &[0, 1]),
-    ("y", Has::Mirror, &[4, 2]),
-    ("z", Has::Mirror, &[5, 3]),
-];
-
-/// A write to a stack, and what was worked out for it.
+/// A text of one write, and what was worked out for it.
 struct Layout {
     name: &'static str,
-    lines: &'static [Line],
-    dev: u32,
-    start: u64,
-    count: u64,
+    text: &'static str,
     /// For each fragment the offset, the length, the disk, and the sector there.
     fragments: &'static [(u64, u64, u32, u64)],
     elements: u64,
     nodes: u64,
-    /// The most steps of a run that makes this write alone.
+    /// The most steps of a run of the text.
     steps: u64,
 }
 
 const LAYOUTS: &[Layout] = &[
     Layout {
         name: "a stripe cuts at the ends of its chunks",
-        lines: STRIPE,
-        dev: 2,
-        start: 5,
-        count: 20,
+        text: "disk a 64\ndisk b 64\nstripe s chunk=8 a b\nwrite 0 s 5 20 0\n",
         fragments: &[(0, 3, 0, 5), (3, 8, 1, 0), (11, 8, 0, 8), (19, 1, 1, 8)],
         elements: 4,
         nodes: 4,
@@ -76,10 +33,7 @@ const LAYOUTS: &[Layout] = &[
     },
     Layout {
         name: "a limit cuts by length from the last boundary on",
-        lines: LIMIT,
-        dev: 1,
-        start: 6,
-        count: 10,
+        text: "disk a 64\nlimit l max=3 chunk=8 a\nwrite 0 l 6 10 0\n",
         fragments: &[(0, 2, 0, 6), (2, 3, 0, 8), (5, 3, 0, 11), (8, 2, 0, 14)],
         elements: 4,
         nodes: 4,
@@ -87,10 +41,7 @@ const LAYOUTS: &[Layout] = &[
     },
     Layout {
         name: "a limit without a chunk cuts by length alone",
-        lines: LIMIT_WITHOUT_A_CHUNK,
-        dev: 1,
-        start: 6,
-        count: 10,
+        text: "disk a 64\nlimit l max=3 a\nwrite 0 l 6 10 0\n",
         fragments: &[(0, 3, 0, 6), (3, 3, 0, 9), (6, 3, 0, 12), (9, 1, 0, 15)],
         elements: 4,
         nodes: 4,
@@ -98,10 +49,7 @@ const LAYOUTS: &[Layout] = &[
     },
     Layout {
         name: "a linear device cuts at the end of a member",
-        lines: LINEAR,
-        dev: 2,
-        start: 6,
-        count: 4,
+        text: "disk a 8\ndisk b 8\nlinear n a b\nwrite 0 n 6 4 0\n",
         fragments: &[(0, 2, 0, 6), (2, 2, 1, 0)],
         elements: 2,
         nodes: 2,
@@ -109,10 +57,7 @@ const LAYOUTS: &[Layout] = &[
     },
     Layout {
         name: "a mirror copies",
-        lines: MIRROR,
-        dev: 2,
-        start: 6,
-        count: 4,
+        text: "disk a 64\ndisk b 64\nmirror m a b\nwrite 0 m 6 4 0\n",
         fragments: &[(0, 4, 0, 6), (0, 4, 1, 6)],
         elements: 4,
         nodes: 4,
@@ -120,10 +65,7 @@ const LAYOUTS: &[Layout] = &[
     },
     Layout {
         name: "a mirror whose second leg is cut",
-        lines: MIRROR_OVER_LIMIT,
-        dev: 3,
-        start: 6,
-        count: 10,
+        text: "disk a 64\ndisk b 64\nlimit l max=3 chunk=8 b\nmirror m a l\nwrite 0 m 6 10 0\n",
         fragments: &[
             (0, 10, 0, 6),
             (0, 2, 1, 6),
@@ -137,10 +79,7 @@ const LAYOUTS: &[Layout] = &[
     },
     Layout {
         name: "mirrors over mirrors",
-        lines: MIRRORS,
-        dev: 6,
-        start: 0,
-        count: 8,
+        text: "disk a 64\ndisk b 64\ndisk c 64\ndisk d 64\nmirror x a b\nmirror y x c\nmirror z y d\nwrite 0 z 0 8 0\n",
         fragments: &[(0, 8, 0, 0), (0, 8, 1, 0), (0, 8, 2, 0), (0, 8, 3, 0)],
         elements: 10,
         nodes: 10,
@@ -148,10 +87,7 @@ const LAYOUTS: &[Layout] = &[
     },
     Layout {
         name: "four segments have room in a bio",
-        lines: DISK,
-        dev: 0,
-        start: 1,
-        count: 32,
+        text: "disk a 4096\nwrite 0 a 1 32 0\n",
         fragments: &[(0, 32, 0, 1)],
         elements: 1,
         nodes: 1,
@@ -159,10 +95,7 @@ const LAYOUTS: &[Layout] = &[
     },
     Layout {
         name: "a fifth segment takes a vector",
-        lines: DISK,
-        dev: 0,
-        start: 1,
-        count: 33,
+        text: "disk a 4096\nwrite 0 a 1 33 0\n",
         fragments: &[(0, 33, 0, 1)],
         elements: 2,
         nodes: 1,
@@ -170,24 +103,34 @@ const LAYOUTS: &[Layout] = &[
     },
     Layout {
         name: "a whole page of segments",
-        lines: DISK,
-        dev: 0,
-        start: 0,
-        count: 2048,
+        text: "disk a 4096\nwrite 0 a 0 2048 0\n",
         fragments: &[(0, 2048, 0, 0)],
         elements: 2,
         nodes: 1,
         steps: 18,
     },
+    Layout {
+        name: "entries of scripts are counted in the steps",
+        text: "disk a 64\nlimit l max=1 a\nscript l.bios +- -\nscript fs.vecs --- +\nwrite 0 l 0 4 0\n",
+        fragments: &[(0, 1, 0, 0), (1, 1, 0, 1), (2, 1, 0, 2), (3, 1, 0, 3)],
+        elements: 4,
+        nodes: 4,
+        steps: 45,
+    },
 ];
 
-fn check_layout(rt: &(impl Abort + AllocGlobal), layout: &Layout) -> Result<(), Fail> {
+/// Compares the fragments of a write, and what it needs.
+fn check_write(
+    rt: &(impl Abort + AllocGlobal),
+    stack: &Stack,
+    write: &Write,
+    layout: &Layout,
+) -> Result<(), Fail>
+    requires stack { IsStack stack.now }
+    requires write { IsWrite stack.now write.now }
+{
     let name = layout.name;
-    let stack = stack_of(rt.alloc(), layout.lines)?;
-    assert!(rt; stands(&stack), "{name}");
-    let write = write_of(layout.dev, layout.start, layout.count);
-    assert!(rt; is_write(&stack, &write), "{name}");
-    let found = fragments(rt.alloc(), &stack, 7, &write)?;
+    let found = fragments(rt.alloc(), stack, 7, write)?;
     assert_eq!(rt; found.len(), layout.fragments.len(), "{name}");
     for (fragment, told) in found.iter().zip(layout.fragments) {
         assert_eq!(rt; fragment.write, 7, "{name}");
@@ -195,28 +138,26 @@ fn check_layout(rt: &(impl Abort + AllocGlobal), layout: &Layout) -> Result<(), 
         assert_eq!(rt; (fragment.offset, fragment.len), (offset, len), "{name}");
         assert_eq!(rt; (fragment.disk.0, fragment.at), (disk, at), "{name}");
     }
-    let needs = need(&stack, &write);
+    let needs = need(stack, write);
     assert_eq!(rt;
         (needs.elements, needs.nodes),
         (layout.elements, layout.nodes),
         "{name}"
     );
     assert_eq!(rt; needs.fragments, layout.fragments.len() as u64, "{name}");
-    match bound(&stack, &[write], 0) {
-        Ok(bounds) => assert_eq!(rt; bounds.total(), layout.steps, "{name}"),
-        Err(refusal) => panic!(rt; "{name}: {refusal:?}"),
-    }
     Ok(())
 }
 
-fn write_of(dev: u32, start: u64, count: u64) -> Write {
-    Write {
-        task: 0,
-        dev: DevId(dev),
-        start,
-        count,
-        tag: 0,
-    }
+fn check_layout(rt: &(impl Abort + AllocGlobal), layout: &Layout) -> Result<(), Fail> {
+    let scene = scene_of(rt.alloc(), layout.text)?;
+    let [write] = scene.work.writes.as_slice() else {
+        return Err(Fail::from("not one write"));
+    };
+    check_write(rt, &scene.accepted.stack, write, layout)?;
+    let bound = scene.work.bound;
+    assert!(rt; bound.e < 1000 && bound.g < 1000 && bound.z < 1000);
+    assert_eq!(rt; bound.total(), layout.steps, "{}", layout.name);
+    Ok(())
 }
 
 #[test]
@@ -227,17 +168,32 @@ fn layouts_are_as_worked_out(rt: HostRuntime) -> Result<(), Fail> {
     Ok(())
 }
 
-/// A sector of a device, the choices on its way, and where it lies.
-const PLACES: &[(&[Line], u32, u64, &[u32], (u32, u64))] = &[
-    (STRIPE, 2, 17, NONE, (0, 9)),
-    (STRIPE, 2, 15, NONE, (1, 7)),
-    (STRIPE, 2, 127, NONE, (1, 63)),
-    (LINEAR, 2, 7, NONE, (0, 7)),
-    (LINEAR, 2, 8, NONE, (1, 0)),
-    (LIMIT, 1, 9, NONE, (0, 9)),
+const STRIPE: &str = "disk a 64\ndisk b 64\nstripe s chunk=8 a b\n";
+
+const LINEAR: &str = "disk a 8\ndisk b 8\nlinear n a b\n";
+
+const MIRROR: &str = "disk a 64\ndisk b 64\nmirror m a b\n";
+
+const MIRRORS: &str =
+    "disk a 64\ndisk b 64\ndisk c 64\ndisk d 64\nmirror x a b\nmirror y x c\nmirror z y d\n";
+
+/// A device of a text, a sector of it, the choices on its way, and where it lies.
+const PLACES: &[(&str, u32, u64, &[u32], (u32, u64))] = &[
+    (STRIPE, 2, 17, &[], (0, 9)),
+    (STRIPE, 2, 15, &[], (1, 7)),
+    (STRIPE, 2, 127, &[], (1, 63)),
+    (LINEAR, 2, 7, &[], (0, 7)),
+    (LINEAR, 2, 8, &[], (1, 0)),
+    ("disk a 64\nlimit l max=3 chunk=8 a\n", 1, 9, &[], (0, 9)),
     (MIRROR, 2, 9, &[0], (0, 9)),
     (MIRROR, 2, 9, &[1], (1, 9)),
-    (MIRROR_OVER_LIMIT, 3, 9, &[1], (1, 9)),
+    (
+        "disk a 64\ndisk b 64\nlimit l max=3 chunk=8 b\nmirror m a l\n",
+        3,
+        9,
+        &[1],
+        (1, 9),
+    ),
     (MIRRORS, 6, 9, &[0, 0, 1], (1, 9)),
     (MIRRORS, 6, 9, &[0, 1], (2, 9)),
     (MIRRORS, 6, 9, &[1], (3, 9)),
@@ -245,134 +201,123 @@ const PLACES: &[(&[Line], u32, u64, &[u32], (u32, u64))] = &[
 
 #[test]
 fn sectors_lie_where_they_were_worked_out(rt: HostRuntime) -> Result<(), Fail> {
-    for (lines, dev, sector, choices, (disk, at)) in PLACES {
-        let stack = stack_of(rt.alloc(), *lines)?;
-        assert!(rt; stands(&stack));
+    for (text, dev, sector, choices, (disk, at)) in PLACES {
+        let scene = scene_of(rt.alloc(), *text)?;
+        let stack = &scene.accepted.stack;
         let dev = DevId(*dev);
-        assert!(rt; is_way(&stack, dev, *sector, *choices));
-        assert_eq!(rt; place(&stack, dev, *sector, *choices), (DevId(*disk), *at));
+        assert!(rt; is_way(stack, dev, *sector, *choices));
+        assert_eq!(rt; place(stack, dev, *sector, *choices), (DevId(*disk), *at));
     }
     Ok(())
 }
 
-/// Two mirrors, one over the other, under a limit that makes each sector a piece.
-const SECTOR_BY_SECTOR: &[Line] = &[
-    ("a", Has::Disk(262_144), &[]),
-    ("m", Has::Mirror, &[0]),
-    ("n", Has::Mirror, &[1]),
-    ("l", Has::Limit(1, 0), &[2]),
-    ("d", Has::Disk(2048), &[]),
-    ("k", Has::Limit(1, 0), &[4]),
-];
+/// A limit that makes each sector a piece, over a mirror of a mirror of one disk: 5 elements a sector.
+const SECTOR_BY_SECTOR: Part = Part::Once(
+    "disk a 262144\nmirror m a\nmirror n m\nlimit l max=1 n\nscript fs.bios +-+-+ +\n",
+);
 
-/// What a scenario of these writes is bounded by, with so many entries of scripts.
-fn bound_of(
-    rt: &(impl Abort + AllocGlobal),
-    lines: &[Line],
-    writes: &[Write],
-    z: u64,
-) -> Result<Result<Bounds, TooMuchWork>, Fail> {
-    let stack = stack_of(rt.alloc(), lines)?;
-    assert!(rt; stands(&stack));
-    assert!(rt; writes.len() < 8193);
-    assert!(rt; are_writes(&stack, writes));
-    Ok(bound(&stack, writes, z))
+/// 102 writes of 10,241 elements, and 2,048 fragments.
+const MOST_WRITES: Part = Part::Writes {
+    dev: "l",
+    lines: 102,
+    from: 0,
+    each: 2048,
+};
+
+/// A write behind those.
+const NEXT_WRITE: Write = Write {
+    task: 0,
+    dev: DevId(3),
+    start: 208_896,
+    count: 2048,
+    tag: 0,
+};
+
+/// Compares what these writes and 5 entries of scripts are bounded by.
+fn check_bound(rt: &impl Abort, stack: &Stack, writes: &[Write], told: Result<Bounds, TooMuchWork>)
+    requires { IsStack stack.now }
+{
+    assert!(rt; are_writes(stack, writes));
+    let found = bound(stack, writes, 5);
+    assert_eq!(rt; found, told);
 }
 
 #[test]
 fn work_is_refused_at_the_first_write_with_which_it_is_too_much(
     rt: HostRuntime,
 ) -> Result<(), Fail> {
-    let mut writes = Vec::new(rt.alloc());
-    for number in 0..102 {
-        writes.push(write_of(3, 2048 * number, 2048))?;
-    }
+    let text = text_of(rt.alloc(), &[SECTOR_BY_SECTOR, MOST_WRITES])?;
+    let scene = scene_of(rt.alloc(), text.as_str())?;
     let allowed = Bounds {
         e: 1_044_582,
         g: 208_896,
         z: 5,
     };
-    assert_eq!(rt; bound_of(&rt, SECTOR_BY_SECTOR, &writes, 5)?, Ok(allowed));
-    for number in 102..128 {
-        writes.push(write_of(3, 2048 * number, 2048))?;
-    }
+    assert_eq!(rt; scene.work.bound, allowed);
+    let stack = &scene.accepted.stack;
+    check_bound(&rt, stack, &scene.work.writes, Ok(allowed));
+    let mut writes = Vec::from_slice(rt.alloc(), &scene.work.writes)?;
+    writes.push(NEXT_WRITE)?;
+    writes.push(NEXT_WRITE)?;
     let refusal = TooMuchWork {
         write: 102,
         e: 1_054_823,
     };
-    assert_eq!(rt; bound_of(&rt, SECTOR_BY_SECTOR, &writes, 5)?, Err(refusal));
+    check_bound(&rt, stack, &writes, Err(refusal));
     Ok(())
 }
 
 #[test]
 fn as_much_work_as_there_may_be_is_allowed(rt: HostRuntime) -> Result<(), Fail> {
-    // Each write needs its bio, a vector, and 2,046 bios more for its pieces: 2,048 elements.
-    let mut writes = vec![in rt.alloc(); write_of(5, 0, 2047); 512]?;
+    // The last four writes need 1,001, 1,001, 1,001 and 991 elements.
+    let text = text_of(
+        rt.alloc(),
+        &[
+            SECTOR_BY_SECTOR,
+            MOST_WRITES,
+            Part::Writes {
+                dev: "l",
+                lines: 3,
+                from: 208_896,
+                each: 200,
+            },
+            Part::Once("write 0 l 209496 198 0\n"),
+        ],
+    )?;
+    let scene = scene_of(rt.alloc(), text.as_str())?;
     let all = Bounds {
         e: 1_048_576,
-        g: 1_048_064,
-        z: 0,
+        g: 209_694,
+        z: 5,
     };
-    assert_eq!(rt; bound_of(&rt, SECTOR_BY_SECTOR, &writes, 0)?, Ok(all));
-    writes.push(write_of(5, 0, 1))?;
-    let refusal = TooMuchWork {
-        write: 512,
-        e: 1_048_577,
-    };
-    assert_eq!(rt; bound_of(&rt, SECTOR_BY_SECTOR, &writes, 0)?, Err(refusal));
+    assert_eq!(rt; scene.work.bound, all);
     Ok(())
 }
-
-#[test]
-fn no_write_needs_nothing(rt: HostRuntime) -> Result<(), Fail> {
-    let none = Bounds { e: 0, g: 0, z: 0 };
-    assert_eq!(rt; bound_of(&rt, STRIPE, &[], 0)?, Ok(none));
-    Ok(())
-}
-
-const DISK_OF_16_MIB: Has = Has::Disk(32_768);
 
 /// Two stripes over limited disks, and a mirror over both.
-const STORAGE: &[Line] = &[
-    ("d0", DISK_OF_16_MIB, &[]),
-    ("d1", DISK_OF_16_MIB, &[]),
-    ("d2", DISK_OF_16_MIB, &[]),
-    ("d3", DISK_OF_16_MIB, &[]),
-    ("l0", Has::Limit(256, 0), &[0]),
-    ("l1", Has::Limit(256, 0), &[1]),
-    ("l2", Has::Limit(256, 0), &[2]),
-    ("l3", Has::Limit(256, 0), &[3]),
-    ("s0", Has::Stripe(128), &[4, 5]),
-    ("s1", Has::Stripe(128), &[6, 7]),
-    ("m", Has::Mirror, &[8, 9]),
-];
+const STORAGE: &str = "disk d0 32768\ndisk d1 32768\ndisk d2 32768\ndisk d3 32768\n\
+    limit l0 max=256 d0\nlimit l1 max=256 d1\nlimit l2 max=256 d2\nlimit l3 max=256 d3\n\
+    stripe s0 chunk=128 l0 l1\nstripe s1 chunk=128 l2 l3\nmirror m s0 s1\n";
+
+/// The counts of ten writes, one behind the other.
+const ROUND: &[u64] = &[8, 16, 32, 64, 128, 256, 24, 40, 512, 2048];
 
 #[test]
 fn two_hundred_writes_to_a_mirror_of_stripes_are_bounded(rt: HostRuntime) -> Result<(), Fail> {
-    // The start of each of ten writes, one behind the other, and its length; twenty times over.
-    let writes_of_a_round: [(u64, u64); 10] = [
-        (0, 8),
-        (8, 16),
-        (24, 32),
-        (56, 64),
-        (120, 128),
-        (248, 256),
-        (504, 24),
-        (528, 40),
-        (568, 512),
-        (1080, 2048),
-    ];
-    let mut writes = Vec::new(rt.alloc());
-    for round in 0..20 {
-        for (start, count) in writes_of_a_round {
-            writes.push(write_of(10, start.saturating_add(3128 * round), count))?;
+    let mut text = String::from_str(rt.alloc(), STORAGE)?;
+    let mut start: u64 = 0;
+    for _ in 0..20 {
+        for count in ROUND {
+            writeln!(text, "write 0 m {start} {count} 0")?;
+            start = start.saturating_add(*count);
         }
     }
+    let scene = scene_of(rt.alloc(), text.as_str())?;
     let all = Bounds {
         e: 1_874,
         g: 1_354,
         z: 0,
     };
-    assert_eq!(rt; bound_of(&rt, STORAGE, &writes, 0)?, Ok(all));
+    assert_eq!(rt; scene.work.bound, all);
     Ok(())
 }

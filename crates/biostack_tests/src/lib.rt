@@ -1,21 +1,25 @@
-//! Tests of what no clause says, over all crates: the worked runs and layouts, a slow scan of layouts, faults at every call, and each
-//! allocating call once. What the tests need besides is proved: whether a declaration is a stack, whether a stack can serve a write, and
-//! the way of a sector by its definition.
+//! Tests of what no clause says, over all crates: texts and why they are refused, what others mean, worked runs and layouts, a slow scan of
+//! layouts, faults at every call, and each allocating call once. The slow way of a sector is proved to be the way of the definitions.
 #![tactic(auto)]
 
-mod checks;
 #[cfg(test)]
 mod faults;
 #[cfg(test)]
 mod layouts;
-mod measures;
+#[cfg(test)]
+mod long;
+#[cfg(test)]
+mod made;
+#[cfg(test)]
+mod meanings;
 #[cfg(test)]
 mod objects;
-mod once;
+#[cfg(test)]
+mod refusals;
 #[cfg(test)]
 mod runs;
 #[cfg(test)]
 mod scan;
+#[cfg(test)]
+mod scenes;
 pub mod slow;
-pub mod stacks;
-pub mod writes;

@@ -15,12 +15,19 @@ pub const ONE_SECTOR: &str = "disk a 64\nwrite 0 a 0 1 0\n";
 pub const ONE_SECTOR_REPORT: &str = "write 0 ok\ndisk a sum 00000000000007e0\nrun a 0 1\n\
     pool fs.bios reserve 2 ordinary 1 spare 0\npool fs.vecs reserve 2 ordinary 0 spare 0\nsteps 7 of 10\n";
 
+/// A write to a stripe.
+pub const STRIPED: &str = "disk a 64\ndisk b 64\nstripe s chunk=8 a b\nwrite 0 s 5 20 0\n";
+
+/// Its devices and needs.
+pub const STRIPED_CHECK: &str =
+    "device a disk 64\ndevice b disk 64\ndevice s stripe 128\nneed e 4 g 4 z 0 bound 40\n";
+
+/// Where it goes.
+pub const STRIPED_LAYOUT: &str =
+    "fragment 0 0 3 a 5\nfragment 0 3 8 b 0\nfragment 0 11 8 a 8\nfragment 0 19 1 b 8\n";
+
 const USAGE: &str =
     "biostack: usage: run [--seed N | --workers N] [--trace] | check | layout | gen N [--text]\n";
-
-const NOT_BUILT: &str = "biostack: line 0: 19 NotBuilt\n";
-
-const PAST_END: &str = "biostack: line 2: 12 PastEnd\n";
 
 /// The words of a command line.
 pub fn words_of(alloc: Global, words: &[&str]) -> Result<Vec<String>, AllocError> {
@@ -31,227 +38,357 @@ pub fn words_of(alloc: Global, words: &[&str]) -> Result<Vec<String>, AllocError
     Ok(all)
 }
 
-// What a call is to answer: its status, and what stands on output and on errors.
-#[derive(Clone, Copy)]
-struct Answer {
+/// What a call is to answer: its status, and what stands on output and on errors.
+#[derive(Clone, Copy, Debug)]
+struct Answer<'a> {
     status: u8,
-    output: &'static str,
-    errors: &'static str,
+    output: &'a str,
+    errors: &'a str,
 }
 
-const REFUSED_WORDS: Answer = Answer {
-    status: 2,
-    output: "",
-    errors: USAGE,
-};
-
-const ANOTHER_FORM: Answer = Answer {
-    status: 3,
-    output: "",
-    errors: NOT_BUILT,
-};
-
-const BEHIND_THE_DISK: Answer = Answer {
-    status: 3,
-    output: "",
-    errors: PAST_END,
-};
-
-// One call, compared with its answer.
+/// One call, compared with its answer.
 fn check(
     rt: &(impl Abort + AllocGlobal),
-    name: &str,
     words: &[&str],
-    text: &[u8],
-    answer: Answer,
+    text: &str,
+    answer: Answer<'_>,
 ) -> Result<(), AllocError> {
     let alloc = rt.alloc();
-    let words = words_of(alloc, words)?;
-    let mut source = MemSource::new(Vec::from_slice(alloc, text)?);
+    let all_words = words_of(alloc, words)?;
+    let mut source = MemSource::new(Vec::from_slice(alloc, text.as_bytes())?);
     let mut out = MemSink::new(alloc, ROOM)?;
     let mut errors = MemSink::new(alloc, ROOM)?;
-    let exit = biostack(alloc, &words, &mut source, &mut out, &mut errors);
-    assert_eq!(rt; exit.0, answer.status, "the status of {name}");
+    let exit = biostack(alloc, &all_words, &mut source, &mut out, &mut errors);
+    assert_eq!(rt;
+        exit.0,
+        answer.status,
+        "the status of {words:?} on {text:?}"
+    );
     assert_eq!(rt;
         out.held(),
         answer.output.as_bytes(),
-        "the output of {name}"
+        "the output of {words:?} on {text:?}"
     );
     assert_eq!(rt;
         errors.held(),
         answer.errors.as_bytes(),
-        "the errors of {name}"
+        "the errors of {words:?} on {text:?}"
     );
     Ok(())
 }
 
-// A name, a text of the form, and the first lines of its report: those of the write and the disk.
-const RUNS: [(&str, &str, &str); 8] = [
-    (
-        "one sector",
-        ONE_SECTOR,
-        "write 0 ok\ndisk a sum 00000000000007e0\nrun a 0 1\n",
-    ),
-    (
-        "no byte 10 at the end",
-        "disk a 64\nwrite 0 a 0 1 0",
-        "write 0 ok\ndisk a sum 00000000000007e0\nrun a 0 1\n",
-    ),
-    (
-        "the last sector",
-        "disk a 64\nwrite 0 a 63 1 5\n",
-        "write 0 ok\ndisk a sum 0000000000000920\nrun a 63 1\n",
-    ),
-    (
-        "four pages",
-        "disk a 64\nwrite 0 a 0 32 0\n",
-        "write 0 ok\ndisk a sum 00000000001ffc00\nrun a 0 32\n",
-    ),
-    (
-        "words that go round",
-        "disk data-0_x 8\nwrite 0 data-0_x 7 1 18446744073709551615\n",
-        "write 0 ok\ndisk data-0_x sum 00000000000007a0\nrun data-0_x 7 1\n",
-    ),
-    (
-        "leading zeros",
-        "disk a 00000000000000000064\nwrite 0 a 00 01 000\n",
-        "write 0 ok\ndisk a sum 00000000000007e0\nrun a 0 1\n",
-    ),
-    (
-        "a name of 16 characters",
-        "disk a123456789012345 64\nwrite 0 a123456789012345 0 1 0\n",
-        "write 0 ok\ndisk a123456789012345 sum 00000000000007e0\nrun a123456789012345 0 1\n",
-    ),
-    (
-        "the largest disk",
-        "disk a 262144\nwrite 0 a 262143 1 0\n",
-        "write 0 ok\ndisk a sum 00000000000007e0\nrun a 262143 1\n",
-    ),
-];
+/// One call of a word, which is to write this.
+fn check_done(
+    rt: &(impl Abort + AllocGlobal),
+    word: &str,
+    text: &str,
+    output: &str,
+) -> Result<(), AllocError> {
+    let answer = Answer {
+        status: 0,
+        output,
+        errors: "",
+    };
+    check(rt, &[word], text, answer)
+}
 
-/// The last lines of each report.
+/// One call of a word, on a text that is to be refused so.
+fn check_refused(
+    rt: &(impl Abort + AllocGlobal),
+    word: &str,
+    text: &str,
+    errors: &str,
+) -> Result<(), AllocError> {
+    let answer = Answer {
+        status: 3,
+        output: "",
+        errors,
+    };
+    check(rt, &[word], text, answer)
+}
+
+/// The last lines of the report of a write.
 const COUNTS: &str =
     "pool fs.bios reserve 2 ordinary 1 spare 0\npool fs.vecs reserve 2 ordinary 0 spare 0\nsteps 7 of 10\n";
 
-#[test]
-fn texts_of_the_form_run_to_their_ends(rt: HostRuntime) -> Result<(), Fail> {
-    let alloc = rt.alloc();
-    let words = words_of(alloc, &["run"])?;
-    for (name, text, first) in RUNS {
-        let mut source = MemSource::new(Vec::from_slice(alloc, text.as_bytes())?);
-        let mut out = MemSink::new(alloc, ROOM)?;
-        let mut errors = MemSink::new(alloc, ROOM)?;
-        let exit = biostack(alloc, &words, &mut source, &mut out, &mut errors);
-        assert_eq!(rt; exit.0, 0, "the status of {name}");
-        let report = format!(in alloc; "{first}{COUNTS}")?;
-        assert_eq!(rt; out.held(), report.as_bytes(), "the output of {name}");
-        assert!(rt; errors.held().is_empty(), "the errors of {name}");
-    }
-    Ok(())
-}
+/// The last lines of a report without a write.
+const NO_COUNTS: &str =
+    "pool fs.bios reserve 2 ordinary 0 spare 0\npool fs.vecs reserve 2 ordinary 0 spare 0\nsteps 0 of 0\n";
 
-#[test]
-fn writes_past_the_end_are_refused(rt: HostRuntime) -> Result<(), Fail> {
-    for (name, text) in [
-        ("one sector behind the end", "disk a 64\nwrite 0 a 64 1 5\n"),
-        ("one of five sectors", "disk a 64\nwrite 0 a 60 5 0\n"),
-        (
-            "the last start there is",
-            "disk a 64\nwrite 0 a 18446744073709551615 32 0\n",
-        ),
-    ] {
-        check(&rt, name, &["run"], text.as_bytes(), BEHIND_THE_DISK)?;
-    }
-    Ok(())
-}
+/// What a sector of the tag 0 gives.
+const FIRST_SECTOR: &str = "write 0 ok\ndisk a sum 00000000000007e0\nrun a 0 1\n";
 
-// A name, and a text of another form.
-const OTHER_FORMS: [(&str, &[u8]); 26] = [
-    ("no text", b""),
-    ("two blanks", b"disk a  64\nwrite 0 a 0 1 0\n"),
-    ("a blank at a line's end", b"disk a 64 \nwrite 0 a 0 1 0\n"),
-    ("a blank at a line's head", b" disk a 64\nwrite 0 a 0 1 0\n"),
-    ("a tab", b"disk\ta 64\nwrite 0 a 0 1 0\n"),
-    ("a byte 13", b"disk a 64\r\nwrite 0 a 0 1 0\r\n"),
-    ("a word too many", b"disk a 64 1\nwrite 0 a 0 1 0\n"),
-    ("a word too few", b"disk a 64\nwrite 0 a 0 1\n"),
-    ("a disk alone", b"disk a 64\n"),
-    ("a write alone", b"write 0 a 0 1 0\n"),
+/// A text that runs, the first lines of its report, and the last ones.
+const RUNS: &[(&str, &str, &str)] = &[
+    ("", "", NO_COUNTS),
+    ("\n# nothing\n", "", NO_COUNTS),
+    ("disk a 64\n", "disk a sum 0000000000000000\n", NO_COUNTS),
+    ("disk a 64", "disk a sum 0000000000000000\n", NO_COUNTS),
+    (ONE_SECTOR, FIRST_SECTOR, COUNTS),
+    ("disk a 64\nwrite 0 a 0 1 0", FIRST_SECTOR, COUNTS),
+    // Blanks, and lines that say nothing.
+    ("disk a  64 \n\twrite 0 a 0 1 0\n", FIRST_SECTOR, COUNTS),
+    ("disk\ta 64\r\nwrite 0 a 0 1 0\r\n", FIRST_SECTOR, COUNTS),
     (
-        "two writes",
-        b"disk a 64\nwrite 0 a 0 1 0\nwrite 0 a 1 1 0\n",
+        "# one\n\ndisk a 64\n \n#two\nwrite 0 a 0 1 0\n\n# three",
+        FIRST_SECTOR,
+        COUNTS,
+    ),
+    // Any task.
+    ("disk a 64\nwrite 7 a 0 1 0\n", FIRST_SECTOR, COUNTS),
+    (
+        "disk a 00000000000000000064\nwrite 0 a 00 01 000\n",
+        FIRST_SECTOR,
+        COUNTS,
     ),
     (
-        "an empty line at the end",
-        b"disk a 64\nwrite 0 a 0 1 0\n\n",
-    ),
-    ("another disk", b"disk a 64\nwrite 0 b 0 1 0\n"),
-    ("another task", b"disk a 64\nwrite 1 a 0 1 0\n"),
-    (
-        "a name of 17 characters",
-        b"disk a1234567890123456 64\nwrite 0 a1234567890123456 0 1 0\n",
-    ),
-    ("a digit first in a name", b"disk 1a 64\nwrite 0 1a 0 1 0\n"),
-    ("the writers' set", b"disk fs 64\nwrite 0 fs 0 1 0\n"),
-    ("a disk of no sectors", b"disk a 0\nwrite 0 a 0 1 0\n"),
-    (
-        "a disk of one sector too many",
-        b"disk a 262145\nwrite 0 a 0 1 0\n",
-    ),
-    ("a write of no sectors", b"disk a 64\nwrite 0 a 0 0 0\n"),
-    ("a fifth page", b"disk a 64\nwrite 0 a 0 33 0\n"),
-    (
-        "a number of 21 digits",
-        b"disk a 64\nwrite 0 a 0 1 000000000000000000000\n",
+        "disk a 64\nwrite 0 a 63 1 5\n",
+        "write 0 ok\ndisk a sum 0000000000000920\nrun a 63 1\n",
+        COUNTS,
     ),
     (
-        "a number of 2 ^ 64",
-        b"disk a 64\nwrite 0 a 0 1 18446744073709551616\n",
+        "disk a 64\nwrite 0 a 0 32 0\n",
+        "write 0 ok\ndisk a sum 00000000001ffc00\nrun a 0 32\n",
+        COUNTS,
     ),
-    ("a sign", b"disk a 64\nwrite 0 a 0 1 +1\n"),
+    // Words that go round.
     (
-        "a letter in UTF-8",
-        b"disk \xc3\xa9 64\nwrite 0 \xc3\xa9 0 1 0\n",
+        "disk data-0_x 8\nwrite 0 data-0_x 7 1 18446744073709551615\n",
+        "write 0 ok\ndisk data-0_x sum 00000000000007a0\nrun data-0_x 7 1\n",
+        COUNTS,
     ),
-    ("a byte that is no text", b"disk a 64\nwrite 0 a 0 1 \xff\n"),
+    (
+        "disk a123456789012345 64\nwrite 0 a123456789012345 0 1 0\n",
+        "write 0 ok\ndisk a123456789012345 sum 00000000000007e0\nrun a123456789012345 0 1\n",
+        COUNTS,
+    ),
+    (
+        "disk a 262144\nwrite 0 a 262143 1 0\n",
+        "write 0 ok\ndisk a sum 00000000000007e0\nrun a 262143 1\n",
+        COUNTS,
+    ),
 ];
 
 #[test]
-fn texts_of_another_form_are_not_built(rt: HostRuntime) -> Result<(), Fail> {
-    for (name, text) in OTHER_FORMS {
-        check(&rt, name, &["run"], text, ANOTHER_FORM)?;
+fn one_disk_and_one_write_run_to_their_ends(rt: HostRuntime) -> Result<(), Fail> {
+    for (text, first, last) in RUNS {
+        let report = format!(in rt.alloc(); "{first}{last}")?;
+        check_done(&rt, "run", *text, report.as_str())?;
     }
     Ok(())
 }
 
+/// Texts that are accepted and not run yet, and the line that is not.
+const NOT_BUILT: &[(&str, u64)] = &[
+    ("fs\n", 1),
+    ("memory none\ndisk a 64\n", 1),
+    ("script fs.bios + +\n", 1),
+    ("disk a 64\ndisk b 64\n", 2),
+    ("disk a 64\nbad a 0 1 io\nwrite 0 a 1 1 0\n", 2),
+    ("disk a 64\nlinear n a\nwrite 0 n 0 1 0\n", 2),
+    ("disk a 64\nstripe s chunk=8 a\n", 2),
+    ("disk a 64\nlimit l max=1 a\n", 2),
+    ("# one\ndisk a 64\n\nmirror m a\nfs\n", 4),
+    ("disk a 64\nwrite 0 a 0 33 0\n", 2),
+    ("disk a 64\n#\nwrite 0 a 0 32 0\n#\nwrite 0 a 32 1 0\n", 5),
+    ("disk a 4096\nwrite 0 a 0 2048 0\nwrite 0 a 2048 1 0\n", 2),
+];
+
+#[test]
+fn what_is_not_built_is_refused_at_its_first_line(rt: HostRuntime) -> Result<(), Fail> {
+    for (text, line) in NOT_BUILT {
+        let errors = format!(in rt.alloc(); "biostack: line {line}: 19 NotBuilt\n")?;
+        check_refused(&rt, "run", *text, errors.as_str())?;
+    }
+    Ok(())
+}
+
+/// Texts that each word refuses, and the line on errors.
+const REFUSED: &[(&str, &str)] = &[
+    ("disk a 64\nwrite 0 a\n", "biostack: line 2: 1 BadWord\n"),
+    (
+        "disk a 64\nwrite 8 a 0 1 0\n",
+        "biostack: line 2: 2 BadNumber\n",
+    ),
+    ("disk a 64\ndisk a 64\n", "biostack: line 2: 3 NameTaken\n"),
+    (
+        "disk a 64\nlinear n c\n",
+        "biostack: line 2: 4 NoSuchDevice\n",
+    ),
+    (
+        "disk a 64\nstripe s chunk=8 a a\n",
+        "biostack: line 2: 5 MemberTaken\n",
+    ),
+    ("disk a 64\n\nlinear n\n", "biostack: line 3: 6 BadShape\n"),
+    ("disk a 262145\n", "biostack: line 1: 7 TooLarge\n"),
+    ("disk a 0\n", "biostack: line 1: 8 EmptyDevice\n"),
+    ("fs bios=0\n", "biostack: line 1: 9 ReserveZero\n"),
+    (
+        "disk a 8\ndisk b 8\nmirror m a b reserve=1 records=1 rescuer=no\nmemory none\nwrite 0 m 0 1 0\n",
+        "biostack: line 3: 10 NeedsRescuer\n",
+    ),
+    (
+        "disk a 64\nlinear n a\nwrite 0 a 0 1 0\n",
+        "biostack: line 3: 11 NotATop\n",
+    ),
+    (
+        "disk a 64\nwrite 0 a 64 1 5\n",
+        "biostack: line 2: 12 PastEnd\n",
+    ),
+    (
+        "disk a 64\nwrite 0 a 60 5 0\n",
+        "biostack: line 2: 12 PastEnd\n",
+    ),
+    (
+        "disk a 64\nwrite 0 a 18446744073709551615 32 0\n",
+        "biostack: line 2: 12 PastEnd\n",
+    ),
+    (
+        "disk a 64\nwrite 0 a 0 8 0\nwrite 1 a 7 2 0\n",
+        "biostack: line 3: 13 Overlap\n",
+    ),
+    (
+        "disk a 4096\nwrite 0 a 0 2049 0\n",
+        "biostack: line 2: 14 TooManySegments\n",
+    ),
+    (
+        "disk a 64\nscript a.bios + +\n",
+        "biostack: line 2: 15 NoSuchPool\n",
+    ),
+    ("disk a 64\n# \x7f\n", "biostack: line 2: 17 NotText\n"),
+    // A line that is not built yet stands before the one that is refused.
+    (
+        "disk a 64\ndisk b 64\nwrite 0 a 0 33 0\nwrite 0 a 64 1 0\n",
+        "biostack: line 4: 12 PastEnd\n",
+    ),
+];
+
+#[test]
+fn each_word_refuses_a_text_by_its_first_wrong_line(rt: HostRuntime) -> Result<(), Fail> {
+    for word in ["run", "check", "layout"] {
+        for (text, errors) in REFUSED {
+            check_refused(&rt, word, *text, *errors)?;
+        }
+    }
+    Ok(())
+}
+
+/// A text, its devices, and what its writes need.
+const CHECKS: &[(&str, &str)] = &[
+    ("", "need e 0 g 0 z 0 bound 0\n"),
+    (ONE_SECTOR, "device a disk 64\nneed e 1 g 1 z 0 bound 10\n"),
+    (
+        "disk a 64\nwrite 0 a 0 33 0\n",
+        "device a disk 64\nneed e 2 g 1 z 0 bound 18\n",
+    ),
+    (STRIPED, STRIPED_CHECK),
+    (
+        "disk a 64\nlimit l max=3 chunk=8 a\nwrite 0 l 6 10 0\n",
+        "device a disk 64\ndevice l limit 64\nneed e 4 g 4 z 0 bound 40\n",
+    ),
+    (
+        "disk a 8\ndisk b 8\nlinear n a b reserve=1\nmemory none\nwrite 0 n 6 4 0\n",
+        "device a disk 8\ndevice b disk 8\ndevice n linear 16\nneed e 2 g 2 z 0 bound 20\n",
+    ),
+    (
+        "disk a 8\ndisk b 8\nmirror m a b reserve=1 records=1\nmemory none\nwrite 0 m 0 1 0\n",
+        "device a disk 8\ndevice b disk 8\ndevice m mirror 8\nneed e 4 g 2 z 0 bound 36\n",
+    ),
+    (
+        "disk a 64\nlimit l max=1 reserve=1 a\nscript l.bios +- -\nwrite 0 l 0 4 0\n",
+        "device a disk 64\ndevice l limit 64\nneed e 4 g 4 z 2 bound 42\n",
+    ),
+    // Two chunks of eight sectors fit each of 20 and 17.
+    (
+        "disk a 20\ndisk b 17\nstripe s a b chunk=8\ndisk c 9\nmirror m s c\n",
+        "device a disk 20\ndevice b disk 17\ndevice s stripe 32\ndevice c disk 9\ndevice m mirror 9\nneed e 0 g 0 z 0 bound 0\n",
+    ),
+];
+
+#[test]
+fn check_tells_the_devices_and_the_needs(rt: HostRuntime) -> Result<(), Fail> {
+    for (text, output) in CHECKS {
+        check_done(&rt, "check", *text, *output)?;
+    }
+    Ok(())
+}
+
+/// A text, and where its writes go.
+const LAYOUTS: &[(&str, &str)] = &[
+    ("", ""),
+    ("disk a 64\nlinear n a\n", ""),
+    (ONE_SECTOR, "fragment 0 0 1 a 0\n"),
+    (STRIPED, STRIPED_LAYOUT),
+    (
+        "disk a 64\nlimit l max=3 chunk=8 a\nwrite 0 l 6 10 0\n",
+        "fragment 0 0 2 a 6\nfragment 0 2 3 a 8\nfragment 0 5 3 a 11\nfragment 0 8 2 a 14\n",
+    ),
+    (
+        "disk a 8\ndisk b 8\nlinear n b a\nwrite 0 n 6 4 0\n",
+        "fragment 0 0 2 b 6\nfragment 0 2 2 a 0\n",
+    ),
+    // By offset, and then by the number of the disk.
+    (
+        "disk a 64\ndisk b 64\nlimit l max=3 chunk=8 b\nmirror m l a\nwrite 0 m 6 4 0\n",
+        "fragment 0 0 4 a 6\nfragment 0 0 2 b 6\nfragment 0 2 2 b 8\n",
+    ),
+    (
+        "disk a 64\ndisk b 64\nmirror m b a\nwrite 3 m 63 1 0\nwrite 2 m 0 4 0\n",
+        "fragment 0 0 1 a 63\nfragment 0 0 1 b 63\nfragment 1 0 4 a 0\nfragment 1 0 4 b 0\n",
+    ),
+];
+
+#[test]
+fn layout_tells_where_the_writes_go(rt: HostRuntime) -> Result<(), Fail> {
+    for (text, output) in LAYOUTS {
+        check_done(&rt, "layout", *text, *output)?;
+    }
+    Ok(())
+}
+
+/// Words that ask for nothing that the program does.
+const OTHER_WORDS: &[&[&str]] = &[
+    &[],
+    &[""],
+    &["runs"],
+    &["Run"],
+    &["run", "x"],
+    &["run", "run"],
+    &["run", "--trace"],
+    &["check", "--trace"],
+    &["layout", "check"],
+    &["gen", "7"],
+    &["--help"],
+    &["--", "run"],
+];
+
 #[test]
 fn other_words_are_refused(rt: HostRuntime) -> Result<(), Fail> {
-    let text = ONE_SECTOR.as_bytes();
-    check(&rt, "no words", &[], text, REFUSED_WORDS)?;
-    check(
-        &rt,
-        "another word behind run",
-        &["run", "x"],
-        text,
-        REFUSED_WORDS,
-    )?;
-    check(&rt, "a longer word", &["runs"], text, REFUSED_WORDS)?;
-    check(&rt, "an order to come", &["check"], text, REFUSED_WORDS)?;
-    check(&rt, "a request for help", &["--help"], text, REFUSED_WORDS)?;
+    let answer = Answer {
+        status: 2,
+        output: "",
+        errors: USAGE,
+    };
+    for words in OTHER_WORDS {
+        check(&rt, *words, ONE_SECTOR, answer)?;
+    }
     Ok(())
 }
 
 #[test]
 fn no_more_is_read_than_one_byte_past_the_longest_text(rt: HostRuntime) -> Result<(), Fail> {
     let alloc = rt.alloc();
-    let words = words_of(alloc, &["run"])?;
-    let mut source = MemSource::new(vec![in alloc; 10; 4_194_400]?);
-    let mut out = MemSink::new(alloc, ROOM)?;
-    let mut errors = MemSink::new(alloc, ROOM)?;
-    let exit = biostack(alloc, &words, &mut source, &mut out, &mut errors);
-    assert_eq!(rt; exit.0, 3);
-    assert_eq!(rt; errors.held(), NOT_BUILT.as_bytes());
-    let mut rest = [0; 1000];
-    assert_eq!(rt; source.take(&mut rest), Ok(95));
+    for word in ["run", "check", "layout"] {
+        let words = words_of(alloc, &[word])?;
+        let mut source = MemSource::new(vec![in alloc; 10; 4_194_400]?);
+        let mut out = MemSink::new(alloc, ROOM)?;
+        let mut errors = MemSink::new(alloc, ROOM)?;
+        let exit = biostack(alloc, &words, &mut source, &mut out, &mut errors);
+        assert_eq!(rt; exit.0, 3);
+        assert!(rt; out.held().is_empty());
+        assert_eq!(rt; errors.held(), b"biostack: line 0: 16 TooLong\n".as_slice());
+        let mut rest = [0; 1000];
+        assert_eq!(rt; source.take(&mut rest), Ok(95));
+    }
     Ok(())
 }

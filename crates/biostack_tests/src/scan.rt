@@ -2,9 +2,8 @@
 ghost use Rattle.stack_base.specs.Stack.{IsStack};
 ghost use Rattle.layout_model.specs.Writes.{IsWrite};
 
+use crate::scenes::{is_write, scene_of};
 use crate::slow::{fits, walk};
-use crate::stacks::{Has, Line, stack_of, stands};
-use crate::writes::is_write;
 use layout_model::{Fragment, Write, fragments, need};
 use stack_base::{DevId, Stack};
 use std::alloc::{AllocError, Global};
@@ -31,79 +30,21 @@ const CHOICES: &[&[u32]] = &[
 ];
 
 /// Small stacks of every shape. Each is written to at its last device.
-const SHAPES: &[&[Line]] = &[
-    &[("a", Has::Disk(9), &[])],
-    &[
-        ("a", Has::Disk(3), &[]),
-        ("b", Has::Disk(1), &[]),
-        ("c", Has::Disk(7), &[]),
-        ("linear", Has::Linear, &[1, 0, 2]),
-    ],
-    &[
-        ("a", Has::Disk(7), &[]),
-        ("b", Has::Disk(6), &[]),
-        ("c", Has::Disk(8), &[]),
-        ("stripe", Has::Stripe(3), &[0, 1, 2]),
-    ],
-    &[("a", Has::Disk(20), &[]), ("limit", Has::Limit(3, 8), &[0])],
-    &[("a", Has::Disk(20), &[]), ("limit", Has::Limit(5, 3), &[0])],
-    &[("a", Has::Disk(14), &[]), ("limit", Has::Limit(3, 0), &[0])],
-    &[
-        ("a", Has::Disk(5), &[]),
-        ("b", Has::Disk(7), &[]),
-        ("mirror", Has::Mirror, &[0, 1]),
-    ],
-    &[
-        ("a", Has::Disk(6), &[]),
-        ("b", Has::Disk(6), &[]),
-        ("c", Has::Disk(4), &[]),
-        ("stripe", Has::Stripe(2), &[0, 1]),
-        ("linear", Has::Linear, &[2, 3]),
-    ],
-    &[
-        ("a", Has::Disk(9), &[]),
-        ("b", Has::Disk(8), &[]),
-        ("limit", Has::Limit(2, 0), &[0]),
-        ("stripe", Has::Stripe(4), &[1, 2]),
-    ],
-    &[
-        ("a", Has::Disk(5), &[]),
-        ("b", Has::Disk(9), &[]),
-        ("linear", Has::Linear, &[0, 1]),
-        ("limit", Has::Limit(4, 6), &[2]),
-    ],
-    &[
-        ("a", Has::Disk(6), &[]),
-        ("b", Has::Disk(7), &[]),
-        ("c", Has::Disk(14), &[]),
-        ("stripe", Has::Stripe(3), &[0, 1]),
-        ("limit", Has::Limit(5, 0), &[2]),
-        ("mirror", Has::Mirror, &[3, 4]),
-    ],
-    &[
-        ("a", Has::Disk(4), &[]),
-        ("b", Has::Disk(4), &[]),
-        ("c", Has::Disk(6), &[]),
-        ("mirror", Has::Mirror, &[0, 1]),
-        ("linear", Has::Linear, &[2, 3]),
-    ],
-    &[
-        ("a", Has::Disk(6), &[]),
-        ("b", Has::Disk(6), &[]),
-        ("c", Has::Disk(6), &[]),
-        ("d", Has::Disk(6), &[]),
-        ("left", Has::Mirror, &[0, 1]),
-        ("right", Has::Mirror, &[2, 3]),
-        ("stripe", Has::Stripe(2), &[4, 5]),
-    ],
-    &[
-        ("a", Has::Disk(7), &[]),
-        ("b", Has::Disk(7), &[]),
-        ("c", Has::Disk(7), &[]),
-        ("inner", Has::Mirror, &[0, 1]),
-        ("limit", Has::Limit(3, 0), &[3]),
-        ("outer", Has::Mirror, &[4, 2]),
-    ],
+const SHAPES: &[&str] = &[
+    "disk a 9\n",
+    "disk a 3\ndisk b 1\ndisk c 7\nlinear n b a c\n",
+    "disk a 7\ndisk b 6\ndisk c 8\nstripe s chunk=3 a b c\n",
+    "disk a 20\nlimit l max=3 chunk=8 a\n",
+    "disk a 20\nlimit l max=5 chunk=3 a\n",
+    "disk a 14\nlimit l max=3 a\n",
+    "disk a 5\ndisk b 7\nmirror m a b\n",
+    "disk a 6\ndisk b 6\ndisk c 4\nstripe s chunk=2 a b\nlinear n c s\n",
+    "disk a 9\ndisk b 8\nlimit l max=2 a\nstripe s chunk=4 b l\n",
+    "disk a 5\ndisk b 9\nlinear n a b\nlimit l max=4 chunk=6 n\n",
+    "disk a 6\ndisk b 7\ndisk c 14\nstripe s chunk=3 a b\nlimit l max=5 c\nmirror m s l\n",
+    "disk a 4\ndisk b 4\ndisk c 6\nmirror m a b\nlinear n c m\n",
+    "disk a 6\ndisk b 6\ndisk c 6\ndisk d 6\nmirror left a b\nmirror right c d\nstripe s chunk=2 left right\n",
+    "disk a 7\ndisk b 7\ndisk c 7\nmirror inner a b\nlimit l max=3 inner\nmirror outer l c\n",
 ];
 
 /// The fragments of a write, from all choices: a new one begins wherever the heads are other ones than at the sector before.
@@ -178,26 +119,33 @@ fn compare(rt: &(impl Abort + AllocGlobal), stack: &Stack, write: &Write) -> Res
     Ok(())
 }
 
+/// Compares every write to the stack's last device.
+fn compare_all(rt: &(impl Abort + AllocGlobal), stack: &Stack) -> Result<(), Fail>
+    requires { IsStack stack.now }
+{
+    assert!(rt; !stack.devices.is_empty());
+    let dev = DevId(stack.devices.len() as u32 - 1);
+    let size = stack.size(dev);
+    for start in 0..size {
+        for count in 1..=size - start {
+            let write = Write {
+                task: 0,
+                dev,
+                start,
+                count,
+                tag: 0,
+            };
+            compare(rt, stack, &write)?;
+        }
+    }
+    Ok(())
+}
+
 #[test]
 fn small_stacks_of_every_shape_are_laid_out_as_defined(rt: HostRuntime) -> Result<(), Fail> {
-    for lines in SHAPES {
-        let stack = stack_of(rt.alloc(), *lines)?;
-        assert!(rt; stands(&stack));
-        assert!(rt; !stack.devices.is_empty());
-        let dev = DevId(stack.devices.len() as u32 - 1);
-        let size = stack.size(dev);
-        for start in 0..size {
-            for count in 1..=size - start {
-                let write = Write {
-                    task: 0,
-                    dev,
-                    start,
-                    count,
-                    tag: 0,
-                };
-                compare(&rt, &stack, &write)?;
-            }
-        }
+    for text in SHAPES {
+        let scene = scene_of(rt.alloc(), *text)?;
+        compare_all(&rt, &scene.accepted.stack)?;
     }
     Ok(())
 }

@@ -146,6 +146,19 @@ pub fn fits(stack: &Stack, dev: DevId, sector: u64, choices: &[u32]) -> bool
     }
 }
 
+/// Whether the device is one of the stack and has such a sector, and the choices lead it down to a disk.
+pub fn is_way(stack: &Stack, dev: DevId, sector: u64, choices: &[u32]) -> bool
+    requires { IsStack stack.now }
+    ensures known { IsTrue result → dev.0 < length stack.now.devices.items }
+    ensures within { IsTrue result → sector < size (tree stack.now dev.0) }
+    ensures fits { IsTrue result → Fits (tree stack.now dev.0) sector choices.now }
+    ensures all { dev.0 < length stack.now.devices.items → sector < size (tree stack.now dev.0) → Fits (tree stack.now dev.0) sector choices.now → IsTrue result }
+{
+    (dev.0 as usize) < stack.devices.len()
+        && sector < stack.size(dev)
+        && fits(stack, dev, sector, choices)
+}
+
 /// Goes the way of a sector from a device down to a disk, in a run that starts at `start`: appends the first sector of the piece that holds
 /// it at each device of the way to `into`, and answers the disk and the sector of it. At each mirror the next of `choices` names the member
 /// to go on to, by its place.

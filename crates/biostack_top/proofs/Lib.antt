@@ -1,5 +1,3 @@
-pub mod PartsLemmas
-pub mod NumberLemmas
 pub mod ImageLemmas
 pub mod LaidLemmas
 pub mod RunLemmas
@@ -7,3 +5,8 @@ pub mod WrittenLemmas
 pub mod ReportLemmas
 pub mod ServeLemmas
 pub mod EndingLemmas
+pub mod CheckLemmas
+pub mod LayoutLemmas
+pub mod SceneLemmas
+pub mod BuiltLemmas
+pub mod WithinLemmas

@@ -1,11 +1,11 @@
 -- The lines of the runs, one after the other.
-use Rattle.std.proofs.Common.{◌≡◌, ℕ, Bool, List, [], ◌∷◌, ◌++◌, Option, refl, sym, ap, ◌∙◌, subst, codes}
+use Rattle.std.proofs.Common.{◌≡◌, ℕ, Bool, List, [], ◌∷◌, ◌++◌, Option, Some, refl, sym, ap, ◌∙◌, subst, codes}
 use Rattle.std.proofs.lemmas.List.Concat.{flat_map-cons}
 use Rattle.stack_base.specs.declared.ids.Range.{Range}
 use Rattle.outside_io.specs.Saying.{Says}
 use Rattle.outside_io.proofs.SaysLemmas.{says_then, says_silence}
 use Rattle.mempool_core.specs.declared.Facts.{Facts}
-use Rattle.biostack_top.specs.Report.{starts_run, IsApart, run_line, run_lines, Ended, report, write_lines, disk_line, sum_of_words, written_runs, pool_line, steps_line}
+use Rattle.biostack_top.specs.Report.{starts_run, IsApart, run_line, run_lines, Ended, report, write_lines, disk_line, disk_lines, sum_of_words, written_runs, pool_line, steps_line}
 
 -- the first sector is not inside a run
 pub apart_at_start : (flags : List Bool) → IsApart flags 0
@@ -30,19 +30,26 @@ lines_on {a} {b} {c} {f} {g} {h} {was} {mid} {is} name run all rest first here o
 pub lines_end : (a : Option (List ℕ)) (f : ℕ) (was : Bool) (name : List ℕ) (all : List Range) → all ≡ [] → Says a f was a f was (run_lines name all)
 lines_end a f was name all none = subst (Says a f was a f was) (no_lines name all none) (says_silence a f was)
 
+-- the line of the disk that there is, and those of its runs
+pub disk_is_told : {a b c : Option (List ℕ)} {f g h : ℕ} {was mid is : Bool} (name : List ℕ) (names : Option (List ℕ)) (words : ℕ) (image : List (List ℕ))
+    → names ≡ Some name → words ≡ sum_of_words image
+    → Says a f was b g mid (disk_line name words) → Says b g mid c h is (run_lines name (written_runs image)) → Says a f was c h is (disk_lines names image)
+disk_is_told {a} {b} {c} {f} {g} {h} {was} {mid} {is} name names words image there same_words line runs =
+    subst (λ n. Says a f was c h is (disk_lines n image)) (sym there)
+    (says_then (subst (λ n. Says a f was b g mid (disk_line name n)) same_words line) runs)
+
 -- the lines of what has ended, one after the other, are its report
-pub lines_are_report : {a b c d k l m : Option (List ℕ)} {fa fb fc fd fk fl fm : ℕ} {was pb pc pd pk pl is : Bool} (e : Ended)
-    (words : ℕ) (image : List (List ℕ)) (bios vecs : Facts) → words ≡ sum_of_words e.image → image ≡ e.image → bios ≡ e.bios → vecs ≡ e.vecs
+pub lines_are_report : {a b c k l m : Option (List ℕ)} {fa fb fc fk fl fm : ℕ} {was pb pc pk pl is : Bool} (e : Ended)
+    (image : List (List ℕ)) (bios vecs : Facts) (bound : ℕ) → image ≡ e.image → bios ≡ e.bios → vecs ≡ e.vecs → bound ≡ e.bound
     → Says a fa was b fb pb (write_lines 0 e.statuses)
-    → Says b fb pb c fc pc (disk_line e.name words)
-    → Says c fc pc d fd pd (run_lines e.name (written_runs image))
-    → Says d fd pd k fk pk (pool_line (codes "fs.bios") bios)
+    → Says b fb pb c fc pc (disk_lines e.name image)
+    → Says c fc pc k fk pk (pool_line (codes "fs.bios") bios)
     → Says k fk pk l fl pl (pool_line (codes "fs.vecs") vecs)
-    → Says l fl pl m fm is (steps_line e.steps e.bound)
+    → Says l fl pl m fm is (steps_line e.steps bound)
     → Says a fa was m fm is (report e)
-lines_are_report {a} {b} {c} {d} {k} {l} {m} {fa} {fb} {fc} {fd} {fk} {fl} {fm} {was} {pb} {pc} {pd} {pk} {pl} {is} e words image bios vecs same_words same_image same_bios same_vecs writes disk runs first second steps =
+lines_are_report {a} {b} {c} {k} {l} {m} {fa} {fb} {fc} {fk} {fl} {fm} {was} {pb} {pc} {pk} {pl} {is} e image bios vecs bound same_image same_bios same_vecs same_bound writes disk first second steps =
     says_then writes
-    (says_then (subst (λ n. Says b fb pb c fc pc (disk_line e.name n)) same_words disk)
-    (says_then (subst (λ i. Says c fc pc d fd pd (run_lines e.name (written_runs i))) same_image runs)
-    (says_then (subst (λ f. Says d fd pd k fk pk (pool_line (codes "fs.bios") f)) same_bios first)
-    (says_then (subst (λ f. Says k fk pk l fl pl (pool_line (codes "fs.vecs") f)) same_vecs second) steps))))
+    (says_then (subst (λ i. Says b fb pb c fc pc (disk_lines e.name i)) same_image disk)
+    (says_then (subst (λ f. Says c fc pc k fk pk (pool_line (codes "fs.bios") f)) same_bios first)
+    (says_then (subst (λ f. Says k fk pk l fl pl (pool_line (codes "fs.vecs") f)) same_vecs second)
+    (subst (λ n. Says l fl pl m fm is (steps_line e.steps n)) same_bound steps))))

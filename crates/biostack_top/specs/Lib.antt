@@ -1,8 +1,12 @@
 pub mod Scenario
-pub mod Form
-pub mod FormViews
+pub mod ScenarioViews
 pub mod Machine
 pub mod Path
 pub mod Runs
 pub mod Report
+pub mod CheckText
+pub mod LayoutText
+pub mod Orders
+pub mod Scene
+pub mod Built
 pub mod Ending

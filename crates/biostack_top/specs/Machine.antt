@@ -1,4 +1,4 @@
--- The machine of one write to one disk: a state, and each event as a step from a state to a state.
+-- The machine of at most one write to at most one disk: a state, and each event as a step from a state to a state.
 -- The writer takes a bio, links the write's node and pushes the bio to the disk. The disk's completer completes it, drops its part of
 -- the node, gives it back and tells the write done. Later scenarios have more tasks, pools, nodes and disks; the shape stays.
 use Rattle.std.specs.Prelude.{◌≡◌, ◌+◌, ◌*◌, ◌-◌, ◌<◌, true, List, [], ◌∷◌, ◌++◌, map, ℕ, take, drop, replicate, remove, slice_get, Option, None, Some, IsSomeAnd}
@@ -10,8 +10,8 @@ use Rattle.stack_base.specs.PoolId.{pool_number}
 use Rattle.stack_base.specs.Words.{sector_from, zero_sector}
 use Rattle.fail_script.specs.Script.{only_tail}
 use Rattle.mempool_core.specs.Move.{PoolState, Move, takes_ordinary, takes_spare, gives, Moves, opened}
-use Rattle.biostack_top.specs.Scenario.{Scenario}
-use Rattle.biostack_top.specs.declared.path.Bio.{Bio}
+use Rattle.biostack_top.specs.Scenario.{Scenario, write_count, sector_count}
+use Rattle.biostack_top.specs.declared.scenario.Bio.{Bio}
 use Rattle.biostack_top.specs.declared.path.Got.{Got}
 use Rattle.biostack_top.specs.declared.path.Got.TheVariants.{Ordinary, Spare}
 use Rattle.biostack_top.specs.declared.path.Writing.{Writing}
@@ -23,8 +23,8 @@ pub record State : Type 0 where
   -- the two pools of the writers' set
   pub bios : PoolState
   pub vecs : PoolState
-  -- what the writer still has to push, and what it and the completer do next
-  pub write : Bio
+  -- the write that the writer makes, and what it and the completer do next
+  pub write : Option Bio
   pub writer : Writing
   pub completer : Completing
   -- the status that the completer carries
@@ -47,27 +47,28 @@ pub data Event : Type 0 where
   Give : Event
   Done : Event
 
--- the write's bio: its run on the disk, and the first word that it writes
-abbrev pub bio_of : Scenario → Bio
-bio_of s = record { start = s.start; count = s.count; word = s.tag }
-
 -- how many elements each pool keeps
 abbrev pub reserve : ℕ
 reserve = 2
 
--- the pools open full, the disk is zeros, and the one write is unfinished
+-- what the writer does first: without a write it rests at once
+abbrev pub first_of : Option Bio → Writing
+first_of None = Rests
+first_of (Some b) = Takes
+
+-- the pools open full, the disk is zeros, and the write is unfinished
 abbrev pub start : Scenario → State
 start s = record {
   bios = opened (pool_number FsBios) reserve (only_tail true);
   vecs = opened (pool_number FsVecs) reserve (only_tail true);
-  write = bio_of s;
-  writer = Takes;
+  write = s.write;
+  writer = first_of s.write;
   completer = Waits;
   carried = status.Ok;
   node = None;
   pending = [];
-  image = replicate s.sectors zero_sector;
-  left = 1;
+  image = replicate (sector_count s) zero_sector;
+  left = write_count s;
   status = None;
 }
 
@@ -92,7 +93,8 @@ Step x (Take got) y =
 Step x Link y =
     (x.writer ≡ Links) × (x.node ≡ None) × (y ≡ record x { node = Some status.Ok; writer = Pushes })
 Step x Push y =
-    (x.writer ≡ Pushes) × (y ≡ record x { pending = x.pending ++ x.write ∷ []; writer = Rests })
+    (x.writer ≡ Pushes) × IsSomeAnd x.write (λ b.
+    y ≡ record x { pending = x.pending ++ b ∷ []; writer = Rests })
 Step x (Complete index) y =
     (x.completer ≡ Waits) × IsSomeAnd (slice_get x.pending index) (λ b.
     y ≡ record x { pending = remove x.pending index; image = written b x.image; carried = status.Ok; completer = Drops })

@@ -1,7 +1,7 @@
 -- The report of `run`, as a function of what has ended.
-use Rattle.std.specs.Prelude.{◌≡◌, ◌+◌, ◌-◌, ◌%◌, ◌^◌, ◌&&◌, ◌||◌, ◌<◌, ◌≤◌, ◌==◌, not, Bool, true, false, List, [], ◌∷◌, ◌++◌, map, filter, ℕ, length, drop, sum, sum_by, slice_index_or, codes, decimal}
+use Rattle.std.specs.Prelude.{◌≡◌, ◌+◌, ◌-◌, ◌%◌, ◌^◌, ◌&&◌, ◌||◌, ◌<◌, ◌≤◌, ◌==◌, not, Bool, true, false, List, [], ◌∷◌, ◌++◌, map, filter, ℕ, length, drop, sum, sum_by, slice_index_or, codes, decimal, Option, None, Some}
 use Rattle.std.specs.List.{range_with_len, flat_map, prefix_len}
-use Rattle.std.specs.Option.{option_to_list}
+use Rattle.std.specs.Option.{option_to_list, option_map}
 use Rattle.std.specs.Int.{w64, to_be_bytes}
 use Rattle.hex.specs.Hex.{encode_lower}
 use Rattle.stack_base.specs.declared.ids.Status.{Status}
@@ -16,7 +16,7 @@ use Rattle.biostack_top.specs.Machine.{State}
 -- what the report tells of
 pub record Ended : Type 0 where
   pub statuses : List Status
-  pub name : List ℕ
+  pub name : Option (List ℕ)
   pub image : List (List ℕ)
   pub bios : Facts
   pub vecs : Facts
@@ -87,20 +87,28 @@ write_lines number (status ∷ more) = write_line number status ++ write_lines (
 unfoldable pub run_lines : List ℕ → List Range → List ℕ
 run_lines name runs = flat_map (run_line name) runs
 
+-- the disk's line and those of its runs, where there is a disk
+abbrev pub disk_lines : Option (List ℕ) → List (List ℕ) → List ℕ
+disk_lines None image = []
+disk_lines (Some name) image = disk_line name (sum_of_words image) ++ run_lines name (written_runs image)
+
 -- the whole report
 abbrev pub report : Ended → List ℕ
 report e = write_lines 0 e.statuses
-    ++ (disk_line e.name (sum_of_words e.image)
-    ++ (run_lines e.name (written_runs e.image)
+    ++ (disk_lines e.name e.image
     ++ (pool_line (codes "fs.bios") e.bios
     ++ (pool_line (codes "fs.vecs") e.vecs
-    ++ steps_line e.steps e.bound))))
+    ++ steps_line e.steps e.bound)))
+
+-- the disk's name, if there is a disk
+abbrev pub name_of : Scenario → Option (List ℕ)
+name_of s = option_map (λ d. d.name) s.disk
 
 -- what the report tells of a state that was reached by so many events
 abbrev pub ended_as : Scenario → State → ℕ → ℕ → Ended
 ended_as s x steps bound = record {
   statuses = option_to_list x.status;
-  name = s.name;
+  name = name_of s;
   image = x.image;
   bios = x.bios.facts;
   vecs = x.vecs.facts;

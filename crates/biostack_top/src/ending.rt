@@ -1,6 +1,15 @@
 //! How a call of the program ends: an exit status and a line on errors for each cause.
 ghost use Rattle.std.specs.Prelude.{◌≡◌};
-ghost use Rattle.biostack_top.specs.Ending.{exit_of, line_of};
+ghost use Rattle.outside_io.specs.Saying.{Says};
+ghost use Rattle.biostack_top.specs.Ending.{exit_of, line_of, refusal_text};
+
+use decl_text::Refusal;
+use itoa::Buffer;
+use outside_io::{Pen, Sink};
+
+/// The line for words that ask for nothing that the program does.
+const USAGE: &[u8] =
+    b"biostack: usage: run [--seed N | --workers N] [--trace] | check | layout | gen N [--text]\n";
 
 /// The status that the program ends with.
 #[derive(Clone, Copy, Debug, PartialEq, Eq)]
@@ -13,15 +22,13 @@ pub enum Ending {
     Done,
     /// The words ask for nothing that the program does.
     Usage,
-    /// The text has another form than the one that is taken yet.
-    NotBuilt,
-    /// The write ends behind the end of its disk.
-    PastEnd,
+    /// The text is refused.
+    Refused(Refusal),
     /// The source failed.
     ReadFault,
     /// The sink failed.
     WriteFault,
-    /// There was no memory for reading or for the opening.
+    /// There was no memory for reading, for the fragments of a layout or for the opening.
     Memory,
 }
 
@@ -33,26 +40,39 @@ impl Ending {
         Exit(match self {
             Ending::Done => 0,
             Ending::Usage => 2,
-            Ending::NotBuilt | Ending::PastEnd => 3,
+            Ending::Refused(_) => 3,
             Ending::ReadFault => 4,
             Ending::WriteFault => 5,
             Ending::Memory => 6,
         })
     }
 
-    /// The line on errors, with its byte 10, and nothing where nothing went wrong.
-    pub fn line(self) -> &'static [u8]
-        ensures { result.now ≡ line_of self }
+    /// Writes the line of this ending to errors, and nothing where nothing went wrong. A fault of theirs leaves a front of the line.
+    pub fn tell<E: Sink>(self, pen: &mut Pen, errors: &mut E)
+        ensures { Says (E.held errors.old) (E.faults errors.old) pen.old.failed (E.held errors.new) (E.faults errors.new) pen.new.failed (line_of self) }
     {
         match self {
-            Ending::Done => b"",
-            Ending::Usage =>
-                b"biostack: usage: run [--seed N | --workers N] [--trace] | check | layout | gen N [--text]\n",
-            Ending::NotBuilt => b"biostack: line 0: 19 NotBuilt\n",
-            Ending::PastEnd => b"biostack: line 2: 12 PastEnd\n",
-            Ending::ReadFault => b"biostack: read fault\n",
-            Ending::WriteFault => b"biostack: write fault\n",
-            Ending::Memory => b"biostack: want of memory\n",
+            Ending::Done => {}
+            Ending::Usage => pen.put(errors, &[USAGE]),
+            Ending::Refused(refusal) => tell_refusal(pen, errors, refusal, refusal.name()),
+            Ending::ReadFault => pen.put(errors, &[b"biostack: read fault\n"]),
+            Ending::WriteFault => pen.put(errors, &[b"biostack: write fault\n"]),
+            Ending::Memory => pen.put(errors, &[b"biostack: want of memory\n"]),
         }
     }
+}
+
+// `biostack: line L: NUMBER NAME`
+fn tell_refusal<E: Sink>(pen: &mut Pen, errors: &mut E, refusal: Refusal, name: &[u8])
+    ensures { Says (E.held errors.old) (E.faults errors.old) pen.old.failed (E.held errors.new) (E.faults errors.new) pen.new.failed
+        (refusal_text refusal name.now) }
+{
+    let mut line_digits = Buffer::new();
+    let line = line_digits.format(refusal.line).as_bytes();
+    let mut number_digits = Buffer::new();
+    let number = number_digits.format(refusal.number).as_bytes();
+    pen.put(
+        errors,
+        &[b"biostack: line ", line, b": ", number, b" ", name, b"\n"],
+    );
 }

@@ -2,8 +2,8 @@
 ghost use Rattle.biostack_top.specs.Scenario.{Scenario, EndsWithin};
 ghost use Rattle.biostack_top.specs.Runs.{EveryRunHolds};
 
-/// Whatever events come, in whatever order and wherever the take has its element from: each pool adds up after each of them, the
-/// write is told done at most once and after exactly its fragment, an ended run leaves the laid-out image, while the write is
+/// Whatever events come, in whatever order and wherever the take has its element from: each pool adds up after each of them, each
+/// write is told done at most once and after exactly its fragment, an ended run leaves the laid-out image, while a write is
 /// unfinished a step that needs no ordinary memory can be made, and no run is longer than the bound.
 pub fn every_run_holds()
     ensures { (s : Scenario) → EndsWithin s → EveryRunHolds s }

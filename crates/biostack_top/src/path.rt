@@ -1,14 +1,14 @@
-//! The way of one write: seven events, carried out one after the other on a pool, a node, a disk and a tally.
-ghost use Rattle.std.specs.Prelude.{◌≡◌, ◌+◌, ◌-◌, ◌*◌, ◌^◌, ◌<◌, ◌≤◌, [], ◌∷◌, List, ℕ, length, map, replicate, Some, None, IfOk, IsSomeAnd, vec_len};
+//! The way of a write: seven events, carried out one after the other on a pool, a node, a disk and a tally.
+ghost use Rattle.std.specs.Prelude.{◌≡◌, ◌+◌, ◌-◌, ◌*◌, ◌^◌, ◌<◌, ◌≤◌, [], ◌∷◌, List, ℕ, length, map, replicate, Some, None, IfOk, IsSome, IsSomeAnd, vec_len};
 ghost use Rattle.std.specs.List.{range_with_len};
 ghost use Rattle.stack_base.specs.Words.{sector_from, zero_sector};
 ghost use Rattle.stack_base.specs.declared.ids.Status.TheVariants as status;
 ghost use Rattle.biostack_top.specs.Machine.{Step, Take, Link, Push, Complete, Drop as Dropped, Give, Done, start, written};
 ghost use Rattle.biostack_top.specs.Scenario.{EndsWithin};
-ghost use Rattle.biostack_top.specs.FormViews.{scenario_view};
+ghost use Rattle.biostack_top.specs.ScenarioViews.{scenario_view};
 ghost use Rattle.biostack_top.specs.Path.{state_of, HasRun};
 
-use crate::form::Scenario;
+use crate::scenario::{Bio, Scenario};
 use fail_script::Script;
 use mempool_core::{Element, Fresh, Pool, Taken};
 use stack_base::{PoolId, Status};
@@ -19,17 +19,6 @@ pub type Sector = [u64; 64];
 
 /// How many elements each pool keeps, unless a scenario says otherwise (`BIO_POOL_SIZE`).
 const RESERVE: u32 = 2;
-
-/// A part of a write on its way to the disk (`struct bio`).
-#[derive(Clone, Copy, Debug, PartialEq, Eq)]
-pub struct Bio {
-    /// Its first sector on the disk.
-    pub start: u64,
-    /// How many sectors it has.
-    pub count: u64,
-    /// The first word that it writes.
-    pub word: u64,
-}
 
 impl Fresh for Bio {
     ghost use Rattle.std.specs.Prelude.{◌≡◌};
@@ -99,8 +88,8 @@ pub struct Objects {
     pub bios: Pool<Bio>,
     /// The pool `fs.vecs`.
     pub vecs: Pool<Vector>,
-    /// The write's run and its first word.
-    pub write: Bio,
+    /// The write that the writer makes.
+    pub write: Option<Bio>,
     /// What the writer does next.
     pub writer: Writing,
     /// What the completer does next.
@@ -169,7 +158,7 @@ fn write_bio(image: &mut [Sector], bio: Bio)
 }
 
 impl Objects {
-    /// Opens the pools and the disk, with the write still to do.
+    /// Opens the pools and the disk, with the write, if there is one, still to do.
     ///
     /// # Errors
     ///
@@ -192,18 +181,17 @@ impl Objects {
                 RESERVE,
                 Script::new(Vec::new(alloc), true),
             )?,
-            write: Bio {
-                start: scenario.start,
-                count: scenario.count,
-                word: scenario.tag,
+            write: scenario.write,
+            writer: match scenario.write {
+                Some(_) => Writing::Takes,
+                None => Writing::Rests,
             },
-            writer: Writing::Takes,
             completer: Completing::Waits,
             carried: Status::Ok,
             node: None,
             pending: None,
-            image: zeros(alloc, scenario.sectors as usize)?,
-            left: 1,
+            image: zeros(alloc, scenario.disk.map_or(0, |disk| disk.sectors as usize))?,
+            left: u32::from(scenario.write.is_some()),
             status: None,
             steps: 0,
         })
@@ -246,13 +234,14 @@ impl Objects {
     /// The bio, filled with the write's run, becomes the disk's last pending one (`submit_bio`).
     fn push(&mut self, mut element: Element<Bio>)
         requires turn { self.old.writer ≡ Writing.Pushes }
+        requires write { IsSome self.old.write }
         requires empty { self.old.pending ≡ None }
         requires countable { self.old.steps < 2 ^ 64 - 1 }
         ensures step { Step (state_of self.old) Push (state_of self.new) }
-        ensures pending { IsSomeAnd self.new.pending (λ pushed. (pushed.pool ≡ element.pool) × (pushed.body.value ≡ self.old.write)) }
+        ensures pending { IsSomeAnd self.new.pending (λ pushed. (pushed.pool ≡ element.pool) × (Some pushed.body.value ≡ self.old.write)) }
         ensures counted { self.new.steps ≡ self.old.steps + 1 }
     {
-        *element.body = self.write;
+        *element.body = self.write.unwrap();
         self.pending = Some(element);
         self.writer = Writing::Rests;
         self.steps += 1;
@@ -318,7 +307,7 @@ impl Objects {
     }
 }
 
-/// Opens a scenario's objects and carries out its seven events, one after the other.
+/// Opens a scenario's objects, and carries out the seven events of its write, one after the other, where there is one.
 ///
 /// # Errors
 ///
@@ -328,6 +317,9 @@ pub fn run_scenario(alloc: Global, scenario: &Scenario<'_>) -> Result<Objects, A
     ensures { IfOk result (HasRun (scenario_view scenario.now)) }
 {
     let mut objects = Objects::open(alloc, scenario)?;
+    if scenario.write.is_none() {
+        return Ok(objects);
+    }
     let (_, element) = objects.take();
     objects.link();
     objects.push(element);

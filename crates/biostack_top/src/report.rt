@@ -3,24 +3,18 @@ ghost use Rattle.std.specs.Prelude.{◌≡◌, ◌+◌, ◌-◌, ◌*◌, ◌%�
 ghost use Rattle.std.specs.Option.{option_to_list};
 ghost use Rattle.stack_base.specs.Words.{is_written};
 ghost use Rattle.outside_io.specs.Saying.{Says};
-ghost use Rattle.biostack_top.specs.FormViews.{scenario_view};
+ghost use Rattle.biostack_top.specs.ScenarioViews.{scenario_view};
 ghost use Rattle.biostack_top.specs.Path.{state_of};
 ghost use Rattle.biostack_top.specs.Runs.{bound};
-ghost use Rattle.biostack_top.specs.Report.{sum_of_words, flag, IsApart, IsFirst, runs_from, status_word, write_line, write_lines, disk_line, run_line, run_lines, written_runs, pool_line, steps_line, ended_as, report};
+ghost use Rattle.biostack_top.specs.Report.{sum_of_words, flag, IsApart, IsFirst, runs_from, status_word, write_line, write_lines, disk_line, disk_lines, run_line, run_lines, written_runs, pool_line, steps_line, name_of, ended_as, report};
 
-use crate::form::Scenario;
 use crate::path::{Objects, Sector};
+use crate::scenario::Scenario;
 use itoa::Buffer;
+use layout_model::Bounds;
 use mempool_core::Facts;
 use outside_io::{Pen, Sink};
 use stack_base::{Range, Status};
-
-/// What a scenario of this form needs: one bio, one fragment, and no entry of a script.
-const ELEMENTS: u64 = 1;
-
-const FRAGMENTS: u64 = 1;
-
-const ENTRIES: u64 = 0;
 
 // Whether some word of the sector is not zero.
 #[tactic(auto, unfolding(stack_base::specs::Words::is_written))]
@@ -190,20 +184,39 @@ fn steps_line<K: Sink>(pen: &mut Pen, out: &mut K, steps: u64, bound: u64)
     pen.put(out, &[b"steps ", steps, b" of ", bound, b"\n"]);
 }
 
+// The disk's line and those of its runs, where there is a disk.
+#[tactic(auto, using(outside_io::proofs::SaysLemmas::saying))]
+fn disk_lines<K: Sink>(pen: &mut Pen, out: &mut K, scenario: &Scenario<'_>, image: &[Sector])
+    ensures { Says (K.held out.old) (K.faults out.old) pen.old.failed (K.held out.new) (K.faults out.new) pen.new.failed
+        (disk_lines (name_of (scenario_view scenario.now)) image.now) }
+{
+    if let Some(disk) = scenario.disk {
+        disk_line(pen, out, disk.name, sum_of_words(image));
+        run_lines(pen, out, disk.name, image);
+    }
+}
+
+// The bound on the steps of a run. A write has one bio and one fragment, and no pool's script has an entry.
+fn bound(scenario: &Scenario<'_>) -> u64
+    ensures { result ≡ bound (scenario_view scenario.now) }
+{
+    let writes = u64::from(scenario.write.is_some());
+    let bounds = Bounds {
+        e: writes,
+        g: writes,
+        z: 0,
+    };
+    bounds.total()
+}
+
 /// Writes the whole report, or a front of it where the sink fails.
 pub fn write_report<K: Sink>(pen: &mut Pen, out: &mut K, scenario: &Scenario<'_>, objects: &Objects)
     ensures { Says (K.held out.old) (K.faults out.old) pen.old.failed (K.held out.new) (K.faults out.new) pen.new.failed
         (report (ended_as (scenario_view scenario.now) (state_of objects.now) objects.now.steps (bound (scenario_view scenario.now)))) }
 {
     write_lines(pen, out, objects.status);
-    disk_line(pen, out, scenario.name, sum_of_words(&objects.image));
-    run_lines(pen, out, scenario.name, &objects.image);
+    disk_lines(pen, out, scenario, &objects.image);
     pool_line(pen, out, b"fs.bios", objects.bios.facts());
     pool_line(pen, out, b"fs.vecs", objects.vecs.facts());
-    steps_line(
-        pen,
-        out,
-        objects.steps,
-        8 * ELEMENTS + 2 * FRAGMENTS + ENTRIES,
-    );
+    steps_line(pen, out, objects.steps, bound(scenario));
 }

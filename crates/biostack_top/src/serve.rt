@@ -1,39 +1,29 @@
 //! Does what the words ask for.
-ghost use Rattle.std.specs.Prelude.{◌≡◌, ◌+◌, ◌<◌, ◌≤◌, map, false, IfOk, OnErr, MatchBool};
+ghost use Rattle.std.specs.Prelude.{◌≡◌, map, false, IfOk, OnErr};
 ghost use Rattle.std.specs.String.{string_bytes};
-ghost use Rattle.std.specs.Io.KnownBytes.{Keeps};
 ghost use Rattle.outside_io.specs.Saying.{Says};
 ghost use Rattle.biostack_top.specs.Scenario.{EndsWithin};
-ghost use Rattle.biostack_top.specs.FormViews.{scenario_view};
+ghost use Rattle.biostack_top.specs.ScenarioViews.{scenario_view};
 ghost use Rattle.biostack_top.specs.Report.{Ended, report};
-ghost use Rattle.biostack_top.specs.Ending.{IsRun, MayEndAs, TextEndsBy, EndsBy};
+ghost use Rattle.biostack_top.specs.Scene.{IsSaid};
+ghost use Rattle.biostack_top.specs.Ending.{EndsBy, MayEndAs, TextEndsBy};
+ghost use Rattle.biostack_top.specs.declared.order.Order.TheVariants as order;
 
+use crate::built::first_unbuilt;
+use crate::check::write_check;
 use crate::ending::Ending;
-use crate::form::{Scenario, read_form};
+use crate::layout::{layout_lines, write_layout};
+use crate::order::{Order, order_of};
 use crate::path::run_scenario;
 use crate::report::write_report;
+use crate::scenario::{Scenario, scenario_of};
+use crate::scene::{Scene, read_scene};
+use decl_text::ReadFault;
 use outside_io::{Pen, ReadError, Sink, Source, read_up_to};
 use std::alloc::{AllocError, Global};
 
 /// How many bytes of the source are read at the most: one more than a text may have.
 const LIMIT: usize = 4_194_305;
-
-// Whether the words are the one order that is carried out yet.
-fn is_run(words: &[String]) -> bool
-    ensures { MatchBool result (IsRun (map string_bytes words.now)) (¬ (IsRun (map string_bytes words.now))) }
-{
-    match words {
-        [word] => word.as_str() == "run",
-        _ => false,
-    }
-}
-
-// Whether the write ends within its disk.
-fn ends_within(scenario: &Scenario<'_>) -> bool
-    ensures { MatchBool result (scenario.now.start + scenario.now.count ≤ scenario.now.sectors) (scenario.now.sectors < scenario.now.start + scenario.now.count) }
-{
-    scenario.start <= scenario.sectors && scenario.count <= scenario.sectors - scenario.start
-}
 
 // Runs the scenario to its end and writes the report, and answers whether the sink failed. Want of memory comes before any writing.
 fn run_and_report<K: Sink>(
@@ -52,25 +42,88 @@ fn run_and_report<K: Sink>(
     Ok(pen.failed())
 }
 
-// Carries out the text's scenario.
-fn run_text<K: Sink>(alloc: Global, text: &[u8], out: &mut K) -> Ending
-    ensures { TextEndsBy result text.now record {
+// Runs the scene's writes to their end.
+fn run<K: Sink>(alloc: Global, scene: &Scene<'_>, out: &mut K) -> Ending
+    requires { IsSaid scene.now }
+    ensures { TextEndsBy result order.Run scene.now.text.now record {
       old = K.held out.old;
       new = K.held out.new;
       before = K.faults out.old;
       now = K.faults out.new;
     } }
 {
-    let Some(scenario) = read_form(text) else {
-        return Ending::NotBuilt;
-    };
-    if !ends_within(&scenario) {
-        return Ending::PastEnd;
+    match first_unbuilt(alloc, scene.text) {
+        Ok(None) => {}
+        Ok(Some(refusal)) => return Ending::Refused(refusal),
+        Err(_) => return Ending::Memory,
     }
+    let scenario = scenario_of(&scene.accepted.stack, &scene.work.writes);
     match run_and_report(alloc, &scenario, out) {
         Ok(false) => Ending::Done,
         Ok(true) => Ending::WriteFault,
         Err(_) => Ending::Memory,
+    }
+}
+
+// Tells the scene's devices, and what its writes need.
+fn check<K: Sink>(scene: &Scene<'_>, out: &mut K) -> Ending
+    requires { IsSaid scene.now }
+    ensures { TextEndsBy result order.Check scene.now.text.now record {
+      old = K.held out.old;
+      new = K.held out.new;
+      before = K.faults out.old;
+      now = K.faults out.new;
+    } }
+{
+    let mut pen = Pen::new();
+    write_check(&mut pen, out, &scene.accepted.stack, &scene.work.bound);
+    if pen.failed() {
+        Ending::WriteFault
+    } else {
+        Ending::Done
+    }
+}
+
+// Tells where the scene's writes go.
+fn layout<K: Sink>(alloc: Global, scene: &Scene<'_>, out: &mut K) -> Ending
+    requires { IsSaid scene.now }
+    ensures { TextEndsBy result order.Layout scene.now.text.now record {
+      old = K.held out.old;
+      new = K.held out.new;
+      before = K.faults out.old;
+      now = K.faults out.new;
+    } }
+{
+    let Ok(fragments) = layout_lines(alloc, &scene.accepted.stack, &scene.work.writes) else {
+        return Ending::Memory;
+    };
+    let mut pen = Pen::new();
+    write_layout(&mut pen, out, &fragments, &scene.accepted.stack);
+    if pen.failed() {
+        Ending::WriteFault
+    } else {
+        Ending::Done
+    }
+}
+
+// Carries out an order over a text that was read.
+fn serve_text<K: Sink>(alloc: Global, order: Order, text: &[u8], out: &mut K) -> Ending
+    ensures { TextEndsBy result order text.now record {
+      old = K.held out.old;
+      new = K.held out.new;
+      before = K.faults out.old;
+      now = K.faults out.new;
+    } }
+{
+    let scene = match read_scene(alloc, text) {
+        Ok(scene) => scene,
+        Err(ReadFault::Refused(refusal)) => return Ending::Refused(refusal),
+        Err(ReadFault::Memory) => return Ending::Memory,
+    };
+    match order {
+        Order::Run => run(alloc, &scene, out),
+        Order::Check => check(&scene, out),
+        Order::Layout => layout(alloc, &scene, out),
     }
 }
 
@@ -87,11 +140,11 @@ pub fn serve<S: Source, K: Sink>(
       out = record { old = K.held out.old; new = K.held out.new; before = K.faults out.old; now = K.faults out.new };
     } }
 {
-    if !is_run(words) {
+    let Some(order) = order_of(words) else {
         return Ending::Usage;
-    }
+    };
     match read_up_to(alloc, source, LIMIT) {
-        Ok(text) => run_text(alloc, &text, out),
+        Ok(text) => serve_text(alloc, order, &text, out),
         Err(ReadError::Source) => Ending::ReadFault,
         Err(ReadError::Memory) => Ending::Memory,
     }

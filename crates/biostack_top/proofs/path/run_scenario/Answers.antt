@@ -1,9 +1,9 @@
 -- The seven calls are the seven steps of a run from the scenario's start, and what holds of every run says that it has ended.
 use Rattle.std.proofs.Common.{◌≡◌, List, [], ◌∷◌, refl, subst, arith, length}
-use Rattle.biostack_top.specs.FormViews.{scenario_view}
+use Rattle.biostack_top.specs.ScenarioViews.{scenario_view}
 use Rattle.biostack_top.specs.Machine.{Event, Take, Link, Push, Complete, Drop, Give, Done, Step, RunsTo, start}
 use Rattle.biostack_top.specs.Path.{state_of}
-use Rattle.biostack_top.proofs.RunLemmas.{every_run_holds}
+use Rattle.biostack_top.proofs.RunLemmas.{every_run_holds, few_writes}
 use Rattle.biostack_top.proofs.path.run_scenario.Goals as goal
 
 pub returns : goal.returns
@@ -39,6 +39,6 @@ returns c =
       ),
     ) in
     let holds = every_run_holds s c.requires events end run in
-    let none : end.left ≡ 0 = omega (arith, holds.once) in
+    let none : end.left ≡ 0 = omega (arith, holds.once, few_writes s.write) in
     let counted : c.done.new.self.steps ≡ length events = omega (arith, c.in_ok-objects.ensures.fresh) in
     (events, run, holds.ended none, counted)

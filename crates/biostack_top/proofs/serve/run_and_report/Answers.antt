@@ -1,6 +1,6 @@
 -- The run that the objects went through is the one whose end is told.
 use Rattle.std.proofs.Common.{false, ap, sym, subst}
-use Rattle.biostack_top.specs.FormViews.{scenario_view}
+use Rattle.biostack_top.specs.ScenarioViews.{scenario_view}
 use Rattle.biostack_top.specs.Path.{state_of}
 use Rattle.biostack_top.specs.Runs.{bound}
 use Rattle.biostack_top.specs.Report.{ended_as, report}
