@@ -5,8 +5,6 @@ use Rattle.std.specs.Prelude.{◌≡◌, ◌+◌, ◌*◌, ◌-◌, ◌<◌, tru
 use Rattle.std.specs.List.{range_with_len}
 use Rattle.stack_base.specs.declared.ids.Status.{Status}
 use Rattle.stack_base.specs.declared.ids.Status.TheVariants as status
-use Rattle.stack_base.specs.declared.ids.PoolId.TheVariants.{FsBios, FsVecs}
-use Rattle.stack_base.specs.PoolId.{pool_number}
 use Rattle.stack_base.specs.Words.{sector_from, zero_sector}
 use Rattle.fail_script.specs.Script.{only_tail}
 use Rattle.mempool_core.specs.Move.{PoolState, Move, takes_ordinary, takes_spare, gives, Moves, opened}
@@ -59,8 +57,8 @@ first_of (Some b) = Takes
 -- the pools open full, the disk is zeros, and the write is unfinished
 abbrev pub start : Scenario → State
 start s = record {
-  bios = opened (pool_number FsBios) reserve (only_tail true);
-  vecs = opened (pool_number FsVecs) reserve (only_tail true);
+  bios = opened reserve (only_tail true);
+  vecs = opened reserve (only_tail true);
   write = s.write;
   writer = first_of s.write;
   completer = Waits;

@@ -7,8 +7,8 @@ use Rattle.biostack_top.specs.Machine.{State, Event, RunsTo, HasEnded, start}
 
 abbrev pub state_of : Objects → State
 state_of o = record {
-  bios = o.bios;
-  vecs = o.vecs;
+  bios = o.bios.state;
+  vecs = o.vecs.state;
   write = o.write;
   writer = o.writer;
   completer = o.completer;

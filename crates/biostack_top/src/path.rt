@@ -200,11 +200,12 @@ impl Objects {
     /// The writer takes a bio (`bio_alloc_bioset`).
     fn take(&mut self) -> (Got, Element<Bio>)
         requires turn { self.old.writer ≡ Writing.Takes }
-        requires spare { 0 < self.old.bios.facts.spares }
-        requires room { self.old.bios.facts.out < 2 ^ 64 - 1 }
+        requires spare { 0 < self.old.bios.state.facts.spares }
+        requires room { self.old.bios.state.facts.out < 2 ^ 64 - 1 }
         requires countable { self.old.steps < 2 ^ 64 - 1 }
         ensures step { Step (state_of self.old) (Take result.0) (state_of self.new) }
-        ensures element { result.1.pool ≡ self.old.bios.number }
+        ensures ledger { self.new.bios.ledger ≡ self.old.bios.ledger }
+        ensures element { result.1.share ≡ self.old.bios.ledger }
         ensures pending { self.new.pending ≡ self.old.pending }
         ensures counted { self.new.steps ≡ self.old.steps + 1 }
     {
@@ -223,6 +224,7 @@ impl Objects {
         requires closed { self.old.node ≡ None }
         requires countable { self.old.steps < 2 ^ 64 - 1 }
         ensures step { Step (state_of self.old) Link (state_of self.new) }
+        ensures ledger { self.new.bios.ledger ≡ self.old.bios.ledger }
         ensures pending { self.new.pending ≡ self.old.pending }
         ensures counted { self.new.steps ≡ self.old.steps + 1 }
     {
@@ -238,7 +240,8 @@ impl Objects {
         requires empty { self.old.pending ≡ None }
         requires countable { self.old.steps < 2 ^ 64 - 1 }
         ensures step { Step (state_of self.old) Push (state_of self.new) }
-        ensures pending { IsSomeAnd self.new.pending (λ pushed. (pushed.pool ≡ element.pool) × (Some pushed.body.value ≡ self.old.write)) }
+        ensures ledger { self.new.bios.ledger ≡ self.old.bios.ledger }
+        ensures pending { IsSomeAnd self.new.pending (λ pushed. (pushed.share ≡ element.share) × (Some pushed.body.value ≡ self.old.write)) }
         ensures counted { self.new.steps ≡ self.old.steps + 1 }
     {
         *element.body = self.write.unwrap();
@@ -253,6 +256,7 @@ impl Objects {
         requires waits { IsSomeAnd self.old.pending (λ e. e.body.value.start + e.body.value.count ≤ vec_len self.old.image) }
         requires countable { self.old.steps < 2 ^ 64 - 1 }
         ensures step { Step (state_of self.old) (Complete 0) (state_of self.new) }
+        ensures ledger { self.new.bios.ledger ≡ self.old.bios.ledger }
         ensures element { self.old.pending ≡ Some result }
         ensures counted { self.new.steps ≡ self.old.steps + 1 }
     {
@@ -271,6 +275,7 @@ impl Objects {
         requires open { self.old.node ≡ Some status.Ok }
         requires countable { self.old.steps < 2 ^ 64 - 1 }
         ensures step { Step (state_of self.old) Dropped (state_of self.new) }
+        ensures ledger { self.new.bios.ledger ≡ self.old.bios.ledger }
         ensures counted { self.new.steps ≡ self.old.steps + 1 }
     {
         self.node = None;
@@ -281,8 +286,7 @@ impl Objects {
     /// The bio goes back to its pool (`bio_put`).
     fn give(&mut self, element: Element<Bio>)
         requires turn { self.old.completer ≡ Completing.GivesBack }
-        requires pool { element.pool ≡ self.old.bios.number }
-        requires out { 0 < self.old.bios.facts.out }
+        requires pool { element.share ≡ self.old.bios.ledger }
         requires countable { self.old.steps < 2 ^ 64 - 1 }
         ensures step { Step (state_of self.old) Give (state_of self.new) }
         ensures counted { self.new.steps ≡ self.old.steps + 1 }

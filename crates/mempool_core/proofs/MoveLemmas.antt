@@ -6,8 +6,8 @@ use Rattle.mempool_core.specs.Facts.{AddsUp}
 use Rattle.mempool_core.specs.Move.{PoolState, Move, takes_ordinary, takes_spare, misses, gives, CanMove, Moves, after_move, opened}
 
 -- a pool adds up when it is opened
-pub opened_adds_up : (number min : ℕ) (script : Answers) → AddsUp (opened number min script).facts
-opened_adds_up number min script = record { elements = refl; spares = omega arith }
+pub opened_adds_up : (min : ℕ) (script : Answers) → AddsUp (opened min script).facts
+opened_adds_up min script = record { elements = refl; spares = omega arith }
 
 -- a pool that adds up adds up after a move that can come
 pub after_move_adds_up : (old : PoolState) (move : Move) → CanMove old move → AddsUp old.facts → AddsUp (after_move old move).facts
@@ -21,16 +21,6 @@ pub moves_keep_adds_up : {old new : PoolState} {move : Move} → Moves old move 
 moves_keep_adds_up {old = old} {new = new} {move = move} moved sums =
     let P : PoolState → Type 0 = λ pool. AddsUp pool.facts in
     subst P (sym moved.after) (after_move_adds_up old move moved.can sums)
-
-after_move_number : (old : PoolState) (move : Move) → (after_move old move).number ≡ old.number
-after_move_number old takes_ordinary = refl
-after_move_number old takes_spare = refl
-after_move_number old (misses used) = refl
-after_move_number old gives = refl
-
--- a move keeps the number
-pub moves_keep_number : {old new : PoolState} {move : Move} → Moves old move new → new.number ≡ old.number
-moves_keep_number {old = old} {move = move} moved = ap (λ pool. pool.number) moved.after ∙ after_move_number old move
 
 after_move_script : (old : PoolState) (move : Move) → (after_move old move).script ≡ old.script
 after_move_script old takes_ordinary = refl
@@ -53,4 +43,4 @@ pub moves_keep_min : {old new : PoolState} {move : Move} → Moves old move new 
 moves_keep_min {old = old} {move = move} moved = ap (λ pool. pool.facts.min) moved.after ∙ after_move_min old move
 
 -- what every move keeps, for a function's attribute
-pub ruleset move_rules = (moves_keep_adds_up, moves_keep_number, moves_keep_script, moves_keep_min)
+pub ruleset move_rules = (moves_keep_adds_up, moves_keep_script, moves_keep_min)

@@ -6,9 +6,8 @@ use Rattle.fail_script.specs.Script.{allows_at}
 use Rattle.mempool_core.specs.Position.{uses_entry, next_pos}
 use Rattle.mempool_core.specs.Facts.{counted}
 
--- what is seen of a pool
+-- a pool as plain data: its script and its numbers
 pub record PoolState : Type 0 where
-  pub number : ℕ
   pub script : Answers
   pub facts : Facts
 
@@ -23,9 +22,8 @@ pub data Move : Type 0 where
   gives : Move
 
 -- a pool as it is opened
-abbrev pub opened : ℕ → ℕ → Answers → PoolState
-opened number min script = record {
-  number = number;
+abbrev pub opened : ℕ → Answers → PoolState
+opened min script = record {
   script = script;
   facts = record { min = min; spares = min; out = 0; live = 0; pos = 0; ordinary = 0; spare = 0 };
 }

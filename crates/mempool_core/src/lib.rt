@@ -9,9 +9,12 @@
 ghost use Rattle.std.specs.Prelude.{◌≡◌, ℕ, ◌<◌, ◌≤◌, All, IfOk, MatchResult, vec_len, vec_capacity};
 ghost use Rattle.mempool_core.specs.Position.{uses_entry, next_pos};
 ghost use Rattle.mempool_core.specs.Facts.{AddsUp};
-ghost use Rattle.mempool_core.specs.Move.{Moves, gives, opened};
+ghost use Rattle.mempool_core.specs.Move.{gives, opened};
+ghost use Rattle.mempool_core.specs.Pool.{PoolMoves};
 ghost use Rattle.mempool_core.specs.Taken.{TakeOf};
 
+use elem_ledger::Ledger;
+pub use elem_ledger::{Element, Fresh};
 use fail_script::Script;
 use std::alloc::{AllocError, Global};
 use std::marker::Model;
@@ -25,33 +28,6 @@ fn advance(script: &Script, pos: u64) -> (u64, bool)
         (pos + 1, true)
     } else {
         (pos, false)
-    }
-}
-
-/// What a pool can hold in its elements: a body that can be made empty without memory.
-///
-/// The kernel's pools hand out memory as it is, and each taker clears it (`bio_init`). A pool here hands out clear bodies.
-pub trait Fresh {
-    ghost is_clear: { Self → Type 0 };
-
-    /// An empty body.
-    fn fresh() -> Self
-        ensures { is_clear result };
-}
-
-/// A body in memory of its own, with the number of the pool that it is given back to.
-#[derive(Drop)]
-pub struct Element<P> {
-    pub body: Box<P>,
-    pub pool: u32,
-}
-
-impl<P> Element<P> {
-    /// The number of the element's pool.
-    pub fn no(&self) -> u32
-        ensures { result ≡ self.now.pool }
-    {
-        self.pool
     }
 }
 
@@ -100,43 +76,53 @@ fn new_spares<P: Fresh + Drop>(alloc: Global, count: u32) -> Result<Vec<Box<P>>,
     Ok(spares)
 }
 
+// What a pool counts beside its spares and its ledger.
+#[derive(Clone, Copy, Debug, PartialEq, Eq)]
+struct Counts {
+    min: u64,
+    live: u64,
+    pos: u64,
+    ordinary: u64,
+    spare: u64,
+}
+
 /// A pool of elements with bodies of one type. It keeps the allocator that it was made with.
+///
+/// What is out of it is the total of its ledger, whoever has the elements.
 #[derive(Drop)]
 pub struct Pool<P: Fresh + Drop> {
     alloc: Global,
-    number: u32,
+    ledger: Ledger,
     script: Script,
     spares: Vec<Box<P>>,
-    facts: Facts,
+    counts: Counts,
 }
 
 impl<P: Fresh + Drop> Model for Pool<P> {
-    ghost use Rattle.mempool_core.specs.Move.{PoolState};
-    ghost use Rattle.mempool_core.specs.Pool.{IsKept};
+    ghost use Rattle.std.specs.Prelude.{vec_len};
+    ghost use Rattle.mempool_core.specs.Pool.{LedgerPool, state_with, IsKept};
 
-    ghost Value = { PoolState };
+    ghost Value = { LedgerPool };
 
-    ghost view = { λ p. record { number = p.number; script = p.script; facts = p.facts } };
+    ghost view = { λ p. record { ledger = p.ledger.id; state = state_with p.script p.counts (vec_len p.spares) p.ledger.total } };
 
-    ghost invariant = { λ p. IsKept P.is_clear p.script p.facts p.spares };
+    ghost invariant = { λ p. IsKept P.is_clear (state_with p.script p.counts (vec_len p.spares) p.ledger.total) p.spares };
 }
 
 impl<P: Fresh + Drop> Pool<P> {
-    /// Makes pool `number` with `min` elements (`mempool_create`).
+    /// Makes pool `no` with `min` elements (`mempool_create`), and a ledger of that number.
     ///
     /// # Errors
     ///
     /// Where they cannot all be had. Those that were had are given up again.
-    pub fn open(alloc: Global, number: u32, min: u32, script: Script) -> Result<Pool<P>, AllocError>
+    pub fn open(alloc: Global, no: u32, min: u32, script: Script) -> Result<Pool<P>, AllocError>
         requires { 1 ≤ min }
-        ensures { IfOk result (λ pool. pool ≡ opened number min script) }
+        ensures { IfOk result (λ pool. (pool.ledger.no ≡ no) × (pool.state ≡ opened min script)) }
     {
+        let ledger = Ledger::new(alloc, no)?;
         let spares = new_spares(alloc, min)?;
-        let min = u64::from(min);
-        let facts = Facts {
-            min,
-            spares: min,
-            out: 0,
+        let counts = Counts {
+            min: u64::from(min),
             live: 0,
             pos: 0,
             ordinary: 0,
@@ -144,10 +130,10 @@ impl<P: Fresh + Drop> Pool<P> {
         };
         Ok(Pool {
             alloc,
-            number,
+            ledger,
             script,
             spares,
-            facts,
+            counts,
         })
     }
 
@@ -157,33 +143,24 @@ impl<P: Fresh + Drop> Pool<P> {
     /// refused all the same. At `u64::MAX` elements out a take misses.
     pub fn take(&mut self) -> Taken<P>
         ensures takes { TakeOf P.is_clear self.old result self.new }
-        ensures adds_up { AddsUp self.new.facts }
+        ensures adds_up { AddsUp self.new.state.facts }
     {
-        let is_allowed = self.script.allows(self.facts.pos);
-        let (pos, used) = advance(&self.script, self.facts.pos);
-        self.facts.pos = pos;
-        if self.facts.out == u64::MAX {
+        let is_allowed = self.script.allows(self.counts.pos);
+        let (pos, used) = advance(&self.script, self.counts.pos);
+        self.counts.pos = pos;
+        if self.ledger.total() == u64::MAX {
             return Taken::Miss { used };
         }
         if is_allowed && let Ok(body) = Box::new(self.alloc, P::fresh()) {
-            self.facts.out += 1;
-            self.facts.live += 1;
-            self.facts.ordinary = self.facts.ordinary.saturating_add(1);
-            return Taken::Ordinary(Element {
-                body,
-                pool: self.number,
-            });
+            self.counts.live += 1;
+            self.counts.ordinary = self.counts.ordinary.saturating_add(1);
+            return Taken::Ordinary(self.ledger.issue(body));
         }
         let Some(body) = self.spares.pop() else {
             return Taken::Miss { used };
         };
-        self.facts.spares -= 1;
-        self.facts.out += 1;
-        self.facts.spare = self.facts.spare.saturating_add(1);
-        Taken::Spare(Element {
-            body,
-            pool: self.number,
-        })
+        self.counts.spare = self.counts.spare.saturating_add(1);
+        Taken::Spare(self.ledger.issue(body))
     }
 
     /// Gives an element of this pool back (`mempool_free`), which is never refused and takes no memory.
@@ -191,41 +168,46 @@ impl<P: Fresh + Drop> Pool<P> {
     /// It becomes a spare, with a clear body, while there are fewer than `min`, wherever its memory came from. Otherwise
     /// it goes to ordinary memory.
     pub fn give(&mut self, element: Element<P>)
-        requires pool { element.pool ≡ self.old.number }
-        requires out { 0 < self.old.facts.out }
-        ensures gives { Moves self.old gives self.new }
-        ensures adds_up { AddsUp self.new.facts }
+        requires { element.share ≡ self.old.ledger }
+        ensures gives { PoolMoves self.old gives self.new }
+        ensures adds_up { AddsUp self.new.state.facts }
     {
-        self.facts.out -= 1;
-        if self.facts.spares < self.facts.min {
-            let mut body = element.body;
+        let mut body = self.ledger.redeem(element);
+        if (self.spares.len() as u64) < self.counts.min {
             *body = P::fresh();
             self.spares.push(body).unwrap();
-            self.facts.spares += 1;
         } else {
-            self.facts.live -= 1;
+            self.counts.live -= 1;
         }
     }
 
     /// The numbers of the pool.
     pub fn facts(&self) -> Facts
-        ensures facts { result ≡ self.now.facts }
+        ensures facts { result ≡ self.now.state.facts }
         ensures adds_up { AddsUp result }
     {
-        self.facts
+        Facts {
+            min: self.counts.min,
+            spares: self.spares.len() as u64,
+            out: self.ledger.total(),
+            live: self.counts.live,
+            pos: self.counts.pos,
+            ordinary: self.counts.ordinary,
+            spare: self.counts.spare,
+        }
     }
 
     /// Ends the pool and tells its numbers. A pool with an element out is handed back as it was, where `mempool_destroy` would not look.
     pub fn close(self) -> Result<Facts, Pool<P>>
         ensures ends { MatchResult result
-            (λ facts. (self.facts.out ≡ 0) × (facts ≡ self.facts))
-            (λ pool. (0 < self.facts.out) × (pool ≡ self)) }
+            (λ facts. (self.state.facts.out ≡ 0) × (facts ≡ self.state.facts))
+            (λ pool. (0 < self.state.facts.out) × (pool ≡ self)) }
         // all that the pool was made with lies in it, and nothing that takes added is left
         ensures whole { IfOk result (λ facts. (facts.spares ≡ facts.min) × (facts.live ≡ 0)) }
     {
-        if self.facts.out > 0 {
+        if self.ledger.total() > 0 {
             return Err(self);
         }
-        Ok(self.facts)
+        Ok(self.facts())
     }
 }

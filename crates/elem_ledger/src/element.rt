@@ -1,0 +1,53 @@
+//! Shares and elements.
+ghost use Rattle.std.specs.Prelude.{◌≡◌, ℕ};
+
+use crate::balance::View;
+use atomic_table::Badge;
+use std::marker::Model;
+
+/// One unit of one ledger's total. Contracts see of which ledger it is.
+///
+/// There is no way to make one but `Ledger::issue`, none to have one twice, and none to bring one to another ledger. It may be
+/// dropped; it then stays counted for good.
+#[derive(Drop)]
+pub struct Share {
+    pub(crate) badge: Badge<View>,
+    pub(crate) no: u32,
+}
+
+impl Model for Share {
+    ghost use Rattle.std.specs.Prelude.{◌≡◌, [], ◌∷◌};
+    ghost use Rattle.elem_ledger.specs.Ledger.{LedgerId};
+    ghost use Rattle.elem_ledger.specs.declared.balance.View.TheVariants.{Out};
+
+    ghost Value = { LedgerId };
+
+    ghost view = { λ s. record { table = s.badge.table_id; no = s.no } };
+
+    ghost invariant = { λ s. s.badge.views ≡ Out ∷ [] };
+}
+
+impl Share {
+    /// The number of the share's ledger.
+    pub fn no(&self) -> u32
+        ensures { result ≡ self.now.no }
+    {
+        self.no
+    }
+}
+
+/// A body in memory of its own, with a share of the ledger of the pool that it is given back to.
+#[derive(Drop)]
+pub struct Element<P> {
+    pub body: Box<P>,
+    pub share: Share,
+}
+
+impl<P> Element<P> {
+    /// The number of the element's pool.
+    pub fn no(&self) -> u32
+        ensures { result ≡ self.now.share.no }
+    {
+        self.share.no()
+    }
+}
