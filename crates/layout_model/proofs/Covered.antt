@@ -7,8 +7,9 @@ use Rattle.stack_base.specs.Cutting.{next, IsCut}
 use Rattle.stack_base.specs.Tree.{Tree, Leaf, Split, Mirrored}
 use Rattle.layout_model.specs.declared.fragment.Fragment.{Fragment}
 use Rattle.layout_model.specs.Way.{Fits}
+use Rattle.layout_model.specs.Fragments.{IsIn}
 use Rattle.layout_model.specs.Plan.{frags}
-use Rattle.layout_model.specs.Laws.{IsIn, FragmentsCover}
+use Rattle.layout_model.specs.Laws.{FragmentsCover}
 use Rattle.layout_model.proofs.Sound.{Sound, cut_of_split, sound_piece, sound_leg}
 use Rattle.layout_model.proofs.ByPieces.{by_pieces}
 use Rattle.layout_model.proofs.Parts.{fits_here, from_piece, from_rest}

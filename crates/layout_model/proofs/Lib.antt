@@ -31,3 +31,5 @@ pub mod SmallCounts
 pub mod CountSteps
 pub mod WriteSizes
 pub mod Ways
+pub mod MayLemmas
+pub mod LoneDisk

@@ -24,6 +24,13 @@ pub record IsFragmentOf (t : Tree) (write offset r len : ℕ) (f : Fragment) : T
   pub lies : place t (r + from) choices ≡ record { disk = f.disk.0; at = f.at }
   pub whole : (j : ℕ) → j < len → Together t r choices (r + from) (r + j) ↔ ((from ≤ j) × (j < from + f.len))
 
+-- a fragment of a run by these choices, and among its sectors the one that stands j behind the run's first
+pub record IsIn (t : Tree) (write offset r len : ℕ) (choices : List ℕ) (j : ℕ) (f : Fragment) : Type 0 where
+  pub fragment : IsFragmentOf t write offset r len f
+  pub chosen : fragment.choices ≡ choices
+  pub from : fragment.from ≤ j
+  pub before : j < fragment.from + f.len
+
 -- two fragments that do not both begin at one sector of the write and lie on one disk
 abbrev pub AreOther : Fragment → Fragment → Type 0
 AreOther a b = a.offset ≡ b.offset → a.disk.0 ≡ b.disk.0 → ⊥

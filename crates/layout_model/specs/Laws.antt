@@ -1,19 +1,22 @@
 -- The laws of the plan: how it is made step by step, and what it has to do with the layout and with what a run needs. With them, that
 -- the fragments of a run leave no sector out, and that the laws hold over every stack.
-use Rattle.std.specs.Prelude.{◌≡◌, ◌↔◌, ◌+◌, ◌-◌, ◌<◌, ◌≤◌, ℕ, List, [], ◌∷◌, ◌++◌, length, map, Contains}
+use Rattle.std.specs.Prelude.{◌≡◌, ◌↔◌, ◌+◌, ◌-◌, ◌<◌, ℕ, List, [], ◌∷◌, ◌++◌, length, map, Contains, IsTrue}
 use Rattle.std.specs.List.{range_with_len, AllPairs}
 use Rattle.stack_base.specs.declared.stack.Kind.{Kind}
 use Rattle.stack_base.specs.declared.stack.Stack.{Stack}
 use Rattle.stack_base.specs.declared.mapping.Piece.{Piece}
+use Rattle.stack_base.specs.declared.ids.Status.{Status}
+use Rattle.stack_base.specs.declared.ids.Status.TheVariants as status
 use Rattle.stack_base.specs.Piece.{IsPiece}
 use Rattle.stack_base.specs.Tree.{Tree, Leaf, Split, Mirrored, tree}
 use Rattle.stack_base.specs.Stack.{IsStack}
 use Rattle.layout_model.specs.declared.fragment.Fragment.{Fragment}
 use Rattle.layout_model.specs.Way.{Fits, place, Step, way, heads}
-use Rattle.layout_model.specs.Fragments.{IsFragmentOf, AreOther}
+use Rattle.layout_model.specs.Fragments.{IsFragmentOf, IsIn, AreOther}
 use Rattle.layout_model.specs.Need.{needed, fragments_of}
-use Rattle.layout_model.specs.Plan.{Plans, Whole, Pieces, Legs, none, also, each, plan, frags, leaves, takes}
+use Rattle.layout_model.specs.Plan.{Plan, Plans, Whole, Pieces, Legs, none, also, each, plan, frags, leaves, takes}
 use Rattle.layout_model.specs.Sound.{Sound}
+use Rattle.layout_model.specs.May.{may_end}
 
 -- A piece of n sectors, cut off a run: its plan in its member stands before the plans of the rest. If there is a rest, these are the plan
 -- of the rest as a run of its own, and if not, there are none.
@@ -68,13 +71,6 @@ abbrev pub PlanFragmentsDiffer : Type 0
 PlanFragmentsDiffer = (stack : Stack) (number write offset start len : ℕ) → IsStack stack → number < length stack.devices.items → 0 < len
     → AllPairs AreOther (leaves (plan (tree stack number) write offset start len))
 
--- a fragment of a run by these choices, and among its sectors the one that stands j behind the run's first
-pub record IsIn (t : Tree) (write offset r len : ℕ) (choices : List ℕ) (j : ℕ) (f : Fragment) : Type 0 where
-  pub fragment : IsFragmentOf t write offset r len f
-  pub chosen : fragment.choices ≡ choices
-  pub from : fragment.from ≤ j
-  pub before : j < fragment.from + f.len
-
 -- each sector of a run is in a fragment of the run, by whatever choices lead it
 abbrev pub FragmentsCover : Type 0
 FragmentsCover = (t : Tree) (write offset r len j : ℕ) (choices : List ℕ) → Sound t → j < len → Fits t (r + j) choices
@@ -91,3 +87,15 @@ pub record IsTold (t : Tree) (r s : ℕ) (choices : List ℕ) : Type 0 where
 
 abbrev pub WaysAreTold : Type 0
 WaysAreTold = (t : Tree) (r s : ℕ) (choices : List ℕ) → IsTold t r s choices
+
+-- a plan that may end well can end with nothing else
+abbrev pub OkIsAlone : Type 0
+OkIsAlone = (ends : Fragment → Status) (p : Plan) (end : Status) → IsTrue (may_end ends p status.Ok) → IsTrue (may_end ends p end) → end ≡ status.Ok
+
+-- a plan may end somehow
+abbrev pub SomeEndIsOpen : Type 0
+SomeEndIsOpen = (ends : Fragment → Status) (p : Plan) → (end : Status) × IsTrue (may_end ends p end)
+
+-- at a disk, a run ends as its fragment does
+abbrev pub EndsOfDisk : Type 0
+EndsOfDisk = (ends : Fragment → Status) (f : Fragment) (end : Status) → IsTrue (may_end ends (Whole f) end) ↔ (end ≡ ends f)

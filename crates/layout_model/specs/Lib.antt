@@ -8,3 +8,5 @@ pub mod Pieces
 pub mod Writes
 pub mod Needs
 pub mod Bound
+pub mod May
+pub mod Laid

@@ -1,5 +1,5 @@
 //! The laws of the plan and of its fragments, over every tree of devices that cut as their kinds say, and so over every stack.
-ghost use Rattle.layout_model.specs.Laws.{PlanOfPieces, PlanOfLegs, PlanOfDisk, PlanGivesFragments, PlanKeepsOrder, PlanTakesNeeded, FragmentsAreCounted, TreesAreSound, PlanFragmentsDiffer, FragmentsCover, WaysAreTold};
+ghost use Rattle.layout_model.specs.Laws.{PlanOfPieces, PlanOfLegs, PlanOfDisk, PlanGivesFragments, PlanKeepsOrder, PlanTakesNeeded, FragmentsAreCounted, TreesAreSound, PlanFragmentsDiffer, FragmentsCover, WaysAreTold, OkIsAlone, SomeEndIsOpen, EndsOfDisk};
 
 /// Where a device cuts a run, the plan of the run is the plan of its first piece in the member that the piece goes to, and then the
 /// plans of the other pieces. These are the plan that the rest has as a run of its own, and there are none where there is no rest. So a
@@ -61,4 +61,19 @@ pub fn fragments_cover()
 /// The heads of a sector's way are those of its steps, and the way ends where the sector lies.
 pub fn ways_are_told()
     ensures { WaysAreTold }
+{}
+
+/// A run that may end well can end with nothing else, however its fragments end.
+pub fn ok_is_alone()
+    ensures { OkIsAlone }
+{}
+
+/// Each run may end somehow, however its fragments end.
+pub fn some_end_is_open()
+    ensures { SomeEndIsOpen }
+{}
+
+/// A run that comes to a disk may end as its fragment does, and not otherwise.
+pub fn ends_of_disk()
+    ensures { EndsOfDisk }
 {}

@@ -13,3 +13,4 @@ pub mod MemberSizes
 pub mod DeclaredSums
 pub mod DeclaredKinds
 pub mod DeclaredBounds
+pub mod FaultLemmas

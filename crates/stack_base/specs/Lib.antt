@@ -6,3 +6,4 @@ pub mod Stack
 pub mod Piece
 pub mod Cutting
 pub mod Declaration
+pub mod Fault

@@ -1,6 +1,7 @@
 //! What holds of the definitions, as functions that do nothing.
 ghost use Rattle.stack_base.specs.Cutting.{HeadsAreHeads, HeadsStay, PiecesAreCuts};
 ghost use Rattle.stack_base.specs.Declaration.{DeclaredIsStack};
+ghost use Rattle.stack_base.specs.Fault.{FaultsAreDecided};
 ghost use Rattle.stack_base.specs.PoolId.{NumbersAreApart};
 
 /// A rest that is submitted again is cut where the whole run is, at each kind. So a device that takes the first piece off and hands
@@ -30,4 +31,10 @@ pub fn numbers_are_apart()
 /// sector of it, follows from each device being a member at most once and from the sum of all disks.
 pub fn declared_is_stack()
     ensures { DeclaredIsStack }
+{}
+
+/// A run on a disk that touches no bad range ends well. Any other ends as the bad range says that decides it: of those that the run
+/// touches the one that starts first, and where more than one starts there, the one that is declared first. No two decide.
+pub fn faults_are_decided()
+    ensures { FaultsAreDecided }
 {}
