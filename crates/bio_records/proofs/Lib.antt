@@ -1,0 +1,4 @@
+pub mod ChainLemmas
+pub mod Places
+pub mod SegmentLemmas
+pub mod RunLemmas

@@ -1,0 +1,41 @@
+-- What a list shows of the elements in it, and the list of these.
+use Rattle.std.specs.Prelude.{◌≡◌, List, [], ◌∷◌, Option, None, Some}
+use Rattle.std.specs.Global.{Box}
+use Rattle.elem_ledger.specs.Ledger.{LedgerId}
+use Rattle.elem_ledger.specs.declared.element.Element.{Element}
+use Rattle.bio_records.specs.declared.bio.Bio.{Bio}
+use Rattle.bio_records.specs.declared.segment.Segment.{Segment}
+use Rattle.bio_records.specs.declared.body.BioBody.{BioBody, BioBody', Held-BioBody-next, None', Some', out-BioBody}
+
+-- an element of a pool of bios without its box: the padding, the bio, its own segments, and the ledger that its share is of
+pub record Item (F : Type 0) : Type 0 where
+  pub pad : F
+  pub bio : Bio
+  pub short : List Segment
+  pub share : LedgerId
+
+-- the elements of a chain, from its first box on
+abbrev mutual
+  pub chain : {F : Type 0} → Held-BioBody-next F → List (Item F)
+  chain None' = []
+  chain (Some' p body share) = chain_from body share
+
+  pub chain_from : {F : Type 0} → BioBody F → LedgerId → List (Item F)
+  chain_from (BioBody' pad bio short next) share = record { pad = pad; bio = bio; short = short.items; share = share } ∷ chain next
+
+-- the elements of a chain that may be empty
+abbrev pub items : {F : Type 0} → Option (Box (BioBody F) × LedgerId) → List (Item F)
+items None = []
+items (Some first) = chain_from first.0.value first.1
+
+abbrev pub item_of : {F : Type 0} → Element (BioBody F) → Item F
+item_of {F = F} element = record {
+  pad = (out-BioBody F element.body.value).pad;
+  bio = (out-BioBody F element.body.value).bio;
+  short = (out-BioBody F element.body.value).short.items;
+  share = element.share;
+}
+
+-- the element is in no list
+abbrev pub IsAlone : {F : Type 0} → Element (BioBody F) → Type 0
+IsAlone {F = F} element = (out-BioBody F element.body.value).next ≡ None

@@ -1,0 +1,5 @@
+pub mod Clear
+pub mod Items
+pub mod Segments
+pub mod Runs
+pub mod Rescue

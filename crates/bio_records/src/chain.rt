@@ -1,0 +1,110 @@
+//! Chains of elements, each in the box of the one before it.
+ghost use Rattle.std.specs.Prelude.{◌≡◌, ◌++◌, ◌+◌, ◌<◌, [], ◌∷◌, length, reverse, remove, slice_get, min, ◌^◌, ◌-◌, MatchOption, Some};
+ghost use Rattle.bio_records.specs.Items.{items, item_of, IsAlone};
+
+use crate::body::BioBody;
+use elem_ledger::{Element, Share};
+
+/// The first element of a chain, by its two parts.
+pub type Link<F> = Option<(Box<BioBody<F>>, Share)>;
+
+/// Puts an element before a chain.
+pub fn attach<F: Drop>(link: &mut Link<F>, element: Element<BioBody<F>>)
+    requires { IsAlone element }
+    ensures { items link.new ≡ item_of element ∷ items link.old }
+{
+    let Element { mut body, share } = element;
+    body.next = link.take();
+    *link = Some((body, share));
+}
+
+/// Takes the first element off a chain.
+pub fn detach<F: Drop>(link: &mut Link<F>) -> Option<Element<BioBody<F>>>
+    ensures { MatchOption result ((items link.old ≡ []) × (items link.new ≡ []))
+        (λ element. (items link.old ≡ item_of element ∷ items link.new) × IsAlone element) }
+{
+    let (mut body, share) = link.take()?;
+    *link = body.next.take();
+    Some(Element { body, share })
+}
+
+/// Puts the elements of a chain before another, the first one deepest.
+pub fn reverse_onto<F: Drop>(mut from: Link<F>, mut onto: Link<F>) -> Link<F>
+    ensures { items result ≡ reverse (items from) ++ items onto }
+{
+    'moving: while let Some(element) = detach(&mut from) {
+        attach(&mut onto, element);
+    }
+    onto
+}
+
+/// How many elements a chain has, or `u64::MAX` where there are more.
+pub fn count_of<F: Drop>(link: &Link<F>) -> u64
+    ensures { result ≡ min (length (items link.now)) (2 ^ 64 - 1) }
+{
+    let mut count: u64 = 0;
+    let mut rest = link;
+    'counting: while let Some((body, _)) = rest {
+        count = count.saturating_add(1);
+        rest = &body.next;
+    }
+    count
+}
+
+/// Moves up to `count` elements from the front of a chain to another, the last one moved first there. Answers how many were lacking.
+pub fn pass<F: Drop>(from: &mut Link<F>, count: u64, passed: &mut Link<F>) -> u64
+    ensures same { reverse (items passed.new) ++ items from.new ≡ reverse (items passed.old) ++ items from.old }
+    ensures counted { length (items passed.new) + result ≡ length (items passed.old) + count }
+    ensures lacked { 0 < result → items from.new ≡ [] }
+{
+    let mut left = count;
+    'passing: while left > 0 {
+        let Some(element) = detach(from) else {
+            return left;
+        };
+        attach(passed, element);
+        left -= 1;
+    }
+    0
+}
+
+/// How many elements two chains have together, or `u64::MAX` where there are more, from that number with one element more. The chains are
+/// looked at only where it does not tell.
+pub fn count_less_one<F: Drop>(count: u64, front: &Link<F>, back: &Link<F>) -> u64
+    requires { count ≡ min (length (items front.now) + length (items back.now) + 1) (2 ^ 64 - 1) }
+    ensures { result ≡ min (length (items front.now) + length (items back.now)) (2 ^ 64 - 1) }
+{
+    if count < u64::MAX {
+        count - 1
+    } else {
+        count_of(front).saturating_add(count_of(back))
+    }
+}
+
+/// Where the front of a list is empty, its back becomes its front: turned round, and empty from then on.
+pub fn bring_round<F: Drop>(front: &mut Link<F>, back: &mut Link<F>)
+    ensures same { items front.new ++ reverse (items back.new) ≡ items front.old ++ reverse (items back.old) }
+    ensures brought { items front.old ≡ [] → items back.new ≡ [] }
+    ensures emptied { items front.new ≡ [] → items back.new ≡ [] }
+{
+    if front.is_none() {
+        *front = reverse_onto(back.take(), None);
+    }
+}
+
+/// Takes the element at a place out of a list with this front and back. The others keep their order.
+pub fn take_out<F: Drop>(front: &mut Link<F>, back: &mut Link<F>, index: u64) -> Element<BioBody<F>>
+    requires { index < length (items front.old) + length (items back.old) }
+    ensures taken { slice_get (items front.old ++ reverse (items back.old)) index ≡ Some (item_of result) }
+    ensures rest { items front.new ++ reverse (items back.new) ≡ remove (items front.old ++ reverse (items back.old)) index }
+    ensures counted { length (items front.new) + length (items back.new) + 1 ≡ length (items front.old) + length (items back.old) }
+    ensures alone { IsAlone result }
+{
+    let mut passed = None;
+    let lacking = pass(front, index, &mut passed);
+    bring_round(front, back);
+    let _none = pass(front, lacking, &mut passed);
+    let element = detach(front).unwrap();
+    *front = reverse_onto(passed, front.take());
+    element
+}

@@ -1,0 +1,124 @@
+//! Lists of bios.
+ghost use Rattle.std.specs.Prelude.{◌≡◌, ◌++◌, ◌+◌, ◌<◌, [], ◌∷◌, List, length, reverse, remove, IsTrue, ◌↔◌, slice_get, min, ◌^◌, ◌-◌, MatchOption, Some};
+ghost use Rattle.bio_records.specs.Items.{Item, items, item_of, IsAlone};
+
+use crate::bio::Pad;
+use crate::body::BioElement;
+use crate::chain::{self, Link};
+use std::marker::Model;
+use std::mem;
+
+/// A list of bios (`struct bio_list`), seen as its elements in order.
+///
+/// It is two chains: the elements at the front, and those at the back with the last one first. A push and a pop move one element, and
+/// over all pops each element moves from one chain to the other at most once.
+#[derive(Drop)]
+pub struct BioList {
+    front: Link<Pad>,
+    back: Link<Pad>,
+    count: u64,
+}
+
+impl Model for BioList {
+    ghost use Rattle.std.specs.Prelude.{◌≡◌, ◌++◌, ◌-◌, ◌^◌, List, length, reverse, min};
+    ghost use Rattle.bio_records.specs.declared.bio.Pad.{Pad};
+    ghost use Rattle.bio_records.specs.Items.{Item, items};
+
+    ghost Value = { List (Item Pad) };
+
+    ghost view = { λ l. items l.front ++ reverse (items l.back) };
+
+    ghost invariant = { λ l. l.count ≡ min (length (items l.front ++ reverse (items l.back))) (2 ^ 64 - 1) };
+}
+
+impl BioList {
+    /// An empty list (`bio_list_init`).
+    pub fn new() -> BioList
+        ensures { result ≡ [] }
+    {
+        BioList {
+            front: None,
+            back: None,
+            count: 0,
+        }
+    }
+
+    /// How many bios there are (`bio_list_size`), or `u64::MAX` where there are more.
+    pub fn len(&self) -> u64
+        ensures { result ≡ min (length self.now) (2 ^ 64 - 1) }
+    {
+        self.count
+    }
+
+    /// Whether there is none (`bio_list_empty`).
+    pub fn is_empty(&self) -> bool
+        ensures { IsTrue result ↔ (self.now ≡ []) }
+    {
+        self.count == 0
+    }
+
+    /// Puts a bio at the end (`bio_list_add`).
+    pub fn push(&mut self, element: BioElement)
+        requires { IsAlone element }
+        ensures { self.new ≡ self.old ++ item_of element ∷ [] }
+    {
+        chain::attach(&mut self.back, element);
+        self.count = self.count.saturating_add(1);
+    }
+
+    /// Takes the first bio off, if there is one (`bio_list_pop`).
+    pub fn pop(&mut self) -> Option<BioElement>
+        ensures { MatchOption result ((self.old ≡ []) × (self.new ≡ []))
+            (λ element. (self.old ≡ item_of element ∷ self.new) × IsAlone element) }
+    {
+        chain::bring_round(&mut self.front, &mut self.back);
+        let element = chain::detach(&mut self.front)?;
+        self.count = chain::count_less_one(self.count, &self.front, &self.back);
+        Some(element)
+    }
+
+    // Puts another list, which is not the longer one, at the end.
+    fn add_behind(&mut self, other: BioList)
+        ensures { self.new ≡ self.old ++ other }
+    {
+        let BioList { front, back, count } = other;
+        let behind = chain::reverse_onto(front, self.back.take());
+        self.back = chain::reverse_onto(chain::reverse_onto(back, None), behind);
+        self.count = self.count.saturating_add(count);
+    }
+
+    // Puts another list, which is not the longer one, at the front.
+    fn add_before(&mut self, other: BioList)
+        ensures { self.new ≡ other ++ self.old }
+    {
+        let BioList { front, back, count } = other;
+        let before = chain::reverse_onto(back, self.front.take());
+        self.front = chain::reverse_onto(chain::reverse_onto(front, None), before);
+        self.count = self.count.saturating_add(count);
+    }
+
+    /// Puts the bios of another list at the end, in their order (`bio_list_merge`). It moves those of the shorter list one by one.
+    pub fn merge(&mut self, mut other: BioList)
+        ensures { self.new ≡ self.old ++ other }
+    {
+        if self.count < other.count {
+            mem::swap(self, &mut other);
+            self.add_before(other);
+        } else {
+            self.add_behind(other);
+        }
+    }
+
+    /// Takes the bio at a place out of the list. The others keep their order. It goes over the places before it, and over the whole list
+    /// only to bring its back to its front.
+    pub fn take_at(&mut self, index: u64) -> BioElement
+        requires { index < length self.old }
+        ensures taken { slice_get self.old index ≡ Some (item_of result) }
+        ensures rest { self.new ≡ remove self.old index }
+        ensures alone { IsAlone result }
+    {
+        let element = chain::take_out(&mut self.front, &mut self.back, index);
+        self.count = chain::count_less_one(self.count, &self.front, &self.back);
+        element
+    }
+}
