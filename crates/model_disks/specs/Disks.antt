@@ -1,0 +1,27 @@
+-- A disk of the model, as contracts see it.
+use Rattle.std.specs.Prelude.{◌≡◌, ◌+◌, ◌%◌, ◌^◌, ◌<◌, ◌≤◌, ℕ, List, sum, sum_by}
+use Rattle.stack_base.specs.declared.ids.DevId.{DevId}
+use Rattle.stack_base.specs.declared.ids.Bad.{Bad}
+use Rattle.stack_base.specs.declared.ids.Status.TheVariants as status
+use Rattle.bio_records.specs.declared.bio.Pad.{Pad}
+use Rattle.bio_records.specs.Items.{Item}
+
+pub record DiskState : Type 0 where
+  -- the device that it is
+  pub dev : DevId
+  -- its bad ranges, in the order of their declaration
+  pub bad : List Bad
+  -- its sectors, of 64 words each
+  pub image : List (List ℕ)
+  -- the bios that wait in it, in the order of their pushes
+  pub pending : List (Item Pad)
+
+-- the sum of all words of an image, modulo 2 ^ 64
+abbrev pub sum_of_words : List (List ℕ) → ℕ
+sum_of_words image = sum_by sum image % 2 ^ 64
+
+-- a bad range of a disk of so many sectors: it has a sector, ends within the disk, and lets no bio end well
+pub record IsBadRange (sectors : ℕ) (bad : Bad) : Type 0 where
+  pub some : 0 < bad.range.len
+  pub within : bad.range.start + bad.range.len ≤ sectors
+  pub fails : bad.kind ≡ status.Ok → ⊥

@@ -1,0 +1,4 @@
+pub mod Disks
+pub mod Moves
+pub mod Runs
+pub mod Kept

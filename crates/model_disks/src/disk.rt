@@ -1,0 +1,125 @@
+//! A disk: its image, its bad ranges and the bios that wait in it.
+ghost use Rattle.std.specs.Prelude.{◌≡◌, ◌+◌, ◌-◌, ◌^◌, ◌<◌, ◌≤◌, [], ◌∷◌, length, map, min, All, IfOk, MatchOption};
+ghost use Rattle.stack_base.specs.Words.{is_written};
+ghost use Rattle.bio_records.specs.Items.{item_of, IsAlone};
+ghost use Rattle.model_disks.specs.Disks.{IsBadRange, sum_of_words};
+ghost use Rattle.model_disks.specs.Moves.{opened, pushed, Completes};
+ghost use Rattle.model_disks.specs.Runs.{runs_from, IsApart};
+
+use crate::fault::fault;
+use crate::image;
+use bio_records::{BioElement, BioList};
+use stack_base::{Bad, DevId, Range, Status};
+use std::alloc::{AllocError, Global};
+use std::marker::Model;
+
+/// A disk of the model (`struct gendisk`, `include/linux/blkdev.h`, with a driver that keeps its sectors in memory, as
+/// `drivers/block/brd.c` does).
+///
+/// Contracts see its device, its bad ranges, its sectors and the bios that wait in it (`DiskState`).
+#[derive(Drop)]
+pub struct Disk {
+    dev: DevId,
+    bad: Vec<Bad>,
+    // For each sector the first of the 64 words that were written to it, or none where nothing was.
+    image: Vec<Option<u64>>,
+    pending: BioList,
+}
+
+impl Model for Disk {
+    ghost use Rattle.std.specs.Prelude.{map, length};
+    ghost use Rattle.model_disks.specs.Disks.{DiskState};
+    ghost use Rattle.model_disks.specs.Kept.{sector_of, IsKept};
+
+    ghost Value = { DiskState };
+
+    ghost view = { λ d. record { dev = d.dev; bad = d.bad.items; image = map sector_of d.image.items; pending = d.pending } };
+
+    ghost invariant = { λ d. IsKept (length d.image.items) d.bad.items d.pending };
+}
+
+/// A bio that a disk is done with.
+#[derive(Drop)]
+pub struct Done {
+    /// Its element, as it was pushed.
+    pub el: BioElement,
+    /// How it ended.
+    pub status: Status,
+}
+
+impl Disk {
+    /// A disk of so many sectors, all zeros, in which no bio waits. Each of its bad ranges has a sector, ends within the disk, and is of a
+    /// kind other than `Status::Ok`.
+    ///
+    /// # Errors
+    ///
+    /// Where there is no memory for the image or for the bad ranges.
+    pub fn open(alloc: Global, dev: DevId, sectors: u64, bad: &[Bad]) -> Result<Disk, AllocError>
+        requires { All (IsBadRange sectors) bad.now }
+        ensures { IfOk result (λ disk. disk ≡ opened dev sectors bad.now) }
+    {
+        Ok(Disk {
+            dev,
+            bad: bad.to_vec(alloc)?,
+            image: vec![in alloc; None; sectors as usize]?,
+            pending: BioList::new(),
+        })
+    }
+
+    /// A bio, whose sectors end within the disk, becomes the last one that waits (`submit_bio`, `block/blk-core.c`, at a disk's driver).
+    pub fn push(&mut self, el: BioElement)
+        requires within { (item_of el).bio.range.start + (item_of el).bio.range.len ≤ length self.old.image }
+        requires alone { IsAlone el }
+        ensures { self.new ≡ pushed (item_of el) self.old }
+    {
+        self.pending.push(el);
+    }
+
+    /// How many bios wait, or `u64::MAX` where there are more.
+    pub fn pending(&self) -> u64
+        ensures { result ≡ min (length self.now.pending) (2 ^ 64 - 1) }
+    {
+        self.pending.len()
+    }
+
+    /// The bio at this place among those that wait is done, and the others keep their order (`bio_endio`, `block/bio.c`). Where it touches
+    /// no bad range it ends well, and each of its sectors holds its data. Otherwise the bad range that decides says how it ends, and nothing
+    /// is written: a request of Linux can fail in part, and one of the model does not.
+    pub fn complete(&mut self, index: u64) -> Done
+        requires { index < length self.old.pending }
+        ensures completes { Completes self.old index (item_of result.el) result.status self.new }
+        ensures within { (item_of result.el).bio.range.start + (item_of result.el).bio.range.len ≤ length self.old.image }
+        ensures alone { IsAlone result.el }
+    {
+        let el = self.pending.take_at(index);
+        let bio = el.body.bio;
+        let status = fault(&self.bad, bio.range);
+        if status == Status::Ok {
+            image::write(&mut self.image, bio);
+        }
+        Done { el, status }
+    }
+
+    /// The sum of all words of the disk, modulo 2 ^ 64.
+    pub fn sum(&self) -> u64
+        ensures { result ≡ sum_of_words self.now.image }
+    {
+        image::sum(&self.image)
+    }
+
+    /// The first run of written sectors that starts at sector `from` or behind it, if there is one: sectors that are not all zeros, as many
+    /// as follow one another. `from` is not inside a run, as sector 0 (`apart_at_start` of `proofs/WrittenLemmas.antt`) and the end of a run
+    /// are not. From 0 on, and from the end of each run on, the calls list all written runs.
+    pub fn next_run(&self, from: u64) -> Option<Range>
+        requires within { from ≤ length self.now.image }
+        requires apart { IsApart (map is_written self.now.image) from }
+        ensures runs { MatchOption result (runs_from (map is_written self.now.image) from ≡ [])
+            (λ run. runs_from (map is_written self.now.image) from
+            ≡ run ∷ runs_from (map is_written self.now.image) (run.start + run.len)) }
+        ensures place { MatchOption result (Unit {0})
+            (λ run. (from < run.start + run.len) × (run.start + run.len ≤ length self.now.image) × (run.start + run.len < 2 ^ 64)) }
+        ensures apart { MatchOption result (Unit {0}) (λ run. IsApart (map is_written self.now.image) (run.start + run.len)) }
+    {
+        image::next_run(&self.image, from as usize)
+    }
+}
