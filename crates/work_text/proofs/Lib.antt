@@ -8,3 +8,5 @@ mod Saying
 mod Fronts
 mod Rests
 pub mod Wholes
+pub mod Unrefused
+pub mod Ready

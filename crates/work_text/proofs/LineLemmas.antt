@@ -128,7 +128,7 @@ within_by least most n true found =
     (leb-true least n both.0, leb-true n most both.1)
 within_by least most n false found = absurd (true≢false found)
 
-within : (least most : ℕ) (word : List ℕ) → not (is_within least most (number_of word)) ≡ false → (least ≤ number word) × (number word ≤ most)
+pub within : (least most : ℕ) (word : List ℕ) → not (is_within least most (number_of word)) ≡ false → (least ≤ number word) × (number word ≤ most)
 unfolding number_of
 within least most word found = within_by least most (digits_value 10 word) (is_number word) found
 
