@@ -3,7 +3,7 @@
 
 usage: bench/run.py [PROGRAM]      PROGRAM is crates/biostack/out/biostack if left out
 
-A peak is never below this script's own size, about 18 MiB, since the program is started from it.
+The peak is told by GNU time, which is small itself; without it the column is empty.
 """
 import os
 import subprocess
@@ -12,6 +12,7 @@ import time
 
 TOP = os.path.dirname(os.path.dirname(os.path.abspath(__file__)))
 ROUNDS = 5
+GNU_TIME = "/usr/bin/time"
 
 MOST_BYTES = 4194304
 
@@ -29,6 +30,8 @@ def writes(count):
 CASES = [
     ("smallest run", ["run"], "disk a 64\nwrite 0 a 0 1 0\n"),
     ("largest disk, 32 sectors at its end", ["run"], "disk a 262144\nwrite 0 a 262112 32 7\n"),
+    ("largest disk, 2,048 sectors, no memory", ["run"], "disk a 262144\nmemory none\nwrite 0 a 260096 2048 0\n"),
+    ("largest disk, all ranges bad behind it", ["run"], "disk a 262144\n" + "".join(f"bad a {k} 1 io\n" for k in range(1024)) + "write 0 a 4096 2048 0\n"),
     ("refused at the end of 4 MiB", ["run"], "\n" * (MOST_BYTES + 1)),
     ("4 MiB of comments", ["check"], filled("# a comment line of 32 bytes....\n" * 127000)),
     ("4 MiB with 159,000 writes", ["check"], filled(writes(159000))),
@@ -38,15 +41,15 @@ CASES = [
 
 
 def once(program, words, text):
-    """Runs the program once: seconds, peak memory in MiB, its output."""
+    """The seconds and the peak in MiB of one run, and what it wrote."""
     start = time.perf_counter()
-    child = subprocess.Popen([program, *words], stdin=subprocess.PIPE, stdout=subprocess.PIPE, stderr=subprocess.DEVNULL)
-    child.stdin.write(text.encode())
-    child.stdin.close()
-    output = child.stdout.read().decode()
-    _, _, usage = os.wait4(child.pid, 0)
-    child.returncode = 0
-    return time.perf_counter() - start, usage.ru_maxrss / 1024, output
+    run = subprocess.run([program, *words], input=text.encode(), stdout=subprocess.PIPE, stderr=subprocess.DEVNULL)
+    seconds = time.perf_counter() - start
+    peak = float("nan")
+    if os.access(GNU_TIME, os.X_OK):
+        timed = subprocess.run([GNU_TIME, "-q", "-f", "%M", program, *words], input=text.encode(), stdout=subprocess.DEVNULL, stderr=subprocess.PIPE)
+        peak = int(timed.stderr.split()[-1]) / 1024
+    return seconds, peak, run.stdout.decode()
 
 
 def steps_of(output):

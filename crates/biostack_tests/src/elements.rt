@@ -20,7 +20,10 @@ fn a_ledger_counts_its_shares(rt: HostRuntime) -> Result<(), Fail> {
     let mut ledger = Ledger::new(rt.alloc(), 7)?;
     assert_eq!(rt; ledger.total(), 0);
     let element = ledger.issue(Box::new(rt.alloc(), Note(1))?);
-    assert_eq!(rt; (ledger.total(), element.no(), element.share.no()), (1, 7, 7));
+    assert_eq!(rt;
+        (ledger.total(), element.no(), element.share.no()),
+        (1, 7, 7)
+    );
     let element = laws::a_share_is_counted(&mut ledger, element);
     assert_eq!(rt; ledger.total(), 1);
     let body = ledger.redeem(element);
@@ -37,7 +40,10 @@ fn two_ledgers_of_one_number_are_two(rt: HostRuntime) -> Result<(), Fail> {
     assert_eq!(rt; (first.total(), second.total()), (1, 1));
     let (body, other_body) = laws::each_share_goes_home(&mut first, &mut second, one, other);
     assert_eq!(rt; (first.total(), second.total()), (0, 0));
-    assert_eq!(rt; (Box::into_inner(body), Box::into_inner(other_body)), (Note(1), Note(2)));
+    assert_eq!(rt;
+        (Box::into_inner(body), Box::into_inner(other_body)),
+        (Note(1), Note(2))
+    );
     Ok(())
 }
 
@@ -54,8 +60,8 @@ fn a_dropped_share_stays_out(rt: HostRuntime) -> Result<(), Fail> {
     Ok(())
 }
 
-// Nothing but that a value may go to another thread.
-fn crosses<X: Send + Drop>(_value: X) {}
+/// Nothing but that a value may go to another thread.
+pub fn crosses<X: Send + Drop>(_value: X) {}
 
 #[test]
 fn elements_ledgers_and_pools_may_cross_threads(rt: HostRuntime) -> Result<(), Fail> {

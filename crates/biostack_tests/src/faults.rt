@@ -1,6 +1,7 @@
-//! A fault of the source or of a sink at every call that a small run, a check and a layout make.
+//! A fault of the source or of a sink at every call that two small runs, a check and a layout make.
 use crate::runs::{
-    ONE_SECTOR, ONE_SECTOR_REPORT, ROOM, STRIPED, STRIPED_CHECK, STRIPED_LAYOUT, words_of,
+    BAD_SECTOR, BAD_SECTOR_REPORT, ONE_SECTOR, ONE_SECTOR_REPORT, ROOM, STRIPED, STRIPED_CHECK,
+    STRIPED_LAYOUT, words_of,
 };
 use biostack_top::biostack;
 use outside_io::{FailSink, FailSource, MemSink, MemSource, Sink, Source};
@@ -12,29 +13,40 @@ const READ_FAULT: &[u8] = b"biostack: read fault\n";
 
 const WRITE_FAULT: &[u8] = b"biostack: write fault\n";
 
-/// A call of the program: its word, the text, and all that it writes.
+/// A call of the program: its word, the text, and all that it writes, with the status of a call without a fault.
 #[derive(Clone, Copy, Debug)]
 struct Call {
     word: &'static str,
     text: &'static str,
     output: &'static str,
+    status: u8,
 }
 
-const CALLS: [Call; 3] = [
+const CALLS: [Call; 4] = [
     Call {
         word: "run",
         text: ONE_SECTOR,
         output: ONE_SECTOR_REPORT,
+        status: 0,
+    },
+    // Its write fails, and a fault of the source or of the output hides that.
+    Call {
+        word: "run",
+        text: BAD_SECTOR,
+        output: BAD_SECTOR_REPORT,
+        status: 1,
     },
     Call {
         word: "check",
         text: STRIPED,
         output: STRIPED_CHECK,
+        status: 0,
     },
     Call {
         word: "layout",
         text: STRIPED,
         output: STRIPED_LAYOUT,
+        status: 0,
     },
 ];
 
@@ -96,9 +108,10 @@ fn a_source_that_fails_at_any_call_ends_with_4(rt: HostRuntime) -> Result<(), Fa
                 "{call:?} at {number}"
             );
         }
+        let Call { status, .. } = call;
         assert_eq!(rt;
             source_fails_at(&rt, call, calls + 1)?,
-            0,
+            status,
             "{call:?} past the last call"
         );
     }
@@ -135,9 +148,10 @@ fn a_sink_that_fails_at_any_call_ends_with_5(rt: HostRuntime) -> Result<(), Fail
                 "{call:?} at {number}"
             );
         }
+        let Call { status, .. } = call;
         assert_eq!(rt;
             sink_fails_at(&rt, call, calls + 1)?,
-            0,
+            status,
             "{call:?} past the last call"
         );
     }
@@ -171,9 +185,10 @@ fn a_sink_that_is_full_at_any_byte_ends_with_5(rt: HostRuntime) -> Result<(), Fa
                 "{call:?} with room for {room} bytes"
             );
         }
+        let Call { status, .. } = call;
         assert_eq!(rt;
             sink_has_room_for(&rt, call, call.output.len())?,
-            0,
+            status,
             "{call:?} with room for all"
         );
     }

@@ -3,6 +3,10 @@
 #![tactic(auto)]
 
 #[cfg(test)]
+mod bios;
+#[cfg(test)]
+mod disks;
+#[cfg(test)]
 mod elements;
 #[cfg(test)]
 mod faults;
@@ -17,6 +21,8 @@ mod meanings;
 #[cfg(test)]
 mod objects;
 #[cfg(test)]
+mod records;
+#[cfg(test)]
 mod refusals;
 #[cfg(test)]
 mod runs;
@@ -24,4 +30,6 @@ mod runs;
 mod scan;
 #[cfg(test)]
 mod scenes;
+#[cfg(test)]
+mod sets;
 pub mod slow;

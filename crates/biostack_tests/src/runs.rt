@@ -15,6 +15,13 @@ pub const ONE_SECTOR: &str = "disk a 64\nwrite 0 a 0 1 0\n";
 pub const ONE_SECTOR_REPORT: &str = "write 0 ok\ndisk a sum 00000000000007e0\nrun a 0 1\n\
     pool fs.bios reserve 2 ordinary 1 spare 0\npool fs.vecs reserve 2 ordinary 0 spare 0\nsteps 7 of 10\n";
 
+/// The text of the smallest run whose write fails.
+pub const BAD_SECTOR: &str = "disk a 64\nbad a 0 1 medium\nwrite 0 a 0 1 0\n";
+
+/// Its report. Nothing was written.
+pub const BAD_SECTOR_REPORT: &str = "write 0 medium\ndisk a sum 0000000000000000\n\
+    pool fs.bios reserve 2 ordinary 1 spare 0\npool fs.vecs reserve 2 ordinary 0 spare 0\nsteps 7 of 10\n";
+
 /// A write to a stripe.
 pub const STRIPED: &str = "disk a 64\ndisk b 64\nstripe s chunk=8 a b\nwrite 0 s 5 20 0\n";
 
@@ -92,6 +99,21 @@ fn check_done(
     check(rt, &[word], text, answer)
 }
 
+/// One run, which is to end with this status and to write this.
+fn check_run(
+    rt: &(impl Abort + AllocGlobal),
+    status: u8,
+    text: &str,
+    output: &str,
+) -> Result<(), AllocError> {
+    let answer = Answer {
+        status,
+        output,
+        errors: "",
+    };
+    check(rt, &["run"], text, answer)
+}
+
 /// One call of a word, on a text that is to be refused so.
 fn check_refused(
     rt: &(impl Abort + AllocGlobal),
@@ -107,9 +129,13 @@ fn check_refused(
     check(rt, &[word], text, answer)
 }
 
-/// The last lines of the report of a write.
+/// The last lines of the report of a write of up to 32 sectors.
 const COUNTS: &str =
     "pool fs.bios reserve 2 ordinary 1 spare 0\npool fs.vecs reserve 2 ordinary 0 spare 0\nsteps 7 of 10\n";
+
+/// The last lines of the report of a write of more sectors.
+const VECTOR_COUNTS: &str =
+    "pool fs.bios reserve 2 ordinary 1 spare 0\npool fs.vecs reserve 2 ordinary 1 spare 0\nsteps 9 of 18\n";
 
 /// The last lines of a report without a write.
 const NO_COUNTS: &str =
@@ -118,12 +144,24 @@ const NO_COUNTS: &str =
 /// What a sector of the tag 0 gives.
 const FIRST_SECTOR: &str = "write 0 ok\ndisk a sum 00000000000007e0\nrun a 0 1\n";
 
+/// What 33 sectors of the tag 0 give: the sum of 0 to 2111 is 2111 times 1056, which is 2229216.
+const MORE_SECTORS: &str = "write 0 ok\ndisk a sum 00000000002203e0\nrun a 0 33\n";
+
+/// What eight sectors of the tag 0 give: the sum of 0 to 511 is 511 times 256, which is 130816.
+const EIGHT_SECTORS: &str = "write 0 ok\ndisk a sum 000000000001ff00\nrun a 0 8\n";
+
+/// What a disk holds that was not written.
+const ZEROS: &str = "disk a sum 0000000000000000\n";
+
 /// A text that runs, the first lines of its report, and the last ones.
-const RUNS: &[(&str, &str, &str)] = &[
+type Run = (&'static str, &'static str, &'static str);
+
+/// Runs of a disk, of a write that ends well, and of neither.
+const RUNS: &[Run] = &[
     ("", "", NO_COUNTS),
     ("\n# nothing\n", "", NO_COUNTS),
-    ("disk a 64\n", "disk a sum 0000000000000000\n", NO_COUNTS),
-    ("disk a 64", "disk a sum 0000000000000000\n", NO_COUNTS),
+    ("disk a 64\n", ZEROS, NO_COUNTS),
+    ("disk a 64", ZEROS, NO_COUNTS),
     (ONE_SECTOR, FIRST_SECTOR, COUNTS),
     ("disk a 64\nwrite 0 a 0 1 0", FIRST_SECTOR, COUNTS),
     // Blanks, and lines that say nothing.
@@ -146,15 +184,40 @@ const RUNS: &[(&str, &str, &str)] = &[
         "write 0 ok\ndisk a sum 0000000000000920\nrun a 63 1\n",
         COUNTS,
     ),
+    // Four segments, which stand in the bio, and more, which stand in a vector.
     (
         "disk a 64\nwrite 0 a 0 32 0\n",
         "write 0 ok\ndisk a sum 00000000001ffc00\nrun a 0 32\n",
         COUNTS,
     ),
+    ("disk a 64\nwrite 0 a 0 33 0\n", MORE_SECTORS, VECTOR_COUNTS),
+    // All sectors of the disk: the sum of 0 to 4095 is 4095 times 2048.
+    (
+        "disk a 64\nwrite 0 a 0 64 0\n",
+        "write 0 ok\ndisk a sum 00000000007ff800\nrun a 0 64\n",
+        VECTOR_COUNTS,
+    ),
+    // The most sectors that there may be: the sum of 0 to 131071 is 131071 times 65536. With the tag 1 it is 131072 more.
+    (
+        "disk a 4096\nwrite 0 a 0 2048 0\n",
+        "write 0 ok\ndisk a sum 00000001ffff0000\nrun a 0 2048\n",
+        VECTOR_COUNTS,
+    ),
+    (
+        "disk a 4096\nwrite 3 a 2048 2048 1\n",
+        "write 0 ok\ndisk a sum 0000000200010000\nrun a 2048 2048\n",
+        VECTOR_COUNTS,
+    ),
     // Words that go round.
     (
         "disk data-0_x 8\nwrite 0 data-0_x 7 1 18446744073709551615\n",
         "write 0 ok\ndisk data-0_x sum 00000000000007a0\nrun data-0_x 7 1\n",
+        COUNTS,
+    ),
+    // The first words of three sectors are 2^64 - 64, 0 and 64. From -64 to 127 the sum is 6048.
+    (
+        "disk a 64\nwrite 0 a 5 3 18446744073709551552\n",
+        "write 0 ok\ndisk a sum 00000000000017a0\nrun a 5 3\n",
         COUNTS,
     ),
     (
@@ -169,29 +232,255 @@ const RUNS: &[(&str, &str, &str)] = &[
     ),
 ];
 
+/// Runs of disks with bad ranges that no write touches.
+const UNTOUCHED: &[Run] = &[
+    ("disk a 64\nbad a 0 64 io\n", ZEROS, NO_COUNTS),
+    (
+        "disk a 64\nbad a 1 1 nospace\nwrite 0 a 0 1 0\n",
+        FIRST_SECTOR,
+        COUNTS,
+    ),
+    // The write ends right before the range.
+    (
+        "disk a 64\nbad a 8 4 io\nwrite 0 a 0 8 0\n",
+        EIGHT_SECTORS,
+        COUNTS,
+    ),
+    (
+        "disk a 64\nbad a 63 1 io\nbad a 8 55 medium\nwrite 0 a 0 8 0\n",
+        EIGHT_SECTORS,
+        COUNTS,
+    ),
+    (
+        "disk a 64\nbad a 33 31 io\nwrite 0 a 0 33 0\n",
+        MORE_SECTORS,
+        VECTOR_COUNTS,
+    ),
+    // It begins right behind it. The sum of 0 to 255 is 255 times 128.
+    (
+        "disk a 64\nbad a 8 4 io\nwrite 0 a 12 4 0\n",
+        "write 0 ok\ndisk a sum 0000000000007f80\nrun a 12 4\n",
+        COUNTS,
+    ),
+    // It lies between two of them.
+    (
+        "disk a 64\nbad a 16 48 io\nbad a 0 12 medium\nwrite 0 a 12 4 0\n",
+        "write 0 ok\ndisk a sum 0000000000007f80\nrun a 12 4\n",
+        COUNTS,
+    ),
+];
+
+/// Runs by scripts and reserves. Each entry of a script adds one to the bound.
+const SCRIPTED: &[Run] = &[
+    // No write.
+    ("fs\n", "", NO_COUNTS),
+    ("memory none\n", "", NO_COUNTS),
+    ("memory none\ndisk a 64\n", ZEROS, NO_COUNTS),
+    (
+        "script fs.bios + +\n",
+        "",
+        "pool fs.bios reserve 2 ordinary 0 spare 0\npool fs.vecs reserve 2 ordinary 0 spare 0\nsteps 0 of 1\n",
+    ),
+    (
+        "script fs.vecs -- +\ndisk a 64\nscript fs.bios +-+ -\nbad a 0 1 io\n",
+        ZEROS,
+        "pool fs.bios reserve 2 ordinary 0 spare 0\npool fs.vecs reserve 2 ordinary 0 spare 0\nsteps 0 of 5\n",
+    ),
+    (
+        "fs bios=7\ndisk a 64\n",
+        ZEROS,
+        "pool fs.bios reserve 7 ordinary 0 spare 0\npool fs.vecs reserve 2 ordinary 0 spare 0\nsteps 0 of 0\n",
+    ),
+    // A write without a vector: the first attempt of fs.bios decides.
+    (
+        "disk a 64\nscript fs.bios - +\nwrite 0 a 0 1 0\n",
+        FIRST_SECTOR,
+        "pool fs.bios reserve 2 ordinary 0 spare 1\npool fs.vecs reserve 2 ordinary 0 spare 0\nsteps 7 of 11\n",
+    ),
+    (
+        "disk a 64\nscript fs.bios + -\nwrite 0 a 0 1 0\n",
+        FIRST_SECTOR,
+        "pool fs.bios reserve 2 ordinary 1 spare 0\npool fs.vecs reserve 2 ordinary 0 spare 0\nsteps 7 of 11\n",
+    ),
+    (
+        "script fs.bios . -\ndisk a 64\nwrite 0 a 0 1 0\n",
+        FIRST_SECTOR,
+        "pool fs.bios reserve 2 ordinary 0 spare 1\npool fs.vecs reserve 2 ordinary 0 spare 0\nsteps 7 of 10\n",
+    ),
+    (
+        "memory none\nscript fs.bios . +\ndisk a 64\nwrite 0 a 0 1 0\n",
+        FIRST_SECTOR,
+        COUNTS,
+    ),
+    (
+        "script fs.vecs -+ -\ndisk a 64\nwrite 0 a 0 1 0\n",
+        FIRST_SECTOR,
+        "pool fs.bios reserve 2 ordinary 1 spare 0\npool fs.vecs reserve 2 ordinary 0 spare 0\nsteps 7 of 12\n",
+    ),
+    (
+        "fs bios=1 vecs=3\ndisk a 64\nwrite 0 a 0 1 0\n",
+        FIRST_SECTOR,
+        "pool fs.bios reserve 1 ordinary 1 spare 0\npool fs.vecs reserve 3 ordinary 0 spare 0\nsteps 7 of 10\n",
+    ),
+    (
+        "disk a 64\nfs vecs=1024 bios=1024\nmemory none\nwrite 0 a 0 1 0\n",
+        FIRST_SECTOR,
+        "pool fs.bios reserve 1024 ordinary 0 spare 1\npool fs.vecs reserve 1024 ordinary 0 spare 0\nsteps 7 of 10\n",
+    ),
+    // A write with a vector: so does that of fs.vecs.
+    (
+        "disk a 64\nmemory none\nwrite 0 a 0 33 0\n",
+        MORE_SECTORS,
+        "pool fs.bios reserve 2 ordinary 0 spare 1\npool fs.vecs reserve 2 ordinary 0 spare 1\nsteps 9 of 18\n",
+    ),
+    (
+        "memory none\nscript fs.vecs . +\ndisk a 64\nwrite 0 a 0 33 0\n",
+        MORE_SECTORS,
+        "pool fs.bios reserve 2 ordinary 0 spare 1\npool fs.vecs reserve 2 ordinary 1 spare 0\nsteps 9 of 18\n",
+    ),
+    (
+        "script fs.vecs - +\ndisk a 64\nwrite 0 a 0 33 0\n",
+        MORE_SECTORS,
+        "pool fs.bios reserve 2 ordinary 1 spare 0\npool fs.vecs reserve 2 ordinary 0 spare 1\nsteps 9 of 19\n",
+    ),
+    (
+        "script fs.vecs +-- -\nscript fs.bios -+ +\ndisk a 64\nwrite 0 a 0 33 0\n",
+        MORE_SECTORS,
+        "pool fs.bios reserve 2 ordinary 0 spare 1\npool fs.vecs reserve 2 ordinary 1 spare 0\nsteps 9 of 23\n",
+    ),
+    (
+        "fs bios=1 vecs=1\nmemory none\ndisk a 64\nwrite 0 a 0 33 0\n",
+        MORE_SECTORS,
+        "pool fs.bios reserve 1 ordinary 0 spare 1\npool fs.vecs reserve 1 ordinary 0 spare 1\nsteps 9 of 18\n",
+    ),
+];
+
 #[test]
 fn one_disk_and_one_write_run_to_their_ends(rt: HostRuntime) -> Result<(), Fail> {
-    for (text, first, last) in RUNS {
-        let report = format!(in rt.alloc(); "{first}{last}")?;
-        check_done(&rt, "run", *text, report.as_str())?;
+    for runs in [RUNS, UNTOUCHED, SCRIPTED] {
+        for (text, first, last) in runs {
+            let report = format!(in rt.alloc(); "{first}{last}")?;
+            check_run(&rt, 0, *text, report.as_str())?;
+        }
+    }
+    Ok(())
+}
+
+/// A text whose write fails, with what, and the last lines of its report.
+const FAILED: &[Run] = &[
+    (BAD_SECTOR, "medium", COUNTS),
+    (
+        "disk a 64\nbad a 0 64 nospace\nwrite 0 a 63 1 7\n",
+        "nospace",
+        COUNTS,
+    ),
+    // The range that starts first decides.
+    (
+        "disk a 64\nbad a 4 2 nospace\nbad a 2 1 medium\nwrite 0 a 0 8 0\n",
+        "medium",
+        COUNTS,
+    ),
+    (
+        "disk a 64\nbad a 2 1 medium\nbad a 4 2 nospace\nwrite 0 a 0 8 0\n",
+        "medium",
+        COUNTS,
+    ),
+    (
+        "disk a 64\nbad a 2 4 medium\nbad a 0 4 nospace\nwrite 0 a 3 1 0\n",
+        "nospace",
+        COUNTS,
+    ),
+    // Of the ranges that the write touches.
+    (
+        "disk a 64\nbad a 4 2 nospace\nbad a 2 1 medium\nwrite 0 a 3 5 0\n",
+        "nospace",
+        COUNTS,
+    ),
+    (
+        "disk a 64\nbad a 2 4 medium\nbad a 0 4 nospace\nwrite 0 a 4 1 0\n",
+        "medium",
+        COUNTS,
+    ),
+    // Of ranges that start at one sector, the first line of the text.
+    (
+        "disk a 64\nbad a 2 1 io\nbad a 2 3 medium\nwrite 0 a 0 8 0\n",
+        "io",
+        COUNTS,
+    ),
+    (
+        "disk a 64\nbad a 2 3 medium\nbad a 2 1 io\nwrite 0 a 0 8 0\n",
+        "medium",
+        COUNTS,
+    ),
+    (
+        "disk a 64\nbad a 2 1 io\nbad a 2 3 medium\nwrite 0 a 2 1 0\n",
+        "io",
+        COUNTS,
+    ),
+    (
+        "disk a 64\nbad a 2 1 io\nbad a 2 3 medium\nwrite 0 a 3 1 0\n",
+        "medium",
+        COUNTS,
+    ),
+    // Touched at the first sector alone, at the last one alone, and within.
+    ("disk a 64\nbad a 8 4 io\nwrite 0 a 0 9 0\n", "io", COUNTS),
+    ("disk a 64\nbad a 8 4 io\nwrite 0 a 11 4 0\n", "io", COUNTS),
+    ("disk a 64\nbad a 8 4 io\nwrite 0 a 9 2 0\n", "io", COUNTS),
+    (
+        "disk a 64\nbad a 63 1 io\nwrite 0 a 32 32 0\n",
+        "io",
+        COUNTS,
+    ),
+    // A vector, which is given back all the same.
+    (
+        "disk a 64\nbad a 32 1 nospace\nwrite 0 a 0 33 0\n",
+        "nospace",
+        VECTOR_COUNTS,
+    ),
+    (
+        "disk a 4096\nbad a 4095 1 io\nwrite 0 a 2048 2048 0\n",
+        "io",
+        VECTOR_COUNTS,
+    ),
+    (
+        "disk a 64\nmemory none\nscript fs.vecs - -\nfs vecs=1\nbad a 0 1 io\nwrite 0 a 0 64 0\n",
+        "io",
+        "pool fs.bios reserve 2 ordinary 0 spare 1\npool fs.vecs reserve 1 ordinary 0 spare 1\nsteps 9 of 19\n",
+    ),
+];
+
+#[test]
+fn a_write_that_fails_leaves_the_disk_as_it_was(rt: HostRuntime) -> Result<(), Fail> {
+    for (text, status, last) in FAILED {
+        let report = format!(in rt.alloc(); "write 0 {status}\n{ZEROS}{last}")?;
+        check_run(&rt, 1, *text, report.as_str())?;
     }
     Ok(())
 }
 
 /// Texts that are accepted and not run yet, and the line that is not.
 const NOT_BUILT: &[(&str, u64)] = &[
-    ("fs\n", 1),
-    ("memory none\ndisk a 64\n", 1),
-    ("script fs.bios + +\n", 1),
     ("disk a 64\ndisk b 64\n", 2),
-    ("disk a 64\nbad a 0 1 io\nwrite 0 a 1 1 0\n", 2),
     ("disk a 64\nlinear n a\nwrite 0 n 0 1 0\n", 2),
     ("disk a 64\nstripe s chunk=8 a\n", 2),
     ("disk a 64\nlimit l max=1 a\n", 2),
     ("# one\ndisk a 64\n\nmirror m a\nfs\n", 4),
-    ("disk a 64\nwrite 0 a 0 33 0\n", 2),
+    (
+        "memory none\nfs\nscript fs.bios + +\ndisk a 64\nbad a 0 1 io\n\nscript fs.vecs . -\ndisk b 8\n",
+        8,
+    ),
+    // The second write, however many follow.
     ("disk a 64\n#\nwrite 0 a 0 32 0\n#\nwrite 0 a 32 1 0\n", 5),
-    ("disk a 4096\nwrite 0 a 0 2048 0\nwrite 0 a 2048 1 0\n", 2),
+    (
+        "disk a 64\nbad a 0 1 io\nwrite 0 a 1 33 0\nwrite 0 a 0 1 0\nwrite 0 a 34 1 0\n",
+        4,
+    ),
+    ("disk a 4096\nwrite 0 a 0 2048 0\nwrite 0 a 2048 1 0\n", 3),
+    // A second device and a second write.
+    (
+        "disk a 64\ndisk b 64\nwrite 0 a 0 1 0\nwrite 0 b 0 1 0\n",
+        2,
+    ),
 ];
 
 #[test]

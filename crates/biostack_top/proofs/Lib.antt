@@ -1,7 +1,6 @@
-pub mod ImageLemmas
 pub mod LaidLemmas
 pub mod RunLemmas
-pub mod WrittenLemmas
+pub mod PathLemmas
 pub mod ReportLemmas
 pub mod ServeLemmas
 pub mod EndingLemmas
@@ -9,4 +8,5 @@ pub mod CheckLemmas
 pub mod LayoutLemmas
 pub mod SceneLemmas
 pub mod BuiltLemmas
-pub mod WithinLemmas
+pub mod PlainLemmas
+pub mod ToldLemmas

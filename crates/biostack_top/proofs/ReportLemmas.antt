@@ -5,12 +5,16 @@ use Rattle.stack_base.specs.declared.ids.Range.{Range}
 use Rattle.outside_io.specs.Saying.{Says}
 use Rattle.outside_io.proofs.SaysLemmas.{says_then, says_silence}
 use Rattle.mempool_core.specs.declared.Facts.{Facts}
-use Rattle.biostack_top.specs.Report.{starts_run, IsApart, run_line, run_lines, Ended, report, write_lines, disk_line, disk_lines, sum_of_words, written_runs, pool_line, steps_line}
+use Rattle.model_disks.specs.Disks.{sum_of_words}
+use Rattle.model_disks.specs.Runs.{written_runs}
+use Rattle.std.specs.Prelude.{slice_get}
+use Rattle.biostack_top.specs.Scenario.{first}
+use Rattle.biostack_top.specs.Report.{run_line, run_lines, Ended, report, write_lines, disk_line, disk_lines, pool_line, steps_line}
 
--- the first sector is not inside a run
-pub apart_at_start : (flags : List Bool) → IsApart flags 0
-unfolding starts_run
-apart_at_start flags set = rw set refl
+-- the first of a list, in two words
+pub first_is : {A : Type 0} (xs : List A) → first xs ≡ slice_get xs 0
+first_is [] = refl
+first_is (x ∷ xs) = refl
 
 more_lines : (name : List ℕ) (run : Range) (all rest : List Range) → all ≡ run ∷ rest → run_line name run ++ run_lines name rest ≡ run_lines name all
 unfolding run_lines

@@ -7,13 +7,14 @@ use Rattle.outside_io.proofs.SaysLemmas.{says_cause, says_fresh}
 use Rattle.outside_io.specs.Reading.{IsRead}
 use Rattle.biostack_top.specs.declared.order.Order.{Order}
 use Rattle.biostack_top.specs.declared.ending.Ending.{Ending}
-use Rattle.biostack_top.specs.declared.ending.Ending.TheVariants.{Done, Usage, Refused, ReadFault, WriteFault, Memory}
+use Rattle.biostack_top.specs.declared.ending.Ending.TheVariants.{Done, NotAllWell, Usage, Refused, ReadFault, WriteFault, Memory}
 use Rattle.biostack_top.specs.Ending.{Call, Reads, EndsBy, TextEndsBy, limit}
 
 -- a text that was read ends the call as it ends
 pub text_ends : (ending : Ending) (order : Order) (c : Call) (text : List ℕ) → Reads order c → IsRead limit c.source.old text
     → Consumes c.source.old c.source.new text → c.source.now ≡ c.source.before → TextEndsBy ending order text c.out → EndsBy ending c
 text_ends Done order c text asked was_read taken quiet ends = (order, asked, (text, was_read, taken, quiet, ends))
+text_ends NotAllWell order c text asked was_read taken quiet ends = (order, asked, (text, was_read, taken, quiet, ends))
 text_ends WriteFault order c text asked was_read taken quiet ends = (order, asked, (text, was_read, taken, quiet, ends))
 text_ends (Refused refusal) order c text asked was_read taken quiet ends = (order, asked, (text, was_read, taken, quiet, ends))
 text_ends Memory order c text asked was_read taken quiet ends = (order, asked, (quiet, ends))

@@ -1,18 +1,16 @@
 -- Which lines of a text the program does not run yet.
-use Rattle.std.specs.Prelude.{◌≡◌, ◌+◌, ◌||◌, if◌then◌else◌, nat_lt, Bool, true, false, List, [], ◌∷◌, ℕ, Option, None, Some}
-use Rattle.std.specs.Option.{option_map, option_or}
+use Rattle.std.specs.Prelude.{◌≡◌, ◌+◌, if◌then◌else◌, Bool, true, false, List, [], ◌∷◌, ℕ, Option, None, Some}
+use Rattle.std.specs.Option.{option_or}
 use Rattle.decl_text.specs.Text.{lines, words}
 use Rattle.decl_text.specs.Items.{said}
-use Rattle.decl_text.specs.Known.{Declared, Written, nothing, is_disk, sectors_of}
+use Rattle.decl_text.specs.Known.{Declared, Written, nothing, is_disk}
 use Rattle.decl_text.specs.Refusals.{refused, first_found, line_checks}
 use Rattle.decl_text.specs.declared.item.Item.{Item}
 use Rattle.decl_text.specs.declared.item.Item.TheVariants as item
 use Rattle.decl_text.specs.declared.item.What.TheVariants as what
 use Rattle.decl_text.specs.declared.reason.Reason.TheVariants.{NotBuilt}
 use Rattle.decl_text.specs.declared.reason.Refusal.{Refusal}
-use Rattle.work_text.specs.Whole.{text_refusal, known_of_text}
-use Rattle.biostack_top.specs.Scenario as plain
-use Rattle.biostack_top.specs.declared.scenario.Bio.{Bio}
+use Rattle.work_text.specs.Whole.{text_refusal}
 use Rattle.biostack_top.specs.declared.order.Order.{Order}
 use Rattle.biostack_top.specs.declared.order.Order.TheVariants.{Run, Check, Layout}
 use Rattle.biostack_top.specs.declared.built.Seen.{Seen}
@@ -23,12 +21,12 @@ seen_with seen (Some (item.Device name (what.Disk sectors) members reserve rescu
 seen_with seen (Some (item.Write task dev range tag)) = record seen { write = true }
 seen_with seen _ = seen
 
--- the program runs the first disk line, and the first write line, of up to 32 sectors
+-- the program runs texts of one device, which is a disk, and of one write
 abbrev pub is_unbuilt : Seen → Option Item → Bool
-is_unbuilt seen None = false
 is_unbuilt seen (Some (item.Device name (what.Disk sectors) members reserve rescuer)) = seen.disk
-is_unbuilt seen (Some (item.Write task dev range tag)) = seen.write || nat_lt 32 range.len
-is_unbuilt seen (Some _) = true
+is_unbuilt seen (Some (item.Device name _ members reserve rescuer)) = true
+is_unbuilt seen (Some (item.Write task dev range tag)) = seen.write
+is_unbuilt seen _ = false
 
 -- the first of these lines that it does not run, the first of which has this number
 unfoldable pub unbuilt : Seen → ℕ → List (List ℕ) → Option Refusal
@@ -51,24 +49,7 @@ abbrev pub NoneWrong : List (List ℕ) → Type 0
 NoneWrong [] = Unit {0}
 NoneWrong (line ∷ lines) = (first_found line_checks nothing line ≡ None) × NoneWrong lines
 
-abbrev pub first : {A : Type 0} → List A → Option A
-first [] = None
-first (x ∷ xs) = Some x
-
--- the disk and the write that a run is about
-abbrev pub disk_of : Declared → plain.Disk
-disk_of device = record { name = device.name; sectors = sectors_of device.what }
-
-abbrev pub bio_of : Written → Bio
-bio_of write = record { start = write.start; count = write.count; word = write.tag }
-
-abbrev pub scenario_of : List Declared → List Written → plain.Scenario
-scenario_of devices writes = record { disk = option_map disk_of (first devices); write = option_map bio_of (first writes) }
-
-abbrev pub scenario_of_text : List ℕ → plain.Scenario
-scenario_of_text text = scenario_of (known_of_text text).devices (known_of_text text).writes
-
--- there is at most one device, a disk, and at most one write, of up to 32 sectors
+-- there is at most one device, a disk, and at most one write
 abbrev pub IsOneDisk : List Declared → Type 0
 IsOneDisk [] = Unit {0}
 IsOneDisk (device ∷ []) = is_disk device.what ≡ true
@@ -76,5 +57,5 @@ IsOneDisk (device ∷ other ∷ more) = ⊥
 
 abbrev pub IsOneWrite : List Written → Type 0
 IsOneWrite [] = Unit {0}
-IsOneWrite (write ∷ []) = nat_lt 32 write.count ≡ false
+IsOneWrite (write ∷ []) = Unit {0}
 IsOneWrite (write ∷ other ∷ more) = ⊥

@@ -1,16 +1,18 @@
 -- The report of `run`, as a function of what has ended.
-use Rattle.std.specs.Prelude.{◌≡◌, ◌+◌, ◌-◌, ◌%◌, ◌^◌, ◌&&◌, ◌||◌, ◌<◌, ◌≤◌, ◌==◌, not, Bool, true, false, List, [], ◌∷◌, ◌++◌, map, filter, ℕ, length, drop, sum, sum_by, slice_index_or, codes, decimal, Option, None, Some}
-use Rattle.std.specs.List.{range_with_len, flat_map, prefix_len}
-use Rattle.std.specs.Option.{option_to_list, option_map}
+use Rattle.std.specs.Prelude.{◌+◌, List, [], ◌∷◌, ◌++◌, ℕ, codes, decimal, Option, None, Some}
+use Rattle.std.specs.List.{flat_map}
+use Rattle.std.specs.Option.{option_to_list}
 use Rattle.std.specs.Int.{w64, to_be_bytes}
 use Rattle.hex.specs.Hex.{encode_lower}
 use Rattle.stack_base.specs.declared.ids.Status.{Status}
 use Rattle.stack_base.specs.declared.ids.Status.TheVariants as status
 use Rattle.stack_base.specs.declared.ids.Range.{Range}
-use Rattle.stack_base.specs.Words.{is_written}
+use Rattle.stack_base.specs.declared.stack.Stack.{Stack}
 use Rattle.outside_io.specs.Saying.{joined_text}
 use Rattle.mempool_core.specs.declared.Facts.{Facts}
-use Rattle.biostack_top.specs.Scenario.{Scenario}
+use Rattle.model_disks.specs.Disks.{sum_of_words}
+use Rattle.model_disks.specs.Runs.{written_runs}
+use Rattle.biostack_top.specs.Scenario.{Scenario, name_of}
 use Rattle.biostack_top.specs.Machine.{State}
 
 -- what the report tells of
@@ -22,41 +24,6 @@ pub record Ended : Type 0 where
   pub vecs : Facts
   pub steps : ℕ
   pub bound : ℕ
-
--- the sum of all words of an image, modulo 2 ^ 64
-abbrev pub sum_of_words : List (List ℕ) → ℕ
-sum_of_words image = sum_by sum image % 2 ^ 64
-
--- whether sector x of the flags is written
-abbrev pub flag : List Bool → ℕ → Bool
-flag flags x = slice_index_or flags x false
-
--- a run starts at each written sector before which none is written
-unfoldable pub starts_run : List Bool → ℕ → Bool
-starts_run flags x = flag flags x && (x == 0 || not (flag flags (x - 1)))
-
--- and is as long as written sectors follow
-unfoldable pub run_at : List Bool → ℕ → Range
-run_at flags x = record { start = x; len = prefix_len (λ flag. flag) (drop x flags) }
-
--- the runs that start at `from` or behind it
-unfoldable pub runs_from : List Bool → ℕ → List Range
-runs_from flags from = map (run_at flags) (filter (starts_run flags) (range_with_len from (length flags - from)))
-
--- the place is not inside a run: if it is written, a run starts there
-abbrev pub IsApart : List Bool → ℕ → Type 0
-IsApart flags from = flag flags from ≡ true → starts_run flags from ≡ true
-
--- the first place at or behind `from` that is written, or that is not, or the length where there is none
-pub record IsFirst (flags : List Bool) (from : ℕ) (written : Bool) (place : ℕ) : Type 0 where
-  pub behind : from ≤ place
-  pub within : place ≤ length flags
-  pub others : (x : ℕ) → from ≤ x → x < place → flag flags x ≡ not written
-  pub here : place < length flags → flag flags place ≡ written
-
--- the written runs of an image: the maximal runs of sectors that are not all zeros
-abbrev pub written_runs : List (List ℕ) → List Range
-written_runs image = runs_from (map is_written image) 0
 
 abbrev pub status_word : Status → List ℕ
 status_word status.Ok = codes "ok"
@@ -100,18 +67,17 @@ report e = write_lines 0 e.statuses
     ++ (pool_line (codes "fs.vecs") e.vecs
     ++ steps_line e.steps e.bound)))
 
--- the disk's name, if there is a disk
-abbrev pub name_of : Scenario → Option (List ℕ)
-name_of s = option_map (λ d. d.name) s.disk
-
 -- what the report tells of a state that was reached by so many events
-abbrev pub ended_as : Scenario → State → ℕ → ℕ → Ended
-ended_as s x steps bound = record {
+abbrev pub ended_with : Stack → ℕ → State → ℕ → Ended
+ended_with stack bound x steps = record {
   statuses = option_to_list x.status;
-  name = name_of s;
-  image = x.image;
+  name = name_of stack;
+  image = x.disk.image;
   bios = x.bios.facts;
   vecs = x.vecs.facts;
   steps = steps;
   bound = bound;
 }
+
+abbrev pub ended_as : Scenario → State → ℕ → Ended
+ended_as s x steps = ended_with s.stack s.bound x steps

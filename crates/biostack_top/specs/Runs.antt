@@ -1,28 +1,54 @@
 -- What holds of every run of the machine, whatever comes next in it.
-use Rattle.std.specs.Prelude.{◌≡◌, ◌+◌, ◌*◌, ◌<◌, ◌≤◌, Bool, true, false, List, ℕ, length, count_by, Some, None, if◌then◌else◌, nat_lt}
-use Rattle.stack_base.specs.declared.ids.Status.TheVariants as status
+use Rattle.std.specs.Prelude.{◌≡◌, ◌+◌, ◌*◌, ◌<◌, ◌≤◌, Bool, true, false, List, [], ◌∷◌, length, count_by, is_some, nat_lt, All, Contains}
+use Rattle.std.specs.Option.{option_to_list}
+use Rattle.stack_base.specs.declared.stack.Kind.{Kind}
+use Rattle.stack_base.specs.declared.stack.Kind.TheVariants.{Disk, Linear, Stripe, Limit, Mirror}
+use Rattle.stack_base.specs.declared.stack.Device.{Device}
+use Rattle.layout_model.specs.declared.write.Write.{Write}
+use Rattle.layout_model.specs.Writes.{IsWrite}
+use Rattle.layout_model.specs.May.{bads_of}
+use Rattle.model_disks.specs.Disks.{IsBadRange}
 use Rattle.mempool_core.specs.Facts.{AddsUp}
-use Rattle.biostack_top.specs.Scenario.{Scenario, write_count, laid}
+use Rattle.biostack_top.specs.Scenario.{Scenario, EachMayEnd, HoldsLaid, sectors_of, vector_count}
 use Rattle.biostack_top.specs.declared.path.Got.TheVariants.{Ordinary}
-use Rattle.biostack_top.specs.Machine.{State, Event, Take, Complete, Done, Step, RunsTo, HasEnded, start}
+use Rattle.biostack_top.specs.Machine.{State, Event, TakeBio, TakeVector, Complete, Done, Step, RunsTo, HasEnded, start}
 
--- what a scenario needs: a write has one bio and one fragment, and no pool's script has an entry
-abbrev pub elements : Scenario → ℕ
-elements s = write_count s
+abbrev pub IsDisk : Kind → Type 0
+IsDisk (Disk sectors bad) = Unit {0}
+IsDisk Linear = ⊥
+IsDisk (Stripe chunk) = ⊥
+IsDisk (Limit longest chunk) = ⊥
+IsDisk (Mirror records) = ⊥
 
-abbrev pub fragments : Scenario → ℕ
-fragments s = write_count s
+-- at most one device, a disk
+abbrev pub AreOneDisk : List Device → Type 0
+AreOneDisk [] = Unit {0}
+AreOneDisk (device ∷ []) = IsDisk device.kind
+AreOneDisk (device ∷ other ∷ more) = ⊥
 
-abbrev pub entries : Scenario → ℕ
-entries s = 0
+-- at most one write
+abbrev pub AreOneWrite : List Write → Type 0
+AreOneWrite [] = Unit {0}
+AreOneWrite (write ∷ []) = Unit {0}
+AreOneWrite (write ∷ other ∷ more) = ⊥
 
--- 8 steps an element, 2 a fragment and 1 a script entry
-abbrev pub bound : Scenario → ℕ
-bound s = 8 * elements s + 2 * fragments s + entries s
+-- what the machine is made for
+pub record IsPlain (s : Scenario) : Type 0 where
+  pub disk : AreOneDisk s.stack.devices.items
+  pub write : AreOneWrite s.writes
+  pub served : (write : Write) → Contains s.writes write → IsWrite s.stack write
+  pub short : (write : Write) → Contains s.writes write → write.count ≤ 2048
+  pub bad : All (IsBadRange (sectors_of s)) (bads_of s.stack 0)
+  -- a reserve is not 0
+  pub bios : 1 ≤ s.stack.fs_bios
+  pub vecs : 1 ≤ s.stack.fs_vecs
+  -- the bound is that of what the writes need: 8 events for each element at least
+  pub bound : 8 * (length s.writes + vector_count s.writes) ≤ s.bound
 
 -- a step that uses no ordinary memory
 abbrev pub IsFree : Event → Type 0
-IsFree (Take Ordinary) = ⊥
+IsFree (TakeBio Ordinary) = ⊥
+IsFree (TakeVector Ordinary) = ⊥
 IsFree _ = Unit {0}
 
 abbrev pub is_complete : Event → Bool
@@ -38,20 +64,21 @@ pub record Holds (s : Scenario) (events : List Event) (x : State) : Type 0 where
   -- each pool adds up
   pub bios : AddsUp x.bios.facts
   pub vecs : AddsUp x.vecs.facts
-  -- each write is told done at most once, after exactly its one fragment, with the status that this gave
-  pub once : count_by is_done events + x.left ≡ write_count s
-  pub fragment : x.left ≡ 0 → count_by is_complete events ≡ write_count s
-  pub status : x.status ≡ (if nat_lt x.left (write_count s) then Some status.Ok else None)
-  -- an ended run leaves exactly the laid-out image, and one take for each write got an element
-  pub image : x.left ≡ 0 → x.image ≡ laid s
-  pub taken : x.left ≡ 0 → x.bios.facts.ordinary + x.bios.facts.spare ≡ write_count s
-  pub idle : x.vecs ≡ (start s).vecs
+  -- each write is told done at most once, after exactly its one fragment, with a status that this may give
+  pub once : count_by is_done events + x.left ≡ length s.writes
+  pub fragment : x.left ≡ 0 → count_by is_complete events ≡ length s.writes
+  pub told : is_some x.status ≡ nat_lt x.left (length s.writes)
+  pub ends : x.left ≡ 0 → EachMayEnd s.stack 0 s.writes (option_to_list x.status)
+  -- an ended run leaves exactly the laid-out image, and each write has had one bio, and a vector where it needs one
+  pub image : x.left ≡ 0 → HoldsLaid s.stack s.writes 0 x.disk.image
+  pub taken : x.left ≡ 0 → x.bios.facts.ordinary + x.bios.facts.spare ≡ length s.writes
+  pub vectors : x.left ≡ 0 → x.vecs.facts.ordinary + x.vecs.facts.spare ≡ vector_count s.writes
   -- while a write is unfinished, a step that needs no ordinary memory can be made
   pub free : 0 < x.left → (e : Event) × IsFree e × ((y : State) × Step x e y)
   -- where every write is finished every element is at home, so a run that no step can lengthen has ended
   pub ended : x.left ≡ 0 → HasEnded x
   -- no run is longer than the bound
-  pub bounded : length events ≤ bound s
+  pub bounded : length events ≤ s.bound
 
 -- whatever events come, in whatever order, and whatever ordinary attempts succeed
 abbrev pub EveryRunHolds : Scenario → Type 0

@@ -1,40 +1,71 @@
--- A scenario: at most one disk, at most one write to it, and what the write leaves on the disk.
-use Rattle.std.specs.Prelude.{◌+◌, ◌-◌, ◌<◌, ◌≤◌, ◌&&◌, if◌then◌else◌, nat_le, nat_lt, List, map, ℕ, Option, None, Some, MatchOption, IsSomeAnd}
-use Rattle.std.specs.List.{range_with_len}
-use Rattle.std.specs.Option.{option_len, option_map_or}
-use Rattle.stack_base.specs.Words.{sector_data, zero_sector}
-use Rattle.biostack_top.specs.declared.scenario.Bio.{Bio}
-
--- places and lengths count sectors of 512 bytes
-pub record Disk : Type 0 where
-  pub name : List ℕ
-  pub sectors : ℕ
+-- What a run is of: a stack of at most one device, which is a disk, the scripts of the writers' two pools, and at most one write.
+use Rattle.std.specs.Prelude.{◌≡◌, ◌+◌, ◌<◌, ◌==◌, nat_lt, Bool, false, List, [], ◌∷◌, ℕ, length, find, unwrap_or, slice_index_or, Option, None, Some}
+use Rattle.std.specs.Option.{option_map}
+use Rattle.fail_script.specs.Script.{Answers, only_tail}
+use Rattle.stack_base.specs.declared.ids.PoolId.{PoolId}
+use Rattle.stack_base.specs.declared.ids.PoolId.TheVariants.{FsBios, FsVecs}
+use Rattle.stack_base.specs.declared.ids.Status.{Status}
+use Rattle.stack_base.specs.declared.stack.Device.{Device}
+use Rattle.stack_base.specs.declared.stack.Stack.{Stack}
+use Rattle.stack_base.specs.PoolId.{pool_number}
+use Rattle.stack_base.specs.Tree.{tree, size}
+use Rattle.layout_model.specs.declared.write.Write.{Write}
+use Rattle.layout_model.specs.declared.totals.Bounds.{Bounds}
+use Rattle.layout_model.specs.Need.{segments, vectors}
+use Rattle.layout_model.specs.May.{MayEnd}
+use Rattle.layout_model.specs.Laid.{IsLaid}
+use Rattle.biostack_top.specs.CheckText.{most_steps}
 
 pub record Scenario : Type 0 where
-  pub disk : Option Disk
-  pub write : Option Bio
+  pub stack : Stack
+  -- the scripts of the writers' bios and of their vectors
+  pub bios : Answers
+  pub vecs : Answers
+  pub writes : List Write
+  -- no run may have more events
+  pub bound : ℕ
 
--- how many writes there are
-abbrev pub write_count : Scenario → ℕ
-write_count s = option_len s.write
+-- the script of a pool among those of all pools
+abbrev pub script_for : PoolId → List (PoolId × Answers) → Answers
+script_for pool scripts = unwrap_or (option_map (λ s. s.1) (find (λ (s : PoolId × Answers). pool_number s.0 == pool_number pool) scripts)) (only_tail false)
 
--- how many sectors the disk has, and none where there is no disk
-abbrev pub sector_count : Scenario → ℕ
-sector_count s = option_map_or (λ d. d.sectors) s.disk 0
+abbrev pub scenario_of : Stack → List (PoolId × Answers) → List Write → Bounds → Scenario
+scenario_of stack scripts writes bounds = record {
+  stack = stack;
+  bios = script_for FsBios scripts;
+  vecs = script_for FsVecs scripts;
+  writes = writes;
+  bound = most_steps bounds;
+}
 
--- where there is a write there is a disk, and the write ends within it
-abbrev pub EndsWithin : Scenario → Type 0
-EndsWithin s = MatchOption s.write (Unit {0}) (λ b. IsSomeAnd s.disk (λ d. b.start + b.count ≤ d.sectors))
+abbrev pub first : {A : Type 0} → List A → Option A
+first [] = None
+first (x ∷ xs) = Some x
 
--- there is a write, and no disk that it ends within
-abbrev pub EndsPast : Scenario → Type 0
-EndsPast s = IsSomeAnd s.write (λ b. MatchOption s.disk (Unit {0}) (λ d. d.sectors < b.start + b.count))
+-- the disk's name, if there is a disk
+abbrev pub name_of : Stack → Option (List ℕ)
+name_of stack = option_map (λ (d : Device). d.name.bytes) (first stack.devices.items)
 
--- what stands in sector x of the disk when all has ended: the data of the write's sector that lies there, else zeros
-unfoldable pub laid_sector : Option Bio → ℕ → List ℕ
-laid_sector None x = zero_sector
-laid_sector (Some b) x = if nat_le b.start x && nat_lt x (b.start + b.count) then sector_data b.word (x - b.start) else zero_sector
+-- how many sectors the first device has, and none where there is no device
+abbrev pub sectors_of : Scenario → ℕ
+sectors_of s = size (tree s.stack 0)
 
--- the image that is left on the disk, sector by sector
-abbrev pub laid : Scenario → List (List ℕ)
-laid s = map (laid_sector s.write) (range_with_len 0 (sector_count s))
+-- whether a write has more segments than its bio keeps itself, so that it takes a vector
+abbrev pub needs_vector : Write → Bool
+needs_vector write = nat_lt 4 (segments write.count)
+
+-- the vectors that the writes take together
+abbrev pub vector_count : List Write → ℕ
+vector_count [] = 0
+vector_count (write ∷ writes) = vectors write.count + vector_count writes
+
+-- the statuses of these writes, the first of which has this number, are some that they may end with
+abbrev pub EachMayEnd : Stack → ℕ → List Write → List Status → Type 0
+EachMayEnd stack number [] [] = Unit {0}
+EachMayEnd stack number (write ∷ writes) (end ∷ ends) = MayEnd stack write number end × EachMayEnd stack (number + 1) writes ends
+EachMayEnd stack number _ _ = ⊥
+
+-- a disk holds what these writes leave on it when they have all ended
+pub record HoldsLaid (stack : Stack) (writes : List Write) (disk : ℕ) (image : List (List ℕ)) : Type 0 where
+  pub sectors : length image ≡ size (tree stack disk)
+  pub laid : (at : ℕ) → at < length image → IsLaid stack writes disk at (slice_index_or image at [])

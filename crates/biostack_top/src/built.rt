@@ -1,4 +1,4 @@
-//! What the program does not run yet: anything but one disk and one write to it that its bio keeps all segments of.
+//! What the program does not run yet: a second device, one that is no disk, and a second write.
 ghost use Rattle.std.specs.Prelude.{◌≡◌, ◌≤◌, None, IfOk, length};
 ghost use Rattle.decl_text.specs.Text.{lines, words};
 ghost use Rattle.decl_text.specs.Items.{said};
@@ -8,9 +8,6 @@ ghost use Rattle.biostack_top.specs.Built.{NoneWrong, is_unbuilt, none_seen, see
 
 use decl_text::{Item, Line, LineFault, Lines, Reason, Refusal, What};
 use std::alloc::{AllocError, Global};
-
-/// The most sectors of a write whose segments a bio keeps itself: four pages.
-const MOST_WRITTEN: u64 = 32;
 
 /// Which lines were there before.
 #[derive(Clone, Copy, Debug, PartialEq, Eq)]
@@ -28,7 +25,6 @@ impl Seen {
         ensures seen { self.new ≡ seen_with self.old said.entry }
     {
         match said {
-            None => false,
             Some(
                 Item::Device {
                     what: What::Disk { .. },
@@ -39,12 +35,13 @@ impl Seen {
                 self.disk = true;
                 again
             }
-            Some(Item::Write { range, .. }) => {
+            Some(Item::Device { .. }) => true,
+            Some(Item::Write { .. }) => {
                 let again = self.write;
                 self.write = true;
-                again || MOST_WRITTEN < range.len
+                again
             }
-            Some(_) => true,
+            _ => false,
         }
     }
 

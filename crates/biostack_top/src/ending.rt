@@ -18,8 +18,10 @@ pub struct Exit(pub u8);
 /// Why a call ended.
 #[derive(Clone, Copy, Debug, PartialEq, Eq)]
 pub enum Ending {
-    /// What was asked for was written whole.
+    /// What was asked for was written whole, and each write that was run ended well.
     Done,
+    /// What was asked for was written whole, and some write that was run did not end well.
+    NotAllWell,
     /// The words ask for nothing that the program does.
     Usage,
     /// The text is refused.
@@ -39,6 +41,7 @@ impl Ending {
     {
         Exit(match self {
             Ending::Done => 0,
+            Ending::NotAllWell => 1,
             Ending::Usage => 2,
             Ending::Refused(_) => 3,
             Ending::ReadFault => 4,
@@ -52,7 +55,7 @@ impl Ending {
         ensures { Says (E.held errors.old) (E.faults errors.old) pen.old.failed (E.held errors.new) (E.faults errors.new) pen.new.failed (line_of self) }
     {
         match self {
-            Ending::Done => {}
+            Ending::Done | Ending::NotAllWell => {}
             Ending::Usage => pen.put(errors, &[USAGE]),
             Ending::Refused(refusal) => tell_refusal(pen, errors, refusal, refusal.name()),
             Ending::ReadFault => pen.put(errors, &[b"biostack: read fault\n"]),

@@ -8,6 +8,7 @@ ghost use Rattle.outside_io.specs.Reading.{IsRead};
 ghost use Rattle.outside_io.specs.Saying.{Says};
 ghost use Rattle.biostack_top.specs.declared.ending.Ending.{Ending as Endings};
 ghost use Rattle.biostack_top.specs.declared.order.Order.{Order};
+ghost use Rattle.biostack_top.specs.declared.order.Order.TheVariants as orders;
 ghost use Rattle.biostack_top.specs.Orders.{order_of};
 ghost use Rattle.biostack_top.specs.Built.{refusal_for};
 ghost use Rattle.biostack_top.specs.Ending.{EndsBy, limit, exit_of, line_of};
@@ -31,7 +32,7 @@ use std::alloc::Global;
 /// Carries out the words after the program's name: reads a scenario from the source and checks it, and then runs it to its end and
 /// writes its report (`run`), or writes its devices and what its writes need (`check`), or where its writes go (`layout`).
 ///
-/// The status is 0 where the whole text was written, 2 where the words are refused, 3 where the scenario is, 4 where the source failed,
+/// The status is 0 where the whole text was written, 1 where it was but some write that was run did not end well, 2 where the words are refused, 3 where the scenario is, 4 where the source failed,
 /// 5 where the output did, and 6 where there was no memory for reading, for the fragments of a layout or for opening the scenario.
 /// `errors` gets the line of the status. A fault of `errors` changes nothing else: it has a front of the line then.
 pub fn biostack<S: Source, K: Sink, E: Sink>(
@@ -52,6 +53,7 @@ pub fn biostack<S: Source, K: Sink, E: Sink>(
 
     // What each status alone says.
     ensures usage { (result.0 ≡ 2) ↔ (order_of (map string_bytes words.now) ≡ None) }
+    ensures not_all_well { result.0 ≡ 1 → order_of (map string_bytes words.now) ≡ Some orders.Run }
     ensures refused { result.0 ≡ 3 → (order : Order) × (order_of (map string_bytes words.now) ≡ Some order)
         × ((text : List ℕ) × IsRead limit (S.left source.old) text × (is_some (refusal_for order text) ≡ true)) }
     ensures read_fault { result.0 ≡ 4 → Rose (S.faults source.old) (S.faults source.new) }

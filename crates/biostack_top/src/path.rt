@@ -1,50 +1,38 @@
-//! The way of a write: seven events, carried out one after the other on a pool, a node, a disk and a tally.
-ghost use Rattle.std.specs.Prelude.{◌≡◌, ◌+◌, ◌-◌, ◌*◌, ◌^◌, ◌<◌, ◌≤◌, [], ◌∷◌, List, ℕ, length, map, replicate, Some, None, IfOk, IsSome, IsSomeAnd, vec_len};
-ghost use Rattle.std.specs.List.{range_with_len};
-ghost use Rattle.stack_base.specs.Words.{sector_from, zero_sector};
+//! The way of a write: seven events, or nine with a vector, carried out one after the other on two pools, a node, a disk and a tally.
+ghost use Rattle.std.specs.Prelude.{◌≡◌, ◌+◌, ◌-◌, ◌^◌, ◌<◌, ◌≤◌, [], ◌∷◌, All, None, Some, IfOk, IsSome, IsSomeAnd, MatchOption, length, true, false, replicate};
+ghost use Rattle.std.specs.Option.{option_map_or};
 ghost use Rattle.stack_base.specs.declared.ids.Status.TheVariants as status;
-ghost use Rattle.biostack_top.specs.Machine.{Step, Take, Link, Push, Complete, Drop as Dropped, Give, Done, start, written};
-ghost use Rattle.biostack_top.specs.Scenario.{EndsWithin};
+ghost use Rattle.stack_base.specs.Tree.{tree, size};
+ghost use Rattle.layout_model.specs.May.{bads_of};
+ghost use Rattle.std.specs.Prelude.{slice_get};
+ghost use Rattle.mempool_core.specs.Move.{opened};
+ghost use Rattle.bio_records.specs.Items.{Item, IsAlone, item_of};
+ghost use Rattle.bio_records.specs.Clear.{IsClearBody};
+ghost use Rattle.bio_records.specs.declared.bio.Pad.{Pad};
+ghost use Rattle.bio_records.specs.Segments.{segment_count, segments_of};
+ghost use Rattle.model_disks.specs.Disks.{IsBadRange};
+ghost use Rattle.model_disks.specs.Moves.{opened as new_disk};
+ghost use Rattle.biostack_top.specs.Machine.{Step, TakeBio, TakeVector, Link, Push, Complete, Drop as Dropped, GiveVector, GiveBio, Done, start, first_of, after_bio, after_drop, bio_of, kept_with};
+ghost use Rattle.biostack_top.specs.Scenario.{first, needs_vector};
+ghost use Rattle.biostack_top.specs.Runs.{AreOneDisk, IsPlain};
 ghost use Rattle.biostack_top.specs.ScenarioViews.{scenario_view};
-ghost use Rattle.biostack_top.specs.Path.{state_of, HasRun};
+ghost use Rattle.biostack_top.specs.Path.{state_of, HasRun, IsReady, AreLed, IsSameBut, IsSameButNode, IsSameButDisk};
 
-use crate::scenario::{Bio, Scenario};
+use crate::scenario::Scenario;
+use arrayvec::ArrayVec;
+use bio_records::{
+    Bio, BioBody, BioElement, Iter, Pad, Segment, VecElement, Vector, fill, segments,
+};
+use bioset_pools::{BioSet, SetParts, SetPlan, fill_bio};
 use fail_script::Script;
-use mempool_core::{Element, Fresh, Pool, Taken};
-use stack_base::{PoolId, Status};
+use layout_model::Write;
+use mempool_core::{Pool, Taken};
+use model_disks::{Disk, Done as DoneBio};
+use stack_base::{Bad, DevId, Kind, Range, SetId, Stack, Status};
 use std::alloc::{AllocError, Global};
 
-/// The data of one sector: 64 words of 8 bytes.
-pub type Sector = [u64; 64];
-
-/// How many elements each pool keeps, unless a scenario says otherwise (`BIO_POOL_SIZE`).
-const RESERVE: u32 = 2;
-
-impl Fresh for Bio {
-    ghost use Rattle.std.specs.Prelude.{◌≡◌};
-
-    ghost is_clear = { λ bio. bio ≡ record { start = 0; count = 0; word = 0 } };
-
-    fn fresh() -> Self {
-        Bio {
-            start: 0,
-            count: 0,
-            word: 0,
-        }
-    }
-}
-
-/// The segments of a write that has more than a bio keeps itself (`bi_io_vec` of `biovec_slab`). No write has so many yet.
-#[derive(Clone, Copy, Debug, PartialEq, Eq)]
-pub struct Vector;
-
-impl Fresh for Vector {
-    ghost is_clear = { λ _. Unit {0} };
-
-    fn fresh() -> Self {
-        Vector
-    }
-}
+/// The segments that a bio keeps itself (`BIO_INLINE_VECS`).
+const INLINE: u32 = 4;
 
 /// Where a take had its element from.
 #[derive(Clone, Copy, Debug, PartialEq, Eq)]
@@ -59,7 +47,9 @@ pub enum Got {
 #[derive(Clone, Copy, Debug, PartialEq, Eq)]
 pub enum Writing {
     /// It takes a bio.
-    Takes,
+    TakesBio,
+    /// It takes a vector.
+    TakesVector,
     /// It opens the write's node.
     Links,
     /// It pushes the bio to the disk.
@@ -75,33 +65,40 @@ pub enum Completing {
     Waits,
     /// It drops the bio's part of the node.
     Drops,
+    /// It gives the vector back.
+    GivesVector,
     /// It gives the bio back.
-    GivesBack,
+    GivesBio,
     /// It tells the write done.
     Tells,
+}
+
+/// An open node: the status that it keeps, and the vector of its write, if that has one.
+#[derive(Drop)]
+pub struct Node {
+    pub kept: Status,
+    pub vector: Option<VecElement>,
 }
 
 /// All that the events work on.
 #[derive(Drop)]
 pub struct Objects {
     /// The pool `fs.bios`.
-    pub bios: Pool<Bio>,
+    pub bios: Pool<BioBody<Pad>>,
     /// The pool `fs.vecs`.
     pub vecs: Pool<Vector>,
     /// The write that the writer makes.
-    pub write: Option<Bio>,
+    pub write: Option<Write>,
     /// What the writer does next.
     pub writer: Writing,
     /// What the completer does next.
     pub completer: Completing,
     /// The status that the completer carries.
     pub carried: Status,
-    /// The write's open node, by the status that it keeps.
-    pub node: Option<Status>,
-    /// The bio that waits in the disk.
-    pub pending: Option<Element<Bio>>,
-    /// The disk's sectors.
-    pub image: Vec<Sector>,
+    /// The write's open node.
+    pub node: Option<Node>,
+    /// The disk; one of no sectors where the text has none.
+    pub disk: Disk,
     /// How many writes are unfinished.
     pub left: u32,
     /// The status of the write that was told done.
@@ -110,51 +107,131 @@ pub struct Objects {
     pub steps: u64,
 }
 
-// The data whose first word is `first`.
-#[tactic(auto, unfolding(stack_base::specs::Words::sector_from))]
-fn sector_from(first: u64) -> Sector
-    ensures { result ≡ sector_from first }
+// Whether a write has more segments than its bio keeps itself.
+fn needs_vector(write: &Write) -> bool
+    requires some { 1 ≤ write.now.count }
+    requires few { write.now.count ≤ 2048 }
+    ensures { result ≡ needs_vector write.now }
 {
-    let mut sector = [0; 64];
-    let mut word = first;
-    'filling: for place in sector.iter_mut() {
-        *place = word;
-        word = word.wrapping_add(1);
-    }
-    sector
+    segments(write.count) > INLINE
 }
 
-// An image of zeros.
-#[tactic(auto, unfolding(stack_base::specs::Words::zero_sector))]
-fn zeros(alloc: Global, sectors: usize) -> Result<Vec<Sector>, AllocError>
-    ensures { IfOk result (λ image. image.items ≡ replicate sectors zero_sector) }
+// Fills in the segments of a write.
+fn fill_segments<const N: usize>(into: &mut ArrayVec<Segment, N>, write: &Write)
+    requires some { 1 ≤ write.now.count }
+    requires few { write.now.count ≤ 2048 }
+    requires empty { into.old.items ≡ [] }
+    requires room { segment_count write.now.count ≤ N }
+    ensures { into.new.items ≡ segments_of write.now.tag write.now.count }
 {
-    let mut image = Vec::with_capacity(alloc, sectors)?;
-    'zeroing: for _ in 0..sectors {
-        image.push([0; 64])?;
+    'making: for _ in 0..segments(write.count) {
+        into.push(Segment::default());
     }
-    Ok(image)
+    fill(write.tag, write.count, into.as_mut_slice());
 }
 
-// Writes a run of sectors whose first word is `first`.
-fn write_run(run: &mut [Sector], first: u64)
-    ensures { run.new ≡ map (λ j. sector_from (first + 64 * j)) (range_with_len 0 (length run.old)) }
+// The bio of a write, at its device.
+fn bio_of(write: &Write) -> Bio
+    ensures { result ≡ bio_of write.now }
 {
-    let mut word = first;
-    'writing: for sector in run.iter_mut() {
-        *sector = sector_from(word);
-        word = word.wrapping_add(64);
+    Bio {
+        write: 0,
+        writer: write.task,
+        node: 0,
+        dev: write.dev,
+        range: Range {
+            start: write.start,
+            len: write.count,
+        },
+        word: write.tag,
+        at: Iter {
+            segment: 0,
+            done: 0,
+        },
+        set: SetId::Fs,
     }
 }
 
-// Writes a bio's sectors.
-fn write_bio(image: &mut [Sector], bio: Bio)
-    requires { bio.start + bio.count ≤ length image.old }
-    ensures { image.new ≡ written bio image.old }
+// How many sectors the first device has, a disk, and its bad ranges; nothing where there is no device.
+fn disk_of(stack: &Stack) -> (u64, &[Bad])
+    requires { AreOneDisk stack.now.devices.items }
+    ensures sectors { result.0 ≡ size (tree stack.now 0) }
+    ensures bad { result.1.now ≡ bads_of stack.now 0 }
 {
-    let start = bio.start as usize;
-    let end = start + bio.count as usize;
-    write_run(&mut image[start..end], bio.word);
+    match stack.devices.first() {
+        None => (0, &[]),
+        Some(device) => match &device.kind {
+            Kind::Disk { sectors, bad } => (*sectors, bad),
+            _ => unreachable!(),
+        },
+    }
+}
+
+// Opens the two pools of the writers' set.
+fn open_pools(
+    alloc: Global,
+    stack: &Stack,
+    bios: Script,
+    vecs: Script,
+) -> Result<(Pool<BioBody<Pad>>, Pool<Vector>), AllocError>
+    requires bios { 1 ≤ stack.now.fs_bios }
+    requires vecs { 1 ≤ stack.now.fs_vecs }
+    ensures bios { IfOk result (λ pools. pools.0.state ≡ opened stack.now.fs_bios bios) }
+    ensures vecs { IfOk result (λ pools. pools.1.state ≡ opened stack.now.fs_vecs vecs) }
+{
+    let plan = SetPlan {
+        set: SetId::Fs,
+        bios: stack.fs_bios,
+        vecs: Some(stack.fs_vecs),
+        rescuer: false,
+    };
+    let set = BioSet::open(alloc, plan, bios, vecs)?;
+    let SetParts {
+        bios,
+        vecs,
+        list: _,
+    } = set.parts();
+    Ok((bios, vecs.unwrap()))
+}
+
+// Opens the first device, a disk, or a disk of no sectors where there is no device.
+fn open_disk(alloc: Global, stack: &Stack) -> Result<Disk, AllocError>
+    requires one { AreOneDisk stack.now.devices.items }
+    requires bad { All (IsBadRange (size (tree stack.now 0))) (bads_of stack.now 0) }
+    ensures { IfOk result (λ disk. disk ≡ new_disk (record { 0 = 0 }) (size (tree stack.now 0)) (bads_of stack.now 0)) }
+{
+    let (sectors, bad) = disk_of(stack);
+    Disk::open(alloc, DevId(0), sectors, bad)
+}
+
+// The first write, if there is one.
+fn first_write(writes: &[Write]) -> Option<Write>
+    ensures { result ≡ first writes.now }
+{
+    match writes {
+        [write, ..] => Some(*write),
+        [] => None,
+    }
+}
+
+// What the writer does first.
+fn first_of(write: Option<Write>) -> Writing
+    ensures { result ≡ first_of write }
+{
+    match write {
+        Some(_) => Writing::TakesBio,
+        None => Writing::Rests,
+    }
+}
+
+// The status that a node keeps when a part ends so.
+fn kept_with(kept: Status, dropped: Status) -> Status
+    ensures { result ≡ kept_with kept dropped }
+{
+    match kept {
+        Status::Ok => dropped,
+        kept => kept,
+    }
 }
 
 impl Objects {
@@ -162,54 +239,73 @@ impl Objects {
     ///
     /// # Errors
     ///
-    /// Where there is no memory for a reserve or for the image.
-    fn open(alloc: Global, scenario: &Scenario<'_>) -> Result<Objects, AllocError>
-        ensures start { IfOk result (λ objects. state_of objects ≡ start (scenario_view scenario.now)) }
+    /// Where there is no memory for a reserve, for the image or for the bad ranges.
+    fn open(alloc: Global, scenario: Scenario<'_>) -> Result<Objects, AllocError>
+        requires { IsPlain (scenario_view scenario) }
+        ensures start { IfOk result (λ objects. state_of objects ≡ start (scenario_view scenario.entry)) }
         ensures fresh { IfOk result (λ objects. objects.steps ≡ 0) }
-        ensures idle { IfOk result (λ objects. objects.pending ≡ None) }
     {
+        let (bios, vecs) = open_pools(alloc, scenario.stack, scenario.bios, scenario.vecs)?;
+        let disk = open_disk(alloc, scenario.stack)?;
+        let write = first_write(scenario.writes);
         Ok(Objects {
-            bios: Pool::open(
-                alloc,
-                PoolId::FsBios.no(),
-                RESERVE,
-                Script::new(Vec::new(alloc), true),
-            )?,
-            vecs: Pool::open(
-                alloc,
-                PoolId::FsVecs.no(),
-                RESERVE,
-                Script::new(Vec::new(alloc), true),
-            )?,
-            write: scenario.write,
-            writer: match scenario.write {
-                Some(_) => Writing::Takes,
-                None => Writing::Rests,
-            },
+            bios,
+            vecs,
+            write,
+            writer: first_of(write),
             completer: Completing::Waits,
             carried: Status::Ok,
             node: None,
-            pending: None,
-            image: zeros(alloc, scenario.disk.map_or(0, |disk| disk.sectors as usize))?,
-            left: u32::from(scenario.write.is_some()),
+            disk,
+            left: scenario.writes.len() as u32,
             status: None,
             steps: 0,
         })
     }
 
-    /// The writer takes a bio (`bio_alloc_bioset`).
-    fn take(&mut self) -> (Got, Element<Bio>)
-        requires turn { self.old.writer ≡ Writing.Takes }
+    // What the writer does behind the take of its bio.
+    fn behind_bio(&self) -> Writing
+        requires { IsSomeAnd self.now.write (λ write. (1 ≤ write.count) × (write.count ≤ 2048)) }
+        ensures { result ≡ after_bio (state_of self.now).vector }
+    {
+        let Some(write) = self.write else {
+            return Writing::Links;
+        };
+        if needs_vector(&write) {
+            Writing::TakesVector
+        } else {
+            Writing::Links
+        }
+    }
+
+    // What the completer does behind the drop.
+    fn behind_drop(&self) -> Completing
+        requires { IsSomeAnd self.now.write (λ write. (1 ≤ write.count) × (write.count ≤ 2048)) }
+        ensures { result ≡ after_drop (state_of self.now).vector }
+    {
+        let Some(write) = self.write else {
+            return Completing::GivesBio;
+        };
+        if needs_vector(&write) {
+            Completing::GivesVector
+        } else {
+            Completing::GivesBio
+        }
+    }
+
+    /// The writer takes a bio (`bio_alloc_bioset`, `block/bio.c`).
+    fn take_bio(&mut self) -> (Got, BioElement)
+        requires turn { self.old.writer ≡ Writing.TakesBio }
+        requires write { IsSomeAnd self.old.write (λ write. (1 ≤ write.count) × (write.count ≤ 2048)) }
         requires spare { 0 < self.old.bios.state.facts.spares }
         requires room { self.old.bios.state.facts.out < 2 ^ 64 - 1 }
         requires countable { self.old.steps < 2 ^ 64 - 1 }
-        ensures step { Step (state_of self.old) (Take result.0) (state_of self.new) }
-        ensures ledger { self.new.bios.ledger ≡ self.old.bios.ledger }
-        ensures element { result.1.share ≡ self.old.bios.ledger }
-        ensures pending { self.new.pending ≡ self.old.pending }
+        ensures step { Step (state_of self.old) (TakeBio result.0) (state_of self.new) }
+        ensures element { (result.1.share ≡ self.old.bios.ledger) × IsClearBody result.1.body.value }
+        ensures same { IsSameBut self.old self.new }
         ensures counted { self.new.steps ≡ self.old.steps + 1 }
     {
-        self.writer = Writing::Links;
+        self.writer = self.behind_bio();
         self.steps += 1;
         match self.bios.take() {
             Taken::Ordinary(element) => (Got::Ordinary, element),
@@ -218,77 +314,128 @@ impl Objects {
         }
     }
 
-    /// The write's node is opened, with its one part still to come.
-    fn link(&mut self)
+    /// The writer takes a vector, and fills in the segments of the write (`bvec_alloc`, `block/bio.c`).
+    fn take_vector(&mut self) -> (Got, VecElement)
+        requires turn { self.old.writer ≡ Writing.TakesVector }
+        requires write { IsSomeAnd self.old.write (λ write. (1 ≤ write.count) × (write.count ≤ 2048)) }
+        requires spare { 0 < self.old.vecs.state.facts.spares }
+        requires room { self.old.vecs.state.facts.out < 2 ^ 64 - 1 }
+        requires countable { self.old.steps < 2 ^ 64 - 1 }
+        ensures step { Step (state_of self.old) (TakeVector result.0) (state_of self.new) }
+        ensures element { result.1.share ≡ self.old.vecs.ledger }
+        ensures segments { IsSomeAnd self.old.write (λ write. result.1.body.value.segments.items ≡ segments_of write.tag write.count) }
+        ensures same { IsSameBut self.old self.new }
+        ensures counted { self.new.steps ≡ self.old.steps + 1 }
+    {
+        self.writer = Writing::Links;
+        self.steps += 1;
+        let (got, mut element) = match self.vecs.take() {
+            Taken::Ordinary(element) => (Got::Ordinary, element),
+            Taken::Spare(element) => (Got::Spare, element),
+            Taken::Miss { .. } => unreachable!(),
+        };
+        let write = self.write.unwrap();
+        fill_segments(&mut element.body.segments, &write);
+        (got, element)
+    }
+
+    /// The write's node is opened, with its one part still to come. It keeps the vector.
+    fn link(&mut self, vector: Option<VecElement>)
         requires turn { self.old.writer ≡ Writing.Links }
         requires closed { self.old.node ≡ None }
         requires countable { self.old.steps < 2 ^ 64 - 1 }
         ensures step { Step (state_of self.old) Link (state_of self.new) }
-        ensures ledger { self.new.bios.ledger ≡ self.old.bios.ledger }
-        ensures pending { self.new.pending ≡ self.old.pending }
+        ensures vector { IsSomeAnd self.new.node (λ node. node.vector ≡ vector) }
+        ensures same { IsSameButNode self.old self.new }
         ensures counted { self.new.steps ≡ self.old.steps + 1 }
     {
-        self.node = Some(Status::Ok);
+        self.node = Some(Node {
+            kept: Status::Ok,
+            vector,
+        });
         self.writer = Writing::Pushes;
         self.steps += 1;
     }
 
-    /// The bio, filled with the write's run, becomes the disk's last pending one (`submit_bio`).
-    fn push(&mut self, mut element: Element<Bio>)
+    /// The bio, filled with the write's run, becomes the disk's last pending one (`submit_bio`, `block/blk-core.c`).
+    fn push(&mut self, mut element: BioElement)
         requires turn { self.old.writer ≡ Writing.Pushes }
-        requires write { IsSome self.old.write }
-        requires empty { self.old.pending ≡ None }
+        requires write { IsSomeAnd self.old.write (λ write. (1 ≤ write.count) × (write.count ≤ 2048)) }
+        requires within { IsSomeAnd self.old.write (λ write. write.start + write.count ≤ length self.old.disk.image) }
+        requires clear { IsClearBody element.body.value }
+        requires empty { self.old.disk.pending ≡ [] }
         requires countable { self.old.steps < 2 ^ 64 - 1 }
         ensures step { Step (state_of self.old) Push (state_of self.new) }
-        ensures ledger { self.new.bios.ledger ≡ self.old.bios.ledger }
-        ensures pending { IsSomeAnd self.new.pending (λ pushed. (pushed.share ≡ element.share) × (Some pushed.body.value ≡ self.old.write)) }
+        ensures pending { (item : Item Pad) × (self.new.disk.pending ≡ item ∷ []) × (item.share ≡ element.share) }
+        ensures same { IsSameButDisk self.old self.new }
         ensures counted { self.new.steps ≡ self.old.steps + 1 }
     {
-        *element.body = self.write.unwrap();
-        self.pending = Some(element);
+        let write = self.write.unwrap();
+        if !needs_vector(&write) {
+            fill_segments(&mut element.body.short, &write);
+        }
+        fill_bio(&mut element, bio_of(&write), Pad { leg: 0 });
+        self.disk.push(element);
         self.writer = Writing::Rests;
         self.steps += 1;
     }
 
-    /// The disk writes the pending bio's sectors and hands it to its completer (`bio_endio`).
-    fn complete(&mut self) -> Element<Bio>
+    /// The disk is done with the pending bio and hands it to its completer, with how it ended (`bio_endio`, `block/bio.c`).
+    fn complete(&mut self) -> BioElement
         requires turn { self.old.completer ≡ Completing.Waits }
-        requires waits { IsSomeAnd self.old.pending (λ e. e.body.value.start + e.body.value.count ≤ vec_len self.old.image) }
+        requires waits { length self.old.disk.pending ≡ 1 }
         requires countable { self.old.steps < 2 ^ 64 - 1 }
         ensures step { Step (state_of self.old) (Complete 0) (state_of self.new) }
-        ensures ledger { self.new.bios.ledger ≡ self.old.bios.ledger }
-        ensures element { self.old.pending ≡ Some result }
+        ensures element { slice_get self.old.disk.pending 0 ≡ Some (item_of result) }
+        ensures same { IsSameButDisk self.old self.new }
         ensures counted { self.new.steps ≡ self.old.steps + 1 }
     {
-        let element = self.pending.take().unwrap();
-        write_bio(&mut self.image, *element.body);
-        self.carried = Status::Ok;
+        let DoneBio { el, status } = self.disk.complete(0);
+        self.carried = status;
         self.completer = Completing::Drops;
         self.steps += 1;
-        element
+        el
     }
 
-    /// The completer drops the bio's part of the node, which brings the status `ok`, as the node has kept. It was the last part, so the
-    /// node closes with that status.
-    fn drop_one(&mut self)
+    /// The completer drops the bio's part of the node, with the status that it brings. It was the last part, so the node closes with the
+    /// first status that is not ok, and hands out its vector.
+    fn drop_one(&mut self) -> Option<VecElement>
         requires turn { self.old.completer ≡ Completing.Drops }
-        requires open { self.old.node ≡ Some status.Ok }
+        requires write { IsSomeAnd self.old.write (λ write. (1 ≤ write.count) × (write.count ≤ 2048)) }
+        requires open { IsSome self.old.node }
         requires countable { self.old.steps < 2 ^ 64 - 1 }
         ensures step { Step (state_of self.old) Dropped (state_of self.new) }
-        ensures ledger { self.new.bios.ledger ≡ self.old.bios.ledger }
+        ensures vector { IsSomeAnd self.old.node (λ node. node.vector ≡ result) }
+        ensures same { IsSameButNode self.old self.new }
         ensures counted { self.new.steps ≡ self.old.steps + 1 }
     {
-        self.node = None;
-        self.completer = Completing::GivesBack;
+        let Node { kept, vector } = self.node.take().unwrap();
+        self.carried = kept_with(kept, self.carried);
+        self.completer = self.behind_drop();
+        self.steps += 1;
+        vector
+    }
+
+    /// The vector goes back to its pool, before the bio does (`bio_free`, `block/bio.c`).
+    fn give_vector(&mut self, element: VecElement)
+        requires turn { self.old.completer ≡ Completing.GivesVector }
+        requires pool { element.share ≡ self.old.vecs.ledger }
+        requires countable { self.old.steps < 2 ^ 64 - 1 }
+        ensures step { Step (state_of self.old) GiveVector (state_of self.new) }
+        ensures same { IsSameBut self.old self.new }
+        ensures counted { self.new.steps ≡ self.old.steps + 1 }
+    {
+        self.vecs.give(element);
+        self.completer = Completing::GivesBio;
         self.steps += 1;
     }
 
-    /// The bio goes back to its pool (`bio_put`).
-    fn give(&mut self, element: Element<Bio>)
-        requires turn { self.old.completer ≡ Completing.GivesBack }
+    /// The bio goes back to its pool (`bio_put`, `block/bio.c`).
+    fn give_bio(&mut self, element: BioElement)
+        requires turn { self.old.completer ≡ Completing.GivesBio }
         requires pool { element.share ≡ self.old.bios.ledger }
         requires countable { self.old.steps < 2 ^ 64 - 1 }
-        ensures step { Step (state_of self.old) Give (state_of self.new) }
+        ensures step { Step (state_of self.old) GiveBio (state_of self.new) }
         ensures counted { self.new.steps ≡ self.old.steps + 1 }
     {
         self.bios.give(element);
@@ -309,27 +456,55 @@ impl Objects {
         self.completer = Completing::Waits;
         self.steps += 1;
     }
+
+    /// The seven events of a write whose segments stand in its bio.
+    fn run_alone(&mut self)
+        requires { IsReady self.old false }
+        ensures { AreLed self.old self.new }
+    {
+        let (_, element) = self.take_bio();
+        self.link(None);
+        self.push(element);
+        let element = self.complete();
+        let _none = self.drop_one();
+        self.give_bio(element);
+        self.done();
+    }
+
+    /// The nine events of a write that takes a vector.
+    fn run_with_vector(&mut self)
+        requires { IsReady self.old true }
+        ensures { AreLed self.old self.new }
+    {
+        let (_, element) = self.take_bio();
+        let (_, vector) = self.take_vector();
+        self.link(Some(vector));
+        self.push(element);
+        let element = self.complete();
+        let vector = self.drop_one();
+        self.give_vector(vector.unwrap());
+        self.give_bio(element);
+        self.done();
+    }
 }
 
-/// Opens a scenario's objects, and carries out the seven events of its write, one after the other, where there is one.
+/// Opens a scenario's objects, and carries out the events of its write, one after the other, where there is one.
 ///
 /// # Errors
 ///
 /// Where there is no memory for the opening. From then on none is needed.
-pub fn run_scenario(alloc: Global, scenario: &Scenario<'_>) -> Result<Objects, AllocError>
-    requires { EndsWithin (scenario_view scenario.now) }
-    ensures { IfOk result (HasRun (scenario_view scenario.now)) }
+pub fn run_scenario(alloc: Global, scenario: Scenario<'_>) -> Result<Objects, AllocError>
+    requires { IsPlain (scenario_view scenario) }
+    ensures { IfOk result (HasRun (scenario_view scenario.entry)) }
 {
     let mut objects = Objects::open(alloc, scenario)?;
-    if scenario.write.is_none() {
+    let Some(write) = objects.write else {
+        return Ok(objects);
+    };
+    if needs_vector(&write) {
+        objects.run_with_vector();
         return Ok(objects);
     }
-    let (_, element) = objects.take();
-    objects.link();
-    objects.push(element);
-    let element = objects.complete();
-    objects.drop_one();
-    objects.give(element);
-    objects.done();
+    objects.run_alone();
     Ok(objects)
 }

@@ -1,12 +1,13 @@
 //! Does what the words ask for.
-ghost use Rattle.std.specs.Prelude.{◌≡◌, map, false, IfOk, OnErr};
+ghost use Rattle.std.specs.Prelude.{◌≡◌, ◌^◌, ◌<◌, map, false, IfOk, OnErr};
+ghost use Rattle.std.specs.Option.{option_to_list};
 ghost use Rattle.std.specs.String.{string_bytes};
 ghost use Rattle.outside_io.specs.Saying.{Says};
-ghost use Rattle.biostack_top.specs.Scenario.{EndsWithin};
+ghost use Rattle.biostack_top.specs.Runs.{IsPlain};
 ghost use Rattle.biostack_top.specs.ScenarioViews.{scenario_view};
 ghost use Rattle.biostack_top.specs.Report.{Ended, report};
 ghost use Rattle.biostack_top.specs.Scene.{IsSaid};
-ghost use Rattle.biostack_top.specs.Ending.{EndsBy, MayEndAs, TextEndsBy};
+ghost use Rattle.biostack_top.specs.Ending.{EndsBy, MayEndAs, TextEndsBy, all_well};
 ghost use Rattle.biostack_top.specs.declared.order.Order.TheVariants as order;
 
 use crate::built::first_unbuilt;
@@ -16,36 +17,51 @@ use crate::layout::{layout_lines, write_layout};
 use crate::order::{Order, order_of};
 use crate::path::run_scenario;
 use crate::report::write_report;
-use crate::scenario::{Scenario, scenario_of};
+use crate::scenario::{Scenario, two_scripts};
 use crate::scene::{Scene, read_scene};
-use decl_text::ReadFault;
+use decl_text::{Accepted, ReadFault};
 use outside_io::{Pen, ReadError, Sink, Source, read_up_to};
+use stack_base::Status;
 use std::alloc::{AllocError, Global};
 
 /// How many bytes of the source are read at the most: one more than a text may have.
 const LIMIT: usize = 4_194_305;
 
-// Runs the scenario to its end and writes the report, and answers whether the sink failed. Want of memory comes before any writing.
+// Whether the write, if one was told done, ended well.
+fn ended_well(status: Option<Status>) -> bool
+    ensures { result ≡ all_well (option_to_list status) }
+{
+    match status {
+        None | Some(Status::Ok) => true,
+        Some(_) => false,
+    }
+}
+
+// Runs the scenario to its end and writes the report. Answers whether the sink failed, and whether each write ended well. Want of memory
+// comes before any writing.
 fn run_and_report<K: Sink>(
     alloc: Global,
-    scenario: &Scenario<'_>,
+    scenario: Scenario<'_>,
     out: &mut K,
-) -> Result<bool, AllocError>
-    requires { EndsWithin (scenario_view scenario.now) }
-    ensures said { IfOk result (λ failed. (e : Ended) × MayEndAs (scenario_view scenario.now) e
-        × Says (K.held out.old) (K.faults out.old) false (K.held out.new) (K.faults out.new) failed (report e)) }
+) -> Result<(bool, bool), AllocError>
+    requires plain { IsPlain (scenario_view scenario) }
+    requires bound { (scenario_view scenario).bound < 2 ^ 64 }
+    ensures said { IfOk result (λ told. (e : Ended) × MayEndAs (scenario_view scenario.entry) e
+        × Says (K.held out.old) (K.faults out.old) false (K.held out.new) (K.faults out.new) told.0 (report e) × (told.1 ≡ all_well e.statuses)) }
     ensures unsaid { OnErr result (K.held out.new ≡ K.held out.old) }
 {
+    let stack = scenario.stack;
+    let bound = scenario.bounds.total();
     let objects = run_scenario(alloc, scenario)?;
     let mut pen = Pen::new();
-    write_report(&mut pen, out, scenario, &objects);
-    Ok(pen.failed())
+    write_report(&mut pen, out, stack, bound, &objects);
+    Ok((pen.failed(), ended_well(objects.status)))
 }
 
 // Runs the scene's writes to their end.
-fn run<K: Sink>(alloc: Global, scene: &Scene<'_>, out: &mut K) -> Ending
-    requires { IsSaid scene.now }
-    ensures { TextEndsBy result order.Run scene.now.text.now record {
+fn run<K: Sink>(alloc: Global, scene: Scene<'_>, out: &mut K) -> Ending
+    requires { IsSaid scene }
+    ensures { TextEndsBy result order.Run scene.entry.text.now record {
       old = K.held out.old;
       new = K.held out.new;
       before = K.faults out.old;
@@ -57,11 +73,34 @@ fn run<K: Sink>(alloc: Global, scene: &Scene<'_>, out: &mut K) -> Ending
         Ok(Some(refusal)) => return Ending::Refused(refusal),
         Err(_) => return Ending::Memory,
     }
-    let scenario = scenario_of(&scene.accepted.stack, &scene.work.writes);
-    match run_and_report(alloc, &scenario, out) {
-        Ok(false) => Ending::Done,
-        Ok(true) => Ending::WriteFault,
-        Err(_) => Ending::Memory,
+    let Scene {
+        text: _,
+        accepted,
+        work,
+    } = scene;
+    let Accepted {
+        stack,
+        scripts,
+        rest: _,
+        line: _,
+    } = accepted;
+    let (bios, vecs) = two_scripts(scripts);
+    let scenario = Scenario {
+        stack: &stack,
+        bios,
+        vecs,
+        writes: &work.writes,
+        bounds: &work.bound,
+    };
+    let Ok((failed, well)) = run_and_report(alloc, scenario, out) else {
+        return Ending::Memory;
+    };
+    if failed {
+        Ending::WriteFault
+    } else if well {
+        Ending::Done
+    } else {
+        Ending::NotAllWell
     }
 }
 
@@ -121,7 +160,7 @@ fn serve_text<K: Sink>(alloc: Global, order: Order, text: &[u8], out: &mut K) ->
         Err(ReadFault::Memory) => return Ending::Memory,
     };
     match order {
-        Order::Run => run(alloc, &scene, out),
+        Order::Run => run(alloc, scene, out),
         Order::Check => check(&scene, out),
         Order::Layout => layout(alloc, &scene, out),
     }

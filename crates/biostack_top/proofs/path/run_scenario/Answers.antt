@@ -1,44 +1,43 @@
--- The seven calls are the seven steps of a run from the scenario's start, and what holds of every run says that it has ended.
-use Rattle.std.proofs.Common.{◌≡◌, List, [], ◌∷◌, refl, subst, arith, length}
+-- The objects were opened ready to run their write, if there is one.
+use Rattle.std.proofs.Common.{sym, subst, ◌∙◌}
 use Rattle.biostack_top.specs.ScenarioViews.{scenario_view}
-use Rattle.biostack_top.specs.Machine.{Event, Take, Link, Push, Complete, Drop, Give, Done, Step, RunsTo, start}
-use Rattle.biostack_top.specs.Path.{state_of}
-use Rattle.biostack_top.proofs.RunLemmas.{every_run_holds, few_writes}
+use Rattle.biostack_top.specs.Path.{IsReady}
+use Rattle.biostack_top.proofs.PathLemmas.{short, ready, has_run, has_rested}
 use Rattle.biostack_top.proofs.path.run_scenario.Goals as goal
+
+pub needs_vector-requires-clause-some : goal.needs_vector-requires-clause-some
+needs_vector-requires-clause-some c =
+    let opened = c.in_ok-objects.ensures in
+    (short (scenario_view c.args.scenario) c.requires c.in_ok-objects.objects opened.start opened.fresh c.in-Some.write c.in-Some.is).0
+
+pub needs_vector-requires-clause-few : goal.needs_vector-requires-clause-few
+needs_vector-requires-clause-few c =
+    let opened = c.in_ok-objects.ensures in
+    (short (scenario_view c.args.scenario) c.requires c.in_ok-objects.objects opened.start opened.fresh c.in-Some.write c.in-Some.is).1
+
+pub run_with_vector-requires : goal.run_with_vector-requires
+run_with_vector-requires c =
+    let opened = c.in_ok-objects.ensures in
+    subst (IsReady c.in_ok-objects.objects) (sym c.needs_vector.ensures ∙ c.if-needs_vector.true)
+    (ready (scenario_view c.args.scenario) c.requires c.in_ok-objects.objects opened.start opened.fresh c.in-Some.write c.in-Some.is)
+
+pub run_alone-requires : goal.run_alone-requires
+run_alone-requires c =
+    let opened = c.in_ok-objects.ensures in
+    subst (IsReady c.in_ok-objects.objects) (sym c.needs_vector.ensures ∙ c.if-needs_vector.false)
+    (ready (scenario_view c.args.scenario) c.requires c.in_ok-objects.objects opened.start opened.fresh c.in-Some.write c.in-Some.is)
+
+pub returns-then-needs_vector : goal.returns-then-needs_vector
+returns-then-needs_vector c =
+    let opened = c.in_ok-objects.ensures in
+    has_run (scenario_view c.args.scenario) c.requires c.in_ok-objects.objects opened.start opened.fresh c.run_with_vector.new.self c.run_with_vector.ensures
 
 pub returns : goal.returns
 returns c =
-    let s = scenario_view c.args.scenario.now in
-    let got = c.take-element.result.0 in
-    let end = state_of c.done.new.self in
-    let events : List Event = Take got ∷ Link ∷ Push ∷ Complete 0 ∷ Drop ∷ Give ∷ Done ∷ [] in
-    let first = subst (λ x. Step x (Take got) (state_of c.take-element.new.self)) c.in_ok-objects.ensures.start c.take-element.ensures.step in
-    let run : RunsTo (start s) events end = (
-      state_of c.take-element.new.self,
-      first,
-      (
-        state_of c.link.new.self,
-        c.link.ensures.step,
-        (
-          state_of c.push.new.self,
-          c.push.ensures.step,
-          (
-            state_of c.complete-element.new.self,
-            c.complete-element.ensures.step,
-            (
-              state_of c.drop_one.new.self,
-              c.drop_one.ensures.step,
-              (
-                state_of c.give.new.self,
-                c.give.ensures.step,
-                (end, c.done.ensures.step, refl),
-              ),
-            ),
-          ),
-        ),
-      ),
-    ) in
-    let holds = every_run_holds s c.requires events end run in
-    let none : end.left ≡ 0 = omega (arith, holds.once, few_writes s.write) in
-    let counted : c.done.new.self.steps ≡ length events = omega (arith, c.in_ok-objects.ensures.fresh) in
-    (events, run, holds.ended none, counted)
+    let opened = c.in_ok-objects.ensures in
+    has_run (scenario_view c.args.scenario) c.requires c.in_ok-objects.objects opened.start opened.fresh c.run_alone.new.self c.run_alone.ensures
+
+pub returns-in_default : goal.returns-in_default
+returns-in_default c =
+    let opened = c.in_ok-objects.ensures in
+    has_rested (scenario_view c.args.scenario) c.requires c.in_ok-objects.objects opened.start opened.fresh c.in_default.is

@@ -1,16 +1,17 @@
 -- What says the lines of the other runs completes all of them.
 use Rattle.std.proofs.Common.{◌+◌, map, arith}
 use Rattle.stack_base.specs.Words.{is_written}
-use Rattle.biostack_top.specs.Report.{runs_from}
-use Rattle.biostack_top.proofs.ReportLemmas.{apart_at_start, lines_on, lines_end}
+use Rattle.model_disks.specs.Runs.{runs_from}
+use Rattle.model_disks.proofs.WrittenLemmas.{apart_at_start}
+use Rattle.biostack_top.proofs.ReportLemmas.{lines_on, lines_end}
 use Rattle.biostack_top.proofs.report.run_lines.Goals as goal
 
 pub runs-init : goal.runs-init
-runs-init g c = record { within = omega arith; apart = apart_at_start (map is_written c.args.image.now); so_far = λ end faults failed said. said }
+runs-init g c = record { within = omega arith; apart = apart_at_start (map is_written c.args.disk.now.image); so_far = λ end faults failed said. said }
 
 pub runs-preserved : goal.runs-preserved
 runs-preserved g c =
-    let flags = map is_written c.args.image.now in
+    let flags = map is_written c.args.disk.now.image in
     let run = c.in-Some.run' in record {
       within = c.in-Some.ensures.place.1;
       apart = c.in-Some.ensures.apart;
@@ -21,4 +22,4 @@ runs-preserved g c =
 pub returns : goal.returns
 returns g c =
     c.runs.invariant.so_far _ _ _
-    (lines_end (g.K.Sink.held c.runs.out) (g.K.Sink.faults c.runs.out) c.runs.pen.failed c.args.name.now (runs_from (map is_written c.args.image.now) c.runs.from) c.in_default.ensures.runs)
+    (lines_end (g.K.Sink.held c.runs.out) (g.K.Sink.faults c.runs.out) c.runs.pen.failed c.args.name.now (runs_from (map is_written c.args.disk.now.image) c.runs.from) c.in_default.ensures.runs)

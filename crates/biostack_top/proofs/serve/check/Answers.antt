@@ -1,5 +1,5 @@
 -- What was said is the text of what the scene says.
-use Rattle.std.proofs.Common.{refl, sym, ◌∙◌, arith}
+use Rattle.std.proofs.Common.{true, refl, sym, ◌∙◌, arith}
 use Rattle.decl_text.proofs.FewEntries.{entries_few}
 use Rattle.biostack_top.specs.CheckText.{check_text}
 use Rattle.biostack_top.proofs.ServeLemmas.{says_failed, says_done}
@@ -15,10 +15,10 @@ pub returns-then-failed : goal.returns-then-failed
 returns-then-failed g c =
     let scene = c.args.scene.now in
     let said = says_failed c.new-pen.ensures (sym c.failed.ensures ∙ c.if-failed.true) c.write_check.ensures in
-    (said.0, c.requires.fine, (check_text scene.accepted.stack scene.work.bound, (scene.accepted.stack, scene.accepted.scripts.items, scene.work.writes.items, scene.work.bound, c.requires, refl), said.1))
+    (said.0, c.requires.fine, (check_text scene.accepted.stack scene.work.bound, true, (scene.accepted.stack, scene.accepted.scripts.items, scene.work.writes.items, scene.work.bound, c.requires, refl, refl), said.1))
 
 pub returns-else-failed : goal.returns-else-failed
 returns-else-failed g c =
     let scene = c.args.scene.now in
     let said = says_done c.new-pen.ensures (sym c.failed.ensures ∙ c.if-failed.false) c.write_check.ensures in
-    (said.0, c.requires.fine, (check_text scene.accepted.stack scene.work.bound, (scene.accepted.stack, scene.accepted.scripts.items, scene.work.writes.items, scene.work.bound, c.requires, refl), said.1))
+    (said.0, c.requires.fine, (check_text scene.accepted.stack scene.work.bound, (scene.accepted.stack, scene.accepted.scripts.items, scene.work.writes.items, scene.work.bound, c.requires, refl, refl), said.1))

@@ -1,5 +1,5 @@
 -- What was said are the fragments of the scene's writes.
-use Rattle.std.proofs.Common.{sym, ap, subst, length, ◌∙◌, arith}
+use Rattle.std.proofs.Common.{true, refl, sym, ap, subst, length, ◌∙◌, arith}
 use Rattle.biostack_top.specs.LayoutText.{AreLaid, AreOnDevices, layout_text}
 use Rattle.biostack_top.proofs.ServeLemmas.{says_failed, says_done}
 use Rattle.biostack_top.proofs.LayoutLemmas.{few_writes}
@@ -22,7 +22,8 @@ returns-then-failed g c =
       c.requires.fine,
       (
         layout_text scene.accepted.stack c.deref-2.result.now,
-        (scene.accepted.stack, scene.accepted.scripts.items, scene.work.writes.items, scene.work.bound, c.in-Ok.fragments.items, c.requires, laid, ap (layout_text scene.accepted.stack) c.deref-2.ensures.value),
+        true,
+        (scene.accepted.stack, scene.accepted.scripts.items, scene.work.writes.items, scene.work.bound, c.in-Ok.fragments.items, c.requires, laid, ap (layout_text scene.accepted.stack) c.deref-2.ensures.value, refl),
         said.1,
       ),
     )
@@ -36,7 +37,7 @@ returns g c =
       c.requires.fine,
       (
         layout_text scene.accepted.stack c.deref-2.result.now,
-        (scene.accepted.stack, scene.accepted.scripts.items, scene.work.writes.items, scene.work.bound, c.in-Ok.fragments.items, c.requires, laid, ap (layout_text scene.accepted.stack) c.deref-2.ensures.value),
+        (scene.accepted.stack, scene.accepted.scripts.items, scene.work.writes.items, scene.work.bound, c.in-Ok.fragments.items, c.requires, laid, ap (layout_text scene.accepted.stack) c.deref-2.ensures.value, refl),
         said.1,
       ),
     )

@@ -1,63 +1,86 @@
 -- The scenario is the text's, what was said is the report of an ended run of it, and what holds of every run holds of its runs.
-use Rattle.std.proofs.Common.{map, refl, sym, ap, subst, ◌∙◌}
+use Rattle.std.proofs.Common.{true, false, length, refl, sym, ap, ◌∙◌, arith}
 use Rattle.std.specs.Option.{option_or}
 use Rattle.decl_text.specs.Text.{lines}
-use Rattle.decl_text.specs.Accepting.{shown_devices}
-use Rattle.work_text.specs.Whole.{known_of_text}
-use Rattle.work_text.specs.Work.{written}
-use Rattle.biostack_top.specs.Scenario.{EndsWithin}
-use Rattle.biostack_top.specs.ScenarioViews.{scenario_view}
+use Rattle.decl_text.proofs.FewEntries.{entries_few}
+use Rattle.biostack_top.specs.Built.{none_seen, unbuilt}
 use Rattle.biostack_top.specs.Report.{report}
-use Rattle.biostack_top.specs.Built.{none_seen, scenario_of, unbuilt}
-use Rattle.biostack_top.specs.Ending.{HasEndedAs}
-use Rattle.biostack_top.proofs.BuiltLemmas.{all_plain, text_fine}
-use Rattle.biostack_top.proofs.RunLemmas.{every_run_holds, may_be_told}
+use Rattle.biostack_top.proofs.BuiltLemmas.{text_fine}
+use Rattle.biostack_top.proofs.PlainLemmas.{two_pools}
 use Rattle.biostack_top.proofs.ServeLemmas.{says_failed, says_done}
-use Rattle.biostack_top.proofs.WithinLemmas.{ends_within, same_scenario}
+use Rattle.biostack_top.proofs.ToldLemmas.{Handed, handed_plain, told_run}
 use Rattle.biostack_top.proofs.serve.run.Goals as goal
 
 pub first_unbuilt-requires-clause-fine : goal.first_unbuilt-requires-clause-fine
-first_unbuilt-requires-clause-fine g c = (text_fine c.args.scene.now.text.now c.requires.fine).1
+first_unbuilt-requires-clause-fine g c = (text_fine c.args.scene.text.now c.requires.fine).1
 
-pub run_and_report-requires : goal.run_and_report-requires
-run_and_report-requires g c =
-    let scene = c.args.scene.now in
-    let known = known_of_text scene.text.now in
-    let stack = scene.accepted.stack in
-    let view = c.scenario_of-scenario.ensures ∙ ap (λ writes. scenario_of (shown_devices stack) (map written writes)) c.deref.ensures.value in
-    let none = sym c.in-Ok-None.ensures ∙ c.in-Ok-None.field-0-is in
-    let within : EndsWithin (scenario_view c.scenario_of-scenario.result) =
-    subst EndsWithin (sym view) (ends_within stack scene.work.writes.items known c.requires.means.devices c.requires.writes (all_plain scene.text.now none) c.requires.served) in
-    within
+pub two_scripts-bios-requires : goal.two_scripts-bios-requires
+two_scripts-bios-requires g c =
+    let scene = c.args.scene in
+    ap length (two_pools scene.text.now scene.accepted.stack scene.accepted.scripts.items c.requires.means (sym c.in-Ok-None.ensures ∙ c.in-Ok-None.field-0-is))
 
-pub returns-in-Ok-true : goal.returns-in-Ok-true
-returns-in-Ok-true g c =
-    let scene = c.args.scene.now in
-    let known = known_of_text scene.text.now in
-    let stack = scene.accepted.stack in
-    let view = c.scenario_of-scenario.ensures ∙ ap (λ writes. scenario_of (shown_devices stack) (map written writes)) c.deref.ensures.value in
-    let none = sym c.in-Ok-None.ensures ∙ c.in-Ok-None.field-0-is in
-    let within : EndsWithin (scenario_view c.scenario_of-scenario.result) =
-    subst EndsWithin (sym view) (ends_within stack scene.work.writes.items known c.requires.means.devices c.requires.writes (all_plain scene.text.now none) c.requires.served) in
-    let s = scenario_view c.scenario_of-scenario.result in
-    let told = c.in-Ok-true.ensures.said in
-    let said = says_failed refl c.in-Ok-true.field-0-test told.2 in
-    let ended : HasEndedAs s told.0 = (within, every_run_holds s within, told.1, may_be_told s within told.0 told.1) in
-    let of_text = view ∙ same_scenario stack scene.work.writes.items known c.requires.means.devices c.requires.writes in
-    (said.0, ap (λ r. option_or r (unbuilt none_seen 1 (lines scene.text.now))) c.requires.fine ∙ none, (report told.0, (told.0, subst (λ x. HasEndedAs x told.0) of_text ended, refl), said.1))
+pub run_and_report-requires-clause-plain : goal.run_and_report-requires-clause-plain
+run_and_report-requires-clause-plain g c =
+    let scene = c.args.scene in
+    let h : Handed scene.text.now scene.accepted.stack scene.accepted.scripts.items scene.work.writes.items c.deref.result.now scene.work.bound
+    c.two_scripts-bios.result.0 c.two_scripts-bios.result.1 = record {
+      says = c.requires;
+      none = sym c.in-Ok-None.ensures ∙ c.in-Ok-None.field-0-is;
+      pools = c.two_scripts-bios.ensures;
+      writes_are = c.deref.ensures.value;
+    } in
+    handed_plain h
 
-pub returns-in-Ok-false : goal.returns-in-Ok-false
-returns-in-Ok-false g c =
-    let scene = c.args.scene.now in
-    let known = known_of_text scene.text.now in
-    let stack = scene.accepted.stack in
-    let view = c.scenario_of-scenario.ensures ∙ ap (λ writes. scenario_of (shown_devices stack) (map written writes)) c.deref.ensures.value in
+pub run_and_report-requires-clause-bound : goal.run_and_report-requires-clause-bound
+run_and_report-requires-clause-bound g c =
+    let accepted = c.args.scene.accepted in
+    let needs = c.requires.needs in
+    omega (arith, needs.allowed, needs.elements, needs.fewer, needs.entries, entries_few accepted.stack accepted.scripts.items accepted.is_stack accepted.declared)
+
+pub returns-then-failed : goal.returns-then-failed
+returns-then-failed g c =
+    let scene = c.args.scene in
     let none = sym c.in-Ok-None.ensures ∙ c.in-Ok-None.field-0-is in
-    let within : EndsWithin (scenario_view c.scenario_of-scenario.result) =
-    subst EndsWithin (sym view) (ends_within stack scene.work.writes.items known c.requires.means.devices c.requires.writes (all_plain scene.text.now none) c.requires.served) in
-    let s = scenario_view c.scenario_of-scenario.result in
-    let told = c.in-Ok-false.ensures.said in
-    let said = says_done refl c.in-Ok-false.field-0-test told.2 in
-    let ended : HasEndedAs s told.0 = (within, every_run_holds s within, told.1, may_be_told s within told.0 told.1) in
-    let of_text = view ∙ same_scenario stack scene.work.writes.items known c.requires.means.devices c.requires.writes in
-    (said.0, ap (λ r. option_or r (unbuilt none_seen 1 (lines scene.text.now))) c.requires.fine ∙ none, (report told.0, (told.0, subst (λ x. HasEndedAs x told.0) of_text ended, refl), said.1))
+    let h : Handed scene.text.now scene.accepted.stack scene.accepted.scripts.items scene.work.writes.items c.deref.result.now scene.work.bound
+    c.two_scripts-bios.result.0 c.two_scripts-bios.result.1 = record {
+      says = c.requires;
+      none = none;
+      pools = c.two_scripts-bios.ensures;
+      writes_are = c.deref.ensures.value;
+    } in
+    let told = c.in-Ok.ensures.said in
+    let allowed = ap (λ r. option_or r (unbuilt none_seen 1 (lines scene.text.now))) c.requires.fine ∙ none in
+    let said = says_failed refl c.if-failed.true told.2 in
+    (said.0, allowed, (report told.0, c.in-Ok.well, told_run h told.0 c.in-Ok.well told.1 told.3, said.1))
+
+pub returns-then-well : goal.returns-then-well
+returns-then-well g c =
+    let scene = c.args.scene in
+    let none = sym c.in-Ok-None.ensures ∙ c.in-Ok-None.field-0-is in
+    let h : Handed scene.text.now scene.accepted.stack scene.accepted.scripts.items scene.work.writes.items c.deref.result.now scene.work.bound
+    c.two_scripts-bios.result.0 c.two_scripts-bios.result.1 = record {
+      says = c.requires;
+      none = none;
+      pools = c.two_scripts-bios.ensures;
+      writes_are = c.deref.ensures.value;
+    } in
+    let told = c.in-Ok.ensures.said in
+    let allowed = ap (λ r. option_or r (unbuilt none_seen 1 (lines scene.text.now))) c.requires.fine ∙ none in
+    let said = says_done refl c.if-failed.false told.2 in
+    (said.0, allowed, (report told.0, told_run h told.0 true told.1 (sym c.if-well.true ∙ told.3), said.1))
+
+pub returns : goal.returns
+returns g c =
+    let scene = c.args.scene in
+    let none = sym c.in-Ok-None.ensures ∙ c.in-Ok-None.field-0-is in
+    let h : Handed scene.text.now scene.accepted.stack scene.accepted.scripts.items scene.work.writes.items c.deref.result.now scene.work.bound
+    c.two_scripts-bios.result.0 c.two_scripts-bios.result.1 = record {
+      says = c.requires;
+      none = none;
+      pools = c.two_scripts-bios.ensures;
+      writes_are = c.deref.ensures.value;
+    } in
+    let told = c.in-Ok.ensures.said in
+    let allowed = ap (λ r. option_or r (unbuilt none_seen 1 (lines scene.text.now))) c.requires.fine ∙ none in
+    let said = says_done refl c.if-failed.false told.2 in
+    (said.0, allowed, (report told.0, told_run h told.0 false told.1 (sym c.if-well.false ∙ told.3), said.1))
