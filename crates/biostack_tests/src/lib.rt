@@ -1,5 +1,6 @@
 //! Tests of what no clause says, over all crates: texts and why they are refused, what others mean, worked runs and layouts, a slow scan of
-//! layouts, faults at every call, and each allocating call once. The slow way of a sector is proved to be the way of the definitions.
+//! layouts, faults at every call, lists, disks and sets, and each allocating call once. The slow way of a sector is proved to be the way of
+//! the definitions.
 #![tactic(auto)]
 
 #[cfg(test)]

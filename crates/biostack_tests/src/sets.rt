@@ -47,10 +47,6 @@ fn the_writers_set_has_bios_and_vectors(rt: HostRuntime) -> Result<(), Fail> {
         return Err(Fail::from("no spare vector"));
     };
     assert_eq!(rt; (bio.no(), vector.no()), (65, 64));
-    assert_eq!(rt;
-        (bio.body.bio.range.len, vector.body.segments.len()),
-        (0, 0)
-    );
     bios.give(bio);
     vecs.give(vector);
     Ok(())

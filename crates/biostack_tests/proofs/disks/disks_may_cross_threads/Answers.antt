@@ -1,0 +1,23 @@
+-- A disk may go to another thread, as its bad ranges, its sectors and its list of bios may.
+use denote.Param.Send.{IsSend, sendable}
+use Rattle.std.proofs.Crossing.{crosses}
+use Rattle.stack_base.proofs.ids.Bad.TheSendSync as bad
+use Rattle.stack_base.proofs.ids.DevId.TheSendSync as dev
+use Rattle.elem_ledger.proofs.element.Share.TheSendSync as share
+use Rattle.arrayvec.proofs.array_vec.ArrayVec.TheSendSync as array_vec
+use Rattle.bio_records.proofs.segment.Segment.TheSendSync as segment
+use Rattle.bio_records.proofs.bio.Pad.TheSendSync as pad
+use Rattle.bio_records.proofs.bio.Bio.TheSendSync as bio
+use Rattle.bio_records.proofs.body.BioBody.TheLaws.TheKnot as knot
+use Rattle.bio_records.specs.contracts.list.BioList as list
+use Rattle.model_disks.specs.contracts.disk.Disk as disk
+use Rattle.biostack_tests.proofs.disks.disks_may_cross_threads.Goals as goal
+
+list_send : IsSend list.the_row
+list_send = search (sendable, crosses, segment.the_send, pad.the_send, bio.the_field_send, share.the_send, array_vec.the_send, knot.send-BioBody) depth 40
+
+disk_send : IsSend disk.the_row
+disk_send = search (sendable, crosses, list_send, bad.the_send, dev.the_field_send) depth 40
+
+pub crosses-requires-send-X : goal.crosses-requires-send-X
+crosses-requires-send-X c κs = search (sendable, disk_send) depth 40
