@@ -3,3 +3,4 @@ pub mod Items
 pub mod Segments
 pub mod Runs
 pub mod Rescue
+pub mod Sorting

@@ -1,9 +1,12 @@
 //! Chains of elements, each in the box of the one before it.
-ghost use Rattle.std.specs.Prelude.{◌≡◌, ◌++◌, ◌+◌, ◌<◌, [], ◌∷◌, length, reverse, remove, slice_get, min, ◌^◌, ◌-◌, MatchOption, Some};
+ghost use Rattle.std.specs.Prelude.{◌≡◌, ◌++◌, filter, ◌+◌, ◌<◌, [], ◌∷◌, length, reverse, remove, slice_get, min, ◌^◌, ◌-◌, MatchOption, Some};
 ghost use Rattle.bio_records.specs.Items.{items, item_of, IsAlone};
+ghost use Rattle.bio_records.specs.Sorting.{is_lower, is_same};
 
+use crate::bio::Pad;
 use crate::body::BioBody;
 use elem_ledger::{Element, Share};
+use stack_base::DevId;
 
 /// The first element of a chain, by its two parts.
 pub type Link<F> = Option<(Box<BioBody<F>>, Share)>;
@@ -14,7 +17,9 @@ pub fn attach<F: Drop>(link: &mut Link<F>, element: Element<BioBody<F>>)
     ensures { items link.new ≡ item_of element ∷ items link.old }
 {
     let Element { mut body, share } = element;
-    body.next = link.take();
+    if link.is_some() {
+        body.next = link.take();
+    }
     *link = Some((body, share));
 }
 
@@ -36,6 +41,36 @@ pub fn reverse_onto<F: Drop>(mut from: Link<F>, mut onto: Link<F>) -> Link<F>
         attach(&mut onto, element);
     }
     onto
+}
+
+/// Moves the bios of a chain: those for this device before `same`, and the others before `lower`, the first one deepest.
+pub fn part(
+    mut from: Link<Pad>,
+    dev: DevId,
+    mut lower: Link<Pad>,
+    mut same: Link<Pad>,
+) -> (Link<Pad>, Link<Pad>)
+    ensures lower { items result.0 ≡ reverse (filter (is_lower dev) (items from)) ++ items lower }
+    ensures same { items result.1 ≡ reverse (filter (is_same dev) (items from)) ++ items same }
+{
+    'parting: while let Some(element) = detach(&mut from) {
+        if element.body.bio.dev == dev {
+            attach(&mut same, element);
+        } else {
+            attach(&mut lower, element);
+        }
+    }
+    (lower, same)
+}
+
+/// Puts the bios of a list with this front and back before a chain: first those for other devices than this one, then those for it.
+pub fn sorted(front: Link<Pad>, back: Link<Pad>, dev: DevId, own: Link<Pad>) -> Link<Pad>
+    ensures { items result ≡ filter (is_lower dev) (items front ++ reverse (items back))
+        ++ (filter (is_same dev) (items front ++ reverse (items back)) ++ items own) }
+{
+    let (lower, same) = part(back, dev, None, own);
+    let (lower, same) = part(reverse_onto(front, None), dev, lower, same);
+    reverse_onto(reverse_onto(lower, None), same)
 }
 
 /// How many elements a chain has, or `u64::MAX` where there are more.

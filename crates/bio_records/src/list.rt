@@ -1,10 +1,12 @@
 //! Lists of bios.
-ghost use Rattle.std.specs.Prelude.{◌≡◌, ◌++◌, ◌+◌, ◌<◌, [], ◌∷◌, List, length, reverse, remove, IsTrue, ◌↔◌, slice_get, min, ◌^◌, ◌-◌, MatchOption, Some};
+ghost use Rattle.std.specs.Prelude.{◌≡◌, ◌++◌, filter, ◌+◌, ◌<◌, [], ◌∷◌, List, length, reverse, remove, IsTrue, ◌↔◌, slice_get, min, ◌^◌, ◌-◌, MatchOption, Some};
 ghost use Rattle.bio_records.specs.Items.{Item, items, item_of, IsAlone};
+ghost use Rattle.bio_records.specs.Sorting.{is_lower, is_same};
 
 use crate::bio::Pad;
 use crate::body::BioElement;
 use crate::chain::{self, Link};
+use stack_base::DevId;
 use std::marker::Model;
 use std::mem;
 
@@ -107,6 +109,21 @@ impl BioList {
         } else {
             self.add_behind(other);
         }
+    }
+
+    /// Puts the bios of another list at the front: first those for other devices than this one, and then those for it, each in their order
+    /// (`__submit_bio_noacct`, `block/blk-core.c`). None is left there.
+    pub fn sort_before(&mut self, other: &mut BioList, dev: DevId)
+        ensures moved { other.new ≡ [] }
+        ensures order { self.new ≡ filter (is_lower dev) other.old ++ (filter (is_same dev) other.old ++ self.old) }
+    {
+        if other.count == 0 {
+            return;
+        }
+        let own = self.front.take();
+        self.front = chain::sorted(other.front.take(), other.back.take(), dev, own);
+        self.count = self.count.saturating_add(other.count);
+        other.count = 0;
     }
 
     /// Takes the bio at a place out of the list. The others keep their order. It goes over the places before it, and over the whole list

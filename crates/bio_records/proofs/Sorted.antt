@@ -1,0 +1,49 @@
+-- What two chains become that are parted by a test, last one first, and joined again.
+use Rattle.std.proofs.Common.{◌≡◌, ◌+◌, Bool, true, false, ℕ, min, List, [], ◌∷◌, ◌++◌, filter, length, not, reverse, refl, sym, ap, ◌∙◌, append_assoc, arith}
+use Rattle.std.proofs.lemmas.List.{append-nil, reverse-append, reverse-reverse, length-append}
+use Rattle.std.proofs.lemmas.List.Elements.{filter-append}
+use Rattle.std.proofs.lemmas.List.Filters.{length-filter_both}
+
+-- what passes of a list that is turned round
+filter_turned : {X : Type 0} (p : X → Bool) (xs : List X) → filter p (reverse xs) ≡ reverse (filter p xs)
+filter_turned p [] = refl
+filter_turned p (x ∷ xs) =
+    ap (filter p) (reverse-append (x ∷ []) xs) ∙ filter-append p (reverse xs) (x ∷ []) ∙ by_case p x xs (p x) refl (filter_turned p xs)
+  where
+    by_case : {X : Type 0} (p : X → Bool) (x : X) (xs : List X) (b : Bool) → p x ≡ b → filter p (reverse xs) ≡ reverse (filter p xs)
+        → filter p (reverse xs) ++ filter p (x ∷ []) ≡ reverse (filter p (x ∷ xs))
+    by_case p x xs true e rest = rw e (ap (λ l. l ++ x ∷ []) rest ∙ sym (reverse-append (x ∷ []) (filter p xs)))
+    by_case p x xs false e rest = rw e (append-nil (filter p (reverse xs)) ∙ rest)
+
+-- the front, whose last ones are moved first, and then the back, which has its last one first
+pub parted : {X : Type 0} (p : X → Bool) (front back rest : List X)
+    → reverse (filter p (reverse front ++ [])) ++ (reverse (filter p back) ++ rest) ≡ filter p (front ++ reverse back) ++ rest
+parted p front back rest =
+    let one : reverse (filter p (reverse front ++ [])) ≡ filter p front =
+    ap (λ l. reverse (filter p l)) (append-nil (reverse front)) ∙ ap reverse (filter_turned p front) ∙ reverse-reverse (filter p front) in
+    let two : reverse (filter p back) ≡ filter p (reverse back) = sym (filter_turned p back) in
+    let whole : filter p (front ++ reverse back) ≡ filter p front ++ filter p (reverse back) = filter-append p front (reverse back) in
+    rw (one, two, whole) (sym (append_assoc (filter p front) (filter p (reverse back)) rest))
+
+-- the two parts, put before a third list
+pub sorted_before : {X : Type 0} (p q : X → Bool) (front back own : List X) (lower same : List X)
+    → lower ≡ reverse (filter p (reverse front ++ [])) ++ (reverse (filter p back) ++ [])
+    → same ≡ reverse (filter q (reverse front ++ [])) ++ (reverse (filter q back) ++ own)
+    → reverse (reverse lower ++ []) ++ same ≡ filter p (front ++ reverse back) ++ (filter q (front ++ reverse back) ++ own)
+sorted_before p q front back own lower same one two =
+    let first : reverse (reverse lower ++ []) ≡ filter p (front ++ reverse back) =
+    ap reverse (append-nil (reverse lower)) ∙ reverse-reverse lower ∙ one ∙ parted p front back [] ∙ append-nil (filter p (front ++ reverse back)) in
+    rw first (ap (λ l. filter p (front ++ reverse back) ++ l) (two ∙ parted q front back own))
+
+-- they are as many as there were
+pub sorted_count : {X : Type 0} (p q : X → Bool) (other : (x : X) → q x ≡ not (p x)) (xs own : List X)
+    → length (filter q xs ++ (filter p xs ++ own)) ≡ length own + length xs
+sorted_count p q other xs own =
+    omega (arith, length-append (filter q xs) (filter p xs ++ own), length-append (filter p xs) own, length-filter_both p q other xs)
+
+-- and as many are counted
+pub sorted_counted : {X : Type 0} (p q : X → Bool) (other : (x : X) → q x ≡ not (p x)) (xs front ends all : List X) (own_count other_count count most : ℕ)
+    → all ≡ filter q xs ++ (filter p xs ++ front) → own_count ≡ min (length (front ++ ends)) most → other_count ≡ min (length xs) most
+    → count ≡ min (own_count + other_count) most → count ≡ min (length (all ++ ends)) most
+sorted_counted p q other xs front ends all own_count other_count count most is own others added =
+    omega (arith, ap length is, sorted_count p q other xs front, length-append all ends, length-append front ends, own, others, added)
