@@ -1,0 +1,4 @@
+mod Keys
+mod Slots
+mod Placed
+mod Numbered

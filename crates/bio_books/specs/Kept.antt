@@ -1,0 +1,55 @@
+-- How nodes and places are kept. No contract of the public calls speaks of this.
+use Rattle.std.specs.Prelude.{◌≡◌, ◌+◌, ◌≤◌, ◌==◌, ℕ, List, [], ◌∷◌, length, Option, None, Some, IsSome, Bool, true, false, slice_get, slice_index_or}
+use Rattle.slab.specs.Slab.{Slab, get, slab_len}
+use Rattle.elem_ledger.specs.declared.element.Element.{Element}
+use Rattle.bio_records.specs.declared.bio.Pad.{Pad}
+use Rattle.bio_records.specs.declared.body.BioBody.{BioBody}
+use Rattle.bio_books.specs.Views.{IsAlonePart}
+
+-- an open node waits for an end, and the bio that it keeps is in no list
+pub record IsOpen (count : ℕ) (bio : Option (Element (BioBody Pad))) : Type 0 where
+  pub some : 1 ≤ count
+  pub alone : IsAlonePart bio
+
+-- the key that is kept beside the number of a place
+abbrev pub key_at : List (Option ℕ) → ℕ → Option ℕ
+key_at keys place = slice_index_or keys place None
+
+-- what stands at a place with this key
+abbrev pub look : {T : Type 0} → Slab T → Option ℕ → Option T
+look slots None = None
+look slots (Some key) = get slots key
+
+-- how many places have a key
+abbrev pub keyed : List (Option ℕ) → ℕ
+keyed [] = 0
+keyed (None ∷ keys) = keyed keys
+keyed (Some key ∷ keys) = keyed keys + 1
+
+-- how often a place stands among the free ones, by what is beside its number: once where there is no key
+abbrev pub vacancy : Option (Option ℕ) → ℕ
+vacancy None = 0
+vacancy (Some None) = 1
+vacancy (Some (Some key)) = 0
+
+abbrev pub one_if : Bool → ℕ
+one_if true = 1
+one_if false = 0
+
+abbrev pub times : ℕ → List ℕ → ℕ
+times place [] = 0
+times place (other ∷ free) = one_if (other == place) + times place free
+
+-- how the slab, the keys and the free places of a container hang together
+pub record IsPlaced {T : Type 0} (slots : Slab T) (keys : List (Option ℕ)) (free : List ℕ) (room : ℕ) : Type 0 where
+  -- the slab and the free places have room for all
+  pub slots_room : length keys ≤ slots.capacity
+  pub free_room : length keys ≤ room
+  -- a place has a key or is free, and each value of the slab has a place
+  pub counted : keyed keys + length free ≡ length keys
+  pub named : keyed keys ≡ slab_len slots
+  -- the free places are those without a key, each once
+  pub vacant : (place : ℕ) → times place free ≡ vacancy (slice_get keys place)
+  -- a key has a value, and no two places have one key
+  pub taken : (place key : ℕ) → key_at keys place ≡ Some key → IsSome (get slots key)
+  pub distinct : (place other key : ℕ) → key_at keys place ≡ Some key → key_at keys other ≡ Some key → place ≡ other

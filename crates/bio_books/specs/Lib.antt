@@ -1,0 +1,5 @@
+pub mod Books
+pub mod Links
+pub mod Drops
+pub mod Views
+pub mod Kept

@@ -1,0 +1,228 @@
+//! The nodes of a book.
+ghost use Rattle.std.specs.Prelude.{◌≡◌, ◌+◌, ◌-◌, ◌^◌, ◌<◌, ◌≤◌};
+ghost use Rattle.bio_books.specs.Books.{child_node, closing, kept_with, lowered, nothing_held, parent_of, raised, told, top_node};
+ghost use Rattle.bio_books.specs.Views.{bio_of, closed_node_of, holding_of, vector_of, IsAlonePart};
+ghost use Rattle.bio_books.specs.Drops.{closed_of};
+
+use crate::places::Change;
+use bio_records::{BioElement, SlipElement, VecElement};
+use stack_base::Status;
+use std::marker::Model;
+
+/// Elements that a node kept, or that no node was made for.
+#[derive(Drop)]
+pub struct Back {
+    pub bio: Option<BioElement>,
+    pub vector: Option<VecElement>,
+    pub slip: Option<SlipElement>,
+}
+
+/// What is left of a node that has closed.
+#[derive(Drop)]
+pub struct ClosedNode {
+    /// What it held.
+    pub held: Back,
+    /// The place of the node that it was a child of, which is to be told of its end.
+    pub parent: Option<u32>,
+    /// The write that it was a part of.
+    pub write: u32,
+    /// How it ended: as the first of its ends that failed, or well.
+    pub status: Status,
+}
+
+/// What a node is to others.
+#[derive(Clone, Copy, Debug, PartialEq, Eq)]
+pub enum Role {
+    /// The whole of a write.
+    Top,
+    /// A child of the node at this place, which waits for it.
+    Chain { parent: u32 },
+}
+
+/// A part of a write that has not ended.
+#[derive(Drop)]
+pub struct Node {
+    role: Role,
+    write: u32,
+    count: u64,
+    status: Status,
+    held: Back,
+}
+
+impl Model for Node {
+    ghost use Rattle.bio_books.specs.Books.{Node as NodeState};
+    ghost use Rattle.bio_books.specs.Views.{holding_of};
+    ghost use Rattle.bio_books.specs.Kept.{IsOpen};
+
+    ghost Value = { NodeState };
+
+    ghost view = { λ n. record { role = n.role; write = n.write; count = n.count; status = n.status; held = holding_of n.held } };
+
+    ghost invariant = { λ n. IsOpen n.count n.held.bio };
+}
+
+// The status that a node of a role keeps, with one more end: the first that failed.
+fn kept_with(role: Role, old: Status, new: Status) -> Status
+    ensures { result ≡ kept_with role old new }
+{
+    match role {
+        Role::Top | Role::Chain { .. } => match old {
+            Status::Ok => new,
+            _ => old,
+        },
+    }
+}
+
+// How a node of a role ends as it closes.
+fn closing(role: Role, status: Status) -> Status
+    ensures { result ≡ closing role status }
+{
+    match role {
+        Role::Top | Role::Chain { .. } => status,
+    }
+}
+
+// The place of the node that a node of a role is a child of, if it is one.
+fn parent_of(role: Role) -> Option<u32>
+    ensures { result ≡ parent_of role }
+{
+    match role {
+        Role::Top => None,
+        Role::Chain { parent } => Some(parent),
+    }
+}
+
+impl Back {
+    /// No element.
+    pub(crate) fn nothing() -> Back
+        ensures held { holding_of result ≡ nothing_held }
+        ensures alone { IsAlonePart result.bio }
+    {
+        Back {
+            bio: None,
+            vector: None,
+            slip: None,
+        }
+    }
+}
+
+impl Node {
+    /// The top node of a write.
+    pub fn top(write: u32, vector: Option<VecElement>) -> Node
+        ensures { result ≡ top_node write (vector_of vector) }
+    {
+        Node {
+            role: Role::Top,
+            write,
+            count: 1,
+            status: Status::Ok,
+            held: Back {
+                bio: None,
+                vector,
+                slip: None,
+            },
+        }
+    }
+
+    /// A child of the node at a place, of the same write.
+    pub fn child(write: u32, parent: u32) -> Node
+        ensures { result ≡ child_node write parent }
+    {
+        Node {
+            role: Role::Chain { parent },
+            write,
+            count: 1,
+            status: Status::Ok,
+            held: Back::nothing(),
+        }
+    }
+
+    /// How many ends it waits for.
+    pub fn count(&self) -> u64
+        ensures count { result ≡ self.now.count }
+        ensures some { 1 ≤ self.now.count }
+    {
+        self.count
+    }
+
+    /// The write that it is a part of.
+    pub fn write(&self) -> u32
+        ensures { result ≡ self.now.write }
+    {
+        self.write
+    }
+
+    /// Keeps the first end that failed, and the last part that came (`__bio_chain_endio`, `block/bio.c`).
+    #[inline]
+    pub fn tell(&mut self, status: Status, part: Option<BioElement>)
+        requires { IsAlonePart part }
+        ensures { self.new ≡ told self.old status (bio_of part) }
+    {
+        self.status = kept_with(self.role, self.status, status);
+        if part.is_some() {
+            self.held.bio = part;
+        }
+    }
+
+    /// What it holds, where it is not kept.
+    pub fn into_held(self) -> Back
+        ensures held { holding_of result ≡ self.held }
+        ensures alone { IsAlonePart result.bio }
+    {
+        let Node { held, .. } = self;
+        held
+    }
+
+    /// What is left of it as it closes.
+    pub fn close(self) -> ClosedNode
+        ensures closed { closed_node_of result ≡ closed_of self }
+        ensures alone { IsAlonePart result.held.bio }
+    {
+        let Node {
+            role,
+            write,
+            status,
+            held,
+            ..
+        } = self;
+        ClosedNode {
+            held,
+            parent: parent_of(role),
+            write,
+            status: closing(role, status),
+        }
+    }
+}
+
+/// A node gets a child, and waits for it (`bio_inc_remaining`, `block/bio.c`).
+#[derive(Drop)]
+pub struct Raise;
+
+impl Change<Node> for Raise {
+    ghost applies = { λ _ node. node.count < 2 ^ 64 - 1 };
+
+    ghost after = { λ _. raised };
+
+    fn change(self, node: &mut Node) {
+        node.count += 1;
+    }
+}
+
+/// A node is told of an end that is not its last (`bio_remaining_done`, `block/bio.c`).
+#[derive(Drop)]
+pub struct Lower {
+    pub status: Status,
+    pub part: Option<BioElement>,
+}
+
+impl Change<Node> for Lower {
+    ghost applies = { λ end node. (1 < node.count) × IsAlonePart end.part };
+
+    ghost after = { λ end node. lowered (told node end.status (bio_of end.part)) };
+
+    fn change(self, node: &mut Node) {
+        let Lower { status, part } = self;
+        node.tell(status, part);
+        node.count -= 1;
+    }
+}
