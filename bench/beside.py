@@ -1,0 +1,144 @@
+#!/usr/bin/env python3
+"""Times calls of crates of this repository, and prints nanoseconds a call beside those of a twin in plain Rust. It is no test.
+
+usage: bench/beside.py [NAME ..]      a NAME is a folder beside this script (pools, lists, books); each of them if left out
+
+It needs `rt`, which proves and builds each measured program in a throw-away repository, and `rustc`. That takes a few minutes a program.
+A folder has the program in main.rt.txt and the twin in twin.rs, and of the program's proof the invariants of a function F in F.antt.txt, or
+what else there is in proofs/ or specs/, each file with .txt behind its name. Both programs get a number of calls as their argument, and
+write a line for each row: its name, the nanoseconds that all calls took, and how many of the calls were served.
+"""
+import os
+import re
+import shutil
+import subprocess
+import sys
+import tempfile
+
+BENCH = os.path.dirname(os.path.abspath(__file__))
+TOP = os.path.dirname(BENCH)
+ROUNDS = 9
+CALLS = 1000000
+
+
+def names():
+    """The folders with a program to measure."""
+    return sorted(name for name in os.listdir(BENCH) if os.path.exists(os.path.join(BENCH, name, "main.rt.txt")))
+
+
+def kept(sources):
+    """The files of the measured program, each by its place in its crate: they have other names in the repository, where each .rt and .antt
+    file belongs to a crate."""
+    files = {}
+    for folder, _, found in os.walk(sources):
+        for name in found:
+            path = os.path.join(folder, name)
+            at = os.path.relpath(path, sources).removesuffix(".txt")
+            if at == "main.rt":
+                files["src/main.rt"] = path
+            elif name.endswith(".antt.txt") and folder == sources:
+                files[f"proofs/{name.removesuffix('.antt.txt')}/Invariants.antt"] = path
+            elif name.endswith(".txt"):
+                files[at] = path
+    return files
+
+
+def declared():
+    """What each crate of the repository stands on."""
+    needs = {}
+    with open(os.path.join(TOP, "crates.txt")) as file:
+        for line in file:
+            head, colon, rest = line.partition("#")[0].partition(":")
+            if colon:
+                needs[head.split()[0]] = rest.split()
+    return needs
+
+
+def named(files, needs):
+    """The crates that these files name."""
+    known = set(needs).union(*needs.values())
+    words = set()
+    for path in files:
+        with open(path) as file:
+            text = file.read()
+        words.update(re.findall(r"\buse (\w+)::", text), re.findall(r"\bRattle\.(\w+)\.", text))
+    return sorted(words & known)
+
+
+def with_below(crates, needs):
+    """These crates of the repository, and those below them."""
+    found = []
+    for name in crates:
+        if name in needs and name not in found:
+            found += [below for below in with_below(needs[name], needs) if below not in found] + [name]
+    return found
+
+
+def build_measured(name, folder):
+    """Builds the measured program in a repository of its own, and answers its path."""
+    files, needs = kept(os.path.join(BENCH, name)), declared()
+    crates, measure = os.path.join(folder, "crates"), os.path.join(folder, "crates", "measure")
+    stands_on = named(files.values(), needs)
+    copied = with_below(stands_on, needs)
+    of_kit = [crate for crate in stands_on if crate not in needs]
+    for crate in copied:
+        left_out = shutil.ignore_patterns("out", "must-fail")
+        shutil.copytree(os.path.join(TOP, "crates", crate), os.path.join(crates, crate), ignore=left_out)
+    for at, path in files.items():
+        place = os.path.join(measure, at)
+        os.makedirs(os.path.dirname(place), exist_ok=True)
+        shutil.copyfile(path, place)
+    with open(os.path.join(folder, "crates.txt"), "w") as file:
+        for crate in copied:
+            file.write(f"{crate}: {' '.join(needs[crate])}\n")
+        file.write(f"measure: {' '.join(copied + of_kit)}\n")
+    run = subprocess.run(["rt", "run", "--", "0"], cwd=measure, stdout=subprocess.DEVNULL, stderr=subprocess.PIPE, text=True)
+    if run.returncode != 0:
+        sys.exit(run.stderr)
+    return os.path.join(measure, "out", "measure")
+
+
+def build_twin(name, folder):
+    """Builds the twin for the processor that the measured program is built for, and answers its path."""
+    twin = os.path.join(folder, "twin")
+    words = ["--edition", "2024", "-C", "opt-level=3", "-C", "target-cpu=x86-64-v2", "-o", twin]
+    subprocess.run(["rustc", *words, os.path.join(BENCH, name, "twin.rs")], check=True)
+    return twin
+
+
+def once(program):
+    """Runs the program once: nanoseconds a call, by row."""
+    output = subprocess.run([program, str(CALLS)], check=True, stdout=subprocess.PIPE, text=True).stdout
+    rows = {}
+    for line in output.splitlines():
+        name, nanoseconds, served = line.split()
+        if int(served) != CALLS:
+            sys.exit(f"{program}: {served} of {CALLS} calls were served at {name}")
+        rows[name] = int(nanoseconds) / CALLS
+    return rows
+
+
+def measure(name):
+    """Prints the table of one folder, under its name."""
+    with tempfile.TemporaryDirectory() as folder:
+        measured, twin = build_measured(name, folder), build_twin(name, folder)
+        # in turn, so that what else the machine does falls on both
+        runs = [(once(measured), once(twin)) for _ in range(ROUNDS)]
+    print(f"{name:10} {'Rattle ns':>10} {'Rust ns':>10} {'ratio':>6}")
+    for row in runs[0][0]:
+        ours = min(run[0][row] for run in runs)
+        theirs = min(run[1][row] for run in runs)
+        print(f"{row:10} {ours:10.2f} {theirs:10.2f} {ours / theirs:6.2f}", flush=True)
+
+
+def main():
+    there = names()
+    for name in sys.argv[1:]:
+        if name not in there:
+            sys.exit(f"no {name}: there are {', '.join(there)}")
+    for name in sys.argv[1:] or there:
+        measure(name)
+
+
+if __name__ == "__main__":
+    main()
