@@ -1,6 +1,6 @@
 //! Tests of what no clause says, over all crates: texts and why they are refused, what others mean, worked runs and layouts, a slow scan of
-//! layouts, faults at every call, lists, disks and sets, and each allocating call once. The slow way of a sector is proved to be the way of
-//! the definitions.
+//! layouts, faults at every call, lists, disks, sets, submission, splits and pieces, and each allocating call once. The slow way of a
+//! sector is proved to be the way of the definitions.
 #![tactic(auto)]
 
 #[cfg(test)]
@@ -22,6 +22,8 @@ mod meanings;
 #[cfg(test)]
 mod objects;
 #[cfg(test)]
+mod pieces;
+#[cfg(test)]
 mod records;
 #[cfg(test)]
 mod refusals;
@@ -34,3 +36,5 @@ mod scenes;
 #[cfg(test)]
 mod sets;
 pub mod slow;
+#[cfg(test)]
+mod submission;

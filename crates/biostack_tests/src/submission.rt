@@ -1,0 +1,118 @@
+//! The order in which a task serves what its drivers submit, and bios that are split.
+ghost use Rattle.std.specs.Prelude.{IfOk};
+ghost use Rattle.bio_records.specs.Items.{IsAlone};
+
+use crate::bios::{bio_of, open_bios, take, write_of};
+use bio_lists::{Submission, TaskLists};
+use bio_records::{BioBody, BioElement, Iter, Pad};
+use bio_split::split;
+use mempool_core::Pool;
+use stack_base::{DevId, Range, SetId};
+use std::test::Fail;
+
+// The bio of a write of this number, for this device.
+fn bio_for(pool: &mut Pool<BioBody<Pad>>, write: u32, dev: u32) -> Result<BioElement, Fail>
+    ensures { IfOk result IsAlone }
+{
+    let mut element = take(pool, bio_of(write, Range { start: 0, len: 1 }, 0))?;
+    element.body.bio.dev = DevId(dev);
+    Ok(element)
+}
+
+/// The devices of the bios of writes 0 and up, which the driver of device 1 submitted; the writes whose bios waited before; and all in the
+/// order in which they are served.
+type Case = (&'static [u32], &'static [u32], &'static [u32]);
+
+const CASES: &[Case] = &[
+    (&[], &[], &[]),
+    (&[0], &[], &[0]),
+    (&[1], &[], &[0]),
+    (&[], &[10, 11], &[10, 11]),
+    (&[1, 0], &[], &[1, 0]),
+    (&[0, 1], &[10], &[0, 1, 10]),
+    (&[1, 0, 1, 2], &[10, 11], &[1, 3, 0, 2, 10, 11]),
+    (&[0, 0, 0], &[10], &[0, 1, 2, 10]),
+    (&[1, 1, 1], &[10], &[0, 1, 2, 10]),
+];
+
+// A task's lists, after a driver submitted bios for these devices while those of these writes waited.
+fn lists_of(
+    pool: &mut Pool<BioBody<Pad>>,
+    submitted: &[u32],
+    waiting: &[u32],
+) -> Result<TaskLists, Fail> {
+    let mut lists = TaskLists::new();
+    for write in waiting {
+        lists.list1.push(bio_for(pool, *write, 3)?);
+    }
+    let mut write: u32 = 0;
+    for dev in submitted {
+        lists.submit(bio_for(pool, write, *dev)?);
+        write = write.wrapping_add(1);
+    }
+    Ok(lists)
+}
+
+#[test]
+fn lower_devices_are_served_first(rt: HostRuntime) -> Result<(), Fail> {
+    let mut pool = open_bios(rt.alloc())?;
+    for (submitted, waiting, order) in CASES {
+        let mut lists = lists_of(&mut pool, submitted, waiting)?;
+        for write in *order {
+            assert_eq!(rt;
+                write_of(lists.next(DevId(1))),
+                Some(*write),
+                "of {submitted:?}"
+            );
+        }
+        assert_eq!(rt; write_of(lists.next(DevId(1))), None);
+        assert!(rt; !lists.busy());
+    }
+    Ok(())
+}
+
+#[test]
+fn what_waits_is_served_in_its_order_whatever_is_submitted_later(
+    rt: HostRuntime,
+) -> Result<(), Fail> {
+    let mut pool = open_bios(rt.alloc())?;
+    let mut lists = lists_of(&mut pool, &[0, 1, 1], &[])?;
+    assert_eq!(rt; write_of(lists.next(DevId(1))), Some(0));
+    lists.submit(bio_for(&mut pool, 3, 0)?);
+    lists.submit(bio_for(&mut pool, 4, 2)?);
+    for write in [4, 3, 1, 2] {
+        assert_eq!(rt; write_of(lists.next(DevId(0))), Some(write));
+    }
+    Ok(())
+}
+
+#[test]
+fn a_bio_is_split(rt: HostRuntime) -> Result<(), Fail> {
+    let mut pool = open_bios(rt.alloc())?;
+    let mut bio = take(&mut pool, bio_of(7, Range { start: 10, len: 20 }, 5))?;
+    let into = take(&mut pool, bio_of(0, Range { start: 0, len: 1 }, 0))?;
+    let first = split(&mut bio, 11, into, SetId::Of(DevId(2)), 6);
+    let front = first.body.bio;
+    assert_eq!(rt;
+        (front.write, front.range, front.word),
+        (7, Range { start: 10, len: 11 }, 5)
+    );
+    assert_eq!(rt;
+        (front.set, front.node, first.body.pad.leg),
+        (SetId::Of(DevId(2)), 6, 0)
+    );
+    let rest = bio.body.bio;
+    assert_eq!(rt;
+        (rest.write, rest.range, rest.word),
+        (7, Range { start: 21, len: 9 }, 709)
+    );
+    assert_eq!(rt;
+        rest.at,
+        Iter {
+            segment: 1,
+            done: 3
+        }
+    );
+    assert_eq!(rt; (rest.set, rest.node), (SetId::Fs, 0));
+    Ok(())
+}
