@@ -1,10 +1,12 @@
 //! Tests of what no clause says, over all crates: texts and why they are refused, what others mean, worked runs and layouts, a slow scan of
-//! layouts, faults at every call, lists, disks, sets, submission, splits and pieces, and each allocating call once. The slow way of a
+//! layouts, faults at every call, lists, disks, sets, submission, splits, books and pieces, and each allocating call once. The slow way of a
 //! sector is proved to be the way of the definitions.
 #![tactic(auto)]
 
 #[cfg(test)]
 mod bios;
+#[cfg(test)]
+mod books;
 #[cfg(test)]
 mod disks;
 #[cfg(test)]
