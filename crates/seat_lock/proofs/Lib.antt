@@ -1,0 +1,5 @@
+pub mod Sums
+pub mod Histories
+pub mod Turns
+pub mod Keeping
+pub mod Closing
