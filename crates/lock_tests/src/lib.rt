@@ -1,5 +1,8 @@
-//! Tests of locks and clocks that threads share: what no clause says, worked cases, and each allocating call once.
+//! Tests of locks and clocks that threads share: worked cases, what no clause says, and each allocating call once.
 #![tactic(auto)]
 
+pub mod number;
 #[cfg(test)]
 mod seats;
+#[cfg(test)]
+mod tickets;

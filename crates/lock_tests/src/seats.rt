@@ -1,124 +1,25 @@
 //! Locks over a number.
-ghost use Rattle.std.specs.Prelude.{◌≡◌, ◌+◌, ◌^◌, ◌%◌, IfOk};
-ghost use Rattle.seat_lock.specs.Seats.{IsOf};
-ghost use Rattle.seat_lock.specs.declared.view.Rank.TheVariants.{First, Other};
-
-use seat_lock::{Seat, SeatLock, Thing};
-use std::alloc::Global;
-use std::sync::Wait;
+use crate::number::{added_by_two, added_in_turn};
 use std::test::Fail;
-use std::thread;
-use std::thread::Threads;
-
-/// A number that is added to.
-#[derive(Drop)]
-struct Number {
-    total: u64,
-}
-
-impl Thing for Number {
-    ghost use Rattle.std.specs.Prelude.{◌≡◌, ◌+◌, ◌^◌, ◌%◌};
-
-    type Request = u64;
-    type Reply = u64;
-    type Data = u64;
-    type Asked = u64;
-    type Told = u64;
-    type Mark = ();
-
-    ghost plain = { λ number. number.total };
-
-    ghost mark = { λ _. tt };
-
-    ghost asked = { λ more. more };
-
-    ghost told = { λ total. total };
-
-    ghost fits = { λ _ _. Unit {0} };
-
-    ghost owes = { λ _ _. Unit {0} };
-
-    ghost answers = { λ before more total after. (after ≡ (before + more) % 2 ^ 64) × (total ≡ after) };
-
-    fn serve(&mut self, request: u64) -> u64 {
-        self.total = self.total.wrapping_add(request);
-        self.total
-    }
-}
-
-// A lock over a number that is 0.
-fn open(alloc: Global) -> Result<(SeatLock<Number>, Seat<Number>), Fail>
-    ensures { IfOk result (λ made. IsOf made.0 made.1 × (made.1.known.rank ≡ First 0) × (made.1.known.joined ≡ 0)) }
-{
-    match SeatLock::new(alloc, Number { total: 0 }) {
-        Ok(made) => Ok(made),
-        Err(_) => Err(Fail::from("no memory for a lock")),
-    }
-}
 
 #[test]
 fn calls_of_two_seats_are_served(rt: HostRuntime) -> Result<(), Fail> {
-    let (lock, mut first) = open(rt.alloc())?;
-    let mut second = lock.split(&mut first);
-    assert_eq!(rt; lock.call(&rt, &mut first, 2), 2);
-    assert_eq!(rt; lock.call(&rt, &mut second, 3), 5);
-    lock.join(&mut first, second);
-    let shut = lock.close(first);
-    assert_eq!(rt; shut.thing.total, 5);
+    for (one, other, early, late) in [(2, 3, 2, 5), (0, 0, 0, 0), (u64::MAX, 3, u64::MAX, 2)] {
+        match added_in_turn(&rt, rt.alloc(), one, other) {
+            Ok(added) => assert_eq!(rt; added, (early, late, late)),
+            Err(_) => return Err(Fail::from("no memory for a lock")),
+        }
+    }
     Ok(())
-}
-
-// Adds one so often, and answers the seat and whether each reply was above the one before.
-fn add_often<R: Wait>(
-    rt: &R,
-    lock: &SeatLock<Number>,
-    mut seat: Seat<Number>,
-    often: u64,
-) -> (Seat<Number>, bool)
-    requires { IsOf lock.now seat }
-    ensures of { IsOf lock.now result.0 }
-    ensures same { (result.0.known.rank ≡ seat.known.rank) × (result.0.known.joined ≡ seat.known.joined) }
-{
-    let mut last = 0;
-    let mut rising = true;
-    'adding: for _ in 0..often {
-        let total = lock.call(rt, &mut seat, 1);
-        rising = rising && last < total;
-        last = total;
-    }
-    (seat, rising)
-}
-
-// What two threads have added, each so often through a seat of its own.
-fn added_by_two<R: Threads + Wait + Sync>(rt: &R, alloc: Global, often: u64) -> Result<u64, Fail> {
-    let (lock, mut first) = open(alloc)?;
-    let second = lock.split(&mut first);
-    let ((mut first, rises), (second, rises_too)) = thread::join(
-        rt,
-        || -> (Seat<Number>, bool)
-            requires { IsOf lock first × (first.known.rank ≡ First 1) × (first.known.joined ≡ 0) }
-            ensures { IsOf lock result.0 × (result.0.known.rank ≡ First 1) × (result.0.known.joined ≡ 0) }
-        {
-            add_often(rt, &lock, first, often)
-        },
-        || -> (Seat<Number>, bool)
-            requires { IsOf lock second × (second.known.rank ≡ Other) × (second.known.joined ≡ 0) }
-            ensures { IsOf lock result.0 × (result.0.known.rank ≡ Other) × (result.0.known.joined ≡ 0) }
-        {
-            add_often(rt, &lock, second, often)
-        },
-    );
-    if !rises || !rises_too {
-        return Err(Fail::from("a reply was not above the one before"));
-    }
-    lock.join(&mut first, second);
-    Ok(lock.close(first).thing.total)
 }
 
 #[test]
 fn no_call_of_two_threads_is_lost(rt: HostRuntime) -> Result<(), Fail> {
-    assert_eq!(rt; added_by_two(&rt, rt.alloc(), 1000)?, 2000);
-    assert_eq!(rt; added_by_two(&rt, rt.alloc(), 1)?, 2);
-    assert_eq!(rt; added_by_two(&rt, rt.alloc(), 0)?, 0);
+    for often in [1000, 1, 0] {
+        match added_by_two(&rt, rt.alloc(), often) {
+            Ok(added) => assert_eq!(rt; added, (2 * often, true)),
+            Err(_) => return Err(Fail::from("no memory for a lock")),
+        }
+    }
     Ok(())
 }

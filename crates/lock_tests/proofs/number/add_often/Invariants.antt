@@ -1,6 +1,6 @@
 use Rattle.std.proofs.Common.{◌≡◌}
 use Rattle.seat_lock.specs.Seats.{IsOf}
-use Rattle.lock_tests.proofs.seats.add_often.Given as goal
+use Rattle.lock_tests.proofs.number.add_often.Given as goal
 
 -- the seat stays what it is
 abbrev pub invariant-adding : goal.invariant-adding
