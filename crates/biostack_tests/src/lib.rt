@@ -1,16 +1,8 @@
-//! Tests of what no clause says, over all crates: texts and why they are refused, what others mean, worked runs and layouts, a slow scan of
-//! layouts, faults at every call, lists, disks, sets, submission, splits, books and pieces, and each allocating call once. The slow way of a
-//! sector is proved to be the way of the definitions.
+//! Tests of what no clause says, of texts and of what is made of them: why texts are refused, what others mean, worked runs and layouts, a
+//! slow scan of layouts, faults at every call, and texts of as many bytes as there may be. The slow way of a sector is proved to be the way
+//! of the definitions.
 #![tactic(auto)]
 
-#[cfg(test)]
-mod bios;
-#[cfg(test)]
-mod books;
-#[cfg(test)]
-mod disks;
-#[cfg(test)]
-mod elements;
 #[cfg(test)]
 mod faults;
 #[cfg(test)]
@@ -22,12 +14,6 @@ mod made;
 #[cfg(test)]
 mod meanings;
 #[cfg(test)]
-mod objects;
-#[cfg(test)]
-mod pieces;
-#[cfg(test)]
-mod records;
-#[cfg(test)]
 mod refusals;
 #[cfg(test)]
 mod runs;
@@ -35,8 +21,4 @@ mod runs;
 mod scan;
 #[cfg(test)]
 mod scenes;
-#[cfg(test)]
-mod sets;
 pub mod slow;
-#[cfg(test)]
-mod submission;

@@ -11,7 +11,7 @@ use Rattle.bio_records.proofs.bio.Bio.TheSendSync as bio
 use Rattle.bio_records.proofs.body.BioBody.TheLaws.TheKnot as knot
 use Rattle.bio_records.specs.contracts.list.BioList as list
 use Rattle.model_disks.specs.contracts.disk.Disk as disk
-use Rattle.biostack_tests.proofs.disks.disks_may_cross_threads.Goals as goal
+use Rattle.object_tests.proofs.disks.disks_may_cross_threads.Goals as goal
 
 list_send : IsSend list.the_row
 list_send = search (sendable, crosses, segment.the_send, pad.the_send, bio.the_field_send, share.the_send, array_vec.the_send, knot.send-BioBody) depth 40

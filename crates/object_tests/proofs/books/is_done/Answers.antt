@@ -14,7 +14,7 @@ use Rattle.bio_books.proofs.places.Places.TheSendSync as places
 use Rattle.bio_books.proofs.node.Role.TheSendSync as role
 use Rattle.bio_books.specs.contracts.node.Node as node
 use Rattle.bio_books.specs.contracts.book.Book as book
-use Rattle.biostack_tests.proofs.books.is_done.Goals as goal
+use Rattle.object_tests.proofs.books.is_done.Goals as goal
 
 node_send : IsSend node.the_row
 node_send = search (

@@ -1,0 +1,21 @@
+//! Tests of the objects that a run moves: what no clause says, worked cases, that they may cross threads, and each allocating call once.
+#![tactic(auto)]
+
+#[cfg(test)]
+mod bios;
+#[cfg(test)]
+mod books;
+#[cfg(test)]
+mod disks;
+#[cfg(test)]
+mod elements;
+#[cfg(test)]
+mod objects;
+#[cfg(test)]
+mod pieces;
+#[cfg(test)]
+mod records;
+#[cfg(test)]
+mod sets;
+#[cfg(test)]
+mod submission;
