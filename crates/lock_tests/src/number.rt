@@ -1,6 +1,7 @@
 //! A number behind a lock, as an example of a thing with a machine.
 ghost use Rattle.std.specs.Prelude.{◌≡◌, ◌+◌, ◌^◌, ◌%◌, IfOk};
-ghost use Rattle.seat_lock.specs.Seats.{IsOf, first_seat};
+ghost use Rattle.seat_lock.specs.Seats.{IsOf, first_seat, own};
+ghost use Rattle.lock_tests.specs.Adding.{HasAsked};
 ghost use Rattle.seat_lock.specs.declared.view.Rank.TheVariants.{First, Other};
 
 use seat_lock::{Seat, SeatLock, Thing};
@@ -52,7 +53,7 @@ impl Thing for Number {
 
 /// A lock over a number that is 0, and its first seat.
 pub fn open(alloc: Global) -> Result<(SeatLock<Number>, Seat<Number>), Number>
-    ensures { IfOk result (λ made. IsOf made.0 made.1 × (made.1.known ≡ first_seat made.0.key)) }
+    ensures { IfOk result (λ made. IsOf made.0 made.1 × (made.1.known ≡ first_seat made.0.key) × (made.0.key.value.total ≡ 0)) }
 {
     SeatLock::new(alloc, Number { total: 0 })
 }
@@ -63,7 +64,9 @@ pub fn added_in_turn<R: Wait>(
     alloc: Global,
     one: u64,
     other: u64,
-) -> Result<(u64, u64, u64), Number> {
+) -> Result<(u64, u64, u64), Number>
+    ensures { IfOk result (λ added. added.2 ≡ (one + other) % 2 ^ 64) }
+{
     let (lock, mut first) = open(alloc)?;
     let mut second = lock.split(&mut first);
     let early = lock.call(rt, &mut first, one);
@@ -82,11 +85,11 @@ fn add_often<R: Wait>(
 ) -> (Seat<Number>, bool)
     requires { IsOf lock.now seat }
     ensures of { IsOf lock.now result.0 }
-    ensures same { (result.0.known.rank ≡ seat.known.rank) × (result.0.known.joined ≡ seat.known.joined) }
+    ensures asked { HasAsked seat.known result.0.known often }
 {
     let mut last = 0;
     let mut rising = true;
-    'adding: for _ in 0..often {
+    'adding: for made in 0..often {
         let total = lock.call(rt, &mut seat, 1);
         rising = rising && last < total;
         last = total;
@@ -99,18 +102,20 @@ pub fn added_by_two<R: Threads + Wait + Sync>(
     rt: &R,
     alloc: Global,
     often: u64,
-) -> Result<(u64, bool), Number> {
+) -> Result<(u64, bool), Number>
+    ensures { IfOk result (λ added. added.0 ≡ (often + often) % 2 ^ 64) }
+{
     let (lock, mut first) = open(alloc)?;
     let second = lock.split(&mut first);
     let ((mut first, rises), (second, rises_too)) = thread::join(
         rt,
         || -> (Seat<Number>, bool)
-            requires { IsOf lock first × (first.known.rank ≡ First 1) × (first.known.joined ≡ 0) }
-            ensures { IsOf lock result.0 × (result.0.known.rank ≡ First 1) × (result.0.known.joined ≡ 0) }
+            requires { IsOf lock first }
+            ensures { IsOf lock result.0 × HasAsked first.known result.0.known often }
         { add_often(rt, &lock, first, often) },
         || -> (Seat<Number>, bool)
-            requires { IsOf lock second × (second.known.rank ≡ Other) × (second.known.joined ≡ 0) }
-            ensures { IsOf lock result.0 × (result.0.known.rank ≡ Other) × (result.0.known.joined ≡ 0) }
+            requires { IsOf lock second }
+            ensures { IsOf lock result.0 × HasAsked second.known result.0.known often }
         { add_often(rt, &lock, second, often) },
     );
     lock.join(&mut first, second);
