@@ -1,12 +1,7 @@
 //! Tickets of a clock.
-ghost use Rattle.std.specs.Prelude.{◌≡◌, true, false, IfOk};
-ghost use Rattle.tick_clock.specs.Tickets.{first_pass, is_first, HasAll};
-
-use std::alloc::{AllocError, Global};
+use crate::drawing::drawn_by_two;
 use std::test::Fail;
-use std::thread;
-use std::thread::Threads;
-use tick_clock::{Clock, Note, Pass};
+use tick_clock::{Clock, Note};
 
 #[test]
 fn a_ticket_is_above_all_that_was_seen(rt: HostRuntime) -> Result<(), Fail> {
@@ -38,51 +33,6 @@ fn a_note_brings_what_it_saw_to_another_clock(rt: HostRuntime) -> Result<(), Fai
     assert_eq!(rt; one.draw(&mut pass, &mut note), Some(4));
     assert_eq!(rt; one.draw(&mut pass, &mut Note::new()), Some(5));
     Ok(())
-}
-
-// Draws so often with one pass and one note, and answers the pass and the tickets.
-fn draw_often(
-    alloc: Global,
-    clock: &Clock,
-    mut pass: Pass,
-    often: u64,
-) -> Result<(Pass, Vec<u64>), AllocError>
-    requires { pass.clock ≡ clock.now }
-    ensures { IfOk result (λ drawn. (drawn.0.clock ≡ pass.clock) × (drawn.0.rank ≡ pass.rank)) }
-{
-    let mut note = Note::new();
-    let mut tickets = Vec::new(alloc);
-    'drawing: for _ in 0..often {
-        if let Some(ticket) = clock.draw(&mut pass, &mut note) {
-            tickets.push(ticket)?;
-        }
-    }
-    Ok((pass, tickets))
-}
-
-// The tickets that two threads have drawn, each so often with a pass of its own.
-fn drawn_by_two<R: Threads + Sync>(
-    rt: &R,
-    alloc: Global,
-    often: u64,
-) -> Result<(Vec<u64>, Vec<u64>), AllocError> {
-    let (clock, mut first) = Clock::new(alloc)?;
-    let second = clock.split(&mut first);
-    let (mine, theirs) = thread::join(
-        rt,
-        || -> Result<(Pass, Vec<u64>), AllocError>
-            requires { first.clock ≡ clock }
-            ensures { IfOk result (λ drawn. drawn.0.clock ≡ clock) }
-        { draw_often(alloc, &clock, first, often) },
-        || -> Result<(Pass, Vec<u64>), AllocError>
-            requires { (second.clock ≡ clock) × (is_first second.rank ≡ false) }
-            ensures { IfOk result (λ drawn. (drawn.0.clock ≡ clock) × (is_first drawn.0.rank ≡ false)) }
-        { draw_often(alloc, &clock, second, often) },
-    );
-    let (mut first, mine) = mine?;
-    let (second, theirs) = theirs?;
-    clock.join(&mut first, second);
-    Ok((mine, theirs))
 }
 
 // Whether each number is above the one before.
