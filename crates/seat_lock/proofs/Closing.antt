@@ -181,7 +181,11 @@ module _ {T D A R M : Type 0} (plain : T → D) (mark : T → M) (answers : D �
         ⊎_elim
             (λ p. (p.0, p.1, subst (λ l. IsLeft plain mark answers key.value l p.0) same p.2))
             (λ p. absurd (dite (ℕ_discrete p.1.0 id)
-            (λ h. idle_not t.served (sym (ap (λ (y : View T A R). y.phase) (some-injective p.1.1 v (sym p.1.2 ∙ subst (λ j. get_elem? s.views j ≡ some v) (sym h) e)) ∙ idle) ∙ p.1.3))
+            (λ h.
+            let there : get_elem? s.views p.1.0 ≡ some v = subst (λ j. get_elem? s.views j ≡ some v) (sym h) e in
+            let same : p.1.1 ≡ v = some-injective p.1.1 v (sym p.1.2 ∙ there) in
+            let phase : p.1.1.phase ≡ Idle = ap (λ (y : View T A R). y.phase) same ∙ idle in
+            idle_not t.served (sym phase ∙ p.1.3))
             (λ n. idle_not t.served (sym (bare p.1.0 p.1.1 (set_else s.views id p.1.0 spent_view n ∙ p.1.2)).1 ∙ p.1.3))))
             t.place,
       )
