@@ -1,7 +1,7 @@
 #!/usr/bin/env python3
 """Times calls of crates of this repository, and prints nanoseconds a call beside those of a twin in plain Rust. It is no test.
 
-usage: bench/beside.py [NAME ..]      a NAME is a folder beside this script (pools, lists, books); each of them if left out
+usage: bench/beside.py [NAME ..]      a NAME is a folder beside this script (pools, lists, books, locks); each of them if left out
 
 It needs `rt`, which proves and builds each measured program in a throw-away repository, and `rustc`. That takes a few minutes a program.
 A folder has the program in main.rt.txt and the twin in twin.rs, and of the program's proof the invariants of a function F in F.antt.txt, or
@@ -11,6 +11,7 @@ write a line for each row: its name, the nanoseconds that all calls took, and ho
 import os
 import re
 import shutil
+import statistics
 import subprocess
 import sys
 import tempfile
@@ -92,6 +93,8 @@ def build_measured(name, folder):
         for crate in copied:
             file.write(f"{crate}: {' '.join(needs[crate])}\n")
         file.write(f"measure: {' '.join(copied + of_kit)}\n")
+    # the measured program may use the handles that this repository may
+    shutil.copyfile(os.path.join(TOP, "HANDLES"), os.path.join(folder, "HANDLES"))
     run = subprocess.run(["rt", "run", "--", "0"], cwd=measure, stdout=subprocess.DEVNULL, stderr=subprocess.PIPE, text=True)
     if run.returncode != 0:
         sys.exit(run.stderr)
@@ -119,16 +122,19 @@ def once(program):
 
 
 def measure(name):
-    """Prints the table of one folder, under its name."""
+    """Prints the table of one folder, under its name: the least of the runs, and the middle one, which tells more where threads meet."""
     with tempfile.TemporaryDirectory() as folder:
         measured, twin = build_measured(name, folder), build_twin(name, folder)
         # in turn, so that what else the machine does falls on both
         runs = [(once(measured), once(twin)) for _ in range(ROUNDS)]
-    print(f"{name:10} {'Rattle ns':>10} {'Rust ns':>10} {'ratio':>6}")
+    print(f"{name:10} {'Rattle ns':>10} {'Rust ns':>10} {'ratio':>6} {'Rattle mid':>10} {'Rust mid':>10} {'ratio':>6}")
     for row in runs[0][0]:
-        ours = min(run[0][row] for run in runs)
-        theirs = min(run[1][row] for run in runs)
-        print(f"{row:10} {ours:10.2f} {theirs:10.2f} {ours / theirs:6.2f}", flush=True)
+        words = [f"{row:10}"]
+        for pick in (min, statistics.median):
+            ours = pick(run[0][row] for run in runs)
+            theirs = pick(run[1][row] for run in runs)
+            words.append(f"{ours:10.2f} {theirs:10.2f} {ours / theirs:6.2f}")
+        print(" ".join(words), flush=True)
 
 
 def main():
