@@ -23,8 +23,9 @@ const SERVED: usize = 1;
 // The slot of the thing.
 const THING: usize = 0;
 
-// How often a caller looks whether its turn has come before it sleeps.
-const LOOKS: u32 = 100;
+// How often a caller looks whether its turn has come before it sleeps. A look takes some nanoseconds, and a turn that is handed to a sleeper
+// some thousand; but who looks keeps a processor from whoever is served.
+const LOOKS: u32 = 300;
 
 /// A lock round a thing. It serves one caller at a time, and has a history of its calls.
 #[derive(Drop)]
