@@ -1,4 +1,4 @@
-//! A lock that serves one caller at a time, each in the order in which it came, and that keeps the history of its calls.
+//! A lock that serves one caller at a time, in the order of the turns that they draw, and whose calls stand in one history.
 //!
 //! A thing with a machine lies behind the lock: a request leads it on and gets a reply. Who calls has a seat of the lock, and a call says of
 //! its seat what the history of the lock was when it ended: a run of the machine, from the thing as it was handed in, with this call last. So
