@@ -5,7 +5,7 @@
 //! what a lock cannot say of a value, since others change it meanwhile, is said of the calls: each reply is what the thing replies after the
 //! calls before it. History and seats are there for contracts alone, and a running program keeps none of it.
 //!
-//! The lock is a ticket lock (`ticket_spinlock` of older kernels; `kernel/locking/qspinlock.c` keeps its order): a caller draws the next
+//! The lock is a ticket lock, as `arch_spin_lock` of x86 was up to Linux 4.1: a caller draws the next
 //! number, is served when it is that number's turn, and passes the turn on. Who waits for long sleeps.
 #![tactic(auto)]
 
