@@ -4,6 +4,7 @@ use mempool_core::{Facts, Fresh, Pool, Taken};
 use outside_io::{Failed, MemSource, Sink, Source, StdSink, StdSource, read_up_to};
 use stack_base::{DevId, PoolId};
 use std::io::{self, ErrorKind, Read, Write};
+use std::process::Abort;
 use std::test::Fail;
 
 #[test]
@@ -37,6 +38,11 @@ fn numbers(pool: &Pool<Body>) -> (u64, u64, u64) {
     (facts.spares, facts.out, facts.live)
 }
 
+// A pool has to have so many spares, and so many elements that are out and live.
+fn has(rt: &impl Abort, pool: &Pool<Body>, wanted: (u64, u64, u64)) {
+    assert_eq!(rt; numbers(pool), wanted);
+}
+
 #[test]
 fn a_pool_whose_script_allows_it_takes_ordinary_memory(rt: HostRuntime) -> Result<(), Fail> {
     let mut pool: Pool<Body> = Pool::open(
@@ -45,15 +51,15 @@ fn a_pool_whose_script_allows_it_takes_ordinary_memory(rt: HostRuntime) -> Resul
         2,
         Script::new(Vec::new(rt.alloc()), true),
     )?;
-    assert_eq!(rt; numbers(&pool), (2, 0, 0));
+    has(&rt, &pool, (2, 0, 0));
     let taken = pool.take();
-    assert_eq!(rt; numbers(&pool), (2, 1, 1));
+    has(&rt, &pool, (2, 1, 1));
     let Taken::Ordinary(element) = taken else {
         return Err(Fail::from("no ordinary element"));
     };
     assert_eq!(rt; element.no(), 65);
     pool.give(element);
-    assert_eq!(rt; numbers(&pool), (2, 0, 0));
+    has(&rt, &pool, (2, 0, 0));
     let closed = pool.close();
     assert!(rt;
         matches!(
@@ -79,18 +85,18 @@ fn a_pool_whose_script_refuses_lends_its_spares_and_then_misses(
         Script::new(Vec::new(rt.alloc()), false),
     )?;
     let taken = pool.take();
-    assert_eq!(rt; numbers(&pool), (0, 1, 0));
+    has(&rt, &pool, (0, 1, 0));
     let Taken::Spare(element) = taken else {
         return Err(Fail::from("no spare"));
     };
     let missed = pool.take();
     assert!(rt; matches!(missed, Taken::Miss { used: false }));
-    assert_eq!(rt; numbers(&pool), (0, 1, 0));
+    has(&rt, &pool, (0, 1, 0));
     let Err(mut pool) = pool.close() else {
         return Err(Fail::from("closed with an element out"));
     };
     pool.give(element);
-    assert_eq!(rt; numbers(&pool), (1, 0, 0));
+    has(&rt, &pool, (1, 0, 0));
     assert!(rt; pool.close().is_ok());
     Ok(())
 }
@@ -101,29 +107,34 @@ fn numbers_and_position(pool: &Pool<Body>) -> (u64, u64, u64, u64) {
     (facts.spares, facts.out, facts.live, facts.pos)
 }
 
+// The same, and its script has to stand at this position.
+fn stands(rt: &impl Abort, pool: &Pool<Body>, wanted: (u64, u64, u64, u64)) {
+    assert_eq!(rt; numbers_and_position(pool), wanted);
+}
+
 #[test]
 fn a_pool_goes_by_its_script(rt: HostRuntime) -> Result<(), Fail> {
     let script = Script::new(vec![in rt.alloc(); true, false]?, false);
     let mut pool: Pool<Body> = Pool::open(rt.alloc(), 65, 1, script)?;
-    assert_eq!(rt; numbers_and_position(&pool), (1, 0, 0, 0));
+    stands(&rt, &pool, (1, 0, 0, 0));
     let Taken::Ordinary(first) = pool.take() else {
         return Err(Fail::from("no ordinary element"));
     };
-    assert_eq!(rt; numbers_and_position(&pool), (1, 1, 1, 1));
+    stands(&rt, &pool, (1, 1, 1, 1));
     let Taken::Spare(second) = pool.take() else {
         return Err(Fail::from("no spare"));
     };
-    assert_eq!(rt; numbers_and_position(&pool), (0, 2, 1, 2));
+    stands(&rt, &pool, (0, 2, 1, 2));
     pool.give(first);
-    assert_eq!(rt; numbers_and_position(&pool), (1, 1, 1, 2));
+    stands(&rt, &pool, (1, 1, 1, 2));
     pool.give(second);
-    assert_eq!(rt; numbers_and_position(&pool), (1, 0, 0, 2));
+    stands(&rt, &pool, (1, 0, 0, 2));
     let Taken::Spare(third) = pool.take() else {
         return Err(Fail::from("no spare"));
     };
-    assert_eq!(rt; numbers_and_position(&pool), (0, 1, 0, 2));
+    stands(&rt, &pool, (0, 1, 0, 2));
     assert!(rt; matches!(pool.take(), Taken::Miss { used: false }));
-    assert_eq!(rt; numbers_and_position(&pool), (0, 1, 0, 2));
+    stands(&rt, &pool, (0, 1, 0, 2));
     let Err(mut pool) = pool.close() else {
         return Err(Fail::from("closed with an element out"));
     };
@@ -150,9 +161,9 @@ fn a_take_that_misses_uses_up_an_entry(rt: HostRuntime) -> Result<(), Fail> {
         return Err(Fail::from("no spare"));
     };
     assert!(rt; matches!(pool.take(), Taken::Miss { used: true }));
-    assert_eq!(rt; numbers_and_position(&pool), (0, 1, 0, 2));
+    stands(&rt, &pool, (0, 1, 0, 2));
     assert!(rt; matches!(pool.take(), Taken::Ordinary(_)));
-    assert_eq!(rt; numbers_and_position(&pool), (0, 2, 1, 3));
+    stands(&rt, &pool, (0, 2, 1, 3));
     pool.give(element);
     Ok(())
 }

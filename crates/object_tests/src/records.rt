@@ -5,6 +5,7 @@ use bio_records::{
     BioElement, BioList, Iter, RescueList, Segment, TaskLists, advance, fill, front, segments,
 };
 use stack_base::{DevId, Range};
+use std::alloc::Global;
 use std::process::Abort;
 use std::test::Fail;
 
@@ -53,23 +54,31 @@ fn a_bio_is_cut_into_its_front_and_the_rest(rt: HostRuntime) {
     );
 }
 
+// The next bio of a list has to be that of this write, or none.
+fn pops(rt: &impl Abort, list: &mut BioList, write: Option<u32>) {
+    assert_eq!(rt; write_of(list.pop()), write);
+}
+
+// A list has to have the bios of these writes, in this order.
+fn holds(rt: &(impl Abort + AllocGlobal), list: BioList, writes: &[u32]) -> Result<(), Fail> {
+    assert_eq!(rt; writes_of(rt.alloc(), list)?.as_slice(), writes);
+    Ok(())
+}
+
+#[test]
+fn an_empty_list_has_no_bio(rt: HostRuntime) {
+    let mut list = BioList::new();
+    assert_eq!(rt; (list.len(), list.is_empty()), (0, true));
+    pops(&rt, &mut list, None);
+}
+
 #[test]
 fn bios_leave_a_list_in_the_order_in_which_they_came(rt: HostRuntime) -> Result<(), Fail> {
-    let mut list = BioList::new();
-    assert!(rt; list.is_empty());
-    assert_eq!(rt; write_of(list.pop()), None);
-    let mut pool = open_bios(rt.alloc())?;
-    for write in [3, 1, 4] {
-        push(&mut list, &mut pool, write)?;
-    }
+    let mut list = list_of(rt.alloc(), &[3, 1, 4])?;
     assert_eq!(rt; (list.len(), list.is_empty()), (3, false));
-    assert_eq!(rt; write_of(list.pop()), Some(3));
-    push(&mut list, &mut pool, 5)?;
-    assert_eq!(rt;
-        writes_of(rt.alloc(), list)?.as_slice(),
-        [1, 4, 5].as_slice()
-    );
-    Ok(())
+    pops(&rt, &mut list, Some(3));
+    push(&mut list, &mut open_bios(rt.alloc())?, 5)?;
+    holds(&rt, list, &[1, 4, 5])
 }
 
 /// Two lists, and the one that they make.
@@ -89,7 +98,7 @@ fn parted(rt: &(impl Abort + AllocGlobal), writes: &[u32]) -> Result<BioList, Fa
     let (behind, before) = writes.split_at(writes.len() / 2);
     let mut list = list_of(rt.alloc(), &[0])?;
     list.merge(list_of(rt.alloc(), behind)?);
-    assert_eq!(rt; write_of(list.pop()), Some(0));
+    pops(rt, &mut list, Some(0));
     list.merge(list_of(rt.alloc(), before)?);
     Ok(list)
 }
@@ -99,10 +108,10 @@ fn a_list_that_is_merged_stands_behind(rt: HostRuntime) -> Result<(), Fail> {
     for (one, other, both) in MERGES {
         let mut list = list_of(rt.alloc(), one)?;
         list.merge(list_of(rt.alloc(), other)?);
-        assert_eq!(rt; writes_of(rt.alloc(), list)?.as_slice(), *both);
+        holds(&rt, list, both)?;
         let mut list = parted(&rt, one)?;
         list.merge(parted(&rt, other)?);
-        assert_eq!(rt; writes_of(rt.alloc(), list)?.as_slice(), *both);
+        holds(&rt, list, both)?;
     }
     Ok(())
 }
@@ -124,7 +133,7 @@ fn a_bio_is_taken_out_at_any_place(rt: HostRuntime) -> Result<(), Fail> {
         let mut list = parted(&rt, &[1, 2, 3, 4, 5])?;
         let element = take_at(&rt, &mut list, index);
         assert_eq!(rt; element.body.bio.write, write);
-        assert_eq!(rt; writes_of(rt.alloc(), list)?.as_slice(), rest.as_slice());
+        holds(&rt, list, rest.as_slice())?;
     }
     Ok(())
 }
@@ -152,42 +161,63 @@ fn a_long_list_is_dropped_as_it_was_pushed(rt: HostRuntime) -> Result<(), Fail> 
 #[test]
 fn a_long_list_is_dropped_turned_round(rt: HostRuntime) -> Result<(), Fail> {
     let mut list = many(&rt)?;
-    assert_eq!(rt; write_of(list.pop()), Some(0));
+    pops(&rt, &mut list, Some(0));
     let element = take_at(&rt, &mut list, 900_000);
     assert_eq!(rt; element.body.bio.write, 900_001);
-    assert_eq!(rt; write_of(list.pop()), Some(1));
+    pops(&rt, &mut list, Some(1));
     assert_eq!(rt; list.len(), 999_997);
     drop(list);
     Ok(())
 }
 
-#[test]
-fn a_rescuers_list_keeps_the_order(rt: HostRuntime) -> Result<(), Fail> {
-    let mut waiting = RescueList::new(DevId(3));
-    assert_eq!(rt; write_of(waiting.pop()), None);
-    waiting.add(list_of(rt.alloc(), &[1, 2])?);
-    waiting.add(list_of(rt.alloc(), &[])?);
-    assert_eq!(rt; write_of(waiting.pop()), Some(1));
-    waiting.add(list_of(rt.alloc(), &[3, 4, 5])?);
-    for write in [2, 3, 4, 5] {
-        assert_eq!(rt; write_of(waiting.pop()), Some(write));
-    }
-    assert_eq!(rt; write_of(waiting.pop()), None);
-    Ok(())
+// The next bio that waits for a rescuer has to be that of this write, or none.
+fn rescues(rt: &impl Abort, waiting: &mut RescueList, write: Option<u32>) {
+    assert_eq!(rt; write_of(waiting.pop()), write);
 }
 
 #[test]
-fn a_task_is_busy_while_one_of_its_lists_has_a_bio(rt: HostRuntime) -> Result<(), Fail> {
+fn a_rescuers_list_keeps_the_order(rt: HostRuntime) -> Result<(), Fail> {
+    let mut waiting = RescueList::new(DevId(3));
+    rescues(&rt, &mut waiting, None);
+    waiting.add(list_of(rt.alloc(), &[1, 2])?);
+    waiting.add(list_of(rt.alloc(), &[])?);
+    rescues(&rt, &mut waiting, Some(1));
+    waiting.add(list_of(rt.alloc(), &[3, 4, 5])?);
+    for write in [2, 3, 4, 5] {
+        rescues(&rt, &mut waiting, Some(write));
+    }
+    rescues(&rt, &mut waiting, None);
+    Ok(())
+}
+
+// Whether a task is busy with the bios of these writes in its lists, and whether it still is when each list was popped once.
+fn busy_with(alloc: Global, zero: &[u32], one: &[u32]) -> Result<(bool, bool), Fail> {
     let mut lists = TaskLists::new();
-    assert!(rt; !lists.busy());
-    lists.list0 = list_of(rt.alloc(), &[1])?;
-    assert!(rt; lists.busy());
-    lists.list1 = list_of(rt.alloc(), &[2])?;
-    assert!(rt; lists.busy());
-    assert_eq!(rt; write_of(lists.list0.pop()), Some(1));
-    assert!(rt; lists.busy());
-    assert_eq!(rt; write_of(lists.list1.pop()), Some(2));
-    assert!(rt; !lists.busy());
+    lists.list0 = list_of(alloc, zero)?;
+    lists.list1 = list_of(alloc, one)?;
+    let before = lists.busy();
+    let _first = lists.list0.pop();
+    let _second = lists.list1.pop();
+    Ok((before, lists.busy()))
+}
+
+/// The writes of the two lists, and whether the task is busy before and after.
+type Busy = (&'static [u32], &'static [u32], (bool, bool));
+
+const BUSY: &[Busy] = &[
+    (&[], &[], (false, false)),
+    (&[1], &[], (true, false)),
+    (&[], &[2], (true, false)),
+    (&[1], &[2], (true, false)),
+    (&[1, 3], &[2], (true, true)),
+    (&[1], &[2, 4], (true, true)),
+];
+
+#[test]
+fn a_task_is_busy_while_one_of_its_lists_has_a_bio(rt: HostRuntime) -> Result<(), Fail> {
+    for (zero, one, busy) in BUSY {
+        assert_eq!(rt; busy_with(rt.alloc(), zero, one)?, *busy);
+    }
     Ok(())
 }
 

@@ -1,7 +1,7 @@
 //! Sets of pools, and what their elements hold.
 use crate::bios::{bio_of, list_of, open_bios, take, write_of};
 use crate::elements::crosses;
-use bio_records::{BioBody, BioElement, Pad, Slip, TaskLists, Vector};
+use bio_records::{BioBody, BioElement, BioList, Pad, Slip, TaskLists, Vector};
 use bioset_pools::{BioSet, SetParts, SetPlan, clear_bio, first_is_try};
 use fail_script::Script;
 use mempool_core::{Fresh, Pool, Taken};
@@ -105,6 +105,23 @@ fn a_devices_set_may_have_none(rt: HostRuntime) -> Result<(), Fail> {
     Ok(())
 }
 
+// A list of one bio, or of none.
+fn list_with(alloc: Global, any: bool) -> Result<BioList, Fail> {
+    if any {
+        list_of(alloc, &[1])
+    } else {
+        list_of(alloc, &[])
+    }
+}
+
+// A task's lists, each of one bio or of none.
+fn lists_with(alloc: Global, zero: bool, one: bool) -> Result<TaskLists, Fail> {
+    let mut lists = TaskLists::new();
+    lists.list0 = list_with(alloc, zero)?;
+    lists.list1 = list_with(alloc, one)?;
+    Ok(lists)
+}
+
 #[test]
 fn the_first_attempt_does_not_wait_where_a_task_is_busy(rt: HostRuntime) -> Result<(), Fail> {
     for (rescuer, zero, one, is_try) in [
@@ -121,13 +138,7 @@ fn the_first_attempt_does_not_wait_where_a_task_is_busy(rt: HostRuntime) -> Resu
             vecs: None,
             rescuer,
         };
-        let mut lists = TaskLists::new();
-        if zero {
-            lists.list0 = list_of(rt.alloc(), &[1])?;
-        }
-        if one {
-            lists.list1 = list_of(rt.alloc(), &[1])?;
-        }
+        let lists = lists_with(rt.alloc(), zero, one)?;
         assert_eq!(rt;
             first_is_try(&plan, &lists),
             is_try,

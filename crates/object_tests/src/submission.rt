@@ -8,6 +8,7 @@ use bio_records::{BioBody, BioElement, Iter, Pad};
 use bio_split::split;
 use mempool_core::Pool;
 use stack_base::{DevId, Range, SetId};
+use std::process::Abort;
 use std::test::Fail;
 
 // The bio of a write of this number, for this device.
@@ -53,19 +54,20 @@ fn lists_of(
     Ok(lists)
 }
 
+// When the driver of this device has returned, the bio of this write has to be served next, or none.
+fn serves(rt: &impl Abort, lists: &mut TaskLists, served: u32, write: Option<u32>) {
+    assert_eq!(rt; write_of(lists.next(DevId(served))), write);
+}
+
 #[test]
 fn lower_devices_are_served_first(rt: HostRuntime) -> Result<(), Fail> {
     let mut pool = open_bios(rt.alloc())?;
     for (submitted, waiting, order) in CASES {
         let mut lists = lists_of(&mut pool, submitted, waiting)?;
         for write in *order {
-            assert_eq!(rt;
-                write_of(lists.next(DevId(1))),
-                Some(*write),
-                "of {submitted:?}"
-            );
+            serves(&rt, &mut lists, 1, Some(*write));
         }
-        assert_eq!(rt; write_of(lists.next(DevId(1))), None);
+        serves(&rt, &mut lists, 1, None);
         assert!(rt; !lists.busy());
     }
     Ok(())
@@ -77,11 +79,11 @@ fn what_waits_is_served_in_its_order_whatever_is_submitted_later(
 ) -> Result<(), Fail> {
     let mut pool = open_bios(rt.alloc())?;
     let mut lists = lists_of(&mut pool, &[0, 1, 1], &[])?;
-    assert_eq!(rt; write_of(lists.next(DevId(1))), Some(0));
+    serves(&rt, &mut lists, 1, Some(0));
     lists.submit(bio_for(&mut pool, 3, 0)?);
     lists.submit(bio_for(&mut pool, 4, 2)?);
     for write in [4, 3, 1, 2] {
-        assert_eq!(rt; write_of(lists.next(DevId(0))), Some(write));
+        serves(&rt, &mut lists, 0, Some(write));
     }
     Ok(())
 }
