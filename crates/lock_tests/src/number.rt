@@ -52,13 +52,21 @@ impl Thing for Number {
 }
 
 /// A lock over a number that is 0, and its first seat.
+///
+/// # Errors
+///
+/// The number, where there is no memory for the lock.
 pub fn open(alloc: Global) -> Result<(SeatLock<Number>, Seat<Number>), Number>
     ensures { IfOk result (λ made. IsOf made.0 made.1 × (made.1.known ≡ first_seat made.0.key) × (made.0.key.value.total ≡ 0)) }
 {
     SeatLock::new(alloc, Number { total: 0 })
 }
 
-/// What two seats have added, one after the other, and the two replies.
+/// The two replies to what two seats add, one after the other, and what both have added. No clause tells which seat's call stands first.
+///
+/// # Errors
+///
+/// A number, where there is no memory for a lock over it.
 pub fn added_in_turn<R: Wait>(
     rt: &R,
     alloc: Global,
@@ -98,6 +106,10 @@ fn add_often<R: Wait>(
 }
 
 /// What two threads have added, one so often each through a seat of its own, and whether the replies to each were rising.
+///
+/// # Errors
+///
+/// A number, where there is no memory for a lock over it.
 pub fn added_by_two<R: Threads + Wait + Sync>(
     rt: &R,
     alloc: Global,

@@ -49,6 +49,10 @@ module _ {A R : Type 0} where
   nil_left [] ys h = refl
   nil_left (x ∷ xs) ys h = cc
 
+  nil_right : (xs ys : List (Entry A R)) → xs ++ ys ≡ [] → ys ≡ []
+  nil_right [] ys h = h
+  nil_right (x ∷ xs) ys h = cc
+
   abbrev tail_of : List (Entry A R) → List (Entry A R)
   tail_of [] = []
   tail_of (x ∷ xs) = xs
@@ -89,19 +93,18 @@ module _ {A R : Type 0} where
       let lens = length-append (calls_by ns xs) (calls_by ns p.0) in
       empty_of (calls_by ns p.0) (omega arith)
 
+  -- and the other way round
+  pub none_more : (ns : List ℕ) (xs ys : List (Entry A R)) (p : IsPrefix xs ys) → calls_by ns p.0 ≡ [] → calls_by ns ys ≡ calls_by ns xs
+  none_more ns xs ys p none = ap (calls_by ns) p.1 ∙ calls_by-append ns xs p.0 ∙ ap (λ l. calls_by ns xs ++ l) none ∙ append-nil (calls_by ns xs)
+
+  abbrev pub prefix_on : (xs ys zs : List (Entry A R)) → IsPrefix xs ys → IsPrefix ys zs → IsPrefix xs zs
+  prefix_on xs ys zs p q = (p.0 ++ q.0, q.1 ∙ ap (λ l. l ++ q.0) p.1 ∙ append_assoc xs p.0 q.0)
+
   -- a history between two that have the same calls of these numbers has them too, and nothing of them follows
   pub squeeze : (ns : List ℕ) (xs zs log : List (Entry A R)) → IsPrefix xs zs → (q : IsPrefix zs log) → calls_by ns log ≡ calls_by ns xs → (calls_by ns zs ≡ calls_by ns xs) × (calls_by ns q.0 ≡ [])
   squeeze ns xs zs log p q e =
-      let a : calls_by ns zs ≡ calls_by ns xs ++ calls_by ns p.0 = ap (calls_by ns) p.1 ∙ calls_by-append ns xs p.0 in
-      let b : calls_by ns log ≡ calls_by ns zs ++ calls_by ns q.0 = ap (calls_by ns) q.1 ∙ calls_by-append ns zs q.0 in
-      let la = ap length a in
-      let lb = ap length b in
-      let le = ap length e in
-      let lens = length-append (calls_by ns xs) (calls_by ns p.0) in
-      let lens2 = length-append (calls_by ns zs) (calls_by ns q.0) in
-      let none1 : calls_by ns p.0 ≡ [] = empty_of (calls_by ns p.0) (omega arith) in
-      let none2 : calls_by ns q.0 ≡ [] = empty_of (calls_by ns q.0) (omega arith) in
-      (a ∙ ap (λ l. calls_by ns xs ++ l) none1 ∙ append-nil (calls_by ns xs), none2)
+      let none : calls_by ns p.0 ++ calls_by ns q.0 ≡ [] = sym (calls_by-append ns p.0 q.0) ∙ nothing_since ns xs log (prefix_on xs zs log p q) e in
+      (none_more ns xs zs p (nil_left (calls_by ns p.0) (calls_by ns q.0) none), nil_right (calls_by ns p.0) (calls_by ns q.0) none)
 
   pick_none : (b : Bool) (x : Entry A R) (es : List (Entry A R)) → cond b (x ∷ es) es ≡ [] → (b ≡ false) × (es ≡ [])
   pick_none true x es h = cc
@@ -159,13 +162,9 @@ module _ {D A R : Type 0} (answers : D → A → R → D → Type 0) where
 
 module _ (A R : Type 0) where
   pub continues_on : ContinuesOn A R
-  continues_on ns xs ys zs p q =
-      ((p.0.0 ++ q.0.0, q.0.1 ∙ ap (λ (l : List (Entry A R)). l ++ q.0.0) p.0.1 ∙ append_assoc xs p.0.0 q.0.0), q.1 ∙ p.1)
-
-  continues_of : (ns : List ℕ) (xs ys : List (Entry A R)) (p : IsPrefix xs ys) → calls_by ns p.0 ≡ [] → Continues ns xs ys
-  continues_of ns xs ys p none = (p, ap (calls_by ns) p.1 ∙ calls_by-append ns xs p.0 ∙ ap (λ l. calls_by ns xs ++ l) none ∙ append-nil (calls_by ns xs))
+  continues_on ns xs ys zs p q = (prefix_on xs ys zs p.0 q.0, q.1 ∙ p.1)
 
   pub parts_continue : PartsContinue A R
   parts_continue ns ms xs ys h =
       let none = nothing_apart ns ms h.0.0 (nothing_since (ns ++ ms) xs ys h.0 h.1) in
-      (continues_of ns xs ys h.0 none.0, continues_of ms xs ys h.0 none.1)
+      ((h.0, none_more ns xs ys h.0 none.0), (h.0, none_more ms xs ys h.0 none.1))
