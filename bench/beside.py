@@ -1,7 +1,7 @@
 #!/usr/bin/env python3
 """Times calls of crates of this repository, and prints nanoseconds a call beside those of a twin in plain Rust. It is no test.
 
-usage: bench/beside.py [NAME ..]      a NAME is a folder beside this script (pools, lists, books, locks); each of them if left out
+usage: bench/beside.py [NAME ..]      a NAME is a folder beside this script (pools, lists, books, lanes, disks, locks, pieces); each of them if left out
 
 It needs `rt`, which proves and builds each measured program in a throw-away repository, and `rustc`. That takes a few minutes a program.
 A folder has the program in main.rt.txt and the twin in twin.rs, and of the program's proof the invariants of a function F in F.antt.txt, or

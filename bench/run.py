@@ -26,6 +26,19 @@ def writes(count):
     return "disk a 262144\n" + "".join(f"write {k % 8} a {k} 1 {64 * k}\n" for k in range(count))
 
 
+def chain(count):
+    """Writes to the top of a chain of 31 linear devices over a disk."""
+    names = ["a"] + [f"n{k}" for k in range(31)]
+    devices = "disk a 262144\n" + "".join(f"linear {above} {below}\n" for below, above in zip(names, names[1:]))
+    return devices + "".join(f"write {k % 8} n30 {k} 1 0\n" for k in range(count))
+
+
+def rounds():
+    """1,024 rounds behind the first, each with a write of the same sectors and four changed reserves."""
+    changes = "".join(f"resize {pool} {1 + k % 9}\n" for k, pool in enumerate(["fs.bios", "fs.vecs", "m.bios", "m.records"]))
+    return "disk a 262144\nmirror m a\n" + f"sync\n{changes}write 0 m 0 2048 0\n" * 1024
+
+
 # name, words, text
 CASES = [
     ("smallest run", ["run"], "disk a 64\nwrite 0 a 0 1 0\n"),
@@ -36,6 +49,11 @@ CASES = [
     ("4 MiB of comments", ["check"], filled("# a comment line of 32 bytes....\n" * 127000)),
     ("4 MiB with 159,000 writes", ["check"], filled(writes(159000))),
     ("a line of two million members", ["check"], "disk a 64\nlinear n " + "a " * 2000000 + "\n"),
+    ("4 MiB of byte 10", ["check"], "\n" * MOST_BYTES),
+    ("4 MiB of `fs` lines, refused at line 2", ["check"], "fs\n" * (MOST_BYTES // 3)),
+    ("150,000 writes over 31 linear devices", ["check"], chain(150000)),
+    ("a layout of these", ["layout"], chain(150000)),
+    ("1,024 rounds behind the first", ["check"], rounds()),
     ("layout of 2,048 fragments", ["layout"], "disk a 262144\nlimit l max=1 a\nwrite 0 l 0 2048 0\n"),
 ]
 
