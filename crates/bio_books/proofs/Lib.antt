@@ -2,3 +2,5 @@ mod Keys
 mod Slots
 mod Placed
 mod Numbered
+mod Ends
+mod Examples

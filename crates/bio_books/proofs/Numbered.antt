@@ -1,5 +1,5 @@
 -- A container as its places are numbered: none has a key, and all are free.
-use Rattle.std.proofs.Common.{◌≡◌, ℕ, zero, suc, ◌+◌, ◌≤◌, List, [], ◌∷◌, ◌++◌, length, map, Option, None, Some, refl, sym, ◌∙◌, ap, arith, inl, inr}
+use Rattle.std.proofs.Common.{◌≡◌, ℕ, zero, suc, ◌+◌, ◌^◌, ◌<◌, ◌≤◌, List, [], ◌∷◌, ◌++◌, length, map, Option, None, Some, refl, sym, ◌∙◌, ap, arith, inl, inr}
 use Rattle.std.specs.Prelude.{slice_get, replicate}
 use Rattle.std.proofs.lemmas.Bool.{cases_eq}
 use Rattle.slab.specs.Slab.{Slab, slab_len}
@@ -66,8 +66,8 @@ so_many x (suc count) = ap suc (so_many x count)
 
 -- a container of an empty slab, and what it shows
 pub numbered : {T : Type 0} (slots : Slab T) (keys : List (Option ℕ)) (free : List ℕ) (room count : ℕ)
-    → IsNumbered keys free count → slots.slots ≡ [] → count ≤ slots.capacity → count ≤ room → IsPlaced slots keys free room
-numbered slots keys free room count all empty fits fits_free =
+    → IsNumbered keys free count → slots.slots ≡ [] → count ≤ slots.capacity → count ≤ room → count < 2 ^ 32 → IsPlaced slots keys free room
+numbered slots keys free room count all empty fits fits_free few =
     let none : (place key : ℕ) → key_at keys place ≡ Some key → ⊥ =
     λ place key e. no_key count place key (ap (λ l. key_at l place) (sym all.blank) ∙ e) in
     let size : length keys ≡ count = ap length all.blank ∙ so_many None count in
@@ -75,6 +75,7 @@ numbered slots keys free room count all empty fits fits_free =
     record {
       slots_room = omega (arith, size, fits);
       free_room = omega (arith, size, fits_free);
+      numbers = omega (arith, size, few);
       counted = omega (arith, size, unkeyed, all.counted);
       named = unkeyed ∙ sym (ap (λ l. slab_len (record slots { slots = l })) empty);
       vacant = all.vacant;

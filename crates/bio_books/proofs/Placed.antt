@@ -46,6 +46,7 @@ comes {T} old new keys free room place key value sound absent updates counted ca
       sound = record {
         slots_room = omega (arith, sound.slots_room, capacity, length-set keys place (Some key));
         free_room = omega (arith, sound.free_room, length-set keys place (Some key));
+        numbers = omega (arith, sound.numbers, length-set keys place (Some key));
         counted = omega (arith, sound.counted, keyed_more keys place key here.0, length-set keys place (Some key), longer free place);
         named = omega (arith, sound.named, counted, keyed_more keys place key here.0);
         vacant = λ other. elim (cases_eq other place) [
@@ -100,6 +101,7 @@ goes {T} old new keys free room place key sound found updates counted capacity =
       sound = record {
         slots_room = omega (arith, sound.slots_room, capacity, length-set keys place None);
         free_room = omega (arith, sound.free_room, length-set keys place None);
+        numbers = omega (arith, sound.numbers, length-set keys place None);
         counted = omega (arith, sound.counted, keyed_less keys place key found, length-set keys place None, longer free place);
         named = omega (arith, sound.named, counted, keyed_less keys place key found);
         vacant = λ other. elim (cases_eq other place) [
@@ -151,6 +153,20 @@ full slots keys free room sound none = every slots keys (λ place. all_keyed key
         All-cons IsSome (get slots key) (map (look slots) keys) (taken zero key refl)
         (every slots keys (λ place. some (suc place)) (λ place. taken (suc place)))
 
+-- where a value stands at each, no place is free
+pub full_only_if : {T : Type 0} (slots : Slab T) (keys : List (Option ℕ)) (free : List ℕ) (room : ℕ)
+    → IsPlaced slots keys free room → All IsSome (map (look slots) keys) → length free ≡ 0
+full_only_if slots keys free room sound all = omega (arith, sound.counted, every slots keys all)
+  where
+    nothing : {X : Type 0} (x : Option X) → x ≡ None → IsSome x → ⊥
+    nothing None e some = absurd (cc)
+    nothing (Some x) e some = absurd (cc)
+
+    every : {T : Type 0} (slots : Slab T) (keys : List (Option ℕ)) → All IsSome (map (look slots) keys) → keyed keys ≡ length keys
+    every slots [] all = refl
+    every {T = T} slots (None ∷ keys) all = absurd (nothing {X = T} None refl (all 0 None (omega arith)))
+    every slots (Some key ∷ keys) all = omega (arith, every slots keys (λ k d within. all (suc k) d (omega (arith, within))))
+
 -- as many places are free as there are exactly where no value stands at any
 pub empty_if : {T : Type 0} (slots : Slab T) (keys : List (Option ℕ)) (free : List ℕ) (room : ℕ)
     → IsPlaced slots keys free room → length free ≡ length keys → All (λ slot. slot ≡ None) (map (look slots) keys)
@@ -180,3 +196,8 @@ empty_only_if {T} slots keys free room sound empty =
 
     same_size : (place key : ℕ) → key_at keys place ≡ Some key → place < length (map (look slots) keys)
     same_size place key found = omega (arith, key_within keys place key found, sizes (look slots) keys)
+
+-- as many places are shown as are numbered
+pub as_many : {T : Type 0} (slots : Slab T) (keys : List (Option ℕ)) → length (map (look slots) keys) ≡ length keys
+as_many slots [] = refl
+as_many slots (key ∷ keys) = ap suc (as_many slots keys)

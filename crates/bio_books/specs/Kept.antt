@@ -1,5 +1,5 @@
 -- How nodes and places are kept. No contract of the public calls speaks of this.
-use Rattle.std.specs.Prelude.{◌≡◌, ◌+◌, ◌≤◌, ◌==◌, ℕ, List, [], ◌∷◌, length, Option, None, Some, IsSome, Bool, true, false, slice_get, slice_index_or}
+use Rattle.std.specs.Prelude.{◌≡◌, ◌+◌, ◌^◌, ◌<◌, ◌≤◌, ◌==◌, ℕ, List, [], ◌∷◌, length, Option, None, Some, IsSome, Bool, true, false, slice_get, slice_index_or}
 use Rattle.slab.specs.Slab.{Slab, get, slab_len}
 use Rattle.elem_ledger.specs.declared.element.Element.{Element}
 use Rattle.bio_records.specs.declared.bio.Pad.{Pad}
@@ -45,6 +45,8 @@ pub record IsPlaced {T : Type 0} (slots : Slab T) (keys : List (Option ℕ)) (fr
   -- the slab and the free places have room for all
   pub slots_room : length keys ≤ slots.capacity
   pub free_room : length keys ≤ room
+  -- each place has a number
+  pub numbers : length keys < 2 ^ 32
   -- a place has a key or is free, and each value of the slab has a place
   pub counted : keyed keys + length free ≡ length keys
   pub named : keyed keys ≡ slab_len slots

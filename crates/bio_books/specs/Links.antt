@@ -1,6 +1,8 @@
 -- How nodes are opened and linked.
 use Rattle.std.specs.Prelude.{◌≡◌, ◌⊎◌, ◌-◌, ◌^◌, ◌<◌, ℕ, Option, None, Some, IsSome, slice_get, All}
-use Rattle.bio_books.specs.Books.{VectorItem, Holding, Node, BookState, node_at, with_node, nothing_held, holding_vector, top_node, child_node, raised}
+use Rattle.bio_records.specs.declared.bio.Pad.{Pad}
+use Rattle.bio_records.specs.Items.{Item}
+use Rattle.bio_books.specs.Books.{VectorItem, SlipItem, Holding, Node, BookState, node_at, with_node, nothing_held, holding_vector, unmastered, top_node, child_node, master_node, leg_node, keeping, raised}
 
 -- what a call that opens a node answers: its place, or what it was to hold, where there is no room or the named parent is not open
 pub data Linked : Type 0 where
@@ -41,3 +43,35 @@ ChainsAt old parent None (NoRoom back) new = ⊥
 
 abbrev pub Chains : BookState → ℕ → Linked → BookState → Type 0
 Chains old parent answer new = ChainsAt old parent (node_at old parent) answer new
+
+-- an open node gets a master at any vacant place, which stands for its own part, and keeps that part meanwhile; it waits for no further
+-- end (`raid1_write_request`, drivers/md/raid1.c, whose `master_bio` is the bio that the mirror serves)
+abbrev pub MastersTo : BookState → ℕ → Node → Item Pad → SlipItem → ℕ → Linked → BookState → Type 0
+MastersTo old parent node part slip legs (Made place) new =
+    IsVacant old place × (new ≡ with_node (with_node old place (Some (master_node node.write parent slip legs))) parent (Some (keeping part node)))
+MastersTo old parent node part slip legs (NoRoom back) new = IsFull old × (back ≡ unmastered part slip) × (new ≡ old)
+MastersTo old parent node part slip legs (Stray back) new = ⊥
+
+abbrev pub MastersAt : BookState → ℕ → Option Node → Item Pad → SlipItem → ℕ → Linked → BookState → Type 0
+MastersAt old parent (Some node) part slip legs answer new = MastersTo old parent node part slip legs answer new
+MastersAt old parent None part slip legs (Stray back) new = (back ≡ unmastered part slip) × (new ≡ old)
+MastersAt old parent None part slip legs (Made place) new = ⊥
+MastersAt old parent None part slip legs (NoRoom back) new = ⊥
+
+abbrev pub Masters : BookState → ℕ → Item Pad → SlipItem → ℕ → Linked → BookState → Type 0
+Masters old parent part slip legs answer new = MastersAt old parent (node_at old parent) part slip legs answer new
+
+-- an open node gets a leg at any vacant place; a master has counted its legs already, so no node waits for one end more
+abbrev pub LegsTo : BookState → ℕ → Node → Linked → BookState → Type 0
+LegsTo old master node (Made place) new = IsVacant old place × (new ≡ with_node old place (Some (leg_node node.write master)))
+LegsTo old master node (NoRoom back) new = IsFull old × (back ≡ nothing_held) × (new ≡ old)
+LegsTo old master node (Stray back) new = ⊥
+
+abbrev pub LegsAt : BookState → ℕ → Option Node → Linked → BookState → Type 0
+LegsAt old master (Some node) answer new = LegsTo old master node answer new
+LegsAt old master None (Stray back) new = (back ≡ nothing_held) × (new ≡ old)
+LegsAt old master None (Made place) new = ⊥
+LegsAt old master None (NoRoom back) new = ⊥
+
+abbrev pub Legs : BookState → ℕ → Linked → BookState → Type 0
+Legs old master answer new = LegsAt old master (node_at old master) answer new

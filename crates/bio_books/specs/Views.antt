@@ -25,9 +25,12 @@ abbrev pub vector_of : Option (Element Vector) → Option VectorItem
 vector_of None = None
 vector_of (Some element) = Some (record { segments = element.body.value.segments.items; share = element.share })
 
+abbrev pub slip_item : Element Slip → SlipItem
+slip_item element = record { legs = element.body.value.legs; share = element.share }
+
 abbrev pub slip_of : Option (Element Slip) → Option SlipItem
 slip_of None = None
-slip_of (Some element) = Some (record { legs = element.body.value.legs; share = element.share })
+slip_of (Some element) = Some (slip_item element)
 
 abbrev pub holding_of : Back → Holding
 holding_of back = record { bio = bio_of back.bio; vector = vector_of back.vector; slip = slip_of back.slip }

@@ -1,12 +1,14 @@
 //! Books.
-ghost use Rattle.std.specs.Prelude.{◌≡◌, None, IfOk, IfErr, MatchResult, replicate};
-ghost use Rattle.bio_books.specs.Links.{Chains, Opens};
+ghost use Rattle.std.specs.Prelude.{◌≡◌, ◌≤◌, None, IfOk, MatchResult, length, option_copied, replicate};
+ghost use Rattle.bio_books.specs.Books.{node_at};
+ghost use Rattle.bio_records.specs.Items.{item_of, IsAlone};
+ghost use Rattle.bio_books.specs.Links.{Chains, Legs, Masters, Opens};
 ghost use Rattle.bio_books.specs.Drops.{Drops, IsEmpty};
-ghost use Rattle.bio_books.specs.Views.{bio_of, ended_of, linked_of, vector_of, IsAlonePart, IsDroppedAlone, IsLinkAlone};
+ghost use Rattle.bio_books.specs.Views.{bio_of, ended_of, linked_of, slip_item, vector_of, IsAlonePart, IsDroppedAlone, IsLinkAlone};
 
-use crate::node::{Back, ClosedNode, Lower, Node, Raise};
+use crate::node::{Back, ClosedNode, Keep, Lower, Node, Raise};
 use crate::places::Places;
-use bio_records::{BioElement, VecElement};
+use bio_records::{BioElement, SlipElement, VecElement};
 use stack_base::Status;
 use std::alloc::{AllocError, Global};
 use std::marker::Model;
@@ -63,6 +65,27 @@ impl Book {
         Ok(Book { writer, nodes })
     }
 
+    /// The number of the writer whose book it is.
+    pub fn writer(&self) -> u32
+        ensures { result ≡ self.now.writer }
+    {
+        self.writer
+    }
+
+    /// How many places it has. They are numbered from 0 on.
+    pub fn places(&self) -> u32
+        ensures { result ≡ length self.now.nodes }
+    {
+        self.nodes.count()
+    }
+
+    /// The node that is open at a place, if one is.
+    pub fn node(&self, place: u32) -> Option<&Node>
+        ensures { option_copied result ≡ node_at self.now place }
+    {
+        self.nodes.get(place)
+    }
+
     /// Opens the top node of a write, which holds its vector and waits for one end. With no vacant place it hands the vector back.
     pub fn open_write(&mut self, write: u32, vector: Option<VecElement>) -> Link
         ensures opens { Opens self.old write (vector_of vector) (linked_of result) self.new }
@@ -95,8 +118,50 @@ impl Book {
         }
     }
 
+    /// Opens the master of a mirror, which stands for the own part of a node and waits for an end of each leg. It holds the record, which has
+    /// the number of legs from then on. The node keeps the part, in place of one that it kept, and waits for as many ends as before
+    /// (`raid1_write_request`, `drivers/md/raid1.c`). Where no master is opened, the part and the record come back as they were.
+    pub fn master(&mut self, parent: u32, part: BioElement, slip: SlipElement, legs: u32) -> Link
+        requires part { IsAlone part }
+        requires legs { 1 ≤ legs }
+        ensures masters { Masters self.old parent (item_of part) (slip_item slip) legs (linked_of result) self.new }
+        ensures alone { IsLinkAlone result }
+    {
+        let write = match self.nodes.get(parent) {
+            Some(node) => node.write(),
+            None => return Link::Stray(Back::unmastered(part, slip)),
+        };
+        if self.nodes.is_full() {
+            return Link::NoRoom(Back::unmastered(part, slip));
+        }
+        match self.nodes.insert(Node::master(write, parent, slip, legs)) {
+            Ok(place) => {
+                self.nodes.alter(parent, Keep { part });
+                Link::Made(place)
+            }
+            Err(_) => unreachable!(),
+        }
+    }
+
+    /// Opens a leg of a master, of the same write and of one end. The master waits for it already. It is for the caller to open as many legs
+    /// as the master waits for, and to name a master: a leg of any other open node is opened too, and that node does not wait for it.
+    pub fn leg(&mut self, master: u32) -> Link
+        ensures legs { Legs self.old master (linked_of result) self.new }
+        ensures alone { IsLinkAlone result }
+    {
+        let write = match self.nodes.get(master) {
+            Some(node) => node.write(),
+            None => return Link::Stray(Back::nothing()),
+        };
+        match self.nodes.insert(Node::leg(write, master)) {
+            Ok(place) => Link::Made(place),
+            Err(leg) => Link::NoRoom(leg.into_held()),
+        }
+    }
+
     /// Tells a node of one of its ends, and closes it with the last. It keeps the first end that failed, and the last part that came
-    /// (`bio_endio`, `block/bio.c`).
+    /// (`bio_endio`, `block/bio.c`). A master ends well where one of its legs did, else with `Status::Io` (`raid1_end_write_request` and
+    /// `call_bio_endio`, `drivers/md/raid1.c`).
     // A caller takes most of the answer apart at once, so none of it is to be written.
     #[inline(always)]
     pub fn drop_one(&mut self, node: u32, status: Status, part: Option<BioElement>) -> Dropped

@@ -6,8 +6,9 @@
 #![tactic(auto)]
 
 mod book;
+pub mod laws;
 mod node;
 mod places;
 
 pub use book::{Book, Dropped, Link};
-pub use node::{Back, ClosedNode, Role};
+pub use node::{Back, ClosedNode, Node, Role};

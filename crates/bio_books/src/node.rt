@@ -1,7 +1,8 @@
 //! The nodes of a book.
 ghost use Rattle.std.specs.Prelude.{◌≡◌, ◌+◌, ◌-◌, ◌^◌, ◌<◌, ◌≤◌};
-ghost use Rattle.bio_books.specs.Books.{child_node, closing, kept_with, lowered, nothing_held, parent_of, raised, told, top_node};
-ghost use Rattle.bio_books.specs.Views.{bio_of, closed_node_of, holding_of, vector_of, IsAlonePart};
+ghost use Rattle.bio_records.specs.Items.{item_of, IsAlone};
+ghost use Rattle.bio_books.specs.Books.{any_well, by_mark, child_node, closing, first_failing, keeping, kept_with, leg_node, lowered, master_node, nothing_held, parent_of, raised, told, top_node, unmastered};
+ghost use Rattle.bio_books.specs.Views.{bio_of, closed_node_of, holding_of, slip_item, vector_of, IsAlonePart};
 ghost use Rattle.bio_books.specs.Drops.{closed_of};
 
 use crate::places::Change;
@@ -37,6 +38,10 @@ pub enum Role {
     Top,
     /// A child of the node at this place, which waits for it.
     Chain { parent: u32 },
+    /// What a mirror makes of the own part of the node at this place.
+    Master { parent: u32 },
+    /// The part of one member of a mirror, and a child of the master at this place.
+    Leg { parent: u32 },
 }
 
 /// A part of a write that has not ended.
@@ -61,15 +66,41 @@ impl Model for Node {
     ghost invariant = { λ n. IsOpen n.count n.held.bio };
 }
 
-// The status that a node of a role keeps, with one more end: the first that failed.
+// Of two ends, the first that failed.
+fn first_failing(old: Status, new: Status) -> Status
+    ensures { result ≡ first_failing old new }
+{
+    match old {
+        Status::Ok => new,
+        _ => old,
+    }
+}
+
+// Of two ends, one that was well, if one was.
+fn any_well(old: Status, new: Status) -> Status
+    ensures { result ≡ any_well old new }
+{
+    if matches!(new, Status::Ok) { new } else { old }
+}
+
+// Well where the mark of a master is set.
+fn by_mark(mark: Status) -> Status
+    ensures { result ≡ by_mark mark }
+{
+    if matches!(mark, Status::Ok) {
+        mark
+    } else {
+        Status::Io
+    }
+}
+
+// The status that a node of a role keeps, with one more end.
 fn kept_with(role: Role, old: Status, new: Status) -> Status
     ensures { result ≡ kept_with role old new }
 {
     match role {
-        Role::Top | Role::Chain { .. } => match old {
-            Status::Ok => new,
-            _ => old,
-        },
+        Role::Top | Role::Chain { .. } | Role::Leg { .. } => first_failing(old, new),
+        Role::Master { .. } => any_well(old, new),
     }
 }
 
@@ -78,7 +109,8 @@ fn closing(role: Role, status: Status) -> Status
     ensures { result ≡ closing role status }
 {
     match role {
-        Role::Top | Role::Chain { .. } => status,
+        Role::Top | Role::Chain { .. } | Role::Leg { .. } => status,
+        Role::Master { .. } => by_mark(status),
     }
 }
 
@@ -88,7 +120,7 @@ fn parent_of(role: Role) -> Option<u32>
 {
     match role {
         Role::Top => None,
-        Role::Chain { parent } => Some(parent),
+        Role::Chain { parent } | Role::Master { parent } | Role::Leg { parent } => Some(parent),
     }
 }
 
@@ -104,11 +136,24 @@ impl Back {
             slip: None,
         }
     }
+
+    /// The own part of a node and a mirror's record, for which there is no master.
+    pub(crate) fn unmastered(part: BioElement, slip: SlipElement) -> Back
+        requires { IsAlone part }
+        ensures held { holding_of result ≡ unmastered (item_of part) (slip_item slip) }
+        ensures alone { IsAlonePart result.bio }
+    {
+        Back {
+            bio: Some(part),
+            vector: None,
+            slip: Some(slip),
+        }
+    }
 }
 
 impl Node {
     /// The top node of a write.
-    pub fn top(write: u32, vector: Option<VecElement>) -> Node
+    pub(crate) fn top(write: u32, vector: Option<VecElement>) -> Node
         ensures { result ≡ top_node write (vector_of vector) }
     {
         Node {
@@ -125,7 +170,7 @@ impl Node {
     }
 
     /// A child of the node at a place, of the same write.
-    pub fn child(write: u32, parent: u32) -> Node
+    pub(crate) fn child(write: u32, parent: u32) -> Node
         ensures { result ≡ child_node write parent }
     {
         Node {
@@ -135,6 +180,61 @@ impl Node {
             status: Status::Ok,
             held: Back::nothing(),
         }
+    }
+
+    /// A master, which stands for the own part of the node at a place, of the same write and of as many ends as there are legs. It holds
+    /// the mirror's record, which has their number from then on.
+    pub(crate) fn master(write: u32, parent: u32, mut slip: SlipElement, legs: u32) -> Node
+        requires { 1 ≤ legs }
+        ensures { result ≡ master_node write parent (slip_item slip) legs }
+    {
+        slip.body.legs = legs;
+        Node {
+            role: Role::Master { parent },
+            write,
+            count: u64::from(legs),
+            status: Status::Io,
+            held: Back {
+                bio: None,
+                vector: None,
+                slip: Some(slip),
+            },
+        }
+    }
+
+    /// A leg of the master at a place, of the same write.
+    pub(crate) fn leg(write: u32, parent: u32) -> Node
+        ensures { result ≡ leg_node write parent }
+    {
+        Node {
+            role: Role::Leg { parent },
+            write,
+            count: 1,
+            status: Status::Ok,
+            held: Back::nothing(),
+        }
+    }
+
+    /// What it is to other nodes.
+    pub fn role(&self) -> Role
+        ensures { result ≡ self.now.role }
+    {
+        self.role
+    }
+
+    /// How it has ended so far. It is `Status::Io` at a master until a leg has ended well, and `Status::Ok` from then on.
+    pub fn status(&self) -> Status
+        ensures { result ≡ self.now.status }
+    {
+        self.status
+    }
+
+    /// The elements that it holds.
+    pub fn held(&self) -> &Back
+        ensures held { holding_of result.now ≡ self.now.held }
+        ensures alone { IsAlonePart result.now.bio }
+    {
+        &self.held
     }
 
     /// How many ends it waits for.
@@ -154,7 +254,7 @@ impl Node {
 
     /// Keeps the first end that failed, and the last part that came (`__bio_chain_endio`, `block/bio.c`).
     #[inline]
-    pub fn tell(&mut self, status: Status, part: Option<BioElement>)
+    pub(crate) fn tell(&mut self, status: Status, part: Option<BioElement>)
         requires { IsAlonePart part }
         ensures { self.new ≡ told self.old status (bio_of part) }
     {
@@ -165,7 +265,7 @@ impl Node {
     }
 
     /// What it holds, where it is not kept.
-    pub fn into_held(self) -> Back
+    pub(crate) fn into_held(self) -> Back
         ensures held { holding_of result ≡ self.held }
         ensures alone { IsAlonePart result.bio }
     {
@@ -174,7 +274,7 @@ impl Node {
     }
 
     /// What is left of it as it closes.
-    pub fn close(self) -> ClosedNode
+    pub(crate) fn close(self) -> ClosedNode
         ensures closed { closed_node_of result ≡ closed_of self }
         ensures alone { IsAlonePart result.held.bio }
     {
@@ -205,6 +305,22 @@ impl Change<Node> for Raise {
 
     fn change(self, node: &mut Node) {
         node.count += 1;
+    }
+}
+
+/// A node keeps a part.
+#[derive(Drop)]
+pub struct Keep {
+    pub part: BioElement,
+}
+
+impl Change<Node> for Keep {
+    ghost applies = { λ keep _. IsAlone keep.part };
+
+    ghost after = { λ keep. keeping (item_of keep.part) };
+
+    fn change(self, node: &mut Node) {
+        node.held.bio = Some(self.part);
     }
 }
 

@@ -1,5 +1,5 @@
 //! Numbered places for values, in memory that is had once.
-ghost use Rattle.std.specs.Prelude.{◌≡◌, ◌↔◌, List, Option, None, Some, All, IsTrue, IsSome, IfOk, MatchOption, MatchResult, option_copied, replicate, slice_get, slice_index_or, slice_set};
+ghost use Rattle.std.specs.Prelude.{◌≡◌, ◌↔◌, List, Option, None, Some, All, IsTrue, IsSome, IfOk, MatchOption, MatchResult, length, option_copied, replicate, slice_get, slice_index_or, slice_set};
 ghost use Rattle.bio_books.specs.Kept.{key_at};
 
 use slab::Slab;
@@ -68,6 +68,13 @@ impl<T: Drop> Places<T> {
         Ok(Places { slots, keys, free })
     }
 
+    /// How many places there are.
+    pub fn count(&self) -> u32
+        ensures { result ≡ length self.now }
+    {
+        self.keys.len() as u32
+    }
+
     /// The value at a place, if there is one.
     pub fn get(&self, place: u32) -> Option<&T>
         ensures { option_copied result ≡ slice_index_or self.now place None }
@@ -113,6 +120,13 @@ impl<T: Drop> Places<T> {
                 change.change(value);
             }
         }
+    }
+
+    /// Whether a value stands at each place.
+    pub fn is_full(&self) -> bool
+        ensures { IsTrue result ↔ All IsSome self.now }
+    {
+        self.free.is_empty()
     }
 
     /// Whether all places are vacant.

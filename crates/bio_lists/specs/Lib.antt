@@ -1,1 +1,2 @@
 pub mod Submission
+pub mod Punt

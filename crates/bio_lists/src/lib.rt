@@ -7,5 +7,5 @@
 pub mod laws;
 mod submission;
 
-pub use bio_records::{BioList, RescueList, TaskLists};
+pub use bio_records::{BioList, Bios, RescueList, TaskLists, Waits};
 pub use submission::Submission;

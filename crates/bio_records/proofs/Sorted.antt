@@ -1,6 +1,6 @@
 -- What two chains become that are parted by a test, last one first, and joined again.
-use Rattle.std.proofs.Common.{◌≡◌, ◌+◌, Bool, true, false, ℕ, min, List, [], ◌∷◌, ◌++◌, filter, length, not, reverse, refl, sym, ap, ◌∙◌, append_assoc, arith}
-use Rattle.std.proofs.lemmas.List.{append-nil, reverse-append, reverse-reverse, length-append}
+use Rattle.std.proofs.Common.{◌≡◌, ◌+◌, Bool, true, false, ℕ, min, List, [], ◌∷◌, ◌++◌, filter, length, map, not, reverse, refl, sym, ap, ◌∙◌, append_assoc, arith}
+use Rattle.std.proofs.lemmas.List.{append-nil, map-append, reverse-append, reverse-reverse, length-append}
 use Rattle.std.proofs.lemmas.List.Elements.{filter-append}
 use Rattle.std.proofs.lemmas.List.Filters.{length-filter_both}
 
@@ -24,6 +24,24 @@ parted p front back rest =
     let two : reverse (filter p back) ≡ filter p (reverse back) = sym (filter_turned p back) in
     let whole : filter p (front ++ reverse back) ≡ filter p front ++ filter p (reverse back) = filter-append p front (reverse back) in
     rw (one, two, whole) (sym (append_assoc (filter p front) (filter p (reverse back)) rest))
+
+-- one of the two parts
+pub one_parted : {X : Type 0} (p : X → Bool) (front back part turned moved : List X)
+    → turned ≡ reverse front ++ [] → moved ≡ reverse (filter p back) ++ [] → part ≡ reverse (filter p turned) ++ moved
+    → part ≡ filter p (front ++ reverse back)
+one_parted p front back part turned moved one two whole =
+    whole ∙ ap (λ l. reverse (filter p l) ++ moved) one ∙ ap (λ l. reverse (filter p (reverse front ++ [])) ++ l) two ∙ parted p front back []
+    ∙ append-nil (filter p (front ++ reverse back))
+
+-- what is seen of a list, by its front and its back
+pub shown_in_two : {X Y : Type 0} (f : X → Y) (front back : List X) → map f front ++ reverse (map f back) ≡ map f (front ++ reverse back)
+shown_in_two f front back = sym (map-append f front (reverse back) ∙ ap (λ l. map f front ++ l) (turned f back))
+  where
+    turned : {X Y : Type 0} (f : X → Y) (xs : List X) → map f (reverse xs) ≡ reverse (map f xs)
+    turned f [] = refl
+    turned f (x ∷ xs) =
+        ap (map f) (reverse-append (x ∷ []) xs) ∙ map-append f (reverse xs) (x ∷ []) ∙ ap (λ l. l ++ f x ∷ []) (turned f xs)
+        ∙ sym (reverse-append (f x ∷ []) (map f xs))
 
 -- the two parts, put before a third list
 pub sorted_before : {X : Type 0} (p q : X → Bool) (front back own : List X) (lower same : List X)

@@ -4,6 +4,7 @@ use Rattle.std.specs.Global.{Box}
 use Rattle.elem_ledger.specs.Ledger.{LedgerId}
 use Rattle.elem_ledger.specs.declared.element.Element.{Element}
 use Rattle.bio_records.specs.declared.bio.Bio.{Bio}
+use Rattle.bio_records.specs.declared.bio.Pad.{Pad}
 use Rattle.bio_records.specs.declared.segment.Segment.{Segment}
 use Rattle.bio_records.specs.declared.body.BioBody.{BioBody, BioBody', Held-BioBody-next, None', Some', out-BioBody}
 
@@ -39,3 +40,15 @@ item_of {F = F} element = record {
 -- the element is in no list
 abbrev pub IsAlone : {F : Type 0} → Element (BioBody F) → Type 0
 IsAlone {F = F} element = (out-BioBody F element.body.value).next ≡ None
+
+-- an element of a list as a walk shows it: the padding, the bio and its own segments
+pub record Plain : Type 0 where
+  pub pad : Pad
+  pub bio : Bio
+  pub short : List Segment
+
+abbrev pub plain_of : Item Pad → Plain
+plain_of item = record { pad = item.pad; bio = item.bio; short = item.short }
+
+abbrev pub plain_body : BioBody Pad → Plain
+plain_body body = record { pad = (out-BioBody Pad body).pad; bio = (out-BioBody Pad body).bio; short = (out-BioBody Pad body).short.items }

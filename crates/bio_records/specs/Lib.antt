@@ -4,3 +4,4 @@ pub mod Segments
 pub mod Runs
 pub mod Rescue
 pub mod Sorting
+pub mod Waiting

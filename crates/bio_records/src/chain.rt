@@ -1,12 +1,12 @@
 //! Chains of elements, each in the box of the one before it.
 ghost use Rattle.std.specs.Prelude.{◌≡◌, ◌++◌, filter, ◌+◌, ◌<◌, [], ◌∷◌, length, reverse, remove, slice_get, min, ◌^◌, ◌-◌, MatchOption, Some};
 ghost use Rattle.bio_records.specs.Items.{items, item_of, IsAlone};
-ghost use Rattle.bio_records.specs.Sorting.{is_lower, is_same};
+ghost use Rattle.bio_records.specs.Sorting.{is_lower, is_of, is_of_other, is_same, same_set};
 
 use crate::bio::Pad;
 use crate::body::BioBody;
 use elem_ledger::{Element, Share};
-use stack_base::DevId;
+use stack_base::{DevId, SetId};
 
 /// The first element of a chain, by its two parts.
 pub type Link<F> = Option<(Box<BioBody<F>>, Share)>;
@@ -43,6 +43,17 @@ pub fn reverse_onto<F: Drop>(mut from: Link<F>, mut onto: Link<F>) -> Link<F>
     onto
 }
 
+// Whether two sets are one.
+fn same_set(one: SetId, other: SetId) -> bool
+    ensures { result ≡ same_set one other }
+{
+    match (one, other) {
+        (SetId::Fs, SetId::Fs) => true,
+        (SetId::Of(one), SetId::Of(other)) => one.0 == other.0,
+        (SetId::Fs, SetId::Of(_)) | (SetId::Of(_), SetId::Fs) => false,
+    }
+}
+
 /// Moves the bios of a chain: those for this device before `same`, and the others before `lower`, the first one deepest.
 pub fn part(
     mut from: Link<Pad>,
@@ -71,6 +82,36 @@ pub fn sorted(front: Link<Pad>, back: Link<Pad>, dev: DevId, own: Link<Pad>) -> 
     let (lower, same) = part(back, dev, None, own);
     let (lower, same) = part(reverse_onto(front, None), dev, lower, same);
     reverse_onto(reverse_onto(lower, None), same)
+}
+
+/// Moves the bios of a chain: those of this set before `chosen`, and the others before `others`, the first one deepest.
+pub fn part_by_set(
+    mut from: Link<Pad>,
+    set: SetId,
+    mut chosen: Link<Pad>,
+    mut others: Link<Pad>,
+) -> (Link<Pad>, Link<Pad>)
+    ensures chosen { items result.0 ≡ reverse (filter (is_of set) (items from)) ++ items chosen }
+    ensures others { items result.1 ≡ reverse (filter (is_of_other set) (items from)) ++ items others }
+{
+    'parting: while let Some(element) = detach(&mut from) {
+        if same_set(element.body.bio.set, set) {
+            attach(&mut chosen, element);
+        } else {
+            attach(&mut others, element);
+        }
+    }
+    (chosen, others)
+}
+
+/// The bios of a list with this front and back: first those of this set, and then the others.
+#[tactic(auto, using(crate::proofs::Sorted::one_parted))]
+pub fn set_apart(front: Link<Pad>, back: Link<Pad>, set: SetId) -> (Link<Pad>, Link<Pad>)
+    ensures chosen { items result.0 ≡ filter (is_of set) (items front ++ reverse (items back)) }
+    ensures others { items result.1 ≡ filter (is_of_other set) (items front ++ reverse (items back)) }
+{
+    let (chosen, others) = part_by_set(back, set, None, None);
+    part_by_set(reverse_onto(front, None), set, chosen, others)
 }
 
 /// How many elements a chain has, or `u64::MAX` where there are more.

@@ -12,9 +12,11 @@ pub mod laws;
 mod list;
 mod segment;
 mod tasks;
+mod walk;
 
 pub use bio::{Bio, Iter, Pad, Slip, advance, front};
 pub use body::{BioBody, BioElement, SlipElement, VecElement};
 pub use list::BioList;
 pub use segment::{Segment, Vector, fill, segments};
-pub use tasks::{RescueList, TaskLists};
+pub use tasks::{RescueList, TaskLists, Waits};
+pub use walk::Bios;

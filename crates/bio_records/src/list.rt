@@ -1,12 +1,13 @@
 //! Lists of bios.
-ghost use Rattle.std.specs.Prelude.{◌≡◌, ◌++◌, filter, ◌+◌, ◌<◌, [], ◌∷◌, List, length, reverse, remove, IsTrue, ◌↔◌, slice_get, min, ◌^◌, ◌-◌, MatchOption, Some};
-ghost use Rattle.bio_records.specs.Items.{Item, items, item_of, IsAlone};
-ghost use Rattle.bio_records.specs.Sorting.{is_lower, is_same};
+ghost use Rattle.std.specs.Prelude.{◌≡◌, ◌++◌, filter, ◌+◌, ◌<◌, [], ◌∷◌, List, length, map, reverse, remove, IsTrue, ◌↔◌, slice_get, min, ◌^◌, ◌-◌, MatchOption, Some};
+ghost use Rattle.bio_records.specs.Items.{Item, items, item_of, plain_of, IsAlone};
+ghost use Rattle.bio_records.specs.Sorting.{is_lower, is_of, is_of_other, is_same};
 
 use crate::bio::Pad;
 use crate::body::BioElement;
 use crate::chain::{self, Link};
-use stack_base::DevId;
+use crate::walk::Bios;
+use stack_base::{DevId, SetId};
 use std::marker::Model;
 use std::mem;
 
@@ -124,6 +125,31 @@ impl BioList {
         self.front = chain::sorted(other.front.take(), other.back.take(), dev, own);
         self.count = self.count.saturating_add(other.count);
         other.count = 0;
+    }
+
+    /// Takes the bios of a set out of the list. They and the others each keep their order (`punt_bios_to_rescuer`, `block/bio.c`).
+    pub fn take_set(&mut self, set: SetId) -> BioList
+        ensures taken { result ≡ filter (is_of set) self.old }
+        ensures rest { self.new ≡ filter (is_of_other set) self.old }
+    {
+        let (chosen, others) = chain::set_apart(self.front.take(), self.back.take(), set);
+        self.count = chain::count_of(&others);
+        self.front = others;
+        let count = chain::count_of(&chosen);
+        BioList {
+            front: chosen,
+            back: None,
+            count,
+        }
+    }
+
+    /// The bios, to be looked at: those at the front in their order, and those behind them, the last one first. Each of the two walks goes over
+    /// its bios once, and takes no memory.
+    #[tactic(auto, using(crate::proofs::Sorted::shown_in_two))]
+    pub fn walk(&self) -> (Bios<'_>, Bios<'_>)
+        ensures { result.0 ++ reverse result.1 ≡ map plain_of self.now }
+    {
+        (Bios::new(&self.front), Bios::new(&self.back))
     }
 
     /// Takes the bio at a place out of the list. The others keep their order. It goes over the places before it, and over the whole list

@@ -1,10 +1,13 @@
 //! The lists of a task, and the list of a set's rescuer.
-ghost use Rattle.std.specs.Prelude.{◌≡◌, ◌++◌, ◌↔◌, ◌⊎◌, [], ◌∷◌, IsTrue, MatchOption};
+ghost use Rattle.std.specs.Prelude.{◌≡◌, ◌++◌, ◌-◌, ◌^◌, ◌↔◌, [], ◌∷◌, length, map, min, reverse, IsTrue, MatchOption};
 ghost use Rattle.stack_base.specs.declared.ids.DevId.{DevId};
-ghost use Rattle.bio_records.specs.Items.{item_of, IsAlone};
+ghost use Rattle.bio_records.specs.declared.tasks.TaskLists.{TaskLists as Lists};
+ghost use Rattle.bio_records.specs.Items.{item_of, plain_of, IsAlone};
+ghost use Rattle.bio_records.specs.Waiting.{IsBusy};
 
 use crate::body::BioElement;
 use crate::list::BioList;
+use crate::walk::Bios;
 use stack_base::DevId;
 use std::marker::Model;
 
@@ -32,6 +35,34 @@ impl RescueList {
             dev,
             bios: BioList::new(),
         }
+    }
+
+    /// The device whose set it is of.
+    pub fn dev(&self) -> DevId
+        ensures { result ≡ self.now.dev }
+    {
+        self.dev
+    }
+
+    /// How many bios wait, or `u64::MAX` where there are more.
+    pub fn len(&self) -> u64
+        ensures { result ≡ min (length self.now.bios) (2 ^ 64 - 1) }
+    {
+        self.bios.len()
+    }
+
+    /// Whether none waits.
+    pub fn is_empty(&self) -> bool
+        ensures { IsTrue result ↔ (self.now.bios ≡ []) }
+    {
+        self.bios.is_empty()
+    }
+
+    /// The bios that wait, to be looked at, in the two parts that `BioList::walk` shows.
+    pub fn walk(&self) -> (Bios<'_>, Bios<'_>)
+        ensures { result.0 ++ reverse result.1 ≡ map plain_of self.now.bios }
+    {
+        self.bios.walk()
     }
 
     /// Puts bios at the end, in their order (`punt_bios_to_rescuer`, `block/bio.c`).
@@ -69,11 +100,22 @@ impl TaskLists {
             list1: BioList::new(),
         }
     }
+}
+
+/// What has two lists of a task's bios in it.
+pub trait Waits {
+    /// The two lists.
+    ghost waiting: { Self → Lists };
 
     /// Whether one of the lists has a bio.
-    pub fn busy(&self) -> bool
-        ensures { IsTrue result ↔ ((self.now.list0 ≡ [] → ⊥) ⊎ (self.now.list1 ≡ [] → ⊥)) }
-    {
+    fn busy(&self) -> bool
+        ensures { IsTrue result ↔ IsBusy (waiting self.now) };
+}
+
+impl Waits for TaskLists {
+    ghost waiting = { λ lists. lists };
+
+    fn busy(&self) -> bool {
         !self.list0.is_empty() || !self.list1.is_empty()
     }
 }

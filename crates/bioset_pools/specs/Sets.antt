@@ -1,5 +1,5 @@
 -- What a set is made of, and when an attempt at one of its bios does not wait.
-use Rattle.std.specs.Prelude.{◌≡◌, ◌≢◌, ◌≤◌, ◌⊎◌, Bool, true, IsTrue, [], Option, None, Some, MatchOption, IsSomeAnd, ℕ}
+use Rattle.std.specs.Prelude.{◌≡◌, ◌≤◌, Bool, true, IsTrue, [], Option, None, Some, MatchOption, IsSomeAnd, ℕ}
 use Rattle.stack_base.specs.declared.ids.SetId.{SetId}
 use Rattle.stack_base.specs.declared.ids.SetId.TheVariants.{Fs, Of}
 use Rattle.stack_base.specs.declared.ids.PoolId.{PoolId}
@@ -10,6 +10,7 @@ use Rattle.mempool_core.specs.Pool.{LedgerPool}
 use Rattle.mempool_core.specs.Move.{opened}
 use Rattle.bio_records.specs.Rescue.{Rescue}
 use Rattle.bio_records.specs.declared.tasks.TaskLists.{TaskLists}
+use Rattle.bio_records.specs.Waiting.{IsBusy}
 use Rattle.bioset_pools.specs.declared.SetPlan.{SetPlan}
 use Rattle.bioset_pools.specs.declared.SetParts.{SetParts}
 
@@ -27,10 +28,11 @@ abbrev pub bios_of : SetId → PoolId
 bios_of Fs = FsBios
 bios_of (Of dev) = Bios dev
 
--- a full pool of this number, with this reserve and script
+-- a full pool of this number, with this reserve and script, and with nothing laid aside
 pub record IsFull (pool : PoolId) (min : ℕ) (script : Answers) (made : LedgerPool) : Type 0 where
   pub number : made.ledger.no ≡ pool_number pool
   pub state : made.state ≡ opened min script
+  pub most : made.most ≡ min
 
 -- an empty list for the rescuer of a device's set
 abbrev pub rescue_at : Bool → SetId → Option Rescue
@@ -48,4 +50,4 @@ pub record IsPlanned (plan : SetPlan) (bios vecs : Answers) (parts : SetParts) :
 
 -- the set has a rescuer, and one of the task's lists has a bio
 abbrev pub IsFirstTry : SetPlan → TaskLists → Type 0
-IsFirstTry plan lists = IsTrue plan.rescuer × ((lists.list0 ≢ []) ⊎ (lists.list1 ≢ []))
+IsFirstTry plan lists = IsTrue plan.rescuer × IsBusy lists

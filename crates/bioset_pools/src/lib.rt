@@ -8,7 +8,7 @@ ghost use Rattle.bio_records.specs.Items.{item_of, IsAlone};
 ghost use Rattle.bio_records.specs.Clear.{IsClearBody};
 ghost use Rattle.bioset_pools.specs.Sets.{IsPlan, IsPlanned, bios_of, rescue_of, IsFirstTry};
 
-use bio_records::{Bio, BioBody, BioElement, Pad, RescueList, TaskLists, Vector};
+use bio_records::{Bio, BioBody, BioElement, Pad, RescueList, Vector, Waits};
 use elem_ledger::Fresh;
 use fail_script::Script;
 use mempool_core::Pool;
@@ -111,8 +111,8 @@ impl BioSet {
 
 /// Whether the first attempt at a bio of this set, within a submission, is one that does not wait (`bio_alloc_bioset`): where the set has a
 /// rescuer and one of the task's lists has a bio, which only this task could submit.
-pub fn first_is_try(plan: &SetPlan, lists: &TaskLists) -> bool
-    ensures { IsTrue result ↔ IsFirstTry plan.now lists.now }
+pub fn first_is_try<L: Waits>(plan: &SetPlan, lists: &L) -> bool
+    ensures { IsTrue result ↔ IsFirstTry plan.now (L.waiting lists.now) }
 {
     plan.rescuer && lists.busy()
 }

@@ -148,6 +148,7 @@ fn tell_kind(told: &mut String, kind: &Kind) -> Result<(), AllocError> {
         }
         Kind::Linear => told.push_str(" linear"),
         Kind::Stripe { chunk } => write!(told, " stripe of chunk {chunk}"),
+        Kind::Zoned { chunk } => write!(told, " zoned of chunk {chunk}"),
         Kind::Limit { max, chunk } => write!(told, " limit of max {max} and chunk {chunk}"),
         Kind::Mirror { records } => write!(told, " mirror of records {records}"),
     }

@@ -460,6 +460,9 @@ fn a_write_that_fails_leaves_the_disk_as_it_was(rt: HostRuntime) -> Result<(), F
 
 /// Texts that are accepted and not run yet, and the line that is not.
 const NOT_BUILT: &[(&str, u64)] = &[
+    // A second round, which comes before the second write.
+    ("disk a 8\nwrite 0 a 0 2 0\nsync\nwrite 1 a 1 2 1000\n", 3),
+    ("disk a 8\n\nsync\nresize fs.bios 1\nwrite 0 a 0 2 0\n", 3),
     ("disk a 64\ndisk b 64\n", 2),
     ("disk a 64\nlinear n a\nwrite 0 n 0 1 0\n", 2),
     ("disk a 64\nstripe s chunk=8 a\n", 2),
@@ -587,6 +590,19 @@ const CHECKS: &[(&str, &str)] = &[
         "disk a 64\nlimit l max=1 reserve=1 a\nscript l.bios +- -\nwrite 0 l 0 4 0\n",
         "device a disk 64\ndevice l limit 64\nneed e 4 g 4 z 2 bound 42\n",
     ),
+    // A second round, and a reserve that changes.
+    (
+        "disk a 8\nwrite 0 a 0 2 0\nsync\nwrite 1 a 1 2 1000\n",
+        "device a disk 8\nneed e 2 g 2 z 1 bound 21\n",
+    ),
+    (
+        "disk a 8\ndisk b 8\nmirror m a b reserve=1 records=1\nmemory none\nwrite 0 m 0 1 0\nsync\nresize m.bios 2\nwrite 0 m 0 1 64\n",
+        "device a disk 8\ndevice b disk 8\ndevice m mirror 8\nneed e 8 g 4 z 2 bound 74\n",
+    ),
+    (
+        "disk a 16\ndisk b 32\ndisk c 20\nzoned z a b c chunk=8\nwrite 0 z 40 16 0\n",
+        "device a disk 16\ndevice b disk 32\ndevice c disk 20\ndevice z zoned 64\nneed e 2 g 2 z 0 bound 20\n",
+    ),
     // Two chunks of eight sectors fit each of 20 and 17.
     (
         "disk a 20\ndisk b 17\nstripe s a b chunk=8\ndisk c 9\nmirror m s c\n",
@@ -608,6 +624,10 @@ const LAYOUTS: &[(&str, &str)] = &[
     ("disk a 64\nlinear n a\n", ""),
     (ONE_SECTOR, "fragment 0 0 1 a 0\n"),
     (STRIPED, STRIPED_LAYOUT),
+    (
+        "disk a 16\ndisk b 32\ndisk c 20\nzoned z a b c chunk=8\nwrite 0 z 40 16 0\n",
+        "fragment 0 0 8 c 8\nfragment 0 8 8 b 16\n",
+    ),
     (
         "disk a 64\nlimit l max=3 chunk=8 a\nwrite 0 l 6 10 0\n",
         "fragment 0 0 2 a 6\nfragment 0 2 3 a 8\nfragment 0 5 3 a 11\nfragment 0 8 2 a 14\n",

@@ -1,14 +1,16 @@
 //! The layout by its definition, one sector at a time. It is slow, and there for tests to compare faster ways of finding fragments with.
 //! Sizes, starts and places on a device count sectors.
-ghost use Rattle.std.specs.Prelude.{◌≡◌, ◌↔◌, ◌<◌, ◌≤◌, ◌++◌, IsTrue, IfOk, OnOk, length, slice_get, Some};
-ghost use Rattle.stack_base.specs.Mapping.{among, head, slot};
+ghost use Rattle.std.specs.Prelude.{◌≡◌, ◌↔◌, ◌<◌, ◌≤◌, ◌^◌, ◌++◌, sum, IsTrue, IfOk, OnOk, length, slice_get, Some};
+ghost use Rattle.stack_base.specs.Mapping.{among, head, size_of, slot};
 ghost use Rattle.stack_base.specs.Stack.{HasShape, IsStack};
 ghost use Rattle.stack_base.specs.Tree.{Cuts, shape_of, size, tree};
 ghost use Rattle.layout_model.specs.Way.{Fits, heads, place};
 ghost use Rattle.biostack_tests.specs.Slow.{IsStep};
 
-use stack_base::{DevId, Device, Kind, Stack};
+use arrayvec::ArrayVec;
+use stack_base::{DevId, Device, Kind, MapLaw, Stack};
 use std::alloc::AllocError;
+use zoned_map::Zoned;
 
 /// A sector of a member of a device.
 #[derive(Clone, Copy, Debug, PartialEq, Eq)]
@@ -40,11 +42,31 @@ fn among(sizes: &[u64], sector: u64) -> Spot
     }
 }
 
+// Where a sector lies among members that chunks go round in zones: where a run of it alone goes.
+fn zoned_spot(chunk: u64, sizes: &[u64], sector: u64) -> Spot
+    requires shape { HasShape (Kind.Zoned chunk) (length sizes.now) }
+    requires small { sum sizes.now < 2 ^ 32 }
+    requires within { sector < size_of (Kind.Zoned chunk) sizes.now }
+    ensures { slot (Kind.Zoned chunk) sizes.now sector ≡ record { member = result.member; at = result.at } }
+{
+    let mut all = ArrayVec::new();
+    for size in sizes {
+        all.push(*size);
+    }
+    let piece = Zoned::new(chunk, all).piece(sector, 1);
+    Spot {
+        member: u64::from(piece.member),
+        at: piece.at,
+    }
+}
+
 /// Where a sector of a device of this kind lies in its members, which have these sizes. At a mirror each member has it at the same sector,
 /// and the first stands for all of them.
 #[tactic(auto, unfolding(stack_base::specs::Mapping::slot))]
 pub fn slot(kind: &Kind, sizes: &[u64], sector: u64) -> Spot
     requires shape { HasShape kind.now (length sizes.now) }
+    requires small { sum sizes.now < 2 ^ 32 }
+    requires within { sector < size_of kind.now sizes.now }
     ensures { slot kind.now sizes.now sector ≡ record { member = result.member; at = result.at } }
 {
     match kind {
@@ -57,6 +79,7 @@ pub fn slot(kind: &Kind, sizes: &[u64], sector: u64) -> Spot
                 at: number / members * *chunk + sector % *chunk,
             }
         }
+        Kind::Zoned { chunk } => zoned_spot(*chunk, sizes, sector),
         Kind::Disk { .. } | Kind::Limit { .. } | Kind::Mirror { .. } => Spot {
             member: 0,
             at: sector,
@@ -75,6 +98,7 @@ pub fn head(kind: &Kind, sizes: &[u64], start: u64, sector: u64) -> u64
     match kind {
         Kind::Linear => start.max(sector - among(sizes, sector).at),
         Kind::Stripe { chunk } => start.max(sector - sector % *chunk),
+        Kind::Zoned { chunk } => start.max(sector - sector % *chunk),
         Kind::Limit { max, chunk } => {
             let block = if *chunk == 0 {
                 0
@@ -138,7 +162,7 @@ pub fn fits(stack: &Stack, dev: DevId, sector: u64, choices: &[u32]) -> bool
             let member = device.members[choices[0] as usize];
             fits(stack, member, sector, &choices[1..])
         }
-        Kind::Linear | Kind::Stripe { .. } | Kind::Limit { .. } => {
+        Kind::Linear | Kind::Stripe { .. } | Kind::Zoned { .. } | Kind::Limit { .. } => {
             // Where the run starts changes no choice, so it starts here.
             let to = step_down(stack, device, dev, sector, sector);
             fits(stack, to.dev, to.sector, choices)
@@ -194,7 +218,7 @@ pub fn walk(
             let member = device.members[choices[0] as usize];
             walk(stack, member, start, sector, &choices[1..], into)
         }
-        Kind::Linear | Kind::Stripe { .. } | Kind::Limit { .. } => {
+        Kind::Linear | Kind::Stripe { .. } | Kind::Zoned { .. } | Kind::Limit { .. } => {
             let to = step_down(stack, device, dev, start, sector);
             into.push(to.head)?;
             walk(stack, to.dev, to.start, to.sector, choices, into)

@@ -5,40 +5,40 @@ use Rattle.decl_text.specs.Text.{lines, words}
 use Rattle.decl_text.specs.Items.{said}
 use Rattle.decl_text.specs.Known.{Known, Declared, Written, nothing, after_line, is_disk}
 use Rattle.decl_text.specs.Checks.{is_empty_list}
-use Rattle.decl_text.specs.Refusals.{first_found, known_after, line_checks, refusal, refused, said_reason}
+use Rattle.decl_text.specs.Refusals.{known_after, refusal, refused}
 use Rattle.decl_text.specs.declared.item.Item.{Item}
 use Rattle.decl_text.specs.declared.item.Item.TheVariants as item
 use Rattle.decl_text.specs.declared.item.What.TheVariants as what
 use Rattle.decl_text.specs.declared.reason.Reason.TheVariants.{NotBuilt}
-use Rattle.decl_text.proofs.LineLemmas.{still_fine}
+use Rattle.decl_text.proofs.LineLemmas.{told_parts}
+use Rattle.decl_text.proofs.Unrefused.{line_passes, none_refused}
 use Rattle.work_text.specs.Work.{all_checks}
 use Rattle.work_text.specs.Whole.{text_refusal, known_of_text}
-use Rattle.work_text.proofs.Unrefused.{or_none, none_refused, text_lines}
-use Rattle.biostack_top.specs.Built.{NoneWrong, IsOneDisk, IsOneWrite, is_unbuilt, none_seen, seen_with, unbuilt}
+use Rattle.work_text.proofs.Unrefused.{text_lines}
+use Rattle.biostack_top.specs.Built.{NoneWrong, IsOneDisk, IsOneWrite, has_rounds, is_unbuilt, none_seen, seen_with, unbuilt, unbuilt_in}
 use Rattle.biostack_top.specs.declared.built.Seen.{Seen}
 
 -- the next line is run, or it is not
-pub not_run : (seen : Seen) (number : ℕ) (line : List ℕ) (left : List (List ℕ)) → is_unbuilt seen (said (words line)) ≡ true → unbuilt seen number (line ∷ left) ≡ Some (refused number NotBuilt)
+pub not_run : (many : Bool) (seen : Seen) (number : ℕ) (line : List ℕ) (left : List (List ℕ)) → is_unbuilt many seen (said (words line)) ≡ true → unbuilt many seen number (line ∷ left) ≡ Some (refused number NotBuilt)
 unfolding unbuilt
-not_run seen number line left is = rw is refl
+not_run many seen number line left is = rw is refl
 
-pub run_line : (seen : Seen) (number : ℕ) (line : List ℕ) (left : List (List ℕ)) → is_unbuilt seen (said (words line)) ≡ false
-    → unbuilt seen number (line ∷ left) ≡ unbuilt (seen_with seen (said (words line))) (number + 1) left
+pub run_line : (many : Bool) (seen : Seen) (number : ℕ) (line : List ℕ) (left : List (List ℕ)) → is_unbuilt many seen (said (words line)) ≡ false
+    → unbuilt many seen number (line ∷ left) ≡ unbuilt many (seen_with seen (said (words line))) (number + 1) left
 unfolding unbuilt
-run_line seen number line left is = rw is refl
+run_line many seen number line left is = rw is refl
 
-pub none_left : (seen : Seen) (number : ℕ) → unbuilt seen number [] ≡ None
+pub none_left : (many : Bool) (seen : Seen) (number : ℕ) → unbuilt many seen number [] ≡ None
 unfolding unbuilt
-none_left seen number = refl
+none_left many seen number = refl
 
--- nothing is wrong by itself in a text that is not refused
+-- no word and no number is wrong in a text that is not refused
 pub none_wrong : (known : Known) (number : ℕ) (all : List (List ℕ)) → refusal all_checks known number all ≡ None → NoneWrong all
 none_wrong known number [] none = tt
 none_wrong known number (line ∷ all) none =
-    let parts = none_refused all_checks known number line all none in (
-      still_fine known line (or_none (first_found line_checks known line) (said_reason all_checks known (said (words line))) parts.0).0,
-      none_wrong (after_line known (said (words line))) (number + 1) all parts.1,
-    )
+    let parts = none_refused all_checks known number line all none in
+    let right = told_parts known line (line_passes all_checks known line parts.0).0 in
+    (right.formed, right.numbered, none_wrong (after_line known (said (words line))) (number + 1) all parts.1)
 
 -- a text that is not refused is short, and none of its lines is
 pub text_fine : (text : List ℕ) → text_refusal text ≡ None → (length text ≤ 4194304) × NoneWrong (lines text)
@@ -72,36 +72,39 @@ record Kept (seen : Seen) (known : Known) : Type 0 where
   sees : Sees seen known
   plain : IsPlain known
 
-kept_after : (seen : Seen) (known : Known) (what_is_said : Option Item) → Kept seen known → is_unbuilt seen what_is_said ≡ false → Kept (seen_with seen what_is_said) (after_line known what_is_said)
-kept_after seen known None kept runs = kept
-kept_after seen known (Some (item.Device name (what.Disk sectors) members reserve rescuer)) kept runs = record {
+kept_after : (many : Bool) (seen : Seen) (known : Known) (what_is_said : Option Item) → Kept seen known → is_unbuilt many seen what_is_said ≡ false → Kept (seen_with seen what_is_said) (after_line known what_is_said)
+kept_after many seen known None kept runs = kept
+kept_after many seen known (Some (item.Device name (what.Disk sectors) members reserve rescuer)) kept runs = record {
   sees = (sym (some_now known.devices _), kept.sees.1);
   plain = (one_more_disk known.devices _ (not_true (is_empty_list known.devices) (sym kept.sees.0 ∙ runs)) refl, kept.plain.1);
 }
-kept_after seen known (Some (item.Write task dev range tag)) kept runs = record {
+kept_after many seen known (Some (item.Write task dev range tag)) kept runs = record {
   sees = (kept.sees.0, sym (some_now known.writes _));
   plain = (kept.plain.0, one_more_write known.writes _ (not_true (is_empty_list known.writes) (sym kept.sees.1 ∙ runs)));
 }
-kept_after seen known (Some (item.Device name what.Linear members reserve rescuer)) kept runs = absurd (true≢false runs)
-kept_after seen known (Some (item.Device name (what.Stripe chunk) members reserve rescuer)) kept runs = absurd (true≢false runs)
-kept_after seen known (Some (item.Device name (what.Limit longest chunk) members reserve rescuer)) kept runs = absurd (true≢false runs)
-kept_after seen known (Some (item.Device name (what.Mirror records) members reserve rescuer)) kept runs = absurd (true≢false runs)
-kept_after seen known (Some (item.Bad disk range kind)) kept runs = record { sees = kept.sees; plain = kept.plain }
-kept_after seen known (Some (item.Fs bios vecs)) kept runs = record { sees = kept.sees; plain = kept.plain }
-kept_after seen known (Some (item.Script pool script)) kept runs = record { sees = kept.sees; plain = kept.plain }
-kept_after seen known (Some item.NoMemory) kept runs = record { sees = kept.sees; plain = kept.plain }
+kept_after many seen known (Some (item.Device name what.Linear members reserve rescuer)) kept runs = absurd (true≢false runs)
+kept_after many seen known (Some (item.Device name (what.Stripe chunk) members reserve rescuer)) kept runs = absurd (true≢false runs)
+kept_after many seen known (Some (item.Device name (what.Zoned chunk) members reserve rescuer)) kept runs = absurd (true≢false runs)
+kept_after many seen known (Some (item.Device name (what.Limit longest chunk) members reserve rescuer)) kept runs = absurd (true≢false runs)
+kept_after many seen known (Some (item.Device name (what.Mirror records) members reserve rescuer)) kept runs = absurd (true≢false runs)
+kept_after many seen known (Some (item.Bad disk range kind)) kept runs = record { sees = kept.sees; plain = kept.plain }
+kept_after many seen known (Some (item.Fs bios vecs)) kept runs = record { sees = kept.sees; plain = kept.plain }
+kept_after many seen known (Some (item.Script pool script)) kept runs = record { sees = kept.sees; plain = kept.plain }
+kept_after many seen known (Some item.NoMemory) kept runs = record { sees = kept.sees; plain = kept.plain }
+kept_after many seen known (Some item.Sync) kept runs = record { sees = kept.sees; plain = kept.plain }
+kept_after many seen known (Some (item.Resize pool min)) kept runs = record { sees = kept.sees; plain = kept.plain }
 
-runs_by : (seen : Seen) (number : ℕ) (line : List ℕ) (left : List (List ℕ)) (is : Bool) → is_unbuilt seen (said (words line)) ≡ is → unbuilt seen number (line ∷ left) ≡ None
-    → (is ≡ false) × (unbuilt (seen_with seen (said (words line))) (number + 1) left ≡ None)
-runs_by seen number line left true is none = absurd (none-some (refused number NotBuilt) (sym none ∙ not_run seen number line left is))
-runs_by seen number line left false is none = (refl, sym (run_line seen number line left is) ∙ none)
+runs_by : (many : Bool) (seen : Seen) (number : ℕ) (line : List ℕ) (left : List (List ℕ)) (is : Bool) → is_unbuilt many seen (said (words line)) ≡ is → unbuilt many seen number (line ∷ left) ≡ None
+    → (is ≡ false) × (unbuilt many (seen_with seen (said (words line))) (number + 1) left ≡ None)
+runs_by many seen number line left true is none = absurd (none-some (refused number NotBuilt) (sym none ∙ not_run many seen number line left is))
+runs_by many seen number line left false is none = (refl, sym (run_line many seen number line left is) ∙ none)
 
-all_kept : (seen : Seen) (known : Known) (number : ℕ) (all : List (List ℕ)) → Kept seen known → unbuilt seen number all ≡ None → IsPlain (known_after known all)
-all_kept seen known number [] kept none = kept.plain
-all_kept seen known number (line ∷ all) kept none =
-    let runs = runs_by seen number line all (is_unbuilt seen (said (words line))) refl none in
-    all_kept (seen_with seen (said (words line))) (after_line known (said (words line))) (number + 1) all (kept_after seen known (said (words line)) kept runs.0) runs.1
+all_kept : (many : Bool) (seen : Seen) (known : Known) (number : ℕ) (all : List (List ℕ)) → Kept seen known → unbuilt many seen number all ≡ None → IsPlain (known_after known all)
+all_kept many seen known number [] kept none = kept.plain
+all_kept many seen known number (line ∷ all) kept none =
+    let runs = runs_by many seen number line all (is_unbuilt many seen (said (words line))) refl none in
+    all_kept many (seen_with seen (said (words line))) (after_line known (said (words line))) (number + 1) all (kept_after many seen known (said (words line)) kept runs.0) runs.1
 
 -- a text of which all is run has at most one device, a disk, and at most one write
-pub all_plain : (text : List ℕ) → unbuilt none_seen 1 (lines text) ≡ None → IsPlain (known_of_text text)
-all_plain text none = all_kept none_seen nothing 1 (lines text) (record { sees = (refl, refl); plain = (tt, tt) }) none
+pub all_plain : (text : List ℕ) → unbuilt_in text ≡ None → IsPlain (known_of_text text)
+all_plain text none = all_kept (has_rounds text) none_seen nothing 1 (lines text) (record { sees = (refl, refl); plain = (tt, tt) }) none

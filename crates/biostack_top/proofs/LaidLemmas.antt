@@ -114,6 +114,7 @@ unfolding over_shape
 disk_tree (kind.Disk sectors bad) members is = refl
 disk_tree kind.Linear members is = absurd is
 disk_tree (kind.Stripe chunk) members is = absurd is
+disk_tree (kind.Zoned chunk) members is = absurd is
 disk_tree (kind.Limit longest chunk) members is = absurd is
 disk_tree (kind.Mirror records) members is = absurd is
 
@@ -158,10 +159,10 @@ module _ (s : Scenario) (write : Write) (served : IsWrite s.stack write) (one : 
   pub may_end_so : EachMayEnd s.stack 0 (write ∷ []) (fault (bads_of s.stack 0) (bio_of write).range ∷ [])
   may_end_so = ((may_end_on_disk s.stack write (size (tree s.stack write.dev.0)) is_leaf 0 (fault (bads_of s.stack 0) (bio_of write).range)).1 fault_there, tt)
 
-  laid_there : (x : ℕ) → IsLaid s.stack (write ∷ []) 0 x (lone_sector s.stack write x)
+  laid_there : (x : ℕ) → IsLaid s.stack (write ∷ []) (0 ∷ []) 0 x (lone_sector s.stack write x)
   laid_there x =
-      subst (λ n. IsLaid s.stack (write ∷ []) n x (lone_sector s.stack write x)) to_first
-      (laid_on_disk s.stack write (size (tree s.stack write.dev.0)) is_leaf x)
+      subst (λ n. IsLaid s.stack (write ∷ []) (0 ∷ []) n x (lone_sector s.stack write x)) to_first
+      (laid_on_disk s.stack write (size (tree s.stack write.dev.0)) is_leaf (0 ∷ []) x)
 
   -- and leaves the laid-out image on a disk of zeros
   pub left_is_laid : HoldsLaid s.stack (write ∷ []) 0 (image_if (status_eq (fault (bads_of s.stack 0) (bio_of write).range) status.Ok) write (sectors_of s))
@@ -173,7 +174,7 @@ module _ (s : Scenario) (write : Write) (served : IsWrite s.stack write) (one : 
             let there : get_or (image_if well write (sectors_of s)) at [] ≡ lone_sector s.stack write at =
             image_at well write (sectors_of s) at within (omega (arith, length_is))
             ∙ ap (λ end. sector_if (status_eq end status.Ok) write at) fault_there in
-            subst (λ sector. IsLaid s.stack (write ∷ []) 0 at sector) (sym there) (laid_there at);
+            subst (λ sector. IsLaid s.stack (write ∷ []) (0 ∷ []) 0 at sector) (sym there) (laid_there at);
       }
 
 -- without a write it stays a disk of zeros
@@ -183,5 +184,5 @@ zeros_are_laid s = record {
   laid = λ at lt.
       let there : get_or (replicate (sectors_of s) zero_sector) at [] ≡ zero_sector =
       get_or-replicate (sectors_of s) at zero_sector [] (omega (arith, length-replicate (sectors_of s) zero_sector)) in
-      subst (λ sector. IsLaid s.stack [] 0 at sector) (sym there) (laid_on_nothing s.stack 0 at);
+      subst (λ sector. IsLaid s.stack [] [] 0 at sector) (sym there) (laid_on_nothing s.stack [] 0 at);
 }

@@ -1,5 +1,5 @@
 -- A text of which all is run is of one disk and one write at most, with all that opening it wants.
-use Rattle.std.proofs.Common.{◌≡◌, ◌+◌, ◌*◌, ◌≤◌, ℕ, true, List, [], ◌∷◌, map, length, None, refl, sym, ap, ◌∙◌, subst, true≢false, arith, get_or}
+use Rattle.std.proofs.Common.{◌≡◌, ◌+◌, ◌*◌, ◌≤◌, ℕ, true, List, [], ◌∷◌, map, length, None, Some, refl, sym, ap, ◌∙◌, subst, true≢false, arith, get_or}
 use Rattle.std.specs.Prelude.{All, Contains, slice_get, sum_by}
 use Rattle.std.specs.Option.{option_map_or}
 use Rattle.std.specs.Global.{Vec}
@@ -19,20 +19,19 @@ use Rattle.layout_model.specs.declared.totals.Bounds.{Bounds}
 use Rattle.layout_model.specs.May.{bads_of, kind_bads}
 use Rattle.layout_model.specs.Bound.{IsBound}
 use Rattle.layout_model.specs.Needs.{elements}
-use Rattle.decl_text.specs.Text.{lines}
 use Rattle.decl_text.specs.Known.{Known, Declared, is_disk}
-use Rattle.decl_text.specs.Accepting.{Means, shown, what_of, script_of, scripts_of, device_pools}
+use Rattle.decl_text.specs.Accepting.{Means, bad_of, shown, what_of, script_of, scripts_of, device_pools}
 use Rattle.decl_text.specs.declared.item.What.{What}
 use Rattle.decl_text.specs.declared.item.What.TheVariants as what
-use Rattle.work_text.specs.Whole.{text_refusal, known_of_text}
+use Rattle.work_text.specs.Whole.{known_of_text}
 use Rattle.work_text.specs.Work.{written}
-use Rattle.work_text.specs.Reading.{all_entries}
-use Rattle.work_text.proofs.Ready.{IsSomeBad, bads_ready, reserves_ready, writes_ready}
+use Rattle.decl_text.specs.Fit.{IsFitBad, IsFitStack}
+use Rattle.work_text.proofs.Ready.{writes_ready}
 use Rattle.model_disks.specs.Disks.{IsBadRange}
 use Rattle.biostack_top.specs.Scene.{Says}
 use Rattle.biostack_top.specs.CheckText.{most_steps}
 use Rattle.biostack_top.specs.Scenario.{scenario_of, vector_count}
-use Rattle.biostack_top.specs.Built.{IsOneDisk, IsOneWrite, none_seen, unbuilt}
+use Rattle.biostack_top.specs.Built.{IsOneDisk, IsOneWrite, unbuilt_in}
 use Rattle.biostack_top.specs.Runs.{AreOneDisk, AreOneWrite, IsDisk, IsPlain}
 use Rattle.biostack_top.proofs.BuiltLemmas.{all_plain}
 
@@ -40,6 +39,7 @@ disk_is : (k : Kind) → is_disk (what_of k) ≡ true → IsDisk k
 disk_is (kind.Disk sectors bad) is = tt
 disk_is kind.Linear is = absurd (true≢false (sym is))
 disk_is (kind.Stripe chunk) is = absurd (true≢false (sym is))
+disk_is (kind.Zoned chunk) is = absurd (true≢false (sym is))
 disk_is (kind.Limit longest chunk) is = absurd (true≢false (sym is))
 disk_is (kind.Mirror records) is = absurd (true≢false (sym is))
 
@@ -63,7 +63,7 @@ some_steps : (stack : Stack) (writes : List Write) (z : ℕ) (bounds : Bounds) �
 some_steps stack writes z bounds needs = omega (arith, some_elements stack writes, needs.elements)
 
 -- bad ranges of a disk that each have a sector, end within it and have a kind
-each_bad : (sectors : ℕ) (bads : List Bad) → ((bad : Bad) → Contains bads bad → IsSomeBad sectors bad) → All (IsBadRange sectors) bads
+each_bad : (sectors : ℕ) (bads : List Bad) → ((bad : Bad) → Contains bads bad → IsFitBad sectors bad) → All (IsBadRange sectors) bads
 each_bad sectors bads each k d lt =
     let here = slice_get-get_or bads k d lt in
     let there = slice_get-get_or bads k (get_or bads k d) lt in
@@ -83,40 +83,45 @@ first_size stack d sectors bads is same = rw is (disk_size d.kind _ sectors bads
 abbrev bads_in : List Device → List Bad
 bads_in devices = option_map_or (λ (device : Device). kind_bads device.kind) (slice_get devices 0) []
 
-bads_of_first : (text : List ℕ) (stack : Stack) (scripts : List (PoolId × Answers)) (d : Device) (k : Kind) → text_refusal text ≡ None
-    → Means (known_of_text text) stack scripts → stack.devices.items ≡ d ∷ [] → d.kind ≡ k → IsDisk k → All (IsBadRange (size (tree stack 0))) (kind_bads d.kind)
-bads_of_first text stack scripts d (kind.Disk sectors bads) fine means is same disk =
-    let each = each_bad sectors bads.items (bads_ready text stack scripts 0 d sectors bads fine means (ap (λ ds. slice_get ds 0) is) same) in
+bads_fit : (stack : Stack) (d : Device) (sectors : ℕ) (bads : Vec Bad) → IsFitStack stack → slice_get stack.devices.items 0 ≡ Some d → d.kind ≡ kind.Disk sectors bads
+    → (bad : Bad) → Contains bads.items bad → IsFitBad sectors bad
+bads_fit stack d sectors bads fit found is bad there =
+    subst (λ (k : Kind). IsFitBad (Rattle.decl_text.specs.Known.sectors_of (what_of k)) bad) is
+    (fit.bad 0 d bad found (subst (λ (k : Kind). Contains (bad_of k) bad) (sym is) there))
+
+bads_of_first : (stack : Stack) (d : Device) (k : Kind) → IsFitStack stack → stack.devices.items ≡ d ∷ [] → d.kind ≡ k → IsDisk k → All (IsBadRange (size (tree stack 0))) (kind_bads d.kind)
+bads_of_first stack d (kind.Disk sectors bads) fit is same disk =
+    let each = each_bad sectors bads.items (bads_fit stack d sectors bads fit (ap (λ ds. slice_get ds 0) is) same) in
     let kinds = subst (λ k. All (IsBadRange sectors) (kind_bads k)) (sym same) each in
     subst (λ n. All (IsBadRange n) (kind_bads d.kind)) (sym (first_size stack d sectors bads is same)) kinds
-bads_of_first text stack scripts d kind.Linear fine means is same disk = absurd disk
-bads_of_first text stack scripts d (kind.Stripe chunk) fine means is same disk = absurd disk
-bads_of_first text stack scripts d (kind.Limit longest chunk) fine means is same disk = absurd disk
-bads_of_first text stack scripts d (kind.Mirror records) fine means is same disk = absurd disk
+bads_of_first stack d kind.Linear fit is same disk = absurd disk
+bads_of_first stack d (kind.Stripe chunk) fit is same disk = absurd disk
+bads_of_first stack d (kind.Zoned chunk) fit is same disk = absurd disk
+bads_of_first stack d (kind.Limit longest chunk) fit is same disk = absurd disk
+bads_of_first stack d (kind.Mirror records) fit is same disk = absurd disk
 
-bads_of_one : (text : List ℕ) (stack : Stack) (scripts : List (PoolId × Answers)) (devices : List Device) → text_refusal text ≡ None
-    → Means (known_of_text text) stack scripts → stack.devices.items ≡ devices → AreOneDisk devices → All (IsBadRange (size (tree stack 0))) (bads_of stack 0)
-bads_of_one text stack scripts [] fine means is one =
+bads_of_one : (stack : Stack) (devices : List Device) → IsFitStack stack → stack.devices.items ≡ devices → AreOneDisk devices → All (IsBadRange (size (tree stack 0))) (bads_of stack 0)
+bads_of_one stack [] fit is one =
     subst (λ devices. All (IsBadRange (size (tree stack 0))) (bads_in devices)) (sym is) (λ k d lt. absurd (omega arith))
-bads_of_one text stack scripts (d ∷ []) fine means is one =
-    subst (λ devices. All (IsBadRange (size (tree stack 0))) (bads_in devices)) (sym is) (bads_of_first text stack scripts d d.kind fine means is refl one)
-bads_of_one text stack scripts (d ∷ e ∷ more) fine means is one = absurd one
+bads_of_one stack (d ∷ []) fit is one =
+    subst (λ devices. All (IsBadRange (size (tree stack 0))) (bads_in devices)) (sym is) (bads_of_first stack d d.kind fit is refl one)
+bads_of_one stack (d ∷ e ∷ more) fit is one = absurd one
 
 -- the scenario of a text of which all is run
 pub plain_scenario : (text : List ℕ) (stack : Stack) (scripts : List (PoolId × Answers)) (writes : List Write) (bounds : Bounds)
-    → Says text stack scripts writes bounds → unbuilt none_seen 1 (lines text) ≡ None → IsPlain (scenario_of stack scripts writes bounds)
-plain_scenario text stack scripts writes bounds says none =
+    → Says text stack scripts writes bounds → IsFitStack stack → unbuilt_in text ≡ None → IsPlain (scenario_of stack scripts writes bounds)
+plain_scenario text stack scripts writes bounds says fit none =
     let plain = all_plain text none in
     let disk = one_disk stack.devices.items (subst IsOneDisk (sym says.means.devices) plain.0) in
-    let reserves = reserves_ready text stack scripts says.fine says.means in record {
+    record {
       disk = disk;
       write = one_write writes (subst IsOneWrite (sym says.writes) plain.1);
       served = says.served;
       short = writes_ready text writes says.fine says.writes;
-      bad = bads_of_one text stack scripts stack.devices.items says.fine says.means refl disk;
-      bios = reserves.0;
-      vecs = reserves.1;
-      bound = some_steps stack writes (all_entries scripts) bounds says.needs;
+      bad = bads_of_one stack stack.devices.items fit refl disk;
+      bios = fit.fs_bios.0;
+      vecs = fit.fs_vecs.0;
+      bound = some_steps stack writes _ bounds says.needs;
     }
 
 -- its pools are the writers' two
@@ -124,6 +129,7 @@ no_pools : (number : ℕ) (does : What) → is_disk does ≡ true → device_poo
 no_pools number (what.Disk sectors) is = refl
 no_pools number what.Linear is = absurd (true≢false (sym is))
 no_pools number (what.Stripe chunk) is = absurd (true≢false (sym is))
+no_pools number (what.Zoned chunk) is = absurd (true≢false (sym is))
 no_pools number (what.Limit longest chunk) is = absurd (true≢false (sym is))
 no_pools number (what.Mirror records) is = absurd (true≢false (sym is))
 
@@ -136,7 +142,7 @@ two_by known (d ∷ []) is one = rw (is, no_pools 0 d.what one) refl
 two_by known (d ∷ e ∷ more) is one = absurd one
 
 pub two_pools : (text : List ℕ) (stack : Stack) (scripts : List (PoolId × Answers)) → Means (known_of_text text) stack scripts
-    → unbuilt none_seen 1 (lines text) ≡ None → scripts ≡ two (known_of_text text)
+    → unbuilt_in text ≡ None → scripts ≡ two (known_of_text text)
 two_pools text stack scripts means none = means.scripts ∙ two_by (known_of_text text) (known_of_text text).devices refl (all_plain text none).0
 
 -- the scripts that are handed out are those of the two pools

@@ -1,5 +1,5 @@
 -- A whole text, by its declarations and the rest of it.
-use Rattle.std.proofs.Common.{◌≡◌, ℕ, List, [], Ok, Err, drop, length, lt-ltb, refl, sym, ap, ◌∙◌}
+use Rattle.std.proofs.Common.{◌≡◌, ◌+◌, ◌≤◌, ℕ, List, [], Ok, Err, drop, length, lt-ltb, refl, sym, ap, subst, ◌∙◌, arith}
 use Rattle.std.specs.Prelude.{Contains}
 use Rattle.layout_model.specs.declared.write.Write.{Write}
 use Rattle.layout_model.specs.Writes.{IsWrite}
@@ -11,12 +11,15 @@ use Rattle.decl_text.specs.declared.accepted.Accepted.{Accepted}
 use Rattle.decl_text.specs.declared.reason.ReadFault.{ReadFault}
 use Rattle.decl_text.specs.declared.reason.ReadFault.TheVariants.{Refused, Memory}
 use Rattle.stack_check.specs.Accept.{Accepts}
-use Rattle.work_text.specs.declared.Work.{Work}
-use Rattle.work_text.specs.Work.{all_checks, known_of}
+use Rattle.work_text.specs.Work.{all_checks, kept_resizes, known_of, last_round, resized}
 use Rattle.work_text.specs.Reading.{ReadsWork, work_lines}
-use Rattle.work_text.specs.Whole.{RestDecides, text_refusal}
+use Rattle.work_text.specs.Whole.{RestDecides, known_of_text, text_refusal, work_of}
 use Rattle.work_text.proofs.Wholes.{refused_first, rest_decides}
-use Rattle.biostack_top.specs.Scene.{ReadsScene, Says}
+use Rattle.std.proofs.lemmas.List.{length-map}
+use Rattle.layout_model.specs.Bound.{IsBound}
+use Rattle.decl_text.specs.Known.{Known}
+use Rattle.biostack_top.specs.declared.scene.Scene.{Scene}
+use Rattle.biostack_top.specs.Scene.{IsSaid, ReadsScene, SaysScene}
 
 pub too_long : (text : List ℕ) (fault : ReadFault) → ReadsDecl text (Err fault) → ReadsScene text (Err fault)
 too_long text (Refused first) is = rw (lt-ltb most_bytes (length text) is.0, is.1) refl
@@ -30,30 +33,47 @@ decides : (text : List ℕ) (read : Read) (accepted : Accepted) → ReadsDecl te
 decides text read accepted is accepts = rest_decides (record { short = is.0; is = is.1; none = accepts.0; means = accepts.1 })
 
 pub rest_begins : (text : List ℕ) (read : Read) (accepted : Accepted) → ReadsDecl text (Ok read) → Accepts read (Ok accepted) → declarations (work_lines text accepted) ≡ []
-rest_begins text read accepted is accepts = ap (λ n. declarations (lines (drop n text))) accepts.2 ∙ (decides text read accepted is accepts).begins
+rest_begins text read accepted is accepts = ap (λ n. declarations (lines (drop n text))) accepts.3 ∙ (decides text read accepted is accepts).begins
 
 same_refusal : (text : List ℕ) (read : Read) (accepted : Accepted) → ReadsDecl text (Ok read) → Accepts read (Ok accepted)
     → text_refusal text ≡ refusal all_checks (known_of accepted.stack) accepted.line (work_lines text accepted)
 same_refusal text read accepted is accepts =
     (decides text read accepted is accepts).refusals
-    ∙ ap (λ n. refusal all_checks (known_of accepted.stack) n (lines (drop read.rest text))) (sym accepts.3)
-    ∙ ap (λ n. refusal all_checks (known_of accepted.stack) accepted.line (lines (drop n text))) (sym accepts.2)
+    ∙ ap (λ n. refusal all_checks (known_of accepted.stack) n (lines (drop read.rest text))) (sym accepts.4)
+    ∙ ap (λ n. refusal all_checks (known_of accepted.stack) accepted.line (lines (drop n text))) (sym accepts.3)
 
 pub work_refuses : (text : List ℕ) (read : Read) (accepted : Accepted) (fault : ReadFault) → ReadsDecl text (Ok read) → Accepts read (Ok accepted) → ReadsWork text accepted (Err fault)
     → ReadsScene text (Err fault)
 work_refuses text read accepted (Refused first) is accepts refuses = same_refusal text read accepted is accepts ∙ refuses
 work_refuses text read accepted Memory is accepts refuses = tt
 
-pub says_all : (text : List ℕ) (read : Read) (accepted : Accepted) (work : Work) → ReadsDecl text (Ok read) → Accepts read (Ok accepted) → ReadsWork text accepted (Ok work)
-    → ((write : Write) → Contains work.writes.items write → IsWrite accepted.stack write) → Says text accepted.stack accepted.scripts.items work.writes.items work.bound
-says_all text read accepted work is accepts reads served =
+pub says_all : (text : List ℕ) (read : Read) (scene : Scene) → ReadsDecl text (Ok read) → Accepts read (Ok scene.accepted) → ReadsWork text scene.accepted (Ok scene.work)
+    → ((write : Write) → Contains scene.work.writes.items write → IsWrite scene.accepted.stack write)
+    → last_round scene.work.rounds.items + length scene.work.resizes.items ≤ 5120 → scene.text.now ≡ text → IsSaid scene
+says_all text read scene is accepts reads served few same =
+    let accepted = scene.accepted in
     let fine = same_refusal text read accepted is accepts ∙ reads.0 in
     let by = decides text read accepted is accepts in
-    record {
-      fine = fine;
-      stack = accepted.is_stack;
-      means = by.means fine;
-      writes = reads.1 ∙ ap (λ n. (known_after (known_of accepted.stack) (lines (drop n text))).writes) accepts.2 ∙ sym (by.writes fine);
-      served = served;
-      needs = reads.2;
-    }
+    let work : known_after (known_of accepted.stack) (work_lines text accepted) ≡ work_of (known_of_text text) =
+    ap (λ n. known_after (known_of accepted.stack) (lines (drop n text))) accepts.3 ∙ sym (by.work fine) in
+    subst (λ t. SaysScene t scene) (sym same)
+    (record {
+      says = record {
+        fine = fine;
+        stack = accepted.is_stack;
+        means = by.means fine;
+        writes = reads.1.writes ∙ ap (λ (k : Known). k.writes) work;
+        served = served;
+        needs = subst (λ z. IsBound accepted.stack scene.work.writes.items z scene.work.bound)
+            (omega (
+              arith,
+              ap last_round (reads.1.rounds ∙ ap (λ (k : Known). k.rounds) work),
+              ap length (reads.1.resizes ∙ ap (λ (k : Known). kept_resizes (last_round k.rounds) k.resizes) work),
+              length-map scene.work.resizes.items resized,
+            ))
+            reads.1.bound;
+      };
+      rounds = reads.1.rounds ∙ ap (λ (k : Known). k.rounds) work;
+      resizes = reads.1.resizes ∙ ap (λ (k : Known). kept_resizes (last_round k.rounds) k.resizes) work;
+      few_rounds = few;
+    })

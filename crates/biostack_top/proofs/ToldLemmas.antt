@@ -5,14 +5,14 @@ use Rattle.stack_base.specs.declared.ids.PoolId.{PoolId}
 use Rattle.stack_base.specs.declared.stack.Stack.{Stack}
 use Rattle.layout_model.specs.declared.write.Write.{Write}
 use Rattle.layout_model.specs.declared.totals.Bounds.{Bounds}
-use Rattle.decl_text.specs.Text.{lines}
 use Rattle.work_text.specs.Whole.{known_of_text}
 use Rattle.decl_text.specs.Accepting.{script_of}
 use Rattle.stack_base.specs.declared.ids.PoolId.TheVariants.{FsBios, FsVecs}
 use Rattle.biostack_top.specs.Scene.{Says}
 use Rattle.biostack_top.specs.CheckText.{most_steps}
 use Rattle.biostack_top.specs.Scenario.{Scenario, scenario_of}
-use Rattle.biostack_top.specs.Built.{none_seen, unbuilt}
+use Rattle.decl_text.specs.Fit.{IsFitStack}
+use Rattle.biostack_top.specs.Built.{unbuilt_in}
 use Rattle.biostack_top.specs.Runs.{IsPlain}
 use Rattle.biostack_top.specs.Report.{Ended, report}
 use Rattle.biostack_top.specs.Ending.{MayEndAs, Tells, all_well}
@@ -23,7 +23,8 @@ use Rattle.biostack_top.proofs.RunLemmas.{every_run_holds, may_be_told}
 -- a text of which all is run, and what was handed out of it
 pub record Handed (text : List ℕ) (stack : Stack) (scripts : List (PoolId × Answers)) (writes now : List Write) (bounds : Bounds) (bios vecs : Answers) : Type 0 where
   pub says : Says text stack scripts writes bounds
-  pub none : unbuilt none_seen 1 (lines text) ≡ None
+  pub fit : IsFitStack stack
+  pub none : unbuilt_in text ≡ None
   pub pools : (p q : PoolId) × (scripts ≡ (p, bios) ∷ (q, vecs) ∷ [])
   pub writes_are : now ≡ writes
 
@@ -40,13 +41,13 @@ module _ {text : List ℕ} {stack : Stack} {scripts : List (PoolId × Answers)} 
       ∙ ap (λ ws. handed stack ws bounds bios vecs) (sym h.writes_are)
 
   pub handed_plain : (h : Handed text stack scripts writes now bounds bios vecs) → IsPlain (handed stack now bounds bios vecs)
-  handed_plain h = subst IsPlain (is_handed h) (plain_scenario text stack scripts writes bounds h.says h.none)
+  handed_plain h = subst IsPlain (is_handed h) (plain_scenario text stack scripts writes bounds h.says h.fit h.none)
 
   -- the report of an ended run of it is what a run tells of the text
   pub told_run : (h : Handed text stack scripts writes now bounds bios vecs) (e : Ended) (well : Bool) → MayEndAs (handed stack now bounds bios vecs) e
       → well ≡ all_well e.statuses → Tells Run text (report e) well
   told_run h e well may is =
       let s = scenario_of stack scripts writes bounds in
-      let plain = plain_scenario text stack scripts writes bounds h.says h.none in
+      let plain = plain_scenario text stack scripts writes bounds h.says h.fit h.none in
       let ends : MayEndAs s e = subst (λ x. MayEndAs x e) (sym (is_handed h)) may in
       (stack, scripts, writes, bounds, e, h.says, (plain, every_run_holds s plain, ends, may_be_told s plain e ends), refl, is)

@@ -1,7 +1,7 @@
 -- What `check` writes: the devices of a stack, and what its writes need together.
 use Rattle.std.specs.Prelude.{◌+◌, ◌*◌, List, [], ◌∷◌, ◌++◌, ℕ, codes, decimal}
 use Rattle.stack_base.specs.declared.stack.Kind.{Kind}
-use Rattle.stack_base.specs.declared.stack.Kind.TheVariants.{Disk, Linear, Stripe, Limit, Mirror}
+use Rattle.stack_base.specs.declared.stack.Kind.TheVariants.{Disk, Linear, Stripe, Zoned, Limit, Mirror}
 use Rattle.stack_base.specs.declared.stack.Device.{Device}
 use Rattle.stack_base.specs.declared.stack.Stack.{Stack}
 use Rattle.stack_base.specs.Tree.{tree, size}
@@ -12,6 +12,7 @@ abbrev pub kind_word : Kind → List ℕ
 kind_word (Disk sectors bad) = codes "disk"
 kind_word Linear = codes "linear"
 kind_word (Stripe chunk) = codes "stripe"
+kind_word (Zoned chunk) = codes "zoned"
 kind_word (Limit longest chunk) = codes "limit"
 kind_word (Mirror records) = codes "mirror"
 

@@ -2,7 +2,7 @@
 use Rattle.std.specs.Prelude.{◌≡◌, ◌+◌, ◌*◌, ◌<◌, ◌≤◌, Bool, true, false, List, [], ◌∷◌, length, count_by, is_some, nat_lt, All, Contains}
 use Rattle.std.specs.Option.{option_to_list}
 use Rattle.stack_base.specs.declared.stack.Kind.{Kind}
-use Rattle.stack_base.specs.declared.stack.Kind.TheVariants.{Disk, Linear, Stripe, Limit, Mirror}
+use Rattle.stack_base.specs.declared.stack.Kind.TheVariants.{Disk, Linear, Stripe, Zoned, Limit, Mirror}
 use Rattle.stack_base.specs.declared.stack.Device.{Device}
 use Rattle.layout_model.specs.declared.write.Write.{Write}
 use Rattle.layout_model.specs.Writes.{IsWrite}
@@ -17,6 +17,7 @@ abbrev pub IsDisk : Kind → Type 0
 IsDisk (Disk sectors bad) = Unit {0}
 IsDisk Linear = ⊥
 IsDisk (Stripe chunk) = ⊥
+IsDisk (Zoned chunk) = ⊥
 IsDisk (Limit longest chunk) = ⊥
 IsDisk (Mirror records) = ⊥
 

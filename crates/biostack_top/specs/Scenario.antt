@@ -1,5 +1,5 @@
 -- What a run is of: a stack of at most one device, which is a disk, the scripts of the writers' two pools, and at most one write.
-use Rattle.std.specs.Prelude.{◌≡◌, ◌+◌, ◌<◌, ◌==◌, nat_lt, Bool, false, List, [], ◌∷◌, ℕ, length, find, unwrap_or, slice_index_or, Option, None, Some}
+use Rattle.std.specs.Prelude.{◌≡◌, ◌+◌, ◌<◌, ◌==◌, nat_lt, Bool, false, List, [], ◌∷◌, ℕ, length, map, find, unwrap_or, slice_index_or, Option, None, Some}
 use Rattle.std.specs.Option.{option_map}
 use Rattle.fail_script.specs.Script.{Answers, only_tail}
 use Rattle.stack_base.specs.declared.ids.PoolId.{PoolId}
@@ -65,7 +65,11 @@ EachMayEnd stack number [] [] = Unit {0}
 EachMayEnd stack number (write ∷ writes) (end ∷ ends) = MayEnd stack write number end × EachMayEnd stack (number + 1) writes ends
 EachMayEnd stack number _ _ = ⊥
 
+-- all writes are of the first round
+abbrev pub first_rounds : List Write → List ℕ
+first_rounds writes = map (λ write. 0) writes
+
 -- a disk holds what these writes leave on it when they have all ended
 pub record HoldsLaid (stack : Stack) (writes : List Write) (disk : ℕ) (image : List (List ℕ)) : Type 0 where
   pub sectors : length image ≡ size (tree stack disk)
-  pub laid : (at : ℕ) → at < length image → IsLaid stack writes disk at (slice_index_or image at [])
+  pub laid : (at : ℕ) → at < length image → IsLaid stack writes (first_rounds writes) disk at (slice_index_or image at [])

@@ -16,6 +16,7 @@ fn kind_word(kind: &Kind) -> &[u8]
         Kind::Disk { .. } => b"disk",
         Kind::Linear => b"linear",
         Kind::Stripe { .. } => b"stripe",
+        Kind::Zoned { .. } => b"zoned",
         Kind::Limit { .. } => b"limit",
         Kind::Mirror { .. } => b"mirror",
     }

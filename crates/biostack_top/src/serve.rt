@@ -1,11 +1,13 @@
 //! Does what the words ask for.
-ghost use Rattle.std.specs.Prelude.{◌≡◌, ◌^◌, ◌<◌, map, false, IfOk, OnErr};
+ghost use Rattle.std.specs.Prelude.{◌≡◌, ◌^◌, ◌<◌, map, nat_lt, false, IfOk, OnErr};
 ghost use Rattle.std.specs.Option.{option_to_list};
 ghost use Rattle.std.specs.String.{string_bytes};
 ghost use Rattle.outside_io.specs.Saying.{Says};
 ghost use Rattle.biostack_top.specs.Runs.{IsPlain};
 ghost use Rattle.biostack_top.specs.ScenarioViews.{scenario_view};
 ghost use Rattle.biostack_top.specs.Report.{Ended, report};
+ghost use Rattle.work_text.specs.Work.{last_round};
+ghost use Rattle.biostack_top.specs.Built.{unbuilt_in};
 ghost use Rattle.biostack_top.specs.Scene.{IsSaid};
 ghost use Rattle.biostack_top.specs.Ending.{EndsBy, MayEndAs, TextEndsBy, all_well};
 ghost use Rattle.biostack_top.specs.declared.order.Order.TheVariants as order;
@@ -19,7 +21,7 @@ use crate::path::run_scenario;
 use crate::report::write_report;
 use crate::scenario::{Scenario, two_scripts};
 use crate::scene::{Scene, read_scene};
-use decl_text::{Accepted, ReadFault};
+use decl_text::{Accepted, ReadFault, Refusal};
 use outside_io::{Pen, ReadError, Sink, Source, read_up_to};
 use stack_base::Status;
 use std::alloc::{AllocError, Global};
@@ -58,6 +60,25 @@ fn run_and_report<K: Sink>(
     Ok((pen.failed(), ended_well(objects.status)))
 }
 
+// Whether some write is of a round behind the first.
+fn has_rounds(rounds: &[u32]) -> bool
+    ensures { result ≡ nat_lt 0 (last_round rounds.now) }
+{
+    match rounds.last() {
+        Some(round) => *round > 0,
+        None => false,
+    }
+}
+
+// The first line of the scene's text that is not run.
+fn not_run_of(alloc: Global, scene: &Scene<'_>) -> Result<Option<Refusal>, AllocError>
+    requires { IsSaid scene.now }
+    ensures { IfOk result (λ found. found ≡ unbuilt_in scene.now.text.now) }
+{
+    let many = has_rounds(&scene.work.rounds);
+    first_unbuilt(alloc, many, scene.text)
+}
+
 // Runs the scene's writes to their end.
 fn run<K: Sink>(alloc: Global, scene: Scene<'_>, out: &mut K) -> Ending
     requires { IsSaid scene }
@@ -68,7 +89,7 @@ fn run<K: Sink>(alloc: Global, scene: Scene<'_>, out: &mut K) -> Ending
       now = K.faults out.new;
     } }
 {
-    match first_unbuilt(alloc, scene.text) {
+    match not_run_of(alloc, &scene) {
         Ok(None) => {}
         Ok(Some(refusal)) => return Ending::Refused(refusal),
         Err(_) => return Ending::Memory,

@@ -1,7 +1,8 @@
 -- A list up to the first element that passes a test, and what is left of it there.
 use Rattle.std.proofs.Common.{◌≡◌, ℕ, suc, ◌+◌, Bool, true, false, List, [], ◌∷◌, ◌++◌, length, drop, take, refl, sym, ◌∙◌, ap, subst, arith}
 use Rattle.std.specs.List.{before_first, position_or_len}
-use Rattle.decl_text.specs.Steps.{NonePass, Begins}
+use Rattle.decl_text.specs.Reading.{NonePass}
+use Rattle.decl_text.specs.Steps.{Begins}
 
 -- what is left
 abbrev pub rest : {X : Type 0} → (X → Bool) → List X → List X
@@ -52,6 +53,16 @@ none_before p (x ∷ xs) starts = rw starts refl
 pub before_is : {X : Type 0} (p : X → Bool) (front back : List X) → NonePass p front → Begins p back → before_first p (front ++ back) ≡ front
 before_is p [] back none starts = none_before p back starts
 before_is p (x ∷ front) back none starts = more p x (front ++ back) none.0 ∙ ap (λ ys. x ∷ ys) (before_is p front back none.1 starts)
+
+-- the same, whatever stands behind
+pub before_append : {X : Type 0} (p : X → Bool) (front back : List X) → NonePass p front → before_first p (front ++ back) ≡ front ++ before_first p back
+before_append p [] back none = refl
+before_append p (x ∷ front) back none = more p x (front ++ back) none.0 ∙ ap (λ ys. x ∷ ys) (before_append p front back none.1)
+
+-- where none passes, all stand before
+pub before_all : {X : Type 0} (p : X → Bool) (xs : List X) → NonePass p xs → before_first p xs ≡ xs
+before_all p [] none = refl
+before_all p (x ∷ xs) none = more p x xs none.0 ∙ ap (λ ys. x ∷ ys) (before_all p xs none.1)
 
 pub none_pass_one_more : {X : Type 0} (p : X → Bool) (front : List X) (x : X) → NonePass p front → p x ≡ false → NonePass p (front ++ x ∷ [])
 none_pass_one_more p [] x none fails = (fails, tt)

@@ -1,7 +1,7 @@
 -- The scripts of accepted declarations together have few entries.
-use Rattle.std.proofs.Common.{not, drop, ◌≡◌, ℕ, ◌+◌, ◌*◌, ◌^◌, ◌<◌, ◌≤◌, Bool, true, false, cond, List, [], ◌∷◌, ◌++◌, length, get_or, reverse, Option, Some, None, refl, ap, inl, inr, arith}
+use Rattle.std.proofs.Common.{not, ◌≡◌, ℕ, ◌+◌, ◌*◌, ◌^◌, ◌<◌, ◌≤◌, Bool, true, false, cond, List, [], ◌∷◌, ◌++◌, length, get_or, reverse, Option, Some, None, refl, ap, inl, inr, arith}
 use Rattle.std.specs.Prelude.{All, sum_by, find, unwrap_or, zip}
-use Rattle.std.specs.Option.{option_map, option_or, option_to_list}
+use Rattle.std.specs.Option.{option_map, option_to_list}
 use Rattle.std.specs.List.{range_with_len}
 use Rattle.std.proofs.lemmas.Bool.{cases_lt, ltb-false, or_parts}
 use Rattle.std.proofs.lemmas.Grind.{not_there}
@@ -15,40 +15,24 @@ use Rattle.stack_base.specs.declared.ids.PoolId.{PoolId}
 use Rattle.stack_base.specs.declared.stack.Stack.{Stack}
 use Rattle.stack_base.specs.Stack.{IsStack}
 use Rattle.decl_text.specs.Accepting.{IsDeclaredSo, shown, device_pools, loose_checks, pools, script_of, scripts_of}
-use Rattle.decl_text.specs.Checks.{bad_shape, is_of_pool, member_taken, name_taken, no_such_device, too_large}
-use Rattle.decl_text.specs.Known.{Known, Declared, Scripted, after, nothing, pool_of}
-use Rattle.decl_text.specs.Reading.{known_of_items, refusal_of_items}
-use Rattle.decl_text.specs.Refusals.{Check, check, first_found, refused}
-use Rattle.decl_text.specs.declared.decl.Numbered.{Numbered}
+use Rattle.decl_text.specs.Text.{words}
+use Rattle.decl_text.specs.Items.{said}
+use Rattle.decl_text.specs.Checks.{is_of_pool, too_large}
+use Rattle.decl_text.specs.Known.{Known, Declared, Scripted, after, after_line, nothing, pool_of}
+use Rattle.decl_text.specs.Refusals.{check, first_found, known_after, refusal, said_reason}
 use Rattle.decl_text.specs.declared.item.Item.{Item}
 use Rattle.decl_text.specs.declared.item.Item.TheVariants as item
 use Rattle.decl_text.specs.declared.item.What.{What}
 use Rattle.decl_text.specs.declared.item.What.TheVariants as what
-use Rattle.decl_text.specs.declared.reason.Reason.{Reason}
 use Rattle.decl_text.specs.declared.reason.Reason.TheVariants as reason
-use Rattle.decl_text.specs.declared.reason.Refusal.{Refusal}
+use Rattle.decl_text.proofs.Unrefused.{finds_nothing, kept_behind, line_passes}
 
 -- the entries of the scripts that were declared
 abbrev declared_entries : List Scripted → ℕ
 declared_entries scripts = sum_by (λ (s : Scripted). length s.script.entries) scripts
 
-none_by : (b : Bool) (r : Reason) (more : Option Reason) → cond b (Some r) more ≡ None → (b ≡ false) × (more ≡ None)
-none_by true r more none = cc
-none_by false r more none = (refl, none)
-
--- where no check finds a thing, the first does not, and none of the others does
-found_none : {A : Type 0} (check : Check A) (checks : List (Check A)) (known : Known) (x : A) → first_found (check ∷ checks) known x ≡ None
-    → (check.finds known x ≡ false) × (first_found checks known x ≡ None)
-unfolding first_found
-found_none check checks known x none = none_by (check.finds known x) check.reason (first_found checks known x) none
-
 small_passes : (known : Known) (said : Item) → first_found loose_checks known said ≡ None → too_large known said ≡ false
-small_passes known said none =
-    let name = found_none (check reason.NameTaken name_taken) (drop 1 loose_checks) known said none in
-    let device = found_none (check reason.NoSuchDevice no_such_device) (drop 2 loose_checks) known said name.1 in
-    let member = found_none (check reason.MemberTaken member_taken) (drop 3 loose_checks) known said device.1 in
-    let shape = found_none (check reason.BadShape bad_shape) (drop 4 loose_checks) known said member.1 in
-    (found_none (check reason.TooLarge too_large) (drop 5 loose_checks) known said shape.1).0
+small_passes known said none = finds_nothing loose_checks known said 4 (check reason.TooLarge too_large) none refl
 
 -- one more script
 entries_more : (scripts : List Scripted) (script : Answers) (pool : Option PoolId) → declared_entries scripts + length script.entries ≤ 65536
@@ -66,23 +50,17 @@ after_few known (item.Script pool script) small few =
     (ltb-false 65536 (declared_entries known.scripts + length script.entries) (or_parts _ _ small).0)
 after_few known item.NoMemory small few = few
 after_few known (item.Write task dev range tag) small few = few
+after_few known item.Sync small few = few
+after_few known (item.Resize pool min) small few = few
 
-both_none : (a b : Option Refusal) → option_or a b ≡ None → (a ≡ None) × (b ≡ None)
-both_none None b none = (refl, none)
-both_none (Some r) b none = cc
+line_few : (known : Known) (o : Option Item) → said_reason loose_checks known o ≡ None → declared_entries known.scripts ≤ 65536 → declared_entries (after_line known o).scripts ≤ 65536
+line_few known None none few = few
+line_few known (Some said) none few = after_few known said (small_passes known said none) few
 
-map_none : (f : Reason → Refusal) (o : Option Reason) → option_map f o ≡ None → o ≡ None
-map_none f None none = refl
-map_none f (Some r) none = cc
-
-items_few : (known : Known) (items : List Numbered) → refusal_of_items loose_checks known items None ≡ None → declared_entries known.scripts ≤ 65536
-    → declared_entries (known_of_items known items).scripts ≤ 65536
-unfolding refusal_of_items
-items_few known [] none few = few
-items_few known (next ∷ more) none few =
-    let both = both_none (option_map (refused next.line) (first_found loose_checks known next.item)) (refusal_of_items loose_checks (after known next.item) more None) none in
-    let fine = map_none (refused next.line) (first_found loose_checks known next.item) both.0 in
-    items_few (after known next.item) more both.1 (after_few known next.item (small_passes known next.item fine) few)
+lines_few : (all : List (List ℕ)) → refusal loose_checks nothing 1 all ≡ None → declared_entries (known_after nothing all).scripts ≤ 65536
+lines_few all none =
+    kept_behind loose_checks (λ known. declared_entries known.scripts ≤ 65536)
+    (λ known line fine few. line_few known (said (words line)) (line_passes loose_checks known line fine).1 few) nothing 1 all none (omega arith)
 
 found_by : (b : Bool) (s : Scripted) (p : Scripted → Bool) (scripts : List Scripted) (tail : Bool)
     → length (unwrap_or (option_map (λ (s : Scripted). s.script) (find p scripts)) (record { entries = []; tail = tail })).entries ≤ declared_entries scripts
@@ -103,6 +81,7 @@ two_at_most number (what.Disk sectors) = omega arith
 two_at_most number (what.Mirror records) = omega arith
 two_at_most number what.Linear = omega arith
 two_at_most number (what.Stripe chunk) = omega arith
+two_at_most number (what.Zoned chunk) = omega arith
 two_at_most number (what.Limit longest chunk) = omega arith
 
 pools_few : (devices : List Declared) → length (pools devices) ≤ 2 + 2 * length devices
@@ -141,9 +120,9 @@ entries_few stack scripts good so =
       | inl few ↦ omega (arith, few)
       | inr large ↦
           absurd (not_there so (λ declared.
-          let known = known_of_items nothing declared.0 in
-          let means = declared.2 in
-          let entries : declared_entries known.scripts ≤ 65536 = items_few nothing declared.0 declared.1 (omega arith) in
+          let known = known_after nothing declared.0 in
+          let means = declared.3 in
+          let entries : declared_entries known.scripts ≤ 65536 = lines_few declared.0 declared.2 in
           let devices : length known.devices ≤ 32 = omega (arith, ap length means.devices, length-map stack.devices.items shown, good.few) in
           let same = ap (λ (ss : List (PoolId × Answers)). sum_by (λ (script : PoolId × Answers). entries_of script.1) ss) means.scripts in
           omega (arith, same, all_few known entries devices)))

@@ -2,9 +2,13 @@ mod NumberLemmas
 mod SplitLemmas
 mod Examples
 mod FormLemmas
+mod WordLemmas
 pub mod LineLemmas
+pub mod Unrefused
+pub mod Fronts
 pub mod Cuts
-mod Declaring
+pub mod Declaring
 mod StepLemmas
 pub mod ShownTrees
 pub mod FewEntries
+pub mod Fits

@@ -1,12 +1,13 @@
 -- What a line says, by its first word.
-use Rattle.std.proofs.Common.{◌≡◌, ◌&&◌, ◌||◌, ℕ, Bool, true, false, not, List, [], ◌∷◌, Some, None, Option, Ok, Err, if◌then◌else◌, drop, refl, sym, ap, ◌∙◌, arith}
+use Rattle.std.proofs.Common.{◌≡◌, ◌||◌, ℕ, Bool, true, false, not, List, [], ◌∷◌, Some, None, Option, Ok, Err, if◌then◌else◌, drop, refl, sym, ap, ◌∙◌, arith}
 use Rattle.std.proofs.lemmas.Option.{none-some}
 use Rattle.decl_text.specs.Text.{is_text, words}
 use Rattle.decl_text.specs.Commands.{command_of}
 use Rattle.decl_text.specs.Forms.{form, is_malformed, is_misnumbered}
-use Rattle.decl_text.specs.Items.{is_comment, said, meaning, malformed, misnumbered, declares}
-use Rattle.decl_text.specs.Known.{Known, nothing}
-use Rattle.decl_text.specs.Checks.{is_empty_list}
+use Rattle.decl_text.specs.Items.{is_comment, said, meaning, malformed, misnumbered}
+use Rattle.decl_text.specs.Known.{Known}
+use Rattle.decl_text.specs.Stands.{may_stand, misplaced, stand_of}
+use Rattle.decl_text.specs.declared.stand.Stand.{Stand}
 use Rattle.decl_text.specs.Refusals.{first_found, line_checks}
 use Rattle.decl_text.specs.Lines.{CommandSays, Says, command_first, first_of}
 use Rattle.decl_text.specs.declared.reason.Reason.{Reason}
@@ -18,57 +19,51 @@ use Rattle.decl_text.specs.declared.line.First.TheVariants as first
 use Rattle.decl_text.specs.declared.line.LineFault.{LineFault}
 use Rattle.decl_text.specs.declared.line.LineFault.TheVariants.{Wrong, Memory}
 
--- the first check of a line by itself that finds something, by what each finds
-abbrev by_checks : (text malformed declares misnumbered : Bool) → Option Reason
-by_checks text malformed declares misnumbered =
-    if not text then Some NotText else (if malformed || (declares && false) then Some BadWord else (if misnumbered then Some BadNumber else None))
+-- the first check of a line that finds something, by what each finds
+abbrev by_checks : (text malformed misplaced misnumbered : Bool) → Option Reason
+by_checks text malformed misplaced misnumbered =
+    if not text then Some NotText else (if malformed || misplaced then Some BadWord else (if misnumbered then Some BadNumber else None))
 
-found_by : (line : List ℕ) (all : List (List ℕ)) → words line ≡ all → first_found line_checks nothing line ≡ by_checks (is_text line) (malformed all) (declares all) (misnumbered all)
+found_by : (known : Known) (line : List ℕ) (all : List (List ℕ)) → words line ≡ all
+    → first_found line_checks known line ≡ by_checks (is_text line) (malformed all) (misplaced (stand_of known) all) (misnumbered all)
 unfolding first_found
-found_by line all is = rw is refl
+found_by known line all is = rw is refl
 
 some_none : {A : Type 0} {x : A} → Some x ≡ None → ⊥
 some_none {x = x} is = none-some x (sym is)
 
--- where no check of a line by itself finds something, its words and its numbers are right
-none_by : (text malformed declares misnumbered : Bool) → by_checks text malformed declares misnumbered ≡ None → (malformed ≡ false) × (misnumbered ≡ false)
-none_by false m d n none = absurd (some_none none)
-none_by true true d n none = absurd (some_none none)
-none_by true false true true none = absurd (some_none none)
-none_by true false false true none = absurd (some_none none)
-none_by true false true false none = (refl, refl)
-none_by true false false false none = (refl, refl)
+-- what is right of a line that is not wrong where it stands
+pub record AreRight (stand : Stand) (line : List (List ℕ)) : Type 0 where
+  pub formed : malformed line ≡ false
+  pub placed : misplaced stand line ≡ false
+  pub numbered : misnumbered line ≡ false
 
-pub told_parts : (line : List ℕ) → first_found line_checks nothing line ≡ None → (malformed (words line) ≡ false) × (misnumbered (words line) ≡ false)
-told_parts line none = none_by (is_text line) (malformed (words line)) (declares (words line)) (misnumbered (words line)) (sym (found_by line (words line) refl) ∙ none)
+right_by : (text malformed misplaced misnumbered : Bool) → by_checks text malformed misplaced misnumbered ≡ None → (malformed ≡ false) × (misplaced ≡ false) × (misnumbered ≡ false)
+right_by false m p n none = absurd (some_none none)
+right_by true true p n none = absurd (some_none none)
+right_by true false true n none = absurd (some_none none)
+right_by true false false true none = absurd (some_none none)
+right_by true false false false none = (refl, refl, refl)
 
--- a line that is right behind what is known is right by itself
-still_by : (text malformed declares late misnumbered : Bool)
-    → (if not text then Some NotText else (if malformed || (declares && late) then Some BadWord else (if misnumbered then Some BadNumber else None))) ≡ None
-    → by_checks text malformed declares misnumbered ≡ None
-still_by false m d l n none = absurd (some_none none)
-still_by true true d l n none = absurd (some_none none)
-still_by true false true true n none = absurd (some_none none)
-still_by true false true false n none = none
-still_by true false false l n none = none
+pub told_parts : (known : Known) (line : List ℕ) → first_found line_checks known line ≡ None → AreRight (stand_of known) (words line)
+told_parts known line none =
+    let parts = right_by (is_text line) (malformed (words line)) (misplaced (stand_of known) (words line)) (misnumbered (words line)) (sym (found_by known line (words line) refl) ∙ none) in
+    record { formed = parts.0; placed = parts.1; numbered = parts.2 }
 
-pub still_fine : (known : Known) (line : List ℕ) → first_found line_checks known line ≡ None → first_found line_checks nothing line ≡ None
-unfolding first_found
-still_fine known line fine =
-    still_by (is_text line) (malformed (words line)) (declares (words line)) (not (is_empty_list known.writes)) (misnumbered (words line)) fine
+-- of what is known, the checks of a line go by where it stands
+pub same_found : (a b : Known) (line : List ℕ) → stand_of a ≡ stand_of b → first_found line_checks a line ≡ first_found line_checks b line
+same_found a b line same =
+    found_by a line (words line) refl
+    ∙ ap (λ (s : Stand). by_checks (is_text line) (malformed (words line)) (misplaced s (words line)) (misnumbered (words line))) same
+    ∙ sym (found_by b line (words line) refl)
 
-pub says_no_text : (line : List ℕ) → is_text line ≡ false → first_found line_checks nothing line ≡ Some NotText
-says_no_text line odd = rw (found_by line (words line) refl, odd) refl
-
-wrong_by : (wrong declares misnumbered : Bool) → by_checks true wrong declares misnumbered ≡ (if wrong then Some BadWord else (if misnumbered then Some BadNumber else None))
-wrong_by true declares misnumbered = refl
-wrong_by false true misnumbered = refl
-wrong_by false false misnumbered = refl
+pub says_no_text : (stand : Stand) (line : List ℕ) → is_text line ≡ false → Says stand line (Err (Wrong NotText))
+says_no_text stand line odd = λ known at. rw (found_by known line (words line) refl, odd) refl
 
 -- a line of text is as its words are
-told : (line : List ℕ) (all : List (List ℕ)) → is_text line ≡ true → words line ≡ all
-    → first_found line_checks nothing line ≡ (if malformed all then Some BadWord else (if misnumbered all then Some BadNumber else None))
-told line all text is = rw (found_by line all is, text) (wrong_by (malformed all) (declares all) (misnumbered all))
+told : (known : Known) (line : List ℕ) (all : List (List ℕ)) → is_text line ≡ true → words line ≡ all
+    → first_found line_checks known line ≡ (if malformed all || misplaced (stand_of known) all then Some BadWord else (if misnumbered all then Some BadNumber else None))
+told known line all text is = rw (found_by known line all is, text) refl
 
 -- the kinds of first words differ
 abbrev tag : First → ℕ
@@ -100,11 +95,11 @@ skipped_by : (comment : Bool) (word : List ℕ) (rest : List (List ℕ)) → is_
 skipped_by true word rest is first = is
 skipped_by false word rest is first = absurd (never_skipped (command_of word) first)
 
-pub says_nothing : (line : List ℕ) (all : List (List ℕ)) → is_text line ≡ true → words line ≡ all → command_first all ≡ first.Skipped → Says line (Ok None)
-says_nothing line [] text is skipped = (told line [] text is, rw is refl)
-says_nothing line (word ∷ rest) text is skipped =
+pub says_nothing : (stand : Stand) (line : List ℕ) (all : List (List ℕ)) → is_text line ≡ true → words line ≡ all → command_first all ≡ first.Skipped → Says stand line (Ok None)
+says_nothing stand line [] text is skipped = λ known at. (told known line [] text is, rw is refl)
+says_nothing stand line (word ∷ rest) text is skipped =
     let comment = skipped_by (is_comment word) word rest refl skipped in
-    (rw (told line (word ∷ rest) text is, comment) refl, rw (is, comment) refl)
+    λ known at. (rw (told known line (word ∷ rest) text is, comment) refl, rw (is, comment) refl)
 
 -- a line with a first word that no line has
 unknown_by : (comment : Bool) (command : Option Command) → (if comment then first.Skipped else first_of command) ≡ first.Unknown → (comment ≡ false) × (command ≡ None)
@@ -112,11 +107,11 @@ unknown_by true command is = absurd (let e : first.Skipped ≡ first.Unknown = i
 unknown_by false None is = (refl, refl)
 unknown_by false (Some command) is = absurd (command_unknown command is)
 
-pub says_unknown : (line : List ℕ) (all : List (List ℕ)) → is_text line ≡ true → words line ≡ all → command_first all ≡ first.Unknown → Says line (Err (Wrong BadWord))
-says_unknown line [] text is unknown = absurd (skipped_unknown unknown)
-says_unknown line (word ∷ rest) text is unknown =
+pub says_unknown : (stand : Stand) (line : List ℕ) (all : List (List ℕ)) → is_text line ≡ true → words line ≡ all → command_first all ≡ first.Unknown → Says stand line (Err (Wrong BadWord))
+says_unknown stand line [] text is unknown = absurd (skipped_unknown unknown)
+says_unknown stand line (word ∷ rest) text is unknown =
     let parts = unknown_by (is_comment word) (command_of word) unknown in
-    rw (told line (word ∷ rest) text is, parts.0, parts.1) refl
+    λ known at. rw (told known line (word ∷ rest) text is, parts.0, parts.1) refl
 
 -- a line of a command
 command_by : (comment : Bool) (found : Option Command) (command : Command) → (if comment then first.Skipped else first_of found) ≡ first.Command command → (comment ≡ false) × (found ≡ Some command)
@@ -124,46 +119,100 @@ command_by true found command is = absurd (skipped_command command is)
 command_by false None command is = absurd (unknown_command command is)
 command_by false (Some other) command is = (refl, rw (same_command other command is) refl)
 
-record Commanded (line : List ℕ) (command : Command) (rest : List (List ℕ)) : Type 0 where
-  told : first_found line_checks nothing line ≡ (if is_malformed (form command) rest then Some BadWord else (if is_misnumbered (form command) rest then Some BadNumber else None))
-  said : said (words line) ≡ meaning command rest
+pub record Commanded (stand : Stand) (line : List ℕ) (command : Command) (rest : List (List ℕ)) : Type 0 where
+  pub told : (known : Known) → stand_of known ≡ stand
+      → first_found line_checks known line
+      ≡ (if is_malformed (form command) rest || not (may_stand stand command) then Some BadWord else (if is_misnumbered (form command) rest then Some BadNumber else None))
+  pub said : said (words line) ≡ meaning command rest
 
-commanded : (line word : List ℕ) (rest : List (List ℕ)) (command : Command) → is_text line ≡ true → words line ≡ word ∷ rest → command_first (word ∷ rest) ≡ first.Command command → Commanded line command rest
-commanded line word rest command text is first_is =
+commanded : (stand : Stand) (line word : List ℕ) (rest : List (List ℕ)) (command : Command) → is_text line ≡ true → words line ≡ word ∷ rest → command_first (word ∷ rest) ≡ first.Command command
+    → Commanded stand line command rest
+commanded stand line word rest command text is first_is =
     let parts = command_by (is_comment word) (command_of word) command first_is in
-    record { told = rw (told line (word ∷ rest) text is, parts.0, parts.1) refl; said = rw (is, parts.0, parts.1) refl }
+    record { told = λ known at. rw (told known line (word ∷ rest) text is, parts.0, parts.1, at) refl; said = rw (is, parts.0, parts.1) refl }
 
-item_said : (line word : List ℕ) (rest : List (List ℕ)) (command : Command) (item : Item) → Commanded line command rest → CommandSays command rest (Ok item) → Says line (Ok (Some item))
-item_said line word rest command item c says = (rw (c.told, says.0, says.1) refl, rw c.said says.2)
+-- it may not stand there
+or_true : (b : Bool) → (b || true) ≡ true
+or_true true = refl
+or_true false = refl
 
-fault_said : (line word : List ℕ) (rest : List (List ℕ)) (command : Command) (fault : LineFault) → Commanded line command rest → CommandSays command rest (Err fault) → Says line (Err fault)
-fault_said line word rest command (Wrong BadWord) c says = rw (c.told, says) refl
-fault_said line word rest command (Wrong BadNumber) c says = rw (c.told, says.0, says.1) refl
-fault_said line word rest command Memory c says = tt
-fault_said line word rest command (Wrong NameTaken) c says = absurd says
-fault_said line word rest command (Wrong NoSuchDevice) c says = absurd says
-fault_said line word rest command (Wrong MemberTaken) c says = absurd says
-fault_said line word rest command (Wrong BadShape) c says = absurd says
-fault_said line word rest command (Wrong TooLarge) c says = absurd says
-fault_said line word rest command (Wrong EmptyDevice) c says = absurd says
-fault_said line word rest command (Wrong ReserveZero) c says = absurd says
-fault_said line word rest command (Wrong NeedsRescuer) c says = absurd says
-fault_said line word rest command (Wrong NotATop) c says = absurd says
-fault_said line word rest command (Wrong PastEnd) c says = absurd says
-fault_said line word rest command (Wrong Overlap) c says = absurd says
-fault_said line word rest command (Wrong TooManySegments) c says = absurd says
-fault_said line word rest command (Wrong NoSuchPool) c says = absurd says
-fault_said line word rest command (Wrong TooLong) c says = absurd says
-fault_said line word rest command (Wrong NotText) c says = absurd says
-fault_said line word rest command (Wrong TooMuchWork) c says = absurd says
-fault_said line word rest command (Wrong NotBuilt) c says = absurd says
+late_said : (stand : Stand) (line : List ℕ) (rest : List (List ℕ)) (command : Command) → Commanded stand line command rest → may_stand stand command ≡ false → Says stand line (Err (Wrong BadWord))
+late_said stand line rest command c late = λ known at. rw (c.told known at, late, or_true) refl
 
-pub says_item : (line : List ℕ) (all : List (List ℕ)) (command : Command) (item : Item) → is_text line ≡ true → words line ≡ all → command_first all ≡ first.Command command
-    → CommandSays command (drop 1 all) (Ok item) → Says line (Ok (Some item))
-says_item line [] command item text is first_is says = absurd (skipped_command command first_is)
-says_item line (word ∷ rest) command item text is first_is says = item_said line word rest command item (commanded line word rest command text is first_is) says
+or_false : (b : Bool) → (b || false) ≡ b
+or_false true = refl
+or_false false = refl
 
-pub says_fault : (line : List ℕ) (all : List (List ℕ)) (command : Command) (fault : LineFault) → is_text line ≡ true → words line ≡ all → command_first all ≡ first.Command command
-    → CommandSays command (drop 1 all) (Err fault) → Says line (Err fault)
-says_fault line [] command fault text is first_is says = absurd (skipped_command command first_is)
-says_fault line (word ∷ rest) command fault text is first_is says = fault_said line word rest command fault (commanded line word rest command text is first_is) says
+-- it may
+told_there : (stand : Stand) (line : List ℕ) (rest : List (List ℕ)) (command : Command) → Commanded stand line command rest → may_stand stand command ≡ true
+    → (known : Known) → stand_of known ≡ stand → first_found line_checks known line ≡ (if is_malformed (form command) rest then Some BadWord else (if is_misnumbered (form command) rest then Some BadNumber else None))
+told_there stand line rest command c stands known at = rw (c.told known at, stands, or_false) refl
+
+item_said : (stand : Stand) (line : List ℕ) (rest : List (List ℕ)) (command : Command) (item : Item) → Commanded stand line command rest → may_stand stand command ≡ true
+    → CommandSays command rest (Ok item) → Says stand line (Ok (Some item))
+item_said stand line rest command item c stands says = λ known at. (rw (told_there stand line rest command c stands known at, says.0, says.1) refl, rw c.said says.2)
+
+fault_said : (stand : Stand) (line : List ℕ) (rest : List (List ℕ)) (command : Command) (fault : LineFault) → Commanded stand line command rest → may_stand stand command ≡ true
+    → CommandSays command rest (Err fault) → Says stand line (Err fault)
+fault_said stand line rest command (Wrong BadWord) c stands says = λ known at. rw (told_there stand line rest command c stands known at, says) refl
+fault_said stand line rest command (Wrong BadNumber) c stands says = λ known at. rw (told_there stand line rest command c stands known at, says.0, says.1) refl
+fault_said stand line rest command Memory c stands says = λ known at. tt
+fault_said stand line rest command (Wrong NameTaken) c stands says = absurd says
+fault_said stand line rest command (Wrong NoSuchDevice) c stands says = absurd says
+fault_said stand line rest command (Wrong MemberTaken) c stands says = absurd says
+fault_said stand line rest command (Wrong BadShape) c stands says = absurd says
+fault_said stand line rest command (Wrong TooLarge) c stands says = absurd says
+fault_said stand line rest command (Wrong EmptyDevice) c stands says = absurd says
+fault_said stand line rest command (Wrong ReserveZero) c stands says = absurd says
+fault_said stand line rest command (Wrong NeedsRescuer) c stands says = absurd says
+fault_said stand line rest command (Wrong NotATop) c stands says = absurd says
+fault_said stand line rest command (Wrong PastEnd) c stands says = absurd says
+fault_said stand line rest command (Wrong Overlap) c stands says = absurd says
+fault_said stand line rest command (Wrong TooManySegments) c stands says = absurd says
+fault_said stand line rest command (Wrong NoSuchPool) c stands says = absurd says
+fault_said stand line rest command (Wrong TooLong) c stands says = absurd says
+fault_said stand line rest command (Wrong NotText) c stands says = absurd says
+fault_said stand line rest command (Wrong TooMuchWork) c stands says = absurd says
+fault_said stand line rest command (Wrong NotBuilt) c stands says = absurd says
+
+pub says_late : (stand : Stand) (line : List ℕ) (all : List (List ℕ)) (command : Command) → is_text line ≡ true → words line ≡ all → command_first all ≡ first.Command command
+    → may_stand stand command ≡ false → Says stand line (Err (Wrong BadWord))
+says_late stand line [] command text is first_is late = absurd (skipped_command command first_is)
+says_late stand line (word ∷ rest) command text is first_is late = late_said stand line rest command (commanded stand line word rest command text is first_is) late
+
+pub says_item : (stand : Stand) (line : List ℕ) (all : List (List ℕ)) (command : Command) (item : Item) → is_text line ≡ true → words line ≡ all → command_first all ≡ first.Command command
+    → may_stand stand command ≡ true → CommandSays command (drop 1 all) (Ok item) → Says stand line (Ok (Some item))
+says_item stand line [] command item text is first_is stands says = absurd (skipped_command command first_is)
+says_item stand line (word ∷ rest) command item text is first_is stands says = item_said stand line rest command item (commanded stand line word rest command text is first_is) stands says
+
+pub says_fault : (stand : Stand) (line : List ℕ) (all : List (List ℕ)) (command : Command) (fault : LineFault) → is_text line ≡ true → words line ≡ all → command_first all ≡ first.Command command
+    → may_stand stand command ≡ true → CommandSays command (drop 1 all) (Err fault) → Says stand line (Err fault)
+says_fault stand line [] command fault text is first_is stands says = absurd (skipped_command command first_is)
+says_fault stand line (word ∷ rest) command fault text is first_is stands says = fault_said stand line rest command fault (commanded stand line word rest command text is first_is) stands says
+
+-- a line whose words are right, by its first word
+pub record RightWords (all : List (List ℕ)) (command : Command) : Type 0 where
+  pub formed : is_malformed (form command) (drop 1 all) ≡ false
+  pub numbered : is_misnumbered (form command) (drop 1 all) ≡ false
+  pub said : said all ≡ meaning command (drop 1 all)
+
+pub right_words : (all : List (List ℕ)) (command : Command) → command_first all ≡ first.Command command → malformed all ≡ false → misnumbered all ≡ false → RightWords all command
+right_words [] command first_is formed numbered = absurd (skipped_command command first_is)
+right_words (word ∷ rest) command first_is formed numbered =
+    let parts = command_by (is_comment word) (command_of word) command first_is in
+    record {
+      formed = rw (parts.0, parts.1) at formed;
+      numbered = rw (parts.0, parts.1) at numbered;
+      said = rw (parts.0, parts.1) refl;
+    }
+
+-- and of a line that is skipped, or has an unknown first word
+pub said_nothing : (all : List (List ℕ)) → command_first all ≡ first.Skipped → said all ≡ None
+said_nothing [] skipped = refl
+said_nothing (word ∷ rest) skipped = rw (skipped_by (is_comment word) word rest refl skipped) refl
+
+pub unknown_wrong : (all : List (List ℕ)) → command_first all ≡ first.Unknown → malformed all ≡ true
+unknown_wrong [] unknown = absurd (skipped_unknown unknown)
+unknown_wrong (word ∷ rest) unknown =
+    let parts = unknown_by (is_comment word) (command_of word) unknown in
+    rw (parts.0, parts.1) refl

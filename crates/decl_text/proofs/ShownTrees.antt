@@ -6,7 +6,7 @@ use Rattle.std.proofs.lemmas.Simd.{map-map}
 use Rattle.std.proofs.lemmas.List.FromFn.{length-map-range_with_len, get_or-map-range_with_len, map-range_with_len_more}
 use Rattle.stack_base.specs.declared.ids.DevId.{DevId}
 use Rattle.stack_base.specs.declared.stack.Kind.{Kind}
-use Rattle.stack_base.specs.declared.stack.Kind.TheVariants.{Disk, Linear, Stripe, Limit, Mirror}
+use Rattle.stack_base.specs.declared.stack.Kind.TheVariants.{Disk, Linear, Stripe, Zoned, Limit, Mirror}
 use Rattle.stack_base.specs.declared.stack.Device.{Device}
 use Rattle.stack_base.specs.declared.stack.Stack.{Stack}
 use Rattle.stack_base.specs.Tree.{Tree, Leaf, over_shape, over, tree}
@@ -35,6 +35,7 @@ unfolding over_shape
 grown_over number (Disk sectors bad) members = refl
 grown_over number Linear members = refl
 grown_over number (Stripe chunk) members = refl
+grown_over number (Zoned chunk) members = refl
 grown_over number (Limit longest chunk) members = refl
 grown_over number (Mirror records) members = refl
 

@@ -16,9 +16,8 @@ use Rattle.decl_text.specs.Known.{Known, Declared, Reserves, nothing}
 use Rattle.stack_base.specs.Stack.{HasShape, IsStack}
 use Rattle.decl_text.specs.Reasons.{number_of_reason}
 use Rattle.decl_text.specs.Checks.{is_of_pool}
-use Rattle.decl_text.specs.Refusals.{Check, item_checks}
-use Rattle.decl_text.specs.Reading.{refusal_of_items, known_of_items}
-use Rattle.decl_text.specs.declared.decl.Numbered.{Numbered}
+use Rattle.decl_text.specs.Refusals.{Check, item_checks, refusal, known_after}
+use Rattle.decl_text.specs.Reading.{NonePass, is_work_line}
 use Rattle.decl_text.specs.declared.item.What.{What}
 use Rattle.decl_text.specs.declared.item.Item.{Item}
 use Rattle.decl_text.specs.declared.item.What.TheVariants as what
@@ -27,6 +26,7 @@ abbrev pub what_of : Kind → What
 what_of (kind.Disk sectors bad) = what.Disk sectors
 what_of kind.Linear = what.Linear
 what_of (kind.Stripe chunk) = what.Stripe chunk
+what_of (kind.Zoned chunk) = what.Zoned chunk
 what_of (kind.Limit longest chunk) = what.Limit longest chunk
 what_of (kind.Mirror records) = what.Mirror records
 
@@ -34,6 +34,7 @@ abbrev pub bad_of : Kind → List Bad
 bad_of (kind.Disk sectors bad) = bad.items
 bad_of kind.Linear = []
 bad_of (kind.Stripe chunk) = []
+bad_of (kind.Zoned chunk) = []
 bad_of (kind.Limit longest chunk) = []
 bad_of (kind.Mirror records) = []
 
@@ -65,6 +66,7 @@ device_pools number (what.Disk sectors) = []
 device_pools number (what.Mirror records) = Records (record { 0 = number }) ∷ Bios (record { 0 = number }) ∷ []
 device_pools number what.Linear = Bios (record { 0 = number }) ∷ []
 device_pools number (what.Stripe chunk) = Bios (record { 0 = number }) ∷ []
+device_pools number (what.Zoned chunk) = Bios (record { 0 = number }) ∷ []
 device_pools number (what.Limit longest chunk) = Bios (record { 0 = number }) ∷ []
 
 -- all pools, by falling number
@@ -86,22 +88,20 @@ pub record Means (known : Known) (stack : Stack) (pool_scripts : List (PoolId ×
   pub fs_vecs : stack.fs_vecs ≡ (reserves_or_two known.fs).vecs
   pub scripts : pool_scripts ≡ scripts_of known
 
--- they have no refusal by these checks
-abbrev pub Passes : List (Check Item) → List Numbered → Type 0
-Passes checks items = refusal_of_items checks nothing items None ≡ None
-
 -- the checks but for the one of rescuers, without which a stack can be shared out and run, but may hang
 abbrev pub loose_checks : List (Check Item)
 loose_checks = filter (λ check. not (number_of_reason check.reason == 10)) item_checks
 
--- some declarations, which have no refusal but perhaps that of rescuers, mean this stack and these scripts
+-- some lines before all writes and `sync` lines, which have no refusal but perhaps that of rescuers, mean this stack and these scripts
 abbrev pub IsDeclaredSo : Stack → List (PoolId × Answers) → Type 0
-IsDeclaredSo stack pool_scripts = (items : List Numbered) × Passes loose_checks items × Means (known_of_items nothing items) stack pool_scripts
+IsDeclaredSo stack pool_scripts =
+    (all : List (List ℕ)) × NonePass is_work_line all × (refusal loose_checks nothing 1 all ≡ None) × Means (known_after nothing all) stack pool_scripts
 
 pub HasShape-prop : (kind : Kind) (members : ℕ) → IsProp (HasShape kind members)
 HasShape-prop (kind.Disk sectors bad) members = hlevel (ℕ_set, le_prop)
 HasShape-prop kind.Linear members = hlevel (ℕ_set, le_prop)
 HasShape-prop (kind.Stripe chunk) members = hlevel (ℕ_set, le_prop)
+HasShape-prop (kind.Zoned chunk) members = hlevel (ℕ_set, le_prop)
 HasShape-prop (kind.Limit longest chunk) members = hlevel (ℕ_set, le_prop)
 HasShape-prop (kind.Mirror records) members = hlevel (ℕ_set, le_prop)
 

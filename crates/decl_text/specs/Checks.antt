@@ -5,8 +5,9 @@ use Rattle.stack_base.specs.Tree.{size}
 use Rattle.stack_base.specs.PoolId.{pool_number}
 use Rattle.stack_base.specs.declared.ids.PoolId.{PoolId}
 use Rattle.decl_text.specs.Text.{words, is_text}
-use Rattle.decl_text.specs.Items.{malformed, misnumbered, declares, said}
-use Rattle.decl_text.specs.Known.{Known, Declared, Written, Scripted, device_of, number_in, pool_of, tree_over, tree_of, trees, all_members, sectors_of, is_disk, is_mirror, declared}
+use Rattle.decl_text.specs.Items.{malformed, misnumbered, said}
+use Rattle.decl_text.specs.Known.{Known, Declared, Written, Scripted, Resized, present, device_of, number_in, pool_of, tree_over, tree_of, trees, all_members, sectors_of, is_disk, is_mirror, declared}
+use Rattle.decl_text.specs.Stands.{stand_of, misplaced}
 use Rattle.decl_text.specs.declared.item.What.{What}
 use Rattle.decl_text.specs.declared.item.What.TheVariants as what
 use Rattle.decl_text.specs.declared.item.Item.{Item}
@@ -20,9 +21,10 @@ abbrev pub is_empty_list : {A : Type 0} → List A → Bool
 is_empty_list [] = true
 is_empty_list (x ∷ xs) = false
 
--- its words are not those of any line, or it declares something behind a write
+-- its words are not those of any line, or it may not stand there: a declaration behind a write or a `sync` line, a `resize` line with no
+-- `sync` line before it, or with a write between
 abbrev pub bad_word : Known → List ℕ → Bool
-bad_word known line = malformed (words line) || (declares (words line) && not (is_empty_list known.writes))
+bad_word known line = malformed (words line) || misplaced (stand_of known) (words line)
 
 -- its numbers are not those of any line
 abbrev pub bad_number : Known → List ℕ → Bool
@@ -36,12 +38,22 @@ abbrev pub has_script : List Scripted → Option PoolId → Bool
 has_script scripts None = false
 has_script scripts (Some pool) = list_any (is_of_pool pool) scripts
 
--- a device of that name, a set of the writers, a script of that pool or `memory none` was there before
+-- the reserve of this pool from this round on
+abbrev pub is_resize_of : ℕ → PoolId → Resized → Bool
+is_resize_of round pool resized = (resized.round == round) && (pool_number resized.pool == pool_number pool)
+
+abbrev pub has_resize : List Resized → ℕ → Option PoolId → Bool
+has_resize resizes round None = false
+has_resize resizes round (Some pool) = list_any (is_resize_of round pool) resizes
+
+-- a device of that name, a set of the writers, a script of that pool or `memory none` was there before, or a `resize` line of that pool
+-- behind the same `sync` line
 abbrev pub name_taken : Known → Item → Bool
 name_taken known (item.Device name does members reserve rescuer) = is_some (device_of known.devices name)
 name_taken known (item.Fs bios vecs) = is_some known.fs
 name_taken known (item.Script pool script) = has_script known.scripts (pool_of known.devices pool)
 name_taken known item.NoMemory = known.no_memory
+name_taken known (item.Resize pool min) = has_resize known.resizes known.syncs (pool_of known.devices pool)
 name_taken known _ = false
 
 -- the devices that it names
@@ -76,6 +88,7 @@ abbrev pub has_count : What → ℕ → Bool
 has_count (what.Disk sectors) count = count == 0
 has_count what.Linear count = nat_le 1 count && nat_le count 8
 has_count (what.Stripe chunk) count = nat_le 1 count && nat_le count 8
+has_count (what.Zoned chunk) count = nat_le 1 count && nat_le count 8
 has_count (what.Limit longest chunk) count = count == 1
 has_count (what.Mirror records) count = nat_le 1 count && nat_le count 8
 
@@ -89,14 +102,16 @@ bad_shape known (item.Device name does members reserve rescuer) = not (has_count
 bad_shape known (item.Bad disk range kind) = not (is_disk_device (slice_get known.devices (number_in known.devices disk)))
 bad_shape known _ = false
 
--- the reserves of the pools that it declares
+-- the reserves of pools that it tells
 abbrev pub reserves : Item → List ℕ
 reserves (item.Device name (what.Disk sectors) members reserve rescuer) = []
 reserves (item.Device name what.Linear members reserve rescuer) = reserve ∷ []
 reserves (item.Device name (what.Stripe chunk) members reserve rescuer) = reserve ∷ []
+reserves (item.Device name (what.Zoned chunk) members reserve rescuer) = reserve ∷ []
 reserves (item.Device name (what.Limit longest chunk) members reserve rescuer) = reserve ∷ []
 reserves (item.Device name (what.Mirror records) members reserve rescuer) = records ∷ reserve ∷ []
 reserves (item.Fs bios vecs) = bios ∷ vecs ∷ []
+reserves (item.Resize pool min) = min ∷ []
 reserves _ = []
 
 abbrev pub all_sectors : List Declared → ℕ
@@ -111,9 +126,11 @@ is_one_too_many known (item.Device name (what.Disk sectors) members reserve resc
 is_one_too_many known (item.Device name does members reserve rescuer) = nat_le 32 (length known.devices)
 is_one_too_many known (item.Bad disk range kind) = nat_le 1024 (length known.bad)
 is_one_too_many known (item.Script pool script) = nat_lt 65536 (sum_by (λ s. length s.script.entries) known.scripts + length script.entries)
+is_one_too_many known item.Sync = nat_le 1024 known.syncs
+is_one_too_many known (item.Resize pool min) = nat_le 4096 (length known.resizes)
 is_one_too_many known _ = false
 
--- a device, a disk, sectors, a bad range, entries of scripts, or a reserve above what there may be
+-- a device, a disk, sectors, a bad range, entries of scripts, a `sync` or a `resize` line, or a reserve above what there may be
 abbrev pub too_large : Known → Item → Bool
 too_large known said = is_one_too_many known said || list_any (nat_lt 1024) (reserves said)
 
@@ -150,9 +167,9 @@ past_end known _ = false
 abbrev pub shares : ℕ → ℕ → ℕ → Written → Bool
 shares dev start count write = (write.dev == dev) && nat_lt start (write.start + write.count) && nat_lt write.start (start + count)
 
--- a write to a sector that an earlier write has
+-- a write to a sector that an earlier write of its round has
 abbrev pub overlap : Known → Item → Bool
-overlap known (item.Write task dev range tag) = list_any (shares (number_in known.devices dev) range.start range.len) known.writes
+overlap known (item.Write task dev range tag) = list_any (shares (number_in known.devices dev) range.start range.len) (present known)
 overlap known _ = false
 
 -- a write of more than 256 segments of eight sectors
@@ -160,7 +177,8 @@ abbrev pub too_many_segments : Known → Item → Bool
 too_many_segments known (item.Write task dev range tag) = nat_lt 2048 range.len
 too_many_segments known _ = false
 
--- a script of a pool that is not there
+-- a script or a `resize` line of a pool that is not there
 abbrev pub no_such_pool : Known → Item → Bool
 no_such_pool known (item.Script pool script) = is_none (pool_of known.devices pool)
+no_such_pool known (item.Resize pool min) = is_none (pool_of known.devices pool)
 no_such_pool known _ = false

@@ -11,7 +11,7 @@ use Rattle.decl_text.specs.declared.form.Place.{Place}
 use Rattle.decl_text.specs.declared.form.Place.TheVariants.{Name, Mention, Number, OneOf, Pattern}
 use Rattle.decl_text.specs.declared.form.Setting.{Setting}
 use Rattle.decl_text.specs.declared.command.Command.{Command}
-use Rattle.decl_text.specs.declared.command.Command.TheVariants.{Disk, Bad, Linear, Stripe, Limit, Mirror, Fs, Script, Memory, Write}
+use Rattle.decl_text.specs.declared.command.Command.TheVariants.{Disk, Bad, Linear, Stripe, Zoned, Limit, Mirror, Fs, Script, Memory, Write, Sync, Resize}
 
 pub record Form : Type 0 where
   -- what stands right behind the first word
@@ -51,12 +51,15 @@ form Disk = fixed (Name ∷ any_number ∷ [])
 form Bad = fixed (Mention ∷ any_number ∷ number_from 1 ∷ OneOf few.Faults ∷ [])
 form Linear = device []
 form Stripe = device (must Chunk (number_from 1) ∷ [])
+form Zoned = device (must Chunk (number_from 1) ∷ [])
 form Limit = device (must Max (number_from 1) ∷ may Chunk any_number ∷ [])
 form Mirror = device (may Records any_number ∷ [])
 form Fs = record { places = []; settings = may Bios any_number ∷ may Vecs any_number ∷ []; members = false }
 form Script = fixed (Mention ∷ Pattern ∷ OneOf few.Tails ∷ [])
 form Memory = fixed (OneOf few.None ∷ [])
 form Write = fixed (Number 0 7 ∷ Mention ∷ any_number ∷ number_from 1 ∷ any_number ∷ [])
+form Sync = fixed []
+form Resize = fixed (Mention ∷ any_number ∷ [])
 
 -- the words behind the places
 abbrev pub others : Form → List (List ℕ) → List (List ℕ)

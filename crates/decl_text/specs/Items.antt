@@ -60,12 +60,15 @@ meaning command.Disk (name ∷ sectors ∷ []) = Some (item.Device name (what.Di
 meaning command.Bad (disk ∷ from ∷ count ∷ kind ∷ []) = Some (item.Bad disk (record { start = number from; len = number count }) (kind_of_bad kind))
 meaning command.Linear (name ∷ rest) = Some (device name what.Linear false rest)
 meaning command.Stripe (name ∷ rest) = Some (device name (what.Stripe (number_or 0 (value_in key.Chunk rest))) false rest)
+meaning command.Zoned (name ∷ rest) = Some (device name (what.Zoned (number_or 0 (value_in key.Chunk rest))) false rest)
 meaning command.Limit (name ∷ rest) = Some (device name (what.Limit (number_or 0 (value_in key.Max rest)) (number_or 0 (value_in key.Chunk rest))) false rest)
 meaning command.Mirror (name ∷ rest) = Some (device name (what.Mirror (number_or 2 (value_in key.Records rest))) true rest)
 meaning command.Fs rest = Some (item.Fs (number_or 2 (value_in key.Bios rest)) (number_or 2 (value_in key.Vecs rest)))
 meaning command.Script (pool ∷ pattern ∷ tail ∷ []) = Some (item.Script pool (script pattern tail))
 meaning command.Memory rest = Some item.NoMemory
 meaning command.Write (task ∷ dev ∷ start ∷ count ∷ tag ∷ []) = Some (item.Write (number task) dev (record { start = number start; len = number count }) (number tag))
+meaning command.Sync rest = Some item.Sync
+meaning command.Resize (pool ∷ min ∷ []) = Some (item.Resize pool (number min))
 meaning _ _ = None
 
 -- a line that is skipped: it has no words, or its first one begins with `#`
@@ -89,16 +92,14 @@ malformed line = line_is (λ command rest. is_malformed (form command) rest) tru
 abbrev pub misnumbered : List (List ℕ) → Bool
 misnumbered line = line_is (λ command rest. is_misnumbered (form command) rest) false line
 
--- it is a write, or it is something else that no write may stand before
-abbrev pub is_write : Command → Bool
-is_write command.Write = true
-is_write _ = false
+-- it is a write or a `sync` line, and so no declaration
+abbrev pub is_work : Command → Bool
+is_work command.Write = true
+is_work command.Sync = true
+is_work _ = false
 
-abbrev pub writes : List (List ℕ) → Bool
-writes line = line_is (λ command rest. is_write command) false line
-
-abbrev pub declares : List (List ℕ) → Bool
-declares line = line_is (λ command rest. not (is_write command)) true line
+abbrev pub begins_work : List (List ℕ) → Bool
+begins_work line = line_is (λ command rest. is_work command) false line
 
 -- what it says
 abbrev pub command_says : List (List ℕ) → Option Command → Option Item

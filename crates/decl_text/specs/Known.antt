@@ -1,5 +1,5 @@
 -- What the lines so far have declared.
-use Rattle.std.specs.Prelude.{if◌then◌else◌, Bool, true, false, List, [], ◌∷◌, ◌++◌, ℕ, fold, length, map, codes, flat_map, position, slice_index_or, slice_get, unwrap_or, Option, None, Some}
+use Rattle.std.specs.Prelude.{◌+◌, ◌==◌, if◌then◌else◌, Bool, true, false, List, [], ◌∷◌, ◌++◌, ℕ, fold, filter, zip, length, map, codes, flat_map, position, slice_index_or, slice_get, unwrap_or, Option, None, Some}
 use Rattle.std.specs.Option.{option_and_then, option_or, option_map, option_to_list}
 use Rattle.std.specs.Str.{bytes_eq}
 use Rattle.fail_script.specs.Script.{Answers}
@@ -41,6 +41,12 @@ pub record Written : Type 0 where
   pub count : ℕ
   pub tag : ℕ
 
+-- the reserve that a pool has from a round on
+pub record Resized : Type 0 where
+  pub round : ℕ
+  pub pool : PoolId
+  pub min : ℕ
+
 -- what was declared, each in the order of its lines
 pub record Known : Type 0 where
   pub devices : List Declared
@@ -50,9 +56,14 @@ pub record Known : Type 0 where
   -- whether every pool without a script has no ordinary memory
   pub no_memory : Bool
   pub writes : List Written
+  -- the round of each write
+  pub rounds : List ℕ
+  -- how many `sync` lines there were, each of which ends a round
+  pub syncs : ℕ
+  pub resizes : List Resized
 
 abbrev pub nothing : Known
-nothing = record { devices = []; fs = None; bad = []; scripts = []; no_memory = false; writes = [] }
+nothing = record { devices = []; fs = None; bad = []; scripts = []; no_memory = false; writes = []; rounds = []; syncs = 0; resizes = [] }
 
 -- the device with this name
 abbrev pub device_of : List Declared → List ℕ → Option ℕ
@@ -90,6 +101,7 @@ abbrev pub grown : ℕ → What → List Tree → Tree
 grown number (what.Disk sectors) members = Leaf number sectors
 grown number what.Linear members = over number kind.Linear members
 grown number (what.Stripe chunk) members = over number (kind.Stripe chunk) members
+grown number (what.Zoned chunk) members = over number (kind.Zoned chunk) members
 grown number (what.Limit longest chunk) members = over number (kind.Limit longest chunk) members
 grown number (what.Mirror records) members = over number (kind.Mirror 0) members
 
@@ -135,7 +147,17 @@ after known (item.Script pool script) =
     record known { scripts = known.scripts ++ option_to_list (option_map (λ p. record { pool = p; script = script }) (pool_of known.devices pool)) }
 after known item.NoMemory = record known { no_memory = true }
 after known (item.Write task dev range tag) =
-    record known { writes = known.writes ++ record { task = task; dev = number_in known.devices dev; start = range.start; count = range.len; tag = tag } ∷ [] }
+    record known {
+      writes = known.writes ++ record { task = task; dev = number_in known.devices dev; start = range.start; count = range.len; tag = tag } ∷ [];
+      rounds = known.rounds ++ known.syncs ∷ [];
+    }
+after known item.Sync = record known { syncs = known.syncs + 1 }
+after known (item.Resize pool min) =
+    record known { resizes = known.resizes ++ option_to_list (option_map (λ p. record { round = known.syncs; pool = p; min = min }) (pool_of known.devices pool)) }
+
+-- the writes of the present round
+abbrev pub present : Known → List Written
+present known = map (λ at. at.0) (filter (λ at. at.1 == known.syncs) (zip known.writes known.rounds))
 
 -- behind a line that says this, or says nothing
 abbrev pub after_line : Known → Option Item → Known

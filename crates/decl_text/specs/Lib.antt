@@ -5,6 +5,7 @@ pub mod Words
 pub mod Forms
 pub mod Items
 pub mod Known
+pub mod Stands
 pub mod Checks
 pub mod Refusals
 pub mod Lines
@@ -12,4 +13,6 @@ pub mod Places
 pub mod Read
 pub mod Reading
 pub mod Accepting
+pub mod Fit
+pub mod Laws
 pub mod Steps

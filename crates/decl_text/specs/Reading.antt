@@ -1,9 +1,9 @@
 -- What is read of the declarations of a text, before they are checked against each other.
-use Rattle.std.specs.Prelude.{◌≡◌, ◌+◌, ◌<◌, ◌≤◌, List, [], ◌∷◌, ◌++◌, ℕ, drop, length, Option, None, Some, Result, Ok, Err}
+use Rattle.std.specs.Prelude.{◌≡◌, ◌+◌, ◌<◌, ◌≤◌, false, List, [], ◌∷◌, ◌++◌, ℕ, drop, length, is_some, Bool, Option, None, Some, Result, Ok, Err}
 use Rattle.std.specs.List.{before_first}
 use Rattle.std.specs.Option.{option_map, option_or}
 use Rattle.decl_text.specs.Text.{lines, words, most_bytes}
-use Rattle.decl_text.specs.Items.{said, writes}
+use Rattle.decl_text.specs.Items.{said, begins_work}
 use Rattle.decl_text.specs.Known.{Known, nothing, after}
 use Rattle.decl_text.specs.Refusals.{Check, first_found, line_checks, refused}
 use Rattle.decl_text.specs.declared.reason.Reason.{Reason}
@@ -15,9 +15,24 @@ use Rattle.decl_text.specs.declared.item.Item.{Item}
 use Rattle.decl_text.specs.declared.decl.Numbered.{Numbered}
 use Rattle.decl_text.specs.Read.{Read}
 
--- the lines before the first write
+-- no element passes
+abbrev pub NonePass : {X : Type 0} → (X → Bool) → List X → Type 0
+NonePass p [] = Unit {0}
+NonePass p (x ∷ xs) = (p x ≡ false) × NonePass p xs
+
+-- the lines before the first write or `sync` line
+abbrev pub is_work_line : List ℕ → Bool
+is_work_line line = begins_work (words line)
+
 abbrev pub declarations : List (List ℕ) → List (List ℕ)
-declarations all = before_first (λ line. writes (words line)) all
+declarations all = before_first is_work_line all
+
+-- these lines up to the first that is wrong by itself
+abbrev pub is_wrong : List ℕ → Bool
+is_wrong line = is_some (first_found line_checks nothing line)
+
+abbrev pub right_lines : List (List ℕ) → List (List ℕ)
+right_lines all = before_first is_wrong all
 
 -- what lines say up to the first that is wrong by itself, and why it is
 pub record Formed : Type 0 where
@@ -41,12 +56,21 @@ unfoldable pub formed : ℕ → List (List ℕ) → Formed
 formed number [] = record { items = []; fault = None }
 formed number (line ∷ lines) = formed_by (first_found line_checks nothing line) number (said (words line)) (formed (number + 1) lines)
 
+-- lines of which none is a write or a `sync` line say these items, and the first that is wrong by itself has this fault
+abbrev pub AreOfLines : List Numbered → Option Refusal → Type 0
+AreOfLines items fault = (all : List (List ℕ)) × NonePass is_work_line all × (record { items = items; fault = fault } ≡ formed 1 all)
+
+-- the lines that were read: those of the declarations, up to the first that is wrong by itself
+abbrev pub read_lines : List ℕ → List (List ℕ)
+read_lines text = right_lines (declarations (lines text))
+
 pub record IsRead (text : List ℕ) (read : Read) : Type 0 where
   pub formed : record { items = read.items; fault = read.fault } ≡ formed 1 (declarations (lines text))
   pub within : read.rest ≤ length text
   pub few : read.line ≤ read.rest + 1
-  pub rest : read.fault ≡ None → lines (drop read.rest text) ≡ drop (length (declarations (lines text))) (lines text)
-  pub line : read.fault ≡ None → read.line ≡ length (declarations (lines text)) + 1
+  -- the reading stopped behind these
+  pub rest : lines (drop read.rest text) ≡ drop (length (read_lines text)) (lines text)
+  pub line : read.line ≡ length (read_lines text) + 1
 
 -- a text is refused for its length, or these are its declarations
 abbrev pub ReadsDecl : List ℕ → Result Read ReadFault → Type 0

@@ -1,23 +1,14 @@
 -- A step of reading declarations, line by line.
 use Rattle.std.specs.Prelude.{◌≡◌, ◌+◌, ◌≤◌, true, false, Bool, List, [], ◌∷◌, ◌++◌, ℕ, length, drop, None}
-use Rattle.decl_text.specs.Text.{lines, words}
-use Rattle.decl_text.specs.Items.{writes}
+use Rattle.decl_text.specs.Text.{lines}
 use Rattle.decl_text.specs.Read.{AreDeclarations, Read}
-use Rattle.decl_text.specs.Reading.{Formed, IsRead, added, formed, declarations}
+use Rattle.decl_text.specs.Reading.{Formed, IsRead, NonePass, added, formed, declarations, is_wrong, is_work_line}
 use Rattle.decl_text.specs.declared.decl.DeclParts.{DeclParts}
-
--- no element passes
-abbrev pub NonePass : {X : Type 0} → (X → Bool) → List X → Type 0
-NonePass p [] = Unit {0}
-NonePass p (x ∷ xs) = (p x ≡ false) × NonePass p xs
 
 -- the first element passes, where there is one
 abbrev pub Begins : {X : Type 0} → (X → Bool) → List X → Type 0
 Begins p [] = Unit {0}
 Begins p (x ∷ xs) = p x ≡ true
-
-abbrev pub is_write_line : List ℕ → Bool
-is_write_line line = writes (words line)
 
 abbrev pub read_of : DeclParts → Read
 read_of parts = record { items = parts.items.items; fault = parts.fault; rest = parts.rest; line = parts.line }
@@ -26,7 +17,7 @@ read_of parts = record { items = parts.items.items; fault = parts.fault; rest = 
 abbrev pub whole : Read → List (List ℕ) → Formed
 whole read left = added read.items (formed read.line (declarations left))
 
--- no line was wrong and none was a write so far
+-- no line was wrong and none was a write or a `sync` line so far
 pub record IsSoFar (text : List ℕ) (read : Read) : Type 0 where
   pub fine : read.fault ≡ None
   pub within : read.rest ≤ length text
@@ -34,7 +25,8 @@ pub record IsSoFar (text : List ℕ) (read : Read) : Type 0 where
   pub items : AreDeclarations read.items
   pub passed : List (List ℕ)
   pub cut : lines text ≡ passed ++ lines (drop read.rest text)
-  pub none : NonePass is_write_line passed
+  pub none : NonePass is_work_line passed
+  pub right : NonePass is_wrong passed
   pub counted : read.line ≡ length passed + 1
   pub whole : whole read (lines (drop read.rest text)) ≡ formed 1 (declarations (lines text))
 

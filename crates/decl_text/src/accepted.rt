@@ -12,7 +12,7 @@ pub struct Accepted {
     pub stack: Stack,
     /// The script of each pool, once, by falling number.
     pub scripts: Vec<(PoolId, Script)>,
-    /// The byte at which the declarations end: the first one of the first write, or the text's length.
+    /// The byte at which the declarations end: the first one of the first write or `sync` line, or the text's length.
     pub rest: u64,
     /// One more than the number of lines before it.
     pub line: u64,

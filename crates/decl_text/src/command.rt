@@ -15,6 +15,8 @@ pub enum Command {
     Linear,
     /// A device whose chunks go round its members.
     Stripe,
+    /// A stripe over members of any sizes.
+    Zoned,
     /// A device that splits by size and at boundaries.
     Limit,
     /// A device that copies to every member.
@@ -27,20 +29,27 @@ pub enum Command {
     Memory,
     /// A write.
     Write,
+    /// The end of a round.
+    Sync,
+    /// The reserve of a pool from the next round on.
+    Resize,
 }
 
 /// All commands.
-const ALL: [Command; 10] = [
+const ALL: [Command; 13] = [
     Command::Disk,
     Command::Bad,
     Command::Linear,
     Command::Stripe,
+    Command::Zoned,
     Command::Limit,
     Command::Mirror,
     Command::Fs,
     Command::Script,
     Command::Memory,
     Command::Write,
+    Command::Sync,
+    Command::Resize,
 ];
 
 impl Command {
@@ -53,12 +62,15 @@ impl Command {
             Command::Bad => b"bad",
             Command::Linear => b"linear",
             Command::Stripe => b"stripe",
+            Command::Zoned => b"zoned",
             Command::Limit => b"limit",
             Command::Mirror => b"mirror",
             Command::Fs => b"fs",
             Command::Script => b"script",
             Command::Memory => b"memory",
             Command::Write => b"write",
+            Command::Sync => b"sync",
+            Command::Resize => b"resize",
         }
     }
 

@@ -4,11 +4,11 @@ ghost use Rattle.std.specs.Option.{option_map, option_to_list};
 ghost use Rattle.decl_text.specs.declared.reason.ReadFault.TheVariants.{Memory};
 ghost use Rattle.decl_text.specs.Steps.{Goes, IsSoFar, read_of};
 ghost use Rattle.decl_text.specs.Read.{AreDeclarations};
-ghost use Rattle.decl_text.specs.Reading.{ReadsDecl};
+ghost use Rattle.decl_text.specs.Reading.{AreOfLines, ReadsDecl};
 
 use crate::line::LineFault;
 use crate::text::Lines;
-use crate::{Item, Line, ReadFault, Reason, Refusal};
+use crate::{Item, Line, ReadFault, Reason, Refusal, Stand};
 use std::alloc::{AllocError, Global};
 use std::marker::Model;
 
@@ -32,7 +32,7 @@ pub struct DeclParts<'a> {
     pub items: Vec<Numbered<'a>>,
     /// Why that line is wrong, where there is one.
     pub fault: Option<Refusal>,
-    /// The byte at which the reading stopped: the first one of the first write, or the text's length.
+    /// The byte at which the reading stopped: the first one of that line or of the first write or `sync` line, or the text's length.
     pub rest: u64,
     /// One more than the number of lines before it.
     pub line: u64,
@@ -40,18 +40,20 @@ pub struct DeclParts<'a> {
 
 impl<'a> Model for Decl<'a> {
     ghost use Rattle.decl_text.specs.Read.{AreDeclarations, Read};
+    ghost use Rattle.decl_text.specs.Reading.{AreOfLines};
 
     ghost Value = { Read };
 
     ghost view = { λ decl. record { items = decl.parts.items.items; fault = decl.parts.fault; rest = decl.parts.rest; line = decl.parts.line } };
 
-    ghost invariant = { λ decl. AreDeclarations decl.parts.items.items };
+    ghost invariant = { λ decl. AreDeclarations decl.parts.items.items × ∥ AreOfLines decl.parts.items.items decl.parts.fault ∥₁ };
 }
 
 impl<'a> Decl<'a> {
     /// What it holds.
     pub fn parts(self) -> DeclParts<'a>
         ensures declarations { AreDeclarations result.items.items }
+        ensures lines { ∥ AreOfLines result.items.items result.fault ∥₁ }
         ensures parts { self.entry ≡ record { items = result.items.items; fault = result.fault; rest = result.rest; line = result.line } }
     {
         self.parts
@@ -61,7 +63,7 @@ impl<'a> Decl<'a> {
 // The most bytes that a text may have.
 const MOST_BYTES: usize = 4_194_304;
 
-/// Reads the declarations of a text: its lines before the first write.
+/// Reads the declarations of a text: its lines before the first write or `sync` line.
 ///
 /// # Errors
 ///
@@ -101,10 +103,10 @@ impl<'a> DeclParts<'a> {
             return Ok(false);
         };
         let line = Line::of(alloc, bytes)?;
-        if line.writes() {
+        if line.begins_work() {
             return Ok(false);
         }
-        match line.said(alloc) {
+        match line.said(alloc, Stand::Front) {
             Ok(item) => self.pass(item, lines.place())?,
             Err(LineFault::Wrong(reason)) => {
                 self.fault = Some(reason.at(self.line));

@@ -145,7 +145,7 @@ const RESCUER: Setting = Setting {
     place: Place::OneOf(Few::YesNo),
 };
 
-const STRIPE_CHUNK: Setting = Setting {
+const CHUNK: Setting = Setting {
     key: Key::Chunk,
     wanted: true,
     place: SOME,
@@ -189,11 +189,13 @@ impl Command {
         match self {
             Command::Disk => &[Place::Name, ANY],
             Command::Bad => &[Place::Mention, ANY, SOME, Place::OneOf(Few::Faults)],
-            Command::Linear | Command::Stripe | Command::Limit | Command::Mirror => &[Place::Name],
-            Command::Fs => &[],
+            Command::Linear | Command::Stripe | Command::Zoned | Command::Limit | Command::Mirror =>
+                &[Place::Name],
+            Command::Fs | Command::Sync => &[],
             Command::Script => &[Place::Mention, Place::Pattern, Place::OneOf(Few::Tails)],
             Command::Memory => &[Place::OneOf(Few::None)],
             Command::Write => &[TASK, Place::Mention, ANY, SOME, ANY],
+            Command::Resize => &[Place::Mention, ANY],
         }
     }
 
@@ -203,12 +205,17 @@ impl Command {
     {
         match self {
             Command::Linear => &[RESERVE, RESCUER],
-            Command::Stripe => &[RESERVE, RESCUER, STRIPE_CHUNK],
+            Command::Stripe | Command::Zoned => &[RESERVE, RESCUER, CHUNK],
             Command::Limit => &[RESERVE, RESCUER, MAX, LIMIT_CHUNK],
             Command::Mirror => &[RESERVE, RESCUER, RECORDS],
             Command::Fs => &[BIOS, VECS],
-            Command::Disk | Command::Bad | Command::Script | Command::Memory | Command::Write =>
-                &[],
+            Command::Disk
+            | Command::Bad
+            | Command::Script
+            | Command::Memory
+            | Command::Write
+            | Command::Sync
+            | Command::Resize => &[],
         }
     }
 
@@ -217,7 +224,8 @@ impl Command {
         ensures { result ≡ (form self).members }
     {
         match self {
-            Command::Linear | Command::Stripe | Command::Limit | Command::Mirror => true,
+            Command::Linear | Command::Stripe | Command::Zoned | Command::Limit | Command::Mirror =>
+                true,
             _ => false,
         }
     }

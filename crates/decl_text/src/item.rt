@@ -12,6 +12,8 @@ pub enum What {
     Linear,
     /// Chunks of `chunk` sectors go round its members.
     Stripe { chunk: u64 },
+    /// `zoned`, with the sectors of a chunk. No line says it yet.
+    Zoned { chunk: u64 },
     /// Pieces have at most `max` sectors and do not cross a multiple of `chunk`, where that is not 0.
     Limit { max: u64, chunk: u64 },
     /// Each member has a copy. `records` is the reserve of its pool of records.
@@ -55,5 +57,12 @@ pub enum Item<'a> {
         dev: Word<'a>,
         range: Range,
         tag: u64,
+    },
+    /// The end of a round.
+    Sync,
+    /// The pool of that name keeps `min` elements from the next round on.
+    Resize {
+        pool: Word<'a>,
+        min: u64,
     },
 }

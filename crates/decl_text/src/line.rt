@@ -1,14 +1,14 @@
 //! One line of a text: its words, and what it says.
-ghost use Rattle.std.specs.Prelude.{◌≡◌, ◌<◌, ◌∷◌, ◌++◌, [], filter, length, position, IfOk, MatchOption};
+ghost use Rattle.std.specs.Prelude.{◌≡◌, ◌<◌, ◌∷◌, ◌++◌, [], false, filter, length, position, IfOk, MatchOption};
 ghost use Rattle.std.specs.List.{list_all, slice_split};
 ghost use Rattle.decl_text.specs.Text.{is_blank, is_some_text, is_text, is_text_byte, words, words as words_in};
 ghost use Rattle.decl_text.specs.Forms.{form, is_malformed, is_misnumbered};
-ghost use Rattle.decl_text.specs.Items.{declares, is_comment, is_write, writes};
+ghost use Rattle.decl_text.specs.Items.{begins_work, is_comment, is_work, malformed, misnumbered, said};
 ghost use Rattle.decl_text.specs.Lines.{CommandSays, Says, command_first};
 
 use crate::meaning::meaning;
 use crate::wrong::{is_malformed, is_misnumbered};
-use crate::{Command, Item, Reason, Word};
+use crate::{Command, Item, Reason, Stand, Word};
 use std::alloc::{AllocError, Global};
 use std::marker::Model;
 use thiserror::Error;
@@ -64,33 +64,45 @@ impl<'a> Line<'a> {
         Ok(Line { bytes, words })
     }
 
-    /// Whether it is a write, by its first word.
-    pub fn writes(&self) -> bool
-        ensures { result ≡ writes (words self.now) }
+    /// Whether it is a write or a `sync` line, by its first word.
+    pub fn begins_work(&self) -> bool
+        ensures { result ≡ begins_work (words self.now) }
     {
-        matches!(first_of(&self.words), First::Command(Command::Write))
+        matches!(
+            first_of(&self.words),
+            First::Command(Command::Write | Command::Sync)
+        )
     }
 
-    /// Whether it is a line of declarations: it has a first word of another kind, which may be unknown.
-    pub fn declares(&self) -> bool
-        ensures { result ≡ declares (words self.now) }
-    {
-        match first_of(&self.words) {
-            First::Skipped => false,
-            First::Unknown => true,
-            First::Command(command) => command != Command::Write,
-        }
-    }
-
-    /// What it says by itself, and nothing where it is skipped.
+    /// What it says, where it stands, and nothing where it is skipped.
     ///
     /// # Errors
     ///
-    /// Where it has a byte that no text has, a wrong word, or a wrong number, in this order, or where there is no memory.
-    pub fn said(&self, alloc: Global) -> Result<Option<Item<'a>>, LineFault>
-        ensures { Says self.now result }
+    /// Where it has a byte that no text has, a wrong word, or a wrong number, in this order, or where there is no memory. A first word
+    /// that may not stand there is a wrong word.
+    pub fn said(&self, alloc: Global, stand: Stand) -> Result<Option<Item<'a>>, LineFault>
+        ensures { Says stand self.now result }
     {
-        read(alloc, self.bytes, &self.words)
+        read(alloc, stand, self.bytes, &self.words)
+    }
+
+    /// What it says, where its words and numbers are right, and nothing where it is skipped.
+    ///
+    /// # Errors
+    ///
+    /// Where there is no memory.
+    pub fn item(&self, alloc: Global) -> Result<Option<Item<'a>>, AllocError>
+        requires formed { malformed (words self.now) ≡ false }
+        requires numbered { misnumbered (words self.now) ≡ false }
+        ensures { IfOk result (λ item. item ≡ said (words self.now)) }
+    {
+        match first_of(&self.words) {
+            First::Skipped | First::Unknown => Ok(None),
+            First::Command(command) => {
+                let (_, rest) = self.words.split_at(1);
+                Ok(Some(meaning(alloc, command, rest)?))
+            }
+        }
     }
 }
 
@@ -206,10 +218,15 @@ fn read_command<'a>(
     Ok(item)
 }
 
-// What a line of these words says.
-fn read<'a>(alloc: Global, line: &[u8], words: &[Word<'a>]) -> Result<Option<Item<'a>>, LineFault>
+// What a line of these words says, which stands there.
+fn read<'a>(
+    alloc: Global,
+    stand: Stand,
+    line: &[u8],
+    words: &[Word<'a>],
+) -> Result<Option<Item<'a>>, LineFault>
     requires { words.now ≡ words_in line.now }
-    ensures { Says line.now result }
+    ensures { Says stand line.now result }
 {
     if !is_text(line) {
         return Err(LineFault::Wrong(Reason::NotText));
@@ -218,6 +235,9 @@ fn read<'a>(alloc: Global, line: &[u8], words: &[Word<'a>]) -> Result<Option<Ite
         First::Skipped => Ok(None),
         First::Unknown => Err(LineFault::Wrong(Reason::BadWord)),
         First::Command(command) => {
+            if !stand.takes(command) {
+                return Err(LineFault::Wrong(Reason::BadWord));
+            }
             let (_, rest) = words.split_at(1);
             match read_command(alloc, command, rest) {
                 Ok(item) => Ok(Some(item)),

@@ -37,12 +37,15 @@ pub(crate) fn meaning<'a>(
         Command::Bad => Ok(bad(words)),
         Command::Linear => linear(alloc, words),
         Command::Stripe => stripe(alloc, words),
+        Command::Zoned => zoned(alloc, words),
         Command::Limit => limit(alloc, words),
         Command::Mirror => mirror(alloc, words),
         Command::Fs => Ok(fs(words)),
         Command::Script => script(alloc, words),
         Command::Memory => Ok(Item::NoMemory),
         Command::Write => Ok(write(words)),
+        Command::Sync => Ok(Item::Sync),
+        Command::Resize => Ok(resize(words)),
     }
 }
 
@@ -127,6 +130,20 @@ fn stripe<'a>(alloc: Global, words: &[Word<'a>]) -> Result<Item<'a>, AllocError>
     device(alloc, name, What::Stripe { chunk }, false, rest)
 }
 
+// `zoned NAME chunk=N MEMBER ..`
+#[tactic(auto, unfolding(crate::specs::Items::meaning))]
+fn zoned<'a>(alloc: Global, words: &[Word<'a>]) -> Result<Item<'a>, AllocError>
+    requires formed { is_malformed (form command.Zoned) words.now ≡ false }
+    requires numbered { is_misnumbered (form command.Zoned) words.now ≡ false }
+    ensures { IfOk result (λ item. meaning command.Zoned words.now ≡ Some item) }
+{
+    let [name, rest @ ..] = words else {
+        unreachable!()
+    };
+    let chunk = number_or(rest, Key::Chunk, 0);
+    device(alloc, name, What::Zoned { chunk }, false, rest)
+}
+
 // `limit NAME max=N chunk=N MEMBER`
 #[tactic(auto, unfolding(crate::specs::Items::meaning))]
 fn limit<'a>(alloc: Global, words: &[Word<'a>]) -> Result<Item<'a>, AllocError>
@@ -204,6 +221,20 @@ fn write<'a>(words: &[Word<'a>]) -> Item<'a>
             len: count.digits(),
         },
         tag: tag.digits(),
+    }
+}
+
+// `resize POOL N`
+#[tactic(auto, unfolding(crate::specs::Items::meaning))]
+fn resize<'a>(words: &[Word<'a>]) -> Item<'a>
+    requires formed { is_malformed (form command.Resize) words.now ≡ false }
+    requires numbered { is_misnumbered (form command.Resize) words.now ≡ false }
+    ensures { meaning command.Resize words.now ≡ Some result }
+{
+    let [pool, min] = words else { unreachable!() };
+    Item::Resize {
+        pool: pool.share(),
+        min: min.digits(),
     }
 }
 

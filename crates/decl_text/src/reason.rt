@@ -8,11 +8,12 @@ use thiserror::Error;
 /// What is wrong with a line, or with the whole text. Each has a number and a name, which the program prints.
 #[derive(Clone, Copy, Debug, PartialEq, Eq)]
 pub enum Reason {
-    /// A first word, a number of words, an option, a name or a word of a few that does not belong there.
+    /// A first word, a number of words, an option, a name or a word of a few that does not belong there, or a line that may not stand
+    /// there.
     BadWord,
     /// A word for a number that holds none, or one that may not stand there.
     BadNumber,
-    /// A name, a set, a script or `memory` for the second time.
+    /// A name, a set, a script or `memory` for the second time, or a pool that is changed twice behind one `sync` line.
     NameTaken,
     /// A device that no earlier line declares.
     NoSuchDevice,
@@ -32,11 +33,11 @@ pub enum Reason {
     NotATop,
     /// A range that ends behind its device.
     PastEnd,
-    /// A write to a sector that an earlier write has.
+    /// A write to a sector that an earlier write of its round has.
     Overlap,
     /// A write of more segments than a vector has.
     TooManySegments,
-    /// A script of a pool that no earlier line gives.
+    /// A script or a change of a pool that no earlier line gives.
     NoSuchPool,
     /// More bytes than a text may have.
     TooLong,

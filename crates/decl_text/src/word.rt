@@ -1,5 +1,5 @@
 //! Words of a line.
-ghost use Rattle.std.specs.Prelude.{◌≡◌, ◌^◌, ◌<◌, ◌==◌, true, false, true, is_some, MatchOption, Some, IfOk, length, codes, map, position, Contains};
+ghost use Rattle.std.specs.Prelude.{◌≡◌, ◌^◌, ◌<◌, ◌==◌, ◌++◌, true, false, true, is_some, MatchOption, Some, IfOk, length, codes, map, position, Contains};
 ghost use Rattle.std.specs.List.{list_all, list_any, position_or_len};
 ghost use Rattle.std.specs.Char.{is_ascii_digit};
 ghost use Rattle.std.specs.Str.{bytes_eq};
@@ -53,6 +53,18 @@ impl<'a> Word<'a> {
         ensures { result ≡ bytes_eq self.now word.now }
     {
         self.bytes == word
+    }
+
+    /// Whether it is these bytes, followed by those.
+    pub fn is_joined(&self, front: &[u8], back: &[u8]) -> bool
+        ensures { result ≡ bytes_eq (front.now ++ back.now) self.now }
+    {
+        let word = self.bytes;
+        if word.len() < back.len() {
+            return false;
+        }
+        let (first, last) = word.split_at(word.len() - back.len());
+        last == back && front == first
     }
 
     /// Whether it is an option: it has a `=`.

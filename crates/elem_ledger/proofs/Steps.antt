@@ -1,28 +1,28 @@
 -- Each kind of step keeps the rule of a ledger's table.
-use Rattle.std.proofs.Common.{◌≡◌, ℕ, zero, suc, ◌≤◌, List, [], ◌∷◌, set, arith, ap, sym, refl}
+use Rattle.std.proofs.Common.{◌≡◌, ℕ, zero, suc, ◌≤◌, List, [], ◌∷◌, set, arith, ap, sym, refl, ◌∙◌}
 use Rattle.std.specs.Prelude.{sum_by}
-use Rattle.std.proofs.lemmas.List.Sums.{sum_by-cons}
+use Rattle.std.proofs.lemmas.List.Sums.{sum_by-cons, sum_by_push}
 use mathlib.Core.Option.{some, some-injective, some-ne-none}
 use lib.ListN.{get_elem?}
 use Rattle.atomic_table.specs.Table.{Splits, Joins, Allows, keeps}
-use Rattle.atomic_table.proofs.Lists.{set_again}
+use Rattle.atomic_table.proofs.Lists.{set_again, set_else}
 use Rattle.elem_ledger.specs.declared.balance.View.{View}
 use Rattle.elem_ledger.specs.declared.balance.View.TheVariants.{Keeper, Out, Spent}
 use Rattle.elem_ledger.specs.Balance.{keepers, issued_by, redeemed_by, out_by, one_more_issued, one_more_redeemed, IsBalanced}
-use Rattle.elem_ledger.proofs.Sums.{sum_by-set, sum_by-last}
+use Rattle.elem_ledger.proofs.Sums.{sum_by-set}
 
 -- an issue: the keeper has issued one more, and one more share is out
 pub issue_keeps : (id issued redeemed : ℕ) → Splits IsBalanced id (Keeper issued redeemed) (one_more_issued (Keeper issued redeemed)) Out
 issue_keeps id issued redeemed s rule at =
     let now : List View = set s.views id (one_more_issued (Keeper issued redeemed)) in
     record {
-      one_keeper = omega (arith, rule.one_keeper, sum_by-last keepers now Out, sum_by-set keepers s.views id (Keeper issued redeemed) (one_more_issued (Keeper issued redeemed)) at);
+      one_keeper = omega (arith, rule.one_keeper, sum_by_push keepers now Out, sum_by-set keepers s.views id (Keeper issued redeemed) (one_more_issued (Keeper issued redeemed)) at);
       balanced = omega (
         arith,
         rule.balanced,
-        sum_by-last issued_by now Out,
-        sum_by-last redeemed_by now Out,
-        sum_by-last out_by now Out,
+        sum_by_push issued_by now Out,
+        sum_by_push redeemed_by now Out,
+        sum_by_push out_by now Out,
         sum_by-set issued_by s.views id (Keeper issued redeemed) (one_more_issued (Keeper issued redeemed)) at,
         sum_by-set redeemed_by s.views id (Keeper issued redeemed) (one_more_issued (Keeper issued redeemed)) at,
         sum_by-set out_by s.views id (Keeper issued redeemed) (one_more_issued (Keeper issued redeemed)) at,
@@ -64,6 +64,15 @@ no_keeper (v ∷ views) zero issued redeemed none at =
     absurd (omega (arith, none, kept, sum_by-cons keepers v views))
 no_keeper (v ∷ views) (suc id) issued redeemed none at =
     no_keeper views id issued redeemed (omega (arith, none, sum_by-cons keepers v views)) at
+
+-- a second keeper is taken in: there is none
+pub merge_keeps : (id other issued redeemed issued_there redeemed_there : ℕ)
+    → Joins IsBalanced id (Keeper issued redeemed) other (Keeper issued_there redeemed_there) (Keeper 0 1) Spent
+merge_keeps id other issued redeemed issued_there redeemed_there s rule at apart there =
+    let gone : List View = set s.views id Spent in
+    let none : sum_by keepers gone ≡ 0 = omega (arith, rule.one_keeper, sum_by-set keepers s.views id (Keeper issued redeemed) Spent at) in
+    let still = set_else s.views id other Spent apart ∙ sym (set_else s.views id other (Keeper 0 1) apart) ∙ there in
+    absurd (no_keeper gone other issued_there redeemed_there none still)
 
 -- all that was issued was issued by the one keeper, who has redeemed no more than that
 pub keeper_tells : (views : List View) (id issued redeemed : ℕ) → sum_by keepers views ≡ 1 → get_elem? views id ≡ some (Keeper issued redeemed)

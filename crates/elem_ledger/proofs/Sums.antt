@@ -1,5 +1,5 @@
--- Sums over a list of which one place changes.
-use Rattle.std.proofs.Common.{◌≡◌, ℕ, zero, suc, ◌+◌, List, [], ◌∷◌, ◌++◌, set, arith, ap}
+-- A sum over a list of which one place changes.
+use Rattle.std.proofs.Common.{◌≡◌, ℕ, zero, suc, ◌+◌, List, [], ◌∷◌, set, arith, ap}
 use Rattle.std.specs.Prelude.{sum_by}
 use Rattle.std.proofs.lemmas.List.Sums.{sum_by-cons}
 use mathlib.Core.Option.{some, some-injective, some-ne-none}
@@ -14,8 +14,3 @@ sum_by-set f (x ∷ xs) zero a b e =
     omega (arith, sum_by-cons f x xs, sum_by-cons f b xs)
 sum_by-set f (x ∷ xs) (suc i) a b e =
     omega (arith, sum_by-set f xs i a b e, sum_by-cons f x xs, sum_by-cons f x (set xs i b))
-
--- one more element at the end
-pub sum_by-last : {A : Type 0} (f : A → ℕ) (xs : List A) (a : A) → sum_by f (xs ++ a ∷ []) ≡ sum_by f xs + f a
-sum_by-last f [] a = omega (arith, sum_by-cons f a [])
-sum_by-last f (x ∷ xs) a = omega (arith, sum_by-last f xs a, sum_by-cons f x xs, sum_by-cons f x (xs ++ a ∷ []))

@@ -29,3 +29,12 @@ pub fn each_share_goes_home<P>(
     let body = first.redeem(one);
     (body, second.redeem(other))
 }
+
+/// No two ledgers are one, whatever their numbers: where two were one, anything would follow. So an element that is of one ledger is of
+/// no other.
+pub fn two_ledgers_are_never_one(first: Ledger, second: Ledger)
+    requires { first.id ≡ second.id }
+    ensures { ⊥ }
+{
+    first.clash(second);
+}

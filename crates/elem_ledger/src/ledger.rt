@@ -2,7 +2,7 @@
 ghost use Rattle.std.specs.Prelude.{◌≡◌, ℕ, ◌+◌, ◌-◌, ◌^◌, ◌<◌, ◌≤◌, IfOk};
 ghost use Rattle.elem_ledger.specs.Ledger.{Account};
 
-use crate::balance::{Balance, Issue, Look, Redeem, View};
+use crate::balance::{Balance, Issue, Look, Merge, Redeem, View};
 use crate::element::{Element, Share};
 use atomic_table::{Seat, Table};
 use std::alloc::{AllocError, Global};
@@ -48,6 +48,13 @@ impl Ledger {
         })
     }
 
+    /// The ledger's number.
+    pub fn no(&self) -> u32
+        ensures { result ≡ self.now.id.no }
+    {
+        self.no
+    }
+
     /// The number of shares that are out.
     pub fn total(&self) -> u64
         ensures { result ≡ self.now.total }
@@ -89,5 +96,16 @@ impl Ledger {
         let _word = table.shared.load::<Look>(&mut self.keeper, 0);
         self.total -= 1;
         body
+    }
+
+    // That there are two ledgers with one table cannot be.
+    pub(crate) fn clash(mut self, other: Ledger)
+        requires { self.id.table ≡ other.id.table }
+        ensures { ⊥ }
+    {
+        let Ledger { keeper: theirs, .. } = other;
+        let table = &self.table;
+        table.shared.join_seat::<Merge>(&mut self.keeper, theirs);
+        let _word = table.shared.load::<Look>(&mut self.keeper, 0);
     }
 }

@@ -33,3 +33,4 @@ pub mod WriteSizes
 pub mod Ways
 pub mod MayLemmas
 pub mod LoneDisk
+pub mod Followed

@@ -17,7 +17,7 @@ use Rattle.layout_model.specs.Way.{Fits, Place, place}
 use Rattle.layout_model.specs.Fragments.{IsFragmentOf, IsIn}
 use Rattle.layout_model.specs.Plan.{frags, Whole, plan}
 use Rattle.layout_model.specs.May.{fault_of, MayEnd, may_end}
-use Rattle.layout_model.specs.Laid.{Reaches, IsLaid, lone_fragment, put_sector, lone_sector}
+use Rattle.layout_model.specs.Laid.{Reaches, Lands, IsLaid, round_of, lone_fragment, put_sector, lone_sector}
 use Rattle.layout_model.proofs.Sound.{sound_leaf}
 use Rattle.layout_model.proofs.Lists.{contains_one}
 use Rattle.layout_model.proofs.Whole.{frags_are}
@@ -95,10 +95,9 @@ lone_outside stack write x outside = elim (cases_Bool (status_eq (fault_of stack
 ]
 
 -- without a write, a disk is left as it was
-pub laid_on_nothing : (stack : Stack) (disk x : ℕ) → IsLaid stack [] disk x zero_sector
-laid_on_nothing stack disk x = record {
-  written = λ number write found way well. cc;
-  failed = λ number write found way failed. refl;
+pub laid_on_nothing : (stack : Stack) (rounds : List ℕ) (disk x : ℕ) → IsLaid stack [] rounds disk x zero_sector
+laid_on_nothing stack rounds disk x = record {
+  written = λ number write found there latest. cc;
   empty = λ none. refl;
 }
 
@@ -135,79 +134,86 @@ module _ (stack : Stack) (write : Write) (sectors : ℕ) (is : tree stack write.
         inside = found.3;
       }
 
-  written_there : (x : ℕ) (way : Reaches stack write 0 write.dev.0 x) → fault_of stack way.fragment ≡ status.Ok
-      → lone_sector stack write x ≡ sector_data write.tag way.offset
-  written_there x way well =
-      let facts = way_on_disk 0 x way in
-      let lone : fault_of stack (lone_fragment write 0) ≡ status.Ok = ap (fault_of stack) (sym facts.0) ∙ well in
-      let offset : x - write.start ≡ way.offset = omega (arith, facts.1) in
+  written_there : (x : ℕ) (there : Lands stack write 0 write.dev.0 x) → lone_sector stack write x ≡ sector_data write.tag there.way.offset
+  written_there x there =
+      let facts = way_on_disk 0 x there.way in
+      let lone : fault_of stack (lone_fragment write 0) ≡ status.Ok = ap (fault_of stack) (sym facts.0) ∙ there.well in
+      let offset : x - write.start ≡ there.way.offset = omega (arith, facts.1) in
       lone_well stack write x lone
-      ∙ put_inside write x (omega (arith, facts.1)) (omega (arith, facts.1, way.within))
+      ∙ put_inside write x (omega (arith, facts.1)) (omega (arith, facts.1, there.way.within))
       ∙ ap (sector_data write.tag) offset
 
-  failed_there : (x : ℕ) (way : Reaches stack write 0 write.dev.0 x) → fault_of stack way.fragment ≢ status.Ok → lone_sector stack write x ≡ zero_sector
-  failed_there x way failed = lone_failed stack write x (λ well. failed (ap (fault_of stack) (way_on_disk 0 x way).0 ∙ well))
+  -- where nothing lands, the write has no way there, or its fragment fails
+  some_lands : (x : ℕ) → fault_of stack (lone_fragment write 0) ≡ status.Ok → write.start ≤ x → x < write.start + write.count → Lands stack write 0 write.dev.0 x
+  some_lands x well from below =
+      let way = some_way 0 x from below in
+      record { way = way; well = ap (fault_of stack) (way_on_disk 0 x way).0 ∙ well }
 
-  none_there : (x : ℕ) → (Reaches stack write 0 write.dev.0 x → ⊥) → lone_sector stack write x ≡ zero_sector
-  none_there x none = elim (cases_lt x write.start) [
+  none_well : (x : ℕ) → fault_of stack (lone_fragment write 0) ≡ status.Ok → (Lands stack write 0 write.dev.0 x → ⊥) → lone_sector stack write x ≡ zero_sector
+  none_well x well none = elim (cases_lt x write.start) [
     | inl before ↦ lone_outside stack write x (put_before write x before)
     | inr from ↦ elim (cases_lt x (write.start + write.count)) [
-      | inl below ↦ absurd (none (some_way 0 x from below))
+      | inl below ↦ absurd (none (some_lands x well from below))
       | inr behind ↦ lone_outside stack write x (put_behind write x behind)
     ]
   ]
 
-  written_at : (x number : ℕ) (other : Write) → slice_get (write ∷ []) number ≡ Some other → (way : Reaches stack other number write.dev.0 x)
-      → fault_of stack way.fragment ≡ status.Ok → lone_sector stack write x ≡ sector_data other.tag way.offset
+  none_there : (x : ℕ) → (Lands stack write 0 write.dev.0 x → ⊥) → lone_sector stack write x ≡ zero_sector
+  none_there x none = elim (cases_Bool (status_eq (fault_of stack (lone_fragment write 0)) status.Ok)) [
+    | inl same ↦ none_well x ((status_eq_is (fault_of stack (lone_fragment write 0)) status.Ok).0 same) none
+    | inr other ↦
+        lone_failed stack write x
+        (λ well. both_ways (status_eq (fault_of stack (lone_fragment write 0)) status.Ok) other ((status_eq_is (fault_of stack (lone_fragment write 0)) status.Ok).1 well))
+  ]
+
+  written_at : (x number : ℕ) (other : Write) → slice_get (write ∷ []) number ≡ Some other → (there : Lands stack other number write.dev.0 x)
+      → lone_sector stack write x ≡ sector_data other.tag there.way.offset
   written_at x zero other found =
-      subst (λ (o : Write). (way : Reaches stack o 0 write.dev.0 x) → fault_of stack way.fragment ≡ status.Ok
-      → lone_sector stack write x ≡ sector_data o.tag way.offset) (same_Some write other found) (written_there x)
-  written_at x (suc number) other found = λ way well. cc
+      subst (λ (o : Write). (there : Lands stack o 0 write.dev.0 x) → lone_sector stack write x ≡ sector_data o.tag there.way.offset) (same_Some write other found) (written_there x)
+  written_at x (suc number) other found = λ there. cc
 
-  failed_at : (x number : ℕ) (other : Write) → slice_get (write ∷ []) number ≡ Some other → (way : Reaches stack other number write.dev.0 x)
-      → fault_of stack way.fragment ≢ status.Ok → lone_sector stack write x ≡ zero_sector
-  failed_at x zero other found =
-      subst (λ (o : Write). (way : Reaches stack o 0 write.dev.0 x) → fault_of stack way.fragment ≢ status.Ok → lone_sector stack write x ≡ zero_sector)
-      (same_Some write other found) (failed_there x)
-  failed_at x (suc number) other found = λ way failed. cc
-
-  -- where the write is the only one, this is what it leaves in each sector of its disk
-  pub laid_on_disk : (x : ℕ) → IsLaid stack (write ∷ []) write.dev.0 x (lone_sector stack write x)
-  laid_on_disk x = record {
-    written = written_at x;
-    failed = failed_at x;
+  -- where the write is the only one, this is what it leaves in each sector of its disk, whatever its round
+  pub laid_on_disk : (rounds : List ℕ) (x : ℕ) → IsLaid stack (write ∷ []) rounds write.dev.0 x (lone_sector stack write x)
+  laid_on_disk rounds x = record {
+    written = λ number other found there latest. written_at x number other found there;
     empty = λ none. none_there x (none 0 write refl);
   }
 
-  -- where the write has a way to a sector, nothing else can stand there
-  only_laid : (x : ℕ) (sector : List ℕ) → IsLaid stack (write ∷ []) write.dev.0 x sector → Reaches stack write 0 write.dev.0 x → sector ≡ lone_sector stack write x
-  only_laid x sector laid way = elim (cases_Bool (status_eq (fault_of stack way.fragment) status.Ok)) [
-    | inl same ↦
-        let well : fault_of stack way.fragment ≡ status.Ok = (status_eq_is (fault_of stack way.fragment) status.Ok).0 same in
-        laid.written 0 write refl way well ∙ sym (written_there x way well)
-    | inr other ↦
-        let failed : fault_of stack way.fragment ≢ status.Ok =
-        λ well. both_ways (status_eq (fault_of stack way.fragment) status.Ok) other ((status_eq_is (fault_of stack way.fragment) status.Ok).1 well) in
-        laid.failed 0 write refl way failed ∙ sym (failed_there x way failed)
+  -- no write is of a later round than the only one
+  only_latest : (rounds : List ℕ) (x number : ℕ) (other : Write) → slice_get (write ∷ []) number ≡ Some other → Lands stack other number write.dev.0 x → round_of rounds number ≤ round_of rounds 0
+  only_latest rounds x zero other found there = omega arith
+  only_latest rounds x (suc number) other found there = cc
+
+  -- a list of one write has no other that lands there
+  none_lands_at : (x number : ℕ) (other : Write) → (Lands stack write 0 write.dev.0 x → ⊥) → slice_get (write ∷ []) number ≡ Some other
+      → Lands stack other number write.dev.0 x → ⊥
+  none_lands_at x zero other none found = subst (λ (o : Write). Lands stack o 0 write.dev.0 x → ⊥) (same_Some write other found) none
+  none_lands_at x (suc number) other none found = λ there. cc
+
+  -- where nothing lands, zeros stand
+  laid_empty : (rounds : List ℕ) (x : ℕ) (sector : List ℕ) → IsLaid stack (write ∷ []) rounds write.dev.0 x sector → (Lands stack write 0 write.dev.0 x → ⊥)
+      → sector ≡ lone_sector stack write x
+  laid_empty rounds x sector laid none = laid.empty (λ number other found. none_lands_at x number other none found) ∙ sym (none_there x none)
+
+  only_well : (rounds : List ℕ) (x : ℕ) (sector : List ℕ) → IsLaid stack (write ∷ []) rounds write.dev.0 x sector → fault_of stack (lone_fragment write 0) ≡ status.Ok
+      → sector ≡ lone_sector stack write x
+  only_well rounds x sector laid well = elim (cases_lt x write.start) [
+    | inl before ↦ laid_empty rounds x sector laid (λ there. omega (arith, (way_on_disk 0 x there.way).1))
+    | inr from ↦ elim (cases_lt x (write.start + write.count)) [
+      | inl below ↦
+          let there = some_lands x well from below in
+          laid.written 0 write refl there (only_latest rounds x) ∙ sym (written_there x there)
+      | inr behind ↦ laid_empty rounds x sector laid (λ there. omega (arith, (way_on_disk 0 x there.way).1, there.way.within))
+    ]
   ]
 
-  -- a list of one write has no other that has a way there
-  no_way_at : (x number : ℕ) (other : Write) → (Reaches stack write 0 write.dev.0 x → ⊥) → slice_get (write ∷ []) number ≡ Some other
-      → Reaches stack other number write.dev.0 x → ⊥
-  no_way_at x zero other none found = subst (λ (o : Write). Reaches stack o 0 write.dev.0 x → ⊥) (same_Some write other found) none
-  no_way_at x (suc number) other none found = λ way. cc
-
-  -- nor where it has none
-  laid_empty : (x : ℕ) (sector : List ℕ) → IsLaid stack (write ∷ []) write.dev.0 x sector → (Reaches stack write 0 write.dev.0 x → ⊥)
-      → sector ≡ lone_sector stack write x
-  laid_empty x sector laid none = laid.empty (λ number other found. no_way_at x number other none found) ∙ sym (none_there x none)
-
   -- so nothing else can stand in any sector of the disk
-  pub only_laid_on_disk : (x : ℕ) (sector : List ℕ) → IsLaid stack (write ∷ []) write.dev.0 x sector → sector ≡ lone_sector stack write x
-  only_laid_on_disk x sector laid = elim (cases_lt x write.start) [
-    | inl before ↦ laid_empty x sector laid (λ way. omega (arith, (way_on_disk 0 x way).1))
-    | inr from ↦ elim (cases_lt x (write.start + write.count)) [
-      | inl below ↦ only_laid x sector laid (some_way 0 x from below)
-      | inr behind ↦ laid_empty x sector laid (λ way. omega (arith, (way_on_disk 0 x way).1, way.within))
-    ]
+  pub only_laid_on_disk : (rounds : List ℕ) (x : ℕ) (sector : List ℕ) → IsLaid stack (write ∷ []) rounds write.dev.0 x sector → sector ≡ lone_sector stack write x
+  only_laid_on_disk rounds x sector laid = elim (cases_Bool (status_eq (fault_of stack (lone_fragment write 0)) status.Ok)) [
+    | inl same ↦ only_well rounds x sector laid ((status_eq_is (fault_of stack (lone_fragment write 0)) status.Ok).0 same)
+    | inr other ↦
+        laid_empty rounds x sector laid
+        (λ there.
+        both_ways (status_eq (fault_of stack (lone_fragment write 0)) status.Ok) other
+        ((status_eq_is (fault_of stack (lone_fragment write 0)) status.Ok).1 (ap (fault_of stack) (sym (way_on_disk 0 x there.way).0) ∙ there.well)))
   ]

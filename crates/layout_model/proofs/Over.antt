@@ -3,7 +3,7 @@ use Rattle.std.proofs.Common.{◌≡◌, ◌⊎◌, ℕ, ◌<◌, ◌≤◌, Lis
 use Rattle.std.proofs.lemmas.Bool.{cases_lt}
 use Rattle.std.proofs.lemmas.List.{length-map, get_or_past}
 use Rattle.stack_base.specs.declared.stack.Kind.{Kind}
-use Rattle.stack_base.specs.declared.stack.Kind.TheVariants.{Disk, Linear, Stripe, Limit, Mirror}
+use Rattle.stack_base.specs.declared.stack.Kind.TheVariants.{Disk, Linear, Stripe, Zoned, Limit, Mirror}
 use Rattle.stack_base.specs.Mapping.{slot, head}
 use Rattle.stack_base.specs.Cutting.{next, CanCut, IsCut}
 use Rattle.stack_base.specs.Tree.{Tree, Leaf, size, Shape, Keeps, Cuts, Copies, shape_of, over_shape, member_at}
@@ -55,6 +55,7 @@ pub can_cut : (kind : Kind) (members : ℕ) → HasShape kind members → shape_
 can_cut (Disk sectors bad) members shape cuts = absurd cc
 can_cut Linear members shape cuts = tt
 can_cut (Stripe chunk) members shape cuts = shape.0
+can_cut (Zoned chunk) members shape cuts = shape.0
 can_cut (Limit longest chunk) members shape cuts = shape.0
 can_cut (Mirror records) members shape cuts = absurd cc
 
@@ -63,5 +64,6 @@ pub has_leg : (kind : Kind) (members : ℕ) → HasShape kind members → shape_
 has_leg (Disk sectors bad) members shape copies = absurd cc
 has_leg Linear members shape copies = absurd cc
 has_leg (Stripe chunk) members shape copies = absurd cc
+has_leg (Zoned chunk) members shape copies = absurd cc
 has_leg (Limit longest chunk) members shape copies = absurd cc
 has_leg (Mirror records) members shape copies = shape.0

@@ -1,5 +1,5 @@
 -- What stands on the disks when all writes have ended.
-use Rattle.std.specs.Prelude.{◌≡◌, ◌≢◌, ◌+◌, ◌-◌, ◌<◌, ◌&&◌, if◌then◌else◌, nat_le, nat_lt, slice_get, ℕ, List, Some}
+use Rattle.std.specs.Prelude.{◌≡◌, ◌+◌, ◌-◌, ◌<◌, ◌≤◌, ◌&&◌, if◌then◌else◌, nat_le, nat_lt, slice_get, slice_index_or, ℕ, List, Some}
 use Rattle.stack_base.specs.declared.ids.Status.TheVariants as status
 use Rattle.stack_base.specs.declared.stack.Stack.{Stack}
 use Rattle.stack_base.specs.Fault.{status_eq}
@@ -22,16 +22,27 @@ pub record Reaches (stack : Stack) (write : Write) (number disk at : ℕ) : Type
   pub ends : place (tree stack write.dev.0) (write.start + offset) choices ≡ record { disk = disk; at = at }
   pub inside : IsIn (tree stack write.dev.0) number 0 write.start write.count choices offset fragment
 
--- what stands in a sector of a disk when these writes have ended
-pub record IsLaid (stack : Stack) (writes : List Write) (disk at : ℕ) (sector : List ℕ) : Type 0 where
-  -- the data of the sector that has a way there, if the fragment in which it comes ends well
-  pub written : (number : ℕ) (write : Write) → slice_get writes number ≡ Some write → (way : Reaches stack write number disk at)
-      → fault_of stack way.fragment ≡ status.Ok → sector ≡ sector_data write.tag way.offset
-  -- zeros if it does not
-  pub failed : (number : ℕ) (write : Write) → slice_get writes number ≡ Some write → (way : Reaches stack write number disk at)
-      → fault_of stack way.fragment ≢ status.Ok → sector ≡ zero_sector
-  -- and zeros if no write has a way there
-  pub empty : ((number : ℕ) (write : Write) → slice_get writes number ≡ Some write → Reaches stack write number disk at → ⊥)
+-- such a way in a fragment that ends well
+pub record Lands (stack : Stack) (write : Write) (number disk at : ℕ) : Type 0 where
+  pub way : Reaches stack write number disk at
+  pub well : fault_of stack way.fragment ≡ status.Ok
+
+-- the round of the write with this number
+abbrev pub round_of : List ℕ → ℕ → ℕ
+round_of rounds number = slice_index_or rounds number 0
+
+-- no write of a later round has a sector that lands there
+abbrev pub IsLatest : Stack → List Write → List ℕ → ℕ → ℕ → ℕ → Type 0
+IsLatest stack writes rounds disk at number =
+    (other : ℕ) (write : Write) → slice_get writes other ≡ Some write → Lands stack write other disk at → round_of rounds other ≤ round_of rounds number
+
+-- what stands in a sector of a disk when these writes of these rounds have ended
+pub record IsLaid (stack : Stack) (writes : List Write) (rounds : List ℕ) (disk at : ℕ) (sector : List ℕ) : Type 0 where
+  -- the data of the sector that lands there, in the latest round in which one does
+  pub written : (number : ℕ) (write : Write) → slice_get writes number ≡ Some write → (there : Lands stack write number disk at)
+      → IsLatest stack writes rounds disk at number → sector ≡ sector_data write.tag there.way.offset
+  -- and zeros if none does
+  pub empty : ((number : ℕ) (write : Write) → slice_get writes number ≡ Some write → Lands stack write number disk at → ⊥)
       → sector ≡ zero_sector
 
 -- a write to a disk, as one fragment

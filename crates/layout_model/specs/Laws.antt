@@ -76,6 +76,11 @@ abbrev pub FragmentsCover : Type 0
 FragmentsCover = (t : Tree) (write offset r len j : ℕ) (choices : List ℕ) → Sound t → j < len → Fits t (r + j) choices
     → (f : Fragment) × IsIn t write offset r len choices j f
 
+-- the sectors of a fragment follow one another on its disk
+abbrev pub FragmentsFollow : Type 0
+FragmentsFollow = (t : Tree) (write offset r len : ℕ) (f : Fragment) → Sound t → (is : IsFragmentOf t write offset r len f)
+    → (j : ℕ) → j < f.len → place t (r + (is.from + j)) is.choices ≡ record { disk = f.disk.0; at = f.at + j }
+
 -- a way's heads are those of its steps, and it ends at its sector's place
 pub record IsTold (t : Tree) (r s : ℕ) (choices : List ℕ) : Type 0 where
   pub at_steps : heads t r s choices ≡ map (λ (step : Step). step.head) (way t r s choices)

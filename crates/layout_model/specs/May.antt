@@ -5,7 +5,7 @@ use Rattle.stack_base.specs.declared.ids.Bad.{Bad}
 use Rattle.stack_base.specs.declared.ids.Status.{Status}
 use Rattle.stack_base.specs.declared.ids.Status.TheVariants as status
 use Rattle.stack_base.specs.declared.stack.Kind.{Kind}
-use Rattle.stack_base.specs.declared.stack.Kind.TheVariants.{Disk, Linear, Stripe, Limit, Mirror}
+use Rattle.stack_base.specs.declared.stack.Kind.TheVariants.{Disk, Linear, Stripe, Zoned, Limit, Mirror}
 use Rattle.stack_base.specs.declared.stack.Device.{Device}
 use Rattle.stack_base.specs.declared.stack.Stack.{Stack}
 use Rattle.stack_base.specs.Fault.{status_eq, fault}
@@ -38,6 +38,7 @@ abbrev pub kind_bads : Kind → List Bad
 kind_bads (Disk sectors bad) = bad.items
 kind_bads Linear = []
 kind_bads (Stripe chunk) = []
+kind_bads (Zoned chunk) = []
 kind_bads (Limit longest chunk) = []
 kind_bads (Mirror records) = []
 

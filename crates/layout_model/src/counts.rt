@@ -67,9 +67,8 @@ fn count(stack: &Stack, dev: DevId, start: u64, len: u64) -> Counts
             needed: 0,
             fragments: 1,
         },
-        Kind::Linear | Kind::Stripe { .. } | Kind::Limit { .. } => count_pieces(
-            stack, device, dev, start, len,
-        ),
+        Kind::Linear | Kind::Stripe { .. } | Kind::Zoned { .. } | Kind::Limit { .. } =>
+            count_pieces(stack, device, dev, start, len),
         Kind::Mirror { .. } => count_legs(stack, dev, start, len),
     }
 }

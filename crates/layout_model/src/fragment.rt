@@ -63,7 +63,7 @@ fn cut(
             Ok(())
         }
         Kind::Mirror { .. } => copy_legs(stack, device, write, dev, run, into),
-        Kind::Linear | Kind::Stripe { .. } | Kind::Limit { .. } => {
+        Kind::Linear | Kind::Stripe { .. } | Kind::Zoned { .. } | Kind::Limit { .. } => {
             cut_pieces(stack, device, write, dev, run, into)
         }
     }

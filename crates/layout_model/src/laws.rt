@@ -1,5 +1,5 @@
 //! The laws of the plan and of its fragments, over every tree of devices that cut as their kinds say, and so over every stack.
-ghost use Rattle.layout_model.specs.Laws.{PlanOfPieces, PlanOfLegs, PlanOfDisk, PlanGivesFragments, PlanKeepsOrder, PlanTakesNeeded, FragmentsAreCounted, TreesAreSound, PlanFragmentsDiffer, FragmentsCover, WaysAreTold, OkIsAlone, SomeEndIsOpen, EndsOfDisk};
+ghost use Rattle.layout_model.specs.Laws.{PlanOfPieces, PlanOfLegs, PlanOfDisk, PlanGivesFragments, PlanKeepsOrder, PlanTakesNeeded, FragmentsAreCounted, TreesAreSound, PlanFragmentsDiffer, FragmentsCover, FragmentsFollow, WaysAreTold, OkIsAlone, SomeEndIsOpen, EndsOfDisk};
 
 /// Where a device cuts a run, the plan of the run is the plan of its first piece in the member that the piece goes to, and then the
 /// plans of the other pieces. These are the plan that the rest has as a run of its own, and there are none where there is no rest. So a
@@ -56,6 +56,11 @@ pub fn plan_fragments_differ()
 /// Each sector of a run is in a fragment of the run, by whatever choices lead the sector down: a member at each mirror on its way.
 pub fn fragments_cover()
     ensures { FragmentsCover }
+{}
+
+/// The sectors of a fragment follow one another on its disk, as they do in the write.
+pub fn fragments_follow()
+    ensures { FragmentsFollow }
 {}
 
 /// The heads of a sector's way are those of its steps, and the way ends where the sector lies.

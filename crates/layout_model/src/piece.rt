@@ -1,11 +1,14 @@
 //! The first piece of a run at a device that cuts runs, and the member that it goes to.
 ghost use Rattle.std.specs.Prelude.{◌≡◌, ℕ, ◌+◌, ◌^◌, ◌<◌, ◌≤◌, List, length, sum, map, slice_get};
 ghost use Rattle.stack_base.specs.Piece.{IsPiece};
-ghost use Rattle.stack_base.specs.Stack.{IsStack};
+ghost use Rattle.stack_base.specs.Mapping.{size_of};
+ghost use Rattle.stack_base.specs.Stack.{HasShape, IsStack};
 ghost use Rattle.stack_base.specs.Tree.{Cuts, shape_of, size, tree};
 ghost use Rattle.layout_model.specs.Pieces.{IsFirstRun};
 
-use stack_base::{DevId, Device, Kind, Piece, Stack};
+use arrayvec::ArrayVec;
+use stack_base::{DevId, Device, Kind, MapLaw, Piece, Stack};
+use zoned_map::Zoned;
 
 /// A run of sectors of a device.
 #[derive(Clone, Copy, Debug, PartialEq, Eq)]
@@ -77,7 +80,18 @@ pub fn linear_piece(sizes: &[u64], start: u64, len: u64) -> Piece
     unreachable!()
 }
 
-/// The first piece of a run at a device that cuts. Only at a linear device does it go by the members' sizes.
+/// The first piece at a device whose chunks go round members of any sizes, as its driver finds it.
+pub fn zoned_piece(chunk: u64, sizes: ArrayVec<u64, 8>, start: u64, len: u64) -> Piece
+    requires shape { HasShape (Kind.Zoned chunk) (length sizes.items) }
+    requires small { sum sizes.items < 2 ^ 32 }
+    requires some { 1 ≤ len }
+    requires within { start + len ≤ size_of (Kind.Zoned chunk) sizes.items }
+    ensures { IsPiece (Kind.Zoned chunk) sizes.items start len result }
+{
+    Zoned::new(chunk, sizes).piece(start, len)
+}
+
+/// The first piece of a run at a device that cuts. Only at linear and zoned devices does it go by the members' sizes.
 fn kind_piece(stack: &Stack, device: &Device, dev: DevId, start: u64, len: u64) -> Piece
     requires stack { IsStack stack.now }
     requires found { slice_get stack.now.devices.items dev.0 ≡ Some device.now }
@@ -88,6 +102,7 @@ fn kind_piece(stack: &Stack, device: &Device, dev: DevId, start: u64, len: u64) 
 {
     match device.kind {
         Kind::Stripe { chunk } => stripe_piece(chunk, device.members.len() as u64, start, len),
+        Kind::Zoned { chunk } => zoned_piece(chunk, stack.member_sizes(dev), start, len),
         Kind::Limit { max, chunk } => limit_piece(max, chunk, start, len),
         Kind::Linear => linear_piece(&stack.member_sizes(dev), start, len),
         Kind::Disk { .. } | Kind::Mirror { .. } => unreachable!(),

@@ -17,7 +17,7 @@ pub struct Bounds {
     pub e: u64,
     /// The fragments.
     pub g: u64,
-    /// The entries of the scripts of all pools.
+    /// The entries of the scripts of all pools, the rounds after the first, and the changes of reserves between rounds.
     pub z: u64,
 }
 
@@ -40,7 +40,7 @@ pub struct TooMuchWork {
     pub e: u64,
 }
 
-/// What the writes need together, and `z`, the number of entries of scripts, as it was given.
+/// What the writes need together, and `z`, as it was given.
 ///
 /// # Errors
 ///

@@ -42,7 +42,7 @@ pub fn place(stack: &Stack, dev: DevId, sector: u64, choices: &[u32]) -> (DevId,
             let (member, others) = chosen(stack, device, dev, sector, choices);
             place(stack, member, sector, others)
         }
-        Kind::Linear | Kind::Stripe { .. } | Kind::Limit { .. } => {
+        Kind::Linear | Kind::Stripe { .. } | Kind::Zoned { .. } | Kind::Limit { .. } => {
             let to = first_piece(stack, device, dev, sector, 1);
             place(stack, to.dev, to.at, choices)
         }

@@ -41,7 +41,7 @@ impl Thing for Number {
 
     ghost fits = { λ _ _. Unit {0} };
 
-    ghost owes = { λ _ _. Unit {0} };
+    ghost owes = { λ _ _ _. Unit {0} };
 
     ghost answers = { λ before more total after. (after ≡ (before + more) % 2 ^ 64) × (total ≡ after) };
 

@@ -20,6 +20,8 @@ pub data Move : Type 0 where
   misses : (used : Bool) → Move
   -- an element is given back
   gives : Move
+  -- the reserve is set to another number
+  resizes : (min : ℕ) → Move
 
 -- a pool as it is opened
 abbrev pub opened : ℕ → Answers → PoolState
@@ -68,12 +70,17 @@ was_given pool = record pool {
   };
 }
 
+-- after the reserve was set to another number: all of it lies in the pool
+abbrev pub resized : ℕ → PoolState → PoolState
+resized min pool = record pool { facts = record pool.facts { min = min; spares = min } }
+
 -- after a move
 abbrev pub after_move : PoolState → Move → PoolState
 after_move pool takes_ordinary = took_ordinary pool
 after_move pool takes_spare = took_spare pool
 after_move pool (misses used) = missed pool
 after_move pool gives = was_given pool
+after_move pool (resizes min) = resized min pool
 
 -- one more element can be out
 abbrev pub HasRoom : PoolState → Type 0
@@ -86,6 +93,7 @@ CanMove pool takes_spare = (0 < pool.facts.spares) × HasRoom pool
 CanMove pool (misses used) =
     ((pool.facts.spares ≡ 0) ⊎ (pool.facts.out ≡ 2 ^ 64 - 1)) × (used ≡ uses_entry pool.script pool.facts.pos)
 CanMove pool gives = 0 < pool.facts.out
+CanMove pool (resizes min) = pool.facts.out ≡ 0
 
 -- a move leads from one state of a pool to another
 pub record Moves (old : PoolState) (move : Move) (new : PoolState) : Type 0 where

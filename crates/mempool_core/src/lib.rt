@@ -3,14 +3,16 @@
 //!
 //! `Pool::open` is `mempool_create`, `Pool::give` is `mempool_free`, and `Pool::close` stands for `mempool_destroy`. `Pool::take`
 //! is `mempool_alloc` for a taker who may not wait: it tries once, and what follows a miss is the taker's affair.
+//! `Pool::resize` is `mempool_resize` between uses, with elements that `Pool::widen` had of memory beforehand.
 //! A script says which takes may have ordinary memory at all, so that a run can ask for a shortage of it.
 #![tactic(auto)]
 
-ghost use Rattle.std.specs.Prelude.{◌≡◌, ℕ, ◌<◌, ◌≤◌, All, IfOk, MatchResult, vec_len, vec_capacity};
+ghost use Rattle.std.specs.Prelude.{◌≡◌, ℕ, ◌<◌, ◌≤◌, All, IfOk, OnOk, OnErr, MatchResult, vec_len, vec_capacity};
+ghost use Rattle.fail_script.specs.Script.{entries_of};
 ghost use Rattle.mempool_core.specs.Position.{uses_entry, next_pos};
 ghost use Rattle.mempool_core.specs.Facts.{AddsUp};
-ghost use Rattle.mempool_core.specs.Move.{gives, opened};
-ghost use Rattle.mempool_core.specs.Pool.{PoolMoves};
+ghost use Rattle.mempool_core.specs.Move.{gives, resizes, opened};
+ghost use Rattle.mempool_core.specs.Pool.{PoolMoves, widened};
 ghost use Rattle.mempool_core.specs.Taken.{TakeOf};
 
 use elem_ledger::Ledger;
@@ -47,9 +49,10 @@ pub enum Taken<P> {
 /// The numbers of a pool: elements at first, then takes.
 #[derive(Clone, Copy, Debug, PartialEq, Eq)]
 pub struct Facts {
-    /// The elements that the pool was made with, which is also the most spares that it keeps (`min_nr`).
+    /// The reserve: the elements that the pool was made with or last resized to, which is also the most spares that it keeps
+    /// (`min_nr`).
     pub min: u64,
-    /// The elements that lie in the pool (`curr_nr`).
+    /// The elements that lie in the pool for a take (`curr_nr`).
     pub spares: u64,
     /// The elements that were taken and not given back.
     pub out: u64,
@@ -64,22 +67,24 @@ pub struct Facts {
 }
 
 // `count` clear bodies, in a vector that has room for as many.
-fn new_spares<P: Fresh + Drop>(alloc: Global, count: u32) -> Result<Vec<Box<P>>, AllocError>
-    ensures len { IfOk result (λ spares. vec_len spares ≡ count) }
-    ensures room { IfOk result (λ spares. count ≤ vec_capacity spares) }
-    ensures clear { IfOk result (λ spares. All (λ spare. P.is_clear spare.value) spares.items) }
+fn fresh_bodies<P: Fresh + Drop>(alloc: Global, count: usize) -> Result<Vec<Box<P>>, AllocError>
+    ensures len { IfOk result (λ bodies. vec_len bodies ≡ count) }
+    ensures room { IfOk result (λ bodies. count ≤ vec_capacity bodies) }
+    ensures clear { IfOk result (λ bodies. All (λ body. P.is_clear body.value) bodies.items) }
 {
-    let mut spares = Vec::with_capacity(alloc, count as usize)?;
+    let mut bodies = Vec::with_capacity(alloc, count)?;
     'filling: for _ in 0..count {
-        spares.push(Box::new(alloc, P::fresh())?).unwrap();
+        bodies.push(Box::new(alloc, P::fresh())?).unwrap();
     }
-    Ok(spares)
+    Ok(bodies)
 }
 
-// What a pool counts beside its spares and its ledger.
+// What a pool counts beside its bodies and its ledger.
 #[derive(Clone, Copy, Debug, PartialEq, Eq)]
 struct Counts {
     min: u64,
+    // The bodies that are laid aside.
+    aside: u64,
     live: u64,
     pos: u64,
     ordinary: u64,
@@ -94,19 +99,25 @@ pub struct Pool<P: Fresh + Drop> {
     alloc: Global,
     ledger: Ledger,
     script: Script,
-    spares: Vec<Box<P>>,
+    // Those laid aside, and the spares behind them: a take has the last one, where that is a spare.
+    bodies: Vec<Box<P>>,
     counts: Counts,
 }
 
 impl<P: Fresh + Drop> Model for Pool<P> {
-    ghost use Rattle.std.specs.Prelude.{vec_len};
+    ghost use Rattle.std.specs.Prelude.{◌+◌, ◌-◌, vec_len};
     ghost use Rattle.mempool_core.specs.Pool.{LedgerPool, state_with, IsKept};
 
     ghost Value = { LedgerPool };
 
-    ghost view = { λ p. record { ledger = p.ledger.id; state = state_with p.script p.counts (vec_len p.spares) p.ledger.total } };
+    ghost view = { λ p. record {
+      ledger = p.ledger.id;
+      state = state_with p.script p.counts (vec_len p.bodies - p.counts.aside) p.ledger.total;
+      most = p.counts.min + p.counts.aside;
+    } };
 
-    ghost invariant = { λ p. IsKept P.is_clear (state_with p.script p.counts (vec_len p.spares) p.ledger.total) p.spares };
+    ghost invariant = { λ p.
+        IsKept P.is_clear (state_with p.script p.counts (vec_len p.bodies - p.counts.aside) p.ledger.total) p.counts.aside p.bodies };
 }
 
 impl<P: Fresh + Drop> Pool<P> {
@@ -117,12 +128,13 @@ impl<P: Fresh + Drop> Pool<P> {
     /// Where they cannot all be had. Those that were had are given up again.
     pub fn open(alloc: Global, no: u32, min: u32, script: Script) -> Result<Pool<P>, AllocError>
         requires { 1 ≤ min }
-        ensures { IfOk result (λ pool. (pool.ledger.no ≡ no) × (pool.state ≡ opened min script)) }
+        ensures { IfOk result (λ pool. (pool.ledger.no ≡ no) × (pool.state ≡ opened min script) × (pool.most ≡ min)) }
     {
         let ledger = Ledger::new(alloc, no)?;
-        let spares = new_spares(alloc, min)?;
+        let bodies = fresh_bodies(alloc, min as usize)?;
         let counts = Counts {
             min: u64::from(min),
+            aside: 0,
             live: 0,
             pos: 0,
             ordinary: 0,
@@ -132,9 +144,55 @@ impl<P: Fresh + Drop> Pool<P> {
             alloc,
             ledger,
             script,
-            spares,
+            bodies,
             counts,
         })
+    }
+
+    /// Lays elements aside, so that `resize` may later set the reserve to as many as `most`. No take gives them before, and the
+    /// numbers of the pool stay. Nothing may be out.
+    ///
+    /// `mempool_resize` asks for memory when it is called; here it is asked for once, beforehand.
+    ///
+    /// # Errors
+    ///
+    /// Where they cannot all be had. The pool is as it was before then.
+    pub fn widen(&mut self, most: u32) -> Result<(), AllocError>
+        requires { self.old.state.facts.out ≡ 0 }
+        ensures ok { OnOk result (self.new ≡ widened most self.old) }
+        ensures err { OnErr result (self.new ≡ self.old) }
+        ensures adds_up { AddsUp self.new.state.facts }
+    {
+        let lacking = (most as usize).saturating_sub(self.bodies.len());
+        let mut more = fresh_bodies(self.alloc, lacking)?;
+        self.bodies.append(&mut more)?;
+        self.counts.aside += lacking as u64;
+        Ok(())
+    }
+
+    /// Sets the reserve to `min` elements, which all lie in the pool then (`mempool_resize`). Nothing may be out, and `min` is from 1
+    /// to the most that the pool was opened or widened for. It takes no memory: more spares are had of the elements that are laid
+    /// aside, and what is too many is laid aside.
+    ///
+    /// `mempool_resize` also works while elements are out. It frees what is too many, and answers well where memory for more is refused:
+    /// what is given back later fills the reserve up.
+    pub fn resize(&mut self, min: u32)
+        requires home { self.old.state.facts.out ≡ 0 }
+        requires some { 1 ≤ min }
+        requires within { min ≤ self.old.most }
+        ensures resizes { PoolMoves self.old (resizes min) self.new }
+        ensures adds_up { AddsUp self.new.state.facts }
+    {
+        let min = u64::from(min);
+        self.counts.aside = self.bodies.len() as u64 - min;
+        self.counts.min = min;
+    }
+
+    // The spares: the bodies that are not laid aside.
+    fn spares(&self) -> u64
+        ensures { result ≡ self.now.state.facts.spares }
+    {
+        self.bodies.len() as u64 - self.counts.aside
     }
 
     /// Takes an element (`mempool_alloc`): ordinary memory is tried first, once, and the spares after that.
@@ -156,9 +214,10 @@ impl<P: Fresh + Drop> Pool<P> {
             self.counts.ordinary = self.counts.ordinary.saturating_add(1);
             return Taken::Ordinary(self.ledger.issue(body));
         }
-        let Some(body) = self.spares.pop() else {
+        if self.spares() == 0 {
             return Taken::Miss { used };
-        };
+        }
+        let body = self.bodies.pop().unwrap();
         self.counts.spare = self.counts.spare.saturating_add(1);
         Taken::Spare(self.ledger.issue(body))
     }
@@ -172,10 +231,11 @@ impl<P: Fresh + Drop> Pool<P> {
         ensures gives { PoolMoves self.old gives self.new }
         ensures adds_up { AddsUp self.new.state.facts }
     {
+        let is_kept = self.spares() < self.counts.min;
         let mut body = self.ledger.redeem(element);
-        if (self.spares.len() as u64) < self.counts.min {
+        if is_kept {
             *body = P::fresh();
-            self.spares.push(body).unwrap();
+            self.bodies.push(body).unwrap();
         } else {
             self.counts.live -= 1;
         }
@@ -185,16 +245,31 @@ impl<P: Fresh + Drop> Pool<P> {
     pub fn facts(&self) -> Facts
         ensures facts { result ≡ self.now.state.facts }
         ensures adds_up { AddsUp result }
+        ensures within { result.pos ≤ entries_of self.now.state.script }
     {
         Facts {
             min: self.counts.min,
-            spares: self.spares.len() as u64,
+            spares: self.spares(),
             out: self.ledger.total(),
             live: self.counts.live,
             pos: self.counts.pos,
             ordinary: self.counts.ordinary,
             spare: self.counts.spare,
         }
+    }
+
+    /// The number of the pool, which is that of its ledger.
+    pub fn no(&self) -> u32
+        ensures { result ≡ self.now.ledger.no }
+    {
+        self.ledger.no()
+    }
+
+    /// The script that the pool was opened with.
+    pub fn script(&self) -> &Script
+        ensures { result.now ≡ self.now.state.script }
+    {
+        &self.script
     }
 
     /// Ends the pool and tells its numbers. A pool with an element out is handed back as it was, where `mempool_destroy` would not look.

@@ -16,4 +16,4 @@ pub kept_but_one : (sectors same : ℕ) (bads : List Bad) (items rest : List (It
     → IsKept sectors bads items → IsKept same bads rest
 kept_but_one sectors same bads items rest index is less kept =
     subst (λ n. IsKept n bads rest) (sym is)
-    (record { bad = kept.bad; pending = subst (All (IsWithin sectors)) (sym less) (all_but_one (IsWithin sectors) items index kept.pending) })
+    (record { size = kept.size; bad = kept.bad; pending = subst (All (IsWithin sectors)) (sym less) (all_but_one (IsWithin sectors) items index kept.pending) })

@@ -30,7 +30,7 @@ module _ (bio : Bio) (image : List (List ℕ)) (within : bio.range.start + bio.r
   length_front : length (take bio.range.start image) ≡ bio.range.start
   length_front = length-take-le bio.range.start image (omega arith)
 
-  size : length (written bio image) ≡ length image
+  pub size : length (written bio image) ≡ length image
   size =
       rw (written_is bio image)
       (omega (

@@ -76,6 +76,13 @@ unfolding runs_from
 no_runs flags from within none =
     ap (map (run_at flags)) (filter_none (starts_run flags) from (length flags - from) (λ x le lt. unset_starts_none flags x (none x le (omega arith))))
 
+-- nor past the last sector
+pub no_runs_past : (flags : List Bool) (from : ℕ) → length flags ≤ from → runs_from flags from ≡ []
+unfolding runs_from
+no_runs_past flags from past =
+    let none : length flags - from ≡ 0 = omega arith in
+    ap (λ n. map (run_at flags) (filter (starts_run flags) (range_with_len from n))) none
+
 -- the run that starts here is as long as flags are set
 pub run_is : (flags : List Bool) (start stop : ℕ) → start < stop → ((x : ℕ) → start ≤ x → x < stop → flag flags x ≡ true) → flag flags stop ≡ false
     → run_at flags start ≡ record { start = start; len = stop - start }
@@ -115,6 +122,10 @@ next_run_is flags from start stop ordered some within apart before set unset =
 pub apart_at_start : (flags : List Bool) → IsApart flags 0
 unfolding starts_run
 apart_at_start flags set = rw set refl
+
+-- nor is what is past the last
+pub apart_past : (flags : List Bool) (from : ℕ) → length flags ≤ from → IsApart flags from
+apart_past flags from past set = cc (set, get_or_past flags from false past)
 
 -- nothing is written at the place that was found for what is not, nor past the end
 pub unset_at : (flags : List Bool) (from place : ℕ) → IsFirst flags from false place → flag flags place ≡ false

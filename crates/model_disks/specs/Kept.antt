@@ -1,16 +1,17 @@
 -- How a disk is kept. No contract of its public calls speaks of this.
-use Rattle.std.specs.Prelude.{◌+◌, ◌^◌, ◌<◌, ◌≤◌, ℕ, List, Option, None, Some, All}
+use Rattle.std.specs.Prelude.{◌≡◌, ◌+◌, ◌*◌, ◌^◌, ◌<◌, ◌≤◌, ℕ, Bool, List, map, length, All}
 use Rattle.stack_base.specs.declared.ids.Range.{Range}
 use Rattle.stack_base.specs.declared.ids.Bad.{Bad}
-use Rattle.stack_base.specs.Words.{sector_from, zero_sector}
+use Rattle.stack_base.specs.Words.{is_written}
+use Rattle.image_lanes.specs.Lanes.{sectors}
 use Rattle.bio_records.specs.declared.bio.Pad.{Pad}
 use Rattle.bio_records.specs.Items.{Item}
 use Rattle.model_disks.specs.Disks.{IsBadRange}
 
--- a sector by the first word that was written to it, if any was
-abbrev pub sector_of : Option ℕ → List ℕ
-sector_of None = zero_sector
-sector_of (Some first) = sector_from first
+-- the words are those of so many sectors as there are flags, and the flag of a sector says whether it is written
+pub record IsNoted (words : List ℕ) (flags : List Bool) : Type 0 where
+  pub size : length words ≡ 64 * length flags
+  pub noted : flags ≡ map is_written (sectors (length flags) words)
 
 -- the end of a range is a number of 64 bits
 abbrev pub IsCountable : Range → Type 0
@@ -20,7 +21,8 @@ IsCountable range = range.start + range.len < 2 ^ 64
 abbrev pub IsWithin : ℕ → Item Pad → Type 0
 IsWithin sectors item = item.bio.range.start + item.bio.range.len ≤ sectors
 
--- what holds of a disk of so many sectors at any time
+-- what holds at any time of the bad ranges of a disk of so many sectors and of the bios that wait in it
 pub record IsKept (sectors : ℕ) (bads : List Bad) (items : List (Item Pad)) : Type 0 where
+  pub size : sectors < 2 ^ 64
   pub bad : All (IsBadRange sectors) bads
   pub pending : All (IsWithin sectors) items

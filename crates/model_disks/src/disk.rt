@@ -1,5 +1,6 @@
 //! A disk: its image, its bad ranges and the bios that wait in it.
 ghost use Rattle.std.specs.Prelude.{◌≡◌, ◌+◌, ◌-◌, ◌^◌, ◌<◌, ◌≤◌, [], ◌∷◌, length, map, min, All, IfOk, MatchOption};
+ghost use Rattle.std.specs.List.{concat};
 ghost use Rattle.stack_base.specs.Words.{is_written};
 ghost use Rattle.bio_records.specs.Items.{item_of, IsAlone};
 ghost use Rattle.model_disks.specs.Disks.{IsBadRange, sum_of_words};
@@ -7,7 +8,7 @@ ghost use Rattle.model_disks.specs.Moves.{opened, pushed, Completes};
 ghost use Rattle.model_disks.specs.Runs.{runs_from, IsApart};
 
 use crate::fault::fault;
-use crate::image;
+use crate::image::Image;
 use bio_records::{BioElement, BioList};
 use stack_base::{Bad, DevId, Range, Status};
 use std::alloc::{AllocError, Global};
@@ -21,21 +22,20 @@ use std::marker::Model;
 pub struct Disk {
     dev: DevId,
     bad: Vec<Bad>,
-    // For each sector the first of the 64 words that were written to it, or none where nothing was.
-    image: Vec<Option<u64>>,
+    image: Image,
     pending: BioList,
 }
 
 impl Model for Disk {
-    ghost use Rattle.std.specs.Prelude.{map, length};
+    ghost use Rattle.std.specs.Prelude.{length};
     ghost use Rattle.model_disks.specs.Disks.{DiskState};
-    ghost use Rattle.model_disks.specs.Kept.{sector_of, IsKept};
+    ghost use Rattle.model_disks.specs.Kept.{IsKept};
 
     ghost Value = { DiskState };
 
-    ghost view = { λ d. record { dev = d.dev; bad = d.bad.items; image = map sector_of d.image.items; pending = d.pending } };
+    ghost view = { λ d. record { dev = d.dev; bad = d.bad.items; image = d.image; pending = d.pending } };
 
-    ghost invariant = { λ d. IsKept (length d.image.items) d.bad.items d.pending };
+    ghost invariant = { λ d. IsKept (length d.image) d.bad.items d.pending };
 }
 
 /// A bio that a disk is done with.
@@ -61,7 +61,7 @@ impl Disk {
         Ok(Disk {
             dev,
             bad: bad.to_vec(alloc)?,
-            image: vec![in alloc; None; sectors as usize]?,
+            image: Image::zeros(alloc, sectors)?,
             pending: BioList::new(),
         })
     }
@@ -73,6 +73,34 @@ impl Disk {
         ensures { self.new ≡ pushed (item_of el) self.old }
     {
         self.pending.push(el);
+    }
+
+    /// The device that it is.
+    pub fn dev(&self) -> DevId
+        ensures { result ≡ self.now.dev }
+    {
+        self.dev
+    }
+
+    /// How many sectors it has.
+    pub fn sectors(&self) -> u64
+        ensures { result ≡ length self.now.image }
+    {
+        self.image.sectors()
+    }
+
+    /// Its bad ranges, in the order of their declaration.
+    pub fn bad(&self) -> &[Bad]
+        ensures { result.now ≡ self.now.bad }
+    {
+        &self.bad
+    }
+
+    /// The words of all its sectors, one sector behind the other, each of 64 words.
+    pub fn image(&self) -> &[u64]
+        ensures { result.now ≡ concat self.now.image }
+    {
+        self.image.words()
     }
 
     /// How many bios wait, or `u64::MAX` where there are more.
@@ -95,7 +123,7 @@ impl Disk {
         let bio = el.body.bio;
         let status = fault(&self.bad, bio.range);
         if status == Status::Ok {
-            image::write(&mut self.image, bio);
+            self.image.write(bio);
         }
         Done { el, status }
     }
@@ -104,14 +132,13 @@ impl Disk {
     pub fn sum(&self) -> u64
         ensures { result ≡ sum_of_words self.now.image }
     {
-        image::sum(&self.image)
+        self.image.sum()
     }
 
     /// The first run of written sectors that starts at sector `from` or behind it, if there is one: sectors that are not all zeros, as many
-    /// as follow one another. `from` is not inside a run, as sector 0 (`apart_at_start` of `proofs/WrittenLemmas.antt`) and the end of a run
-    /// are not. From 0 on, and from the end of each run on, the calls list all written runs.
+    /// as follow one another. `from` is not inside a run, as sector 0 (`apart_at_start` of `proofs/WrittenLemmas.antt`), the end of a run and
+    /// what is past the disk are not. From 0 on, and from the end of each run on, the calls list all written runs.
     pub fn next_run(&self, from: u64) -> Option<Range>
-        requires within { from ≤ length self.now.image }
         requires apart { IsApart (map is_written self.now.image) from }
         ensures runs { MatchOption result (runs_from (map is_written self.now.image) from ≡ [])
             (λ run. runs_from (map is_written self.now.image) from
@@ -120,6 +147,6 @@ impl Disk {
             (λ run. (from < run.start + run.len) × (run.start + run.len ≤ length self.now.image) × (run.start + run.len < 2 ^ 64)) }
         ensures apart { MatchOption result (Unit {0}) (λ run. IsApart (map is_written self.now.image) (run.start + run.len)) }
     {
-        image::next_run(&self.image, from as usize)
+        self.image.next_run(from)
     }
 }

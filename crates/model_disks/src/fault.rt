@@ -5,13 +5,13 @@ ghost use Rattle.model_disks.specs.Kept.{IsCountable};
 
 use stack_base::{Bad, Range, Status};
 
-// Whether two ranges share a sector. Each of them has one.
+// Whether two ranges share a sector.
 fn touches(one: Range, other: Range) -> bool
     requires one { one.start + one.len < 2 ^ 64 }
     requires other { other.start + other.len < 2 ^ 64 }
     ensures { result ≡ touches one other }
 {
-    one.start < other.start + other.len && other.start < one.start + one.len
+    one.start.max(other.start) < (one.start + one.len).min(other.start + other.len)
 }
 
 // Whether a bad range starts before the one that was found so far, if any was.

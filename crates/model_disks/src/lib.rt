@@ -1,12 +1,13 @@
 //! A disk of the model, kept in memory: bios wait in it in the order of their pushes, are completed in any order, and write its image.
 //! Only opening a disk takes memory.
 //!
-//! A sector is 512 bytes, as in Linux, and its data are 64 words of 8 bytes (`specs/Words.antt` of `stack_base`). A bio's words count up
-//! from its first word, modulo 2 ^ 64, so an image needs one word for each sector. Contracts speak of whole sectors (`specs/Disks.antt`).
+//! A sector is 512 bytes, as in Linux, and its data are 64 words of 8 bytes (`specs/Words.antt` of `stack_base`). A disk keeps one list of
+//! all its words, and a flag a sector. Contracts speak of whole sectors (`specs/Disks.antt`), whose words one behind the other are that list.
 #![tactic(auto)]
 
 mod disk;
 mod fault;
+mod flags;
 mod image;
 pub mod laws;
 

@@ -43,6 +43,66 @@ fn a_disk_holds_what_was_pushed_and_completed(rt: HostRuntime) -> Result<(), Fai
     Ok(())
 }
 
+#[test]
+fn an_image_is_the_words_of_all_sectors(rt: HostRuntime) -> Result<(), Fail> {
+    let bad = [Bad {
+        range: Range { start: 6, len: 2 },
+        kind: Status::Io,
+    }];
+    let mut pool = open_bios(rt.alloc())?;
+    let mut disk = Disk::open(rt.alloc(), DevId(2), 8, &bad)?;
+    assert_eq!(rt;
+        (disk.dev(), disk.sectors(), disk.image().len()),
+        (DevId(2), 8, 512)
+    );
+    assert!(rt; disk.bad() == bad.as_slice() && disk.image().iter().all(|word| *word == 0));
+    disk.push(take(&mut pool, bio_of(0, Range { start: 3, len: 2 }, 5))?);
+    assert_eq!(rt; complete(&rt, &mut disk, 0).status, Status::Ok);
+    // The words of sectors 3 and 4 are 5 to 132.
+    for (place, word) in disk.image().iter().enumerate() {
+        let expected = if (192..320).contains(&place) {
+            place - 187
+        } else {
+            0
+        };
+        assert_eq!(rt; *word, expected as u64, "word {place}");
+    }
+    Ok(())
+}
+
+#[test]
+fn a_bio_of_no_sectors_ends_well(rt: HostRuntime) -> Result<(), Fail> {
+    let bad = [Bad {
+        range: Range { start: 1, len: 2 },
+        kind: Status::Medium,
+    }];
+    let mut pool = open_bios(rt.alloc())?;
+    let mut disk = Disk::open(rt.alloc(), DevId(0), 4, &bad)?;
+    disk.push(take(&mut pool, bio_of(0, Range { start: 2, len: 0 }, 5))?);
+    assert_eq!(rt; complete(&rt, &mut disk, 0).status, Status::Ok);
+    assert_eq!(rt; (disk.sum(), two_runs(&disk)), (0, (None, None)));
+    Ok(())
+}
+
+// The first run past the disk.
+#[tactic(auto, using(model_disks::proofs::WrittenLemmas::apart_past))]
+fn run_past(disk: &Disk) -> Option<Range> {
+    disk.next_run(disk.sectors())
+}
+
+#[test]
+fn there_is_no_run_past_the_disk(rt: HostRuntime) -> Result<(), Fail> {
+    let mut pool = open_bios(rt.alloc())?;
+    let mut disk = Disk::open(rt.alloc(), DevId(0), 4, &[])?;
+    disk.push(take(&mut pool, bio_of(0, Range { start: 3, len: 1 }, 5))?);
+    assert_eq!(rt; complete(&rt, &mut disk, 0).status, Status::Ok);
+    assert_eq!(rt;
+        (two_runs(&disk), run_past(&disk)),
+        ((Some(Range { start: 3, len: 1 }), None), None)
+    );
+    Ok(())
+}
+
 // Pushes the bios of writes 0 to 2, each of one sector: 0, 1 and 3.
 fn push_three(pool: &mut Pool<BioBody<Pad>>, disk: &mut Disk) -> Result<(), Fail>
     requires { 4 ≤ length disk.old.image }

@@ -10,6 +10,10 @@ mod disks;
 #[cfg(test)]
 mod elements;
 #[cfg(test)]
+mod lanes;
+#[cfg(test)]
+mod legs;
+#[cfg(test)]
 mod objects;
 #[cfg(test)]
 mod pieces;

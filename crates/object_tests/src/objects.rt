@@ -1,8 +1,12 @@
 //! The calls of the lower crates that the program does not make, and each that allocates once.
+ghost use Rattle.std.specs.Prelude.{◌≡◌, ◌+◌, IfOk};
+
 use fail_script::Script;
-use mempool_core::{Facts, Fresh, Pool, Taken};
+use mempool_core::{Element, Facts, Fresh, Pool, Taken};
 use outside_io::{Failed, MemSource, Sink, Source, StdSink, StdSource, read_up_to};
 use stack_base::{DevId, PoolId};
+use std::alloc::{AllocError, Global};
+use std::cell::Cell;
 use std::io::{self, ErrorKind, Read, Write};
 use std::process::Abort;
 use std::test::Fail;
@@ -168,6 +172,70 @@ fn a_take_that_misses_uses_up_an_entry(rt: HostRuntime) -> Result<(), Fail> {
     Ok(())
 }
 
+// The element of a take that has a spare.
+fn spare_of(pool: &mut Pool<Body>) -> Result<Element<Body>, Fail>
+    ensures most { pool.new.most ≡ pool.old.most }
+    ensures out { IfOk result (λ _. pool.new.state.facts.out ≡ pool.old.state.facts.out + 1) }
+    ensures ledger { pool.new.ledger ≡ pool.old.ledger }
+    ensures element { IfOk result (λ element. element.share ≡ pool.old.ledger) }
+{
+    match pool.take() {
+        Taken::Spare(element) => Ok(element),
+        Taken::Ordinary(_) | Taken::Miss { .. } => Err(Fail::from("no spare")),
+    }
+}
+
+// A pool of one spare that was laid out for three, whose script refuses each take.
+fn open_wide(alloc: Global) -> Result<Pool<Body>, AllocError>
+    ensures most { IfOk result (λ pool. pool.most ≡ 3) }
+    ensures home { IfOk result (λ pool. pool.state.facts.out ≡ 0) }
+{
+    let mut pool: Pool<Body> = Pool::open(alloc, 65, 1, Script::new(Vec::new(alloc), false))?;
+    pool.widen(3)?;
+    Ok(pool)
+}
+
+#[test]
+fn a_pool_lends_what_was_laid_aside_only_when_it_is_resized(rt: HostRuntime) -> Result<(), Fail> {
+    let mut pool = open_wide(rt.alloc())?;
+    assert_eq!(rt; (pool.no(), pool.script().tail()), (65, false));
+    has(&rt, &pool, (1, 0, 0));
+    let only = spare_of(&mut pool)?;
+    assert!(rt; matches!(pool.take(), Taken::Miss { used: false }));
+    pool.give(only);
+    pool.resize(3);
+    has(&rt, &pool, (3, 0, 0));
+    let _first = spare_of(&mut pool)?;
+    let _second = spare_of(&mut pool)?;
+    let _third = spare_of(&mut pool)?;
+    has(&rt, &pool, (0, 3, 0));
+    assert!(rt; matches!(pool.take(), Taken::Miss { used: false }));
+    Ok(())
+}
+
+#[test]
+fn a_pool_is_resized_down_and_up_again(rt: HostRuntime) -> Result<(), Fail> {
+    let mut pool = open_wide(rt.alloc())?;
+    pool.resize(3);
+    let first = spare_of(&mut pool)?;
+    let second = spare_of(&mut pool)?;
+    pool.give(first);
+    pool.give(second);
+    pool.resize(1);
+    has(&rt, &pool, (1, 0, 0));
+    let only = spare_of(&mut pool)?;
+    assert!(rt; matches!(pool.take(), Taken::Miss { used: false }));
+    pool.give(only);
+    pool.widen(2)?;
+    pool.resize(3);
+    has(&rt, &pool, (3, 0, 0));
+    let Ok(facts) = pool.close() else {
+        return Err(Fail::from("not closed with nothing out"));
+    };
+    assert_eq!(rt; (facts.min, facts.spares, facts.spare), (3, 3, 3));
+    Ok(())
+}
+
 #[test]
 fn reading_stops_at_the_limit(rt: HostRuntime) -> Result<(), Fail> {
     let mut source = MemSource::new(Vec::from_slice(rt.alloc(), b"0123456789")?);
@@ -196,6 +264,46 @@ fn a_writer_that_takes_no_byte_is_a_fault(rt: HostRuntime) {
     let mut sink = StdSink::new(room.as_mut_slice());
     assert_eq!(rt; sink.put(b"abc"), Ok(2));
     assert_eq!(rt; sink.put(b"c"), Err(Failed));
+}
+
+// A reader of many bytes that gives one at a time, and counts how often it is read; and a writer of the same kind.
+#[derive(Drop)]
+struct OneByOne<'a> {
+    calls: &'a Cell<u64>,
+}
+
+impl Read for OneByOne<'_> {
+    fn read(&mut self, buf: &mut [u8]) -> io::Result<usize> {
+        self.calls.set(self.calls.get().saturating_add(1));
+        Ok(buf.len().min(1))
+    }
+}
+
+impl Write for OneByOne<'_> {
+    fn write(&mut self, buf: &[u8]) -> io::Result<usize> {
+        self.calls.set(self.calls.get().saturating_add(1));
+        Ok(buf.len().min(1))
+    }
+
+    fn flush(&mut self) -> io::Result<()> {
+        Ok(())
+    }
+}
+
+#[test]
+fn a_source_of_std_reads_once_a_call_and_a_sink_writes_once(rt: HostRuntime) {
+    let calls = Cell::new(0);
+    let mut source = StdSource::new(OneByOne { calls: &calls });
+    let mut piece = [0; 4];
+    for count in 1..4_u64 {
+        assert_eq!(rt; source.take(&mut piece), Ok(1));
+        assert_eq!(rt; calls.get(), count);
+    }
+    let mut sink = StdSink::new(OneByOne { calls: &calls });
+    for count in 4..7_u64 {
+        assert_eq!(rt; sink.put(b"abcd"), Ok(1));
+        assert_eq!(rt; calls.get(), count);
+    }
 }
 
 // A reader and a writer that fail once and work from then on.

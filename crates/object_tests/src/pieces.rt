@@ -1,7 +1,12 @@
 //! Pieces of runs on devices that cut.
+ghost use Rattle.std.specs.Prelude.{◌≡◌, ◌+◌, ◌≤◌, length};
+
 use arrayvec::ArrayVec;
+use limit_split::Limit;
 use linear_map::Linear;
 use stack_base::{MapLaw, Piece};
+use stripe_map::Stripe;
+use zoned_map::Zoned;
 
 /// Where a run starts and its length, and its first piece: the length, the member, and where on it.
 type Case = (u64, u64, u64, u32, u64);
@@ -45,4 +50,96 @@ fn a_linear_device_cuts_at_the_ends_of_members(rt: HostRuntime) {
             "of {len} sectors from {start}"
         );
     }
+}
+
+// How long the pieces of a run are, one after the other. Each is cut off what is left of the run.
+fn lengths<D: MapLaw>(device: &D, start: u64, len: u64) -> ArrayVec<u64, 8> {
+    let mut lengths = ArrayVec::new();
+    let size = device.size();
+    let mut done = 0;
+    for _ in 0..8 {
+        if done >= len || lengths.is_full() {
+            return lengths;
+        }
+        let begins = start.saturating_add(done);
+        if begins >= size || len - done > size - begins {
+            return lengths;
+        }
+        let piece = device.piece(begins, len - done);
+        lengths.push(piece.len);
+        done += piece.len;
+    }
+    lengths
+}
+
+// The lengths of the pieces are these.
+fn are(found: &ArrayVec<u64, 8>, wanted: &[u64]) -> bool {
+    found.as_slice() == wanted
+}
+
+#[test]
+#[tactic(auto, unfolding(stack_base::specs::Mapping::size_of, stack_base::specs::Mapping::smallest))]
+fn a_stripe_cuts_at_the_ends_of_chunks(rt: HostRuntime) {
+    let device = Stripe::new(8, 2, 32);
+    assert_eq!(rt; device.size(), 64);
+    assert!(rt; are(&lengths(&device, 5, 20), &[3, 8, 8, 1]));
+}
+
+#[test]
+fn a_limit_cuts_by_length_and_at_the_ends_of_chunks(rt: HostRuntime) {
+    let within_chunks = Limit::new(3, 8, 64);
+    assert!(rt; are(&lengths(&within_chunks, 6, 10), &[2, 3, 3, 2]));
+    let anywhere = Limit::new(3, 0, 64);
+    assert!(rt; are(&lengths(&anywhere, 6, 10), &[3, 3, 3, 1]));
+}
+
+// A zoned device of chunks of 8 sectors over three members of these sizes.
+fn zoned_over(first: u64, second: u64, third: u64) -> Zoned
+    requires { first + second + third ≤ 1000 }
+    ensures { length result.sizes ≡ 3 }
+{
+    let mut sizes = ArrayVec::new();
+    sizes.push(first);
+    sizes.push(second);
+    sizes.push(third);
+    Zoned::new(8, sizes)
+}
+
+#[test]
+fn a_zoned_device_goes_on_round_the_members_that_have_more(rt: HostRuntime) {
+    let device = zoned_over(16, 32, 20);
+    assert_eq!(rt; device.size(), 64);
+    assert!(rt; device.size() == 64);
+    let last = Piece {
+        len: 8,
+        member: 2,
+        at: 8,
+    };
+    assert_eq!(rt; device.piece(40, 16), last);
+    let next = Piece {
+        len: 8,
+        member: 1,
+        at: 16,
+    };
+    assert_eq!(rt; device.piece(48, 8), next);
+    assert_eq!(rt; device.sector_of(2, 8), Some(40));
+    assert_eq!(rt; device.sector_of(2, 16), None);
+}
+
+#[test]
+fn chunks_of_a_zone_are_counted_from_its_first(rt: HostRuntime) {
+    let device = zoned_over(8, 16, 16);
+    assert!(rt; device.size() == 40);
+    let first = Piece {
+        len: 8,
+        member: 1,
+        at: 8,
+    };
+    assert_eq!(rt; device.piece(24, 16), first);
+    let second = Piece {
+        len: 8,
+        member: 2,
+        at: 8,
+    };
+    assert_eq!(rt; device.piece(32, 8), second);
 }

@@ -2,10 +2,11 @@
 use crate::bios::{bio_of, list_of, open_bios, push, write_of, writes_of};
 use crate::elements::crosses;
 use bio_records::{
-    BioElement, BioList, Iter, RescueList, Segment, TaskLists, advance, fill, front, segments,
+    BioElement, BioList, Bios, Iter, RescueList, Segment, TaskLists, Waits, advance, fill, front,
+    segments,
 };
 use stack_base::{DevId, Range};
-use std::alloc::Global;
+use std::alloc::{AllocError, Global};
 use std::process::Abort;
 use std::test::Fail;
 
@@ -187,6 +188,43 @@ fn a_rescuers_list_keeps_the_order(rt: HostRuntime) -> Result<(), Fail> {
         rescues(&rt, &mut waiting, Some(write));
     }
     rescues(&rt, &mut waiting, None);
+    Ok(())
+}
+
+// The numbers of the writes whose bios are left of a walk.
+fn left(alloc: Global, bios: Bios<'_>) -> Result<Vec<u32>, AllocError> {
+    let mut writes = Vec::new(alloc);
+    for body in bios {
+        writes.push(body.bio.write)?;
+    }
+    Ok(writes)
+}
+
+// The numbers of the writes whose bios wait, in their order.
+fn seen(alloc: Global, waiting: &RescueList) -> Result<Vec<u32>, AllocError> {
+    let (front, back) = waiting.walk();
+    let mut writes = left(alloc, front)?;
+    for write in left(alloc, back)?.iter().rev() {
+        writes.push(*write)?;
+    }
+    Ok(writes)
+}
+
+#[test]
+fn a_walk_shows_the_bios_that_wait(rt: HostRuntime) -> Result<(), Fail> {
+    let mut waiting = RescueList::new(DevId(3));
+    assert!(rt; seen(rt.alloc(), &waiting)?.is_empty());
+    waiting.add(list_of(rt.alloc(), &[1, 2, 3])?);
+    rescues(&rt, &mut waiting, Some(1));
+    waiting.add(list_of(rt.alloc(), &[4, 5])?);
+    assert_eq!(rt;
+        seen(rt.alloc(), &waiting)?.as_slice(),
+        [2, 3, 4, 5].as_slice()
+    );
+    assert_eq!(rt;
+        (waiting.dev(), waiting.len(), waiting.is_empty()),
+        (DevId(3), 4, false)
+    );
     Ok(())
 }
 

@@ -2,12 +2,13 @@
 ghost use Rattle.std.specs.Prelude.{IfOk};
 ghost use Rattle.bio_records.specs.Items.{IsAlone};
 
-use crate::bios::{bio_of, open_bios, take, write_of};
-use bio_lists::{Submission, TaskLists};
-use bio_records::{BioBody, BioElement, Iter, Pad};
+use crate::bios::{bio_of, open_bios, take, write_of, writes_of};
+use bio_lists::{Submission, TaskLists, Waits};
+use bio_records::{BioBody, BioElement, BioList, Iter, Pad};
 use bio_split::split;
 use mempool_core::Pool;
 use stack_base::{DevId, Range, SetId};
+use std::alloc::Global;
 use std::process::Abort;
 use std::test::Fail;
 
@@ -84,6 +85,85 @@ fn what_waits_is_served_in_its_order_whatever_is_submitted_later(
     lists.submit(bio_for(&mut pool, 4, 2)?);
     for write in [4, 3, 1, 2] {
         serves(&rt, &mut lists, 0, Some(write));
+    }
+    Ok(())
+}
+
+// The set of this number: the writers', or that of a device.
+fn set_of(number: u32) -> SetId {
+    match number {
+        0 => SetId::Fs,
+        _ => SetId::Of(DevId(number)),
+    }
+}
+
+// A list of bios of the sets of these numbers, of writes from the first one on.
+fn list_by_sets(alloc: Global, first: u32, sets: &[u32]) -> Result<BioList, Fail> {
+    let mut pool = open_bios(alloc)?;
+    let mut list = BioList::new();
+    let mut write = first;
+    for number in sets {
+        let mut bio = bio_of(write, Range { start: 0, len: 1 }, 0);
+        bio.set = set_of(*number);
+        list.push(take(&mut pool, bio)?);
+        write = write.wrapping_add(1);
+    }
+    Ok(list)
+}
+
+/// The sets of the bios of writes 0 and up in list 0, and of writes 10 and up in list 1; the set that is punted; the writes whose bios are
+/// moved, and those of the bios that wait on in each list.
+type Punt = (
+    &'static [u32],
+    &'static [u32],
+    u32,
+    &'static [u32],
+    &'static [u32],
+    &'static [u32],
+);
+
+const PUNTS: &[Punt] = &[
+    (&[], &[], 2, &[], &[], &[]),
+    (&[1, 3], &[1], 2, &[], &[0, 1], &[10]),
+    (&[2, 2], &[2], 2, &[0, 1, 10], &[], &[]),
+    (
+        &[2, 1, 2, 3],
+        &[3, 2, 1, 2],
+        2,
+        &[0, 2, 11, 13],
+        &[1, 3],
+        &[10, 12],
+    ),
+    (&[], &[2, 0], 2, &[10], &[], &[11]),
+    (&[0, 2, 0], &[2, 0], 0, &[0, 2, 11], &[1], &[10]),
+];
+
+// The writes whose bios are moved by a punt, and those of the bios that wait on in each list.
+fn punts(
+    alloc: Global,
+    zero: &[u32],
+    one: &[u32],
+    set: u32,
+) -> Result<(Vec<u32>, Vec<u32>, Vec<u32>), Fail> {
+    let mut lists = TaskLists::new();
+    lists.list0 = list_by_sets(alloc, 0, zero)?;
+    lists.list1 = list_by_sets(alloc, 10, one)?;
+    let moved = lists.punt(set_of(set));
+    let TaskLists { list0, list1 } = lists;
+    Ok((
+        writes_of(alloc, moved)?,
+        writes_of(alloc, list0)?,
+        writes_of(alloc, list1)?,
+    ))
+}
+
+#[test]
+fn a_punt_moves_the_bios_of_a_set_alone(rt: HostRuntime) -> Result<(), Fail> {
+    for (zero, one, set, moved, left0, left1) in PUNTS {
+        let found = punts(rt.alloc(), zero, one, *set)?;
+        assert_eq!(rt; found.0.as_slice(), *moved);
+        assert_eq!(rt; found.1.as_slice(), *left0);
+        assert_eq!(rt; found.2.as_slice(), *left1);
     }
     Ok(())
 }

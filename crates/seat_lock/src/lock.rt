@@ -123,7 +123,7 @@ impl<T: Thing> SeatLock<T> {
         requires fits { T.fits (T.mark self.now.key.value) request }
         ensures of { IsOf self.now seat.new }
         ensures calls { Calls T.answers (T.plain self.now.key.value) seat.old.known (T.asked request) (T.told result) seat.new.known }
-        ensures owed { T.owes (T.mark self.now.key.value) result }
+        ensures owed { T.owes (T.mark self.now.key.value) request result }
     {
         let table = &self.table;
         let inner = &mut seat.inner;
@@ -162,7 +162,7 @@ impl<T: Thing> SeatLock<T> {
         ensures of { inner.new.table_id ≡ inner.old.table_id }
         ensures view { inner.new.me ≡ (after_call inner.old.me.0 (T.asked request) (T.told result), []) }
         ensures run { (after : T.Data) × Leads T.answers (T.plain self.now.key.value) (after_call inner.old.me.0 (T.asked request) (T.told result)).known.seen after }
-        ensures owed { T.owes (T.mark self.now.key.value) result }
+        ensures owed { T.owes (T.mark self.now.key.value) request result }
     {
         let table = &self.table;
         let kept = inner.slot_mut(&table.shared, THING);

@@ -32,8 +32,8 @@ pub trait Thing {
     /// Whether a thing of this mark can be asked so.
     ghost fits: { Self.Mark → Self.Request → Type 0 };
 
-    /// What a thing of this mark owes of each reply, beside its place in the history.
-    ghost owes: { Self.Mark → Self.Reply → Type 0 };
+    /// What a thing of this mark owes of each reply to a request, beside its place in the history.
+    ghost owes: { Self.Mark → Self.Request → Self.Reply → Type 0 };
 
     /// The machine: the data before, what is asked and what is told, and the data after.
     ghost answers: { Self.Data → Self.Asked → Self.Told → Self.Data → Type 0 };
@@ -42,6 +42,6 @@ pub trait Thing {
     fn serve(&mut self, request: Self::Request) -> Self::Reply
         requires { fits (mark self.old) request }
         ensures step { answers (plain self.old) (asked request) (told result) (plain self.new) }
-        ensures owed { owes (mark self.old) result }
+        ensures owed { owes (mark self.old) request result }
         ensures mark { mark self.new ≡ mark self.old };
 }

@@ -6,13 +6,14 @@ use Rattle.std.proofs.lemmas.List.FromFn.{get_or-map-range_with_len, length-map-
 use Rattle.std.proofs.lemmas.List.Sums.{get_or-le-sum_by}
 use Rattle.std.proofs.Math.Nat.{mul_assoc, mul_comm}
 use Rattle.stack_base.specs.declared.stack.Kind.{Kind}
-use Rattle.stack_base.specs.declared.stack.Kind.TheVariants.{Disk, Linear, Stripe, Limit, Mirror}
+use Rattle.stack_base.specs.declared.stack.Kind.TheVariants.{Disk, Linear, Stripe, Zoned, Limit, Mirror}
 use Rattle.stack_base.specs.Declaration.{own_sectors}
 use Rattle.stack_base.specs.Mapping.{size_of, smallest}
 use Rattle.stack_base.specs.Stack.{HasShape}
 use Rattle.stack_base.specs.Tree.{Tree, Leaf, size, member_at, over, over_shape, weight}
 use Rattle.stack_base.proofs.MemberSizes.{shape_few}
 use Rattle.stack_base.proofs.Smallest.{smallest_le, chunks_times_le}
+use Rattle.stack_base.proofs.WholeChunks.{whole_chunks_le}
 
 -- the smallest of some sizes is at most their sum
 smallest_le_sum : (sizes : List ℕ) → smallest sizes ≤ sum sizes
@@ -31,6 +32,7 @@ size_of_le (Stripe chunk) sizes =
     let rows = smallest sizes / chunk in
     let turned : n * chunk * rows ≡ rows * chunk * n = mul_assoc n chunk rows ∙ ap (λ x. n * x) (mul_comm chunk rows) ∙ mul_comm n (rows * chunk) in
     omega (arith, turned, chunks_times_le chunk (smallest sizes) sizes refl)
+size_of_le (Zoned chunk) sizes = omega (arith, whole_chunks_le chunk sizes)
 size_of_le (Limit longest chunk) sizes = omega (arith, smallest_le_sum sizes)
 size_of_le (Mirror records) sizes = omega (arith, smallest_le_sum sizes)
 
@@ -54,6 +56,7 @@ unfolding over_shape weight
 weight_over_le number (Disk sectors bad) members shape = omega arith
 weight_over_le number Linear members shape = omega (arith, ap sum (weights_by_place number members))
 weight_over_le number (Stripe chunk) members shape = omega (arith, ap sum (weights_by_place number members))
+weight_over_le number (Zoned chunk) members shape = omega (arith, ap sum (weights_by_place number members))
 weight_over_le number (Limit longest chunk) members shape = omega (arith, ap sum (weights_by_place number members))
 weight_over_le number (Mirror records) members shape =
     omega (arith, ap sum (weights_by_place number members), length-map members size, shape_few (Mirror records) (length members) shape)

@@ -1,15 +1,15 @@
 -- What decides how a run ends on a disk.
-use Rattle.std.proofs.Common.{◌≡◌, ◌⊎◌, ◌↔◌, ◌<◌, ◌≤◌, ◌&&◌, ℕ, zero, suc, true, false, List, [], ◌∷◌, ◌++◌, Option, None, Some, refl, sym, ap, ◌∙◌, subst, inl, inr, arith}
-use Rattle.std.specs.Prelude.{fold, slice_get, IsTrue}
+use Rattle.std.proofs.Common.{◌≡◌, ◌⊎◌, ◌↔◌, ◌<◌, ◌≤◌, ◌+◌, ◌&&◌, ℕ, zero, suc, true, false, List, [], ◌∷◌, ◌++◌, Option, None, Some, refl, sym, ap, ◌∙◌, subst, inl, inr, arith}
+use Rattle.std.specs.Prelude.{fold, max, min, slice_get, IsTrue}
 use Rattle.std.specs.Option.{option_map_or}
-use Rattle.std.proofs.lemmas.Bool.{cases_Bool, and_from, and_left, and_right, cases_lt, lt-ltb, le-ltb, cond-true, cond-false, both_ways}
+use Rattle.std.proofs.lemmas.Bool.{cases_Bool, and_from, and_left, and_right, cases_lt, lt-ltb, ltb-true, le-ltb, cond-true, cond-false, both_ways}
 use Rattle.std.proofs.lemmas.List.Sums.{fold_push}
 use Rattle.std.proofs.lemmas.Option.{same_Some}
 use Rattle.stack_base.specs.declared.ids.Range.{Range}
 use Rattle.stack_base.specs.declared.ids.Bad.{Bad}
 use Rattle.stack_base.specs.declared.ids.Status.{Status}
 use Rattle.stack_base.specs.declared.ids.Status.TheVariants as status
-use Rattle.stack_base.specs.Fault.{status_eq, touches, starts_before, better, deciding, fault, AreUntouched, DecidesAt, FaultsAreDecided}
+use Rattle.stack_base.specs.Fault.{status_eq, touches, starts_before, better, deciding, fault, AreUntouched, DecidesAt, IsInRange, FaultsAreDecided}
 
 -- the test of two statuses tells whether they are one
 same_status : (one other : Status) → status_eq one other ≡ true → one ≡ other
@@ -221,5 +221,15 @@ once bads range p q a b at_p at_q =
     let same = same_place bads range p q a b at_p at_q in
     (same, same_Some a b (sym at_p.there ∙ ap (slice_get bads) same ∙ at_q.there))
 
+-- ranges that touch share the later of their first sectors
+shared : (one other : Range) → IsTrue (touches one other) → (x : ℕ) × IsInRange x one × IsInRange x other
+shared one other touched =
+    let lt : max one.start other.start < min (one.start + one.len) (other.start + other.len) = ltb-true _ _ touched in
+    (max one.start other.start, (omega arith, omega (arith, lt)), (omega arith, omega (arith, lt)))
+
+touched : (one other : Range) (x : ℕ) → IsInRange x one → IsInRange x other → IsTrue (touches one other)
+touched one other x in_one in_other =
+    lt-ltb (max one.start other.start) (min (one.start + one.len) (other.start + other.len)) (omega (arith, in_one.0, in_one.1, in_other.0, in_other.1))
+
 pub faults_are_decided : FaultsAreDecided
-faults_are_decided = record { decided = decided; once = once }
+faults_are_decided = record { shared = shared; touched = touched; decided = decided; once = once }

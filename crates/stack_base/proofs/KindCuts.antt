@@ -3,8 +3,8 @@ use Rattle.std.proofs.Common.{◌≡◌, ℕ, zero, suc, ◌+◌, ◌-◌, ◌*�
 use Rattle.std.specs.Prelude.{max, min}
 use Rattle.std.proofs.lemmas.Bool.{cases_lt}
 use Rattle.std.proofs.lemmas.Nat.{mod_below}
-use Rattle.stack_base.specs.declared.stack.Kind.TheVariants.{Disk, Linear, Stripe, Limit, Mirror}
-use Rattle.stack_base.specs.Mapping.{Slot, slot, head, among}
+use Rattle.stack_base.specs.declared.stack.Kind.TheVariants.{Disk, Linear, Stripe, Zoned, Limit, Mirror}
+use Rattle.stack_base.specs.Mapping.{Slot, slot, head, among, whole_chunks, zones, in_zones}
 use Rattle.stack_base.specs.Cutting.{next, IsCut, PiecesAreCuts}
 use Rattle.stack_base.proofs.Blocks.{same_block, later_block, stretch_here, stretch_later}
 use Rattle.stack_base.proofs.Members.{among_at_le, among_along, among_apart, next_member_ahead}
@@ -21,18 +21,31 @@ linear_cuts sizes = record {
   along = among_along sizes;
 }
 
--- chunks that go round: a piece ends with its chunk
+-- a device that cuts at the ends of chunks, and has each chunk whole at some place: a piece ends with its chunk
+module _ (chunk : ℕ) (pos : 1 ≤ chunk) (place : ℕ → Slot) where
+  abbrev pub chunked_slot : ℕ → Slot
+  chunked_slot s = record { member = (place (s / chunk)).member; at = (place (s / chunk)).at * chunk + s % chunk }
+
+  pub chunked_cuts : IsCut (λ r s. max r (s - s % chunk)) (λ r. (r - r % chunk) + chunk) chunked_slot
+  chunked_cuts = record {
+    ahead = λ r. omega (arith, mod_below r chunk pos);
+    here = λ r s le lt. let within = same_block chunk r s pos le lt in omega (arith, within.1);
+    later = λ r s le. omega (arith, later_block chunk r s pos le, mod_below r chunk pos);
+    along = λ r s le lt.
+        let within = same_block chunk r s pos le lt in
+        let far : (place (r / chunk)).at * chunk + s % chunk ≡ (place (r / chunk)).at * chunk + r % chunk + (s - r) = omega (arith, within.1) in
+        rw within.0 (ap (λ to. record { member = (place (r / chunk)).member; at = to }) far);
+  }
+
+-- chunks that go round all members
 pub stripe_cuts : (chunk : ℕ) (sizes : List ℕ) → 1 ≤ chunk → IsCut (head (Stripe chunk) sizes) (next (Stripe chunk) sizes) (slot (Stripe chunk) sizes)
 unfolding head next slot
-stripe_cuts chunk sizes pos = record {
-  ahead = λ r. omega (arith, mod_below r chunk pos);
-  here = λ r s le lt. let within = same_block chunk r s pos le lt in omega (arith, within.1);
-  later = λ r s le. omega (arith, later_block chunk r s pos le, mod_below r chunk pos);
-  along = λ r s le lt.
-      let within = same_block chunk r s pos le lt in
-      let far : r / chunk / length sizes * chunk + s % chunk ≡ r / chunk / length sizes * chunk + r % chunk + (s - r) = omega (arith, within.1) in
-      rw within.0 (ap (λ to. record { member = r / chunk % length sizes; at = to }) far);
-}
+stripe_cuts chunk sizes pos = chunked_cuts chunk pos (λ number. record { member = number % length sizes; at = number / length sizes })
+
+-- chunks that go round the members of their zone
+pub zoned_cuts : (chunk : ℕ) (sizes : List ℕ) → 1 ≤ chunk → IsCut (head (Zoned chunk) sizes) (next (Zoned chunk) sizes) (slot (Zoned chunk) sizes)
+unfolding head next slot
+zoned_cuts chunk sizes pos = chunked_cuts chunk pos (in_zones (zones (whole_chunks chunk sizes)))
 
 -- pieces of limited length, with no boundaries
 pub limit_cuts : (longest : ℕ) (sizes : List ℕ) → 1 ≤ longest → IsCut (head (Limit longest 0) sizes) (next (Limit longest 0) sizes) (slot (Limit longest 0) sizes)
@@ -78,6 +91,7 @@ limit_in_chunk_cuts longest chunk sizes pos = record {
 pub kind_cuts : PiecesAreCuts
 kind_cuts Linear sizes can = linear_cuts sizes
 kind_cuts (Stripe chunk) sizes can = stripe_cuts chunk sizes can
+kind_cuts (Zoned chunk) sizes can = zoned_cuts chunk sizes can
 kind_cuts (Limit longest zero) sizes can = limit_cuts longest sizes can
 kind_cuts (Limit longest (suc chunk)) sizes can = limit_in_chunk_cuts longest chunk sizes can
 kind_cuts (Disk sectors bad) sizes can = absurd can

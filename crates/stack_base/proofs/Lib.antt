@@ -1,12 +1,18 @@
 pub mod PoolNumbers
 pub mod SectorLemmas
+mod ZoneExamples
 pub mod Blocks
 pub mod Members
+pub mod Passing
+pub mod Zones
+pub mod EvenMembers
 pub mod KindCuts
 pub mod Heads
 pub mod Pieces
+pub mod KindPieces
 pub mod KindHeads
 pub mod Smallest
+pub mod WholeChunks
 pub mod Inside
 pub mod Unfolded
 pub mod MemberSizes

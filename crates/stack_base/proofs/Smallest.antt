@@ -1,6 +1,6 @@
 -- The smallest of a list of sizes.
-use Rattle.std.proofs.Common.{◌≡◌, ap, ℕ, zero, suc, ◌*◌, ◌/◌, ◌<◌, ◌≤◌, List, [], ◌∷◌, length, get_or, sum, arith}
-use Rattle.std.specs.Prelude.{min, fold}
+use Rattle.std.proofs.Common.{◌≡◌, refl, ap, ◌∙◌, ℕ, zero, suc, ◌*◌, ◌/◌, ◌<◌, ◌≤◌, List, [], ◌∷◌, length, get_or, sum, arith}
+use Rattle.std.specs.Prelude.{min, fold, replicate}
 use Rattle.std.proofs.lemmas.List.Sums.{sum_by-cons}
 use Rattle.std.proofs.Math.Nat.{min-le_left, min-le_right, mul_comm, mul-le-mul_right, div-mul-le_self}
 use Rattle.stack_base.specs.Mapping.{smallest}
@@ -37,3 +37,16 @@ smallest_times_le sizes = least_times_le (smallest sizes) sizes (smallest_le siz
 pub chunks_times_le : (chunk least : ℕ) (sizes : List ℕ) → least ≡ smallest sizes → least / chunk * chunk * length sizes ≤ sum sizes
 chunks_times_le chunk least sizes is =
     omega (arith, mul-le-mul_right (length sizes) (div-mul-le_self least chunk), ap (λ x. length sizes * x) is, mul_comm (length sizes) least, smallest_times_le sizes)
+
+-- a fold of minima of one number is that number
+fold_min_same : (n size : ℕ) → fold min size (replicate n size) ≡ size
+fold_min_same zero size = refl
+fold_min_same (suc n) size =
+    let same : min size size ≡ size = omega arith in
+    ap (λ x. fold min x (replicate n size)) same ∙ fold_min_same n size
+
+-- the smallest of equal sizes is each of them
+pub smallest-replicate : (n size : ℕ) → 1 ≤ n → smallest (replicate n size) ≡ size
+unfolding smallest
+smallest-replicate zero size some = absurd (omega arith)
+smallest-replicate (suc n) size some = fold_min_same n size

@@ -4,7 +4,7 @@ use Rattle.std.specs.Prelude.{slice_get}
 use Rattle.std.proofs.lemmas.Simd.{map-map}
 use Rattle.stack_base.specs.declared.ids.DevId.{DevId}
 use Rattle.stack_base.specs.declared.stack.Kind.{Kind}
-use Rattle.stack_base.specs.declared.stack.Kind.TheVariants.{Disk, Linear, Stripe, Limit, Mirror}
+use Rattle.stack_base.specs.declared.stack.Kind.TheVariants.{Disk, Linear, Stripe, Zoned, Limit, Mirror}
 use Rattle.stack_base.specs.declared.stack.Device.{Device}
 use Rattle.stack_base.specs.declared.stack.Stack.{Stack}
 use Rattle.stack_base.specs.Mapping.{size_of}
@@ -64,6 +64,7 @@ unfolding over_shape size_of
 size-over number (Disk sectors bad) members = refl
 size-over number Linear members = refl
 size-over number (Stripe chunk) members = refl
+size-over number (Zoned chunk) members = refl
 size-over number (Limit longest chunk) members = refl
 size-over number (Mirror records) members = refl
 

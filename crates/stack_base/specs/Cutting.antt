@@ -1,7 +1,7 @@
 -- Cutting a run piece by piece: what the heads say of where the next piece begins.
 use Rattle.std.specs.Prelude.{◌≡◌, ◌+◌, ◌-◌, ◌%◌, ◌<◌, ◌≤◌, if◌then◌else◌, nat_lt, min, ℕ, zero, suc, List, [], ◌∷◌}
 use Rattle.stack_base.specs.declared.stack.Kind.{Kind}
-use Rattle.stack_base.specs.declared.stack.Kind.TheVariants.{Disk, Linear, Stripe, Limit, Mirror}
+use Rattle.stack_base.specs.declared.stack.Kind.TheVariants.{Disk, Linear, Stripe, Zoned, Limit, Mirror}
 use Rattle.stack_base.specs.Mapping.{Slot, slot, head}
 
 -- the first sector behind the member that holds r; past the end each sector is a piece of its own
@@ -13,6 +13,7 @@ next_member (size ∷ sizes) r = if nat_lt r size then size else size + next_mem
 unfoldable pub next : Kind → List ℕ → ℕ → ℕ
 next Linear sizes r = next_member sizes r
 next (Stripe chunk) sizes r = (r - r % chunk) + chunk
+next (Zoned chunk) sizes r = (r - r % chunk) + chunk
 next (Limit longest zero) sizes r = r + longest
 next (Limit longest (suc chunk)) sizes r = min (r + longest) ((r - r % suc chunk) + suc chunk)
 next (Disk sectors bad) sizes r = r + 1
@@ -22,6 +23,7 @@ next (Mirror records) sizes r = r + 1
 abbrev pub CanCut : Kind → Type 0
 CanCut Linear = Unit {0}
 CanCut (Stripe chunk) = 1 ≤ chunk
+CanCut (Zoned chunk) = 1 ≤ chunk
 CanCut (Limit longest chunk) = 1 ≤ longest
 CanCut (Disk sectors bad) = ⊥
 CanCut (Mirror records) = ⊥
@@ -36,6 +38,7 @@ pub record IsCut (head : ℕ → ℕ → ℕ) (next : ℕ → ℕ) (slot : ℕ �
 -- the lengths of a kind's pieces are not 0
 abbrev pub HasLengths : Kind → Type 0
 HasLengths (Stripe chunk) = 1 ≤ chunk
+HasLengths (Zoned chunk) = 1 ≤ chunk
 HasLengths (Limit longest chunk) = 1 ≤ longest
 HasLengths Linear = Unit {0}
 HasLengths (Disk sectors bad) = Unit {0}

@@ -2,7 +2,7 @@
 use Rattle.std.specs.Prelude.{◌≡◌, ◌<◌, ◌≤◌, ℕ, length, map, sum, slice_get, Some}
 use Rattle.stack_base.specs.declared.ids.DevId.{DevId}
 use Rattle.stack_base.specs.declared.stack.Kind.{Kind}
-use Rattle.stack_base.specs.declared.stack.Kind.TheVariants.{Disk, Linear, Stripe, Limit, Mirror}
+use Rattle.stack_base.specs.declared.stack.Kind.TheVariants.{Disk, Linear, Stripe, Zoned, Limit, Mirror}
 use Rattle.stack_base.specs.declared.stack.Device.{Device}
 use Rattle.stack_base.specs.declared.stack.Stack.{Stack}
 use Rattle.stack_base.specs.Stack.{HasShape, IsMember, IsStack}
@@ -13,6 +13,7 @@ abbrev pub own_sectors : Kind → ℕ
 own_sectors (Disk sectors bad) = sectors
 own_sectors Linear = 0
 own_sectors (Stripe chunk) = 0
+own_sectors (Zoned chunk) = 0
 own_sectors (Limit longest chunk) = 0
 own_sectors (Mirror records) = 0
 

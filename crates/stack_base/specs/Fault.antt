@@ -1,5 +1,5 @@
 -- How a run ends on a disk: what decides it are the bad ranges of the disk, in the order in which they are declared.
-use Rattle.std.specs.Prelude.{◌≡◌, ◌⊎◌, ◌+◌, ◌<◌, ◌≤◌, ◌&&◌, if◌then◌else◌, nat_lt, fold, slice_get, ℕ, Bool, true, false, IsTrue, List, Option, None, Some}
+use Rattle.std.specs.Prelude.{◌≡◌, ◌⊎◌, ◌+◌, ◌<◌, ◌≤◌, ◌&&◌, if◌then◌else◌, nat_lt, fold, max, min, slice_get, ℕ, Bool, true, false, IsTrue, List, Option, None, Some}
 use Rattle.std.specs.Option.{option_map_or}
 use Rattle.stack_base.specs.declared.ids.Range.{Range}
 use Rattle.stack_base.specs.declared.ids.Bad.{Bad}
@@ -13,9 +13,9 @@ status_eq status.Medium status.Medium = true
 status_eq status.NoSpace status.NoSpace = true
 status_eq one other = false
 
--- whether two ranges share a sector; each of them has one
+-- whether two ranges share a sector: the later start is before the earlier end. A range of no sectors shares none
 abbrev pub touches : Range → Range → Bool
-touches one other = nat_lt one.start (other.start + other.len) && nat_lt other.start (one.start + one.len)
+touches one other = nat_lt (max one.start other.start) (min (one.start + one.len) (other.start + other.len))
 
 -- whether a bad range starts before the one that was found so far, if any was
 abbrev pub starts_before : Bad → Option Bad → Bool
@@ -46,8 +46,15 @@ pub record DecidesAt (bads : List Bad) (range : Range) (place : ℕ) (bad : Bad)
   pub first : (other_place : ℕ) (other : Bad) → slice_get bads other_place ≡ Some other → IsTrue (touches other.range range)
       → (bad.range.start < other.range.start) ⊎ ((bad.range.start ≡ other.range.start) × (place ≤ other_place))
 
--- a run that touches no bad range ends well, and any other as the one that decides it says; no two decide it
+-- the sector is one of the range's
+abbrev pub IsInRange : ℕ → Range → Type 0
+IsInRange x range = (range.start ≤ x) × (x < range.start + range.len)
+
+-- a run touches a bad range where they share a sector; one that touches none ends well, and any other as the one that decides it says; no
+-- two decide it
 pub record FaultsAreDecided : Type 0 where
+  pub shared : (one other : Range) → IsTrue (touches one other) → (x : ℕ) × IsInRange x one × IsInRange x other
+  pub touched : (one other : Range) (x : ℕ) → IsInRange x one → IsInRange x other → IsTrue (touches one other)
   pub decided : (bads : List Bad) (range : Range)
       → (AreUntouched bads range × (fault bads range ≡ status.Ok))
       ⊎ ((place : ℕ) × (bad : Bad) × DecidesAt bads range place bad × (fault bads range ≡ bad.kind))

@@ -5,5 +5,6 @@ pub mod Tree
 pub mod Stack
 pub mod Piece
 pub mod Cutting
+pub mod Even
 pub mod Declaration
 pub mod Fault

@@ -1,8 +1,8 @@
 -- A stack that a declaration may have: what holds of it besides that a mirror of two members has a rescuer.
-use Rattle.std.specs.Prelude.{◌≡◌, ◌<◌, ◌≤◌, ℕ, length, slice_get, Some}
+use Rattle.std.specs.Prelude.{◌≡◌, ◌<◌, ◌≤◌, ℕ, true, length, slice_get, Some}
 use Rattle.stack_base.specs.declared.ids.DevId.{DevId}
 use Rattle.stack_base.specs.declared.stack.Kind.{Kind}
-use Rattle.stack_base.specs.declared.stack.Kind.TheVariants.{Disk, Linear, Stripe, Limit, Mirror}
+use Rattle.stack_base.specs.declared.stack.Kind.TheVariants.{Disk, Linear, Stripe, Zoned, Limit, Mirror}
 use Rattle.stack_base.specs.declared.stack.Device.{Device}
 use Rattle.stack_base.specs.declared.stack.Stack.{Stack}
 use Rattle.stack_base.specs.Tree.{tree, size, weight}
@@ -12,6 +12,7 @@ abbrev pub HasShape : Kind → ℕ → Type 0
 HasShape (Disk sectors bad) members = members ≡ 0
 HasShape Linear members = (1 ≤ members) × (members ≤ 8)
 HasShape (Stripe chunk) members = (1 ≤ chunk) × (1 ≤ members) × (members ≤ 8)
+HasShape (Zoned chunk) members = (1 ≤ chunk) × (1 ≤ members) × (members ≤ 8)
 HasShape (Limit longest chunk) members = (1 ≤ longest) × (members ≡ 1)
 HasShape (Mirror records) members = (1 ≤ members) × (members ≤ 8)
 
@@ -34,3 +35,9 @@ pub record IsStack (stack : Stack) : Type 0 where
   pub each : (number : ℕ) (device : Device) → slice_get stack.devices.items number ≡ Some device → IsDevice stack number device
   -- a device is a member at most once
   pub once : (p q i j m : ℕ) → IsMember stack p i m → IsMember stack q j m → (p ≡ q) × (i ≡ j)
+
+-- The set of each mirror of two members or more has a rescuer. Without one a write may wait for a bio that none but itself gives back.
+abbrev pub HasRescuers : Stack → Type 0
+HasRescuers stack =
+    (number records : ℕ) (device : Device) → slice_get stack.devices.items number ≡ Some device → device.kind ≡ Mirror records
+    → 2 ≤ length device.members.items → device.rescuer ≡ true

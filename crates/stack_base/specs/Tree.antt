@@ -2,7 +2,7 @@
 use Rattle.std.specs.Prelude.{◌+◌, ℕ, zero, suc, List, map, length, sum, slice_get, slice_index_or, Option, None, Some}
 use Rattle.std.specs.List.{range_with_len}
 use Rattle.stack_base.specs.declared.stack.Kind.{Kind}
-use Rattle.stack_base.specs.declared.stack.Kind.TheVariants.{Disk, Linear, Stripe, Limit, Mirror}
+use Rattle.stack_base.specs.declared.stack.Kind.TheVariants.{Disk, Linear, Stripe, Zoned, Limit, Mirror}
 use Rattle.stack_base.specs.declared.stack.Device.{Device}
 use Rattle.stack_base.specs.declared.stack.Stack.{Stack}
 use Rattle.stack_base.specs.Mapping.{size_of, smallest}
@@ -29,6 +29,7 @@ abbrev pub shape_of : Kind → Shape
 shape_of (Disk sectors bad) = Keeps sectors
 shape_of Linear = Cuts
 shape_of (Stripe chunk) = Cuts
+shape_of (Zoned chunk) = Cuts
 shape_of (Limit longest chunk) = Cuts
 shape_of (Mirror records) = Copies
 

@@ -1,6 +1,7 @@
 //! What holds of the definitions, as functions that do nothing.
 ghost use Rattle.stack_base.specs.Cutting.{HeadsAreHeads, HeadsStay, PiecesAreCuts};
 ghost use Rattle.stack_base.specs.Declaration.{DeclaredIsStack};
+ghost use Rattle.stack_base.specs.Even.{EvenZonesAreStripes, StripesGoBySmallest};
 ghost use Rattle.stack_base.specs.Fault.{FaultsAreDecided};
 ghost use Rattle.stack_base.specs.PoolId.{NumbersAreApart};
 
@@ -22,6 +23,16 @@ pub fn pieces_are_cuts()
     ensures { PiecesAreCuts }
 {}
 
+/// What a stripe does goes by how many members it has and by the smallest of them, so a driver needs no other sizes.
+pub fn stripes_go_by_smallest()
+    ensures { StripesGoBySmallest }
+{}
+
+/// Over members of one size a zoned device is a stripe: it has one zone (`create_strip_zones`, `drivers/md/raid0.c`).
+pub fn even_zones_are_stripes()
+    ensures { EvenZonesAreStripes }
+{}
+
 /// No two pools of a stack have the same number, and none has one above 65.
 pub fn numbers_are_apart()
     ensures { NumbersAreApart }
@@ -33,8 +44,9 @@ pub fn declared_is_stack()
     ensures { DeclaredIsStack }
 {}
 
-/// A run on a disk that touches no bad range ends well. Any other ends as the bad range says that decides it: of those that the run
-/// touches the one that starts first, and where more than one starts there, the one that is declared first. No two decide.
+/// A run touches a bad range where they share a sector, so one of no sectors touches none. A run on a disk that touches no bad range ends
+/// well. Any other ends as the bad range says that decides it: of those that the run touches the one that starts first, and where more than
+/// one starts there, the one that is declared first. No two decide.
 pub fn faults_are_decided()
     ensures { FaultsAreDecided }
 {}

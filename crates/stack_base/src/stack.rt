@@ -17,6 +17,9 @@ pub enum Kind {
     Linear,
     /// Chunks of `chunk` sectors go round its members (`drivers/md/raid0.c`).
     Stripe { chunk: u64 },
+    /// Chunks of `chunk` sectors go round members of any sizes, in zones: first round all members up to the end of the smallest, and
+    /// then round those that have more (`create_strip_zones`, `drivers/md/raid0.c`).
+    Zoned { chunk: u64 },
     /// Each sector is the same sector of its one member; a piece has at most `max` sectors and does not cross a multiple of `chunk`,
     /// where that is not 0 (`bio_split_rw`, `block/blk-merge.c`).
     Limit { max: u64, chunk: u64 },

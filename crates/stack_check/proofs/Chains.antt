@@ -14,5 +14,6 @@ unfolding first_found
 device_chain known name (what.Disk sectors) members reserve rescuer = refl
 device_chain known name what.Linear members reserve rescuer = refl
 device_chain known name (what.Stripe chunk) members reserve rescuer = refl
+device_chain known name (what.Zoned chunk) members reserve rescuer = refl
 device_chain known name (what.Limit longest chunk) members reserve rescuer = refl
 device_chain known name (what.Mirror records) members reserve rescuer = refl

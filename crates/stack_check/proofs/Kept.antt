@@ -19,6 +19,7 @@ pub count_few : (does : What) (count : ℕ) → IsTrue (has_count does count) �
 count_few (what.Disk sectors) count takes = omega (arith, eqb-true count 0 takes)
 count_few what.Linear count takes = leb-true count 8 (and_parts (nat_le 1 count) (nat_le count 8) takes).1
 count_few (what.Stripe chunk) count takes = leb-true count 8 (and_parts (nat_le 1 count) (nat_le count 8) takes).1
+count_few (what.Zoned chunk) count takes = leb-true count 8 (and_parts (nat_le 1 count) (nat_le count 8) takes).1
 count_few (what.Limit longest chunk) count takes = omega (arith, eqb-true count 1 takes)
 count_few (what.Mirror records) count takes = leb-true count 8 (and_parts (nat_le 1 count) (nat_le count 8) takes).1
 

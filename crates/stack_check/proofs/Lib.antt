@@ -1,4 +1,3 @@
-pub mod WordLemmas
 pub mod Flags
 pub mod RefusalLemmas
 pub mod FinishLemmas
@@ -16,3 +15,5 @@ pub mod DeviceLemmas
 pub mod TreeLemmas
 pub mod MembersOnce
 pub mod SizeBounds
+mod Rescuers
+mod Lines

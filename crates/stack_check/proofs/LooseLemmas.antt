@@ -1,13 +1,14 @@
 -- What passes the checks passes some of them.
-use Rattle.std.proofs.Common.{◌≡◌, ℕ, ◌==◌, Bool, true, false, not, cond, List, [], ◌∷◌, Option, None, Some, refl, ap, ◌∙◌, arith}
+use Rattle.std.proofs.Common.{◌≡◌, ℕ, ◌+◌, ◌==◌, Bool, true, false, not, cond, List, [], ◌∷◌, Option, None, Some, refl, ap, ◌∙◌, arith}
 use Rattle.std.specs.Prelude.{filter}
 use Rattle.std.specs.Option.{option_map, option_or}
-use Rattle.decl_text.specs.Known.{Known, after, nothing}
+use Rattle.decl_text.specs.Text.{words}
+use Rattle.decl_text.specs.Items.{said}
+use Rattle.decl_text.specs.Known.{Known, after_line, nothing}
 use Rattle.decl_text.specs.Reasons.{number_of_reason}
-use Rattle.decl_text.specs.Refusals.{Check, first_found, item_checks, refused}
-use Rattle.decl_text.specs.Reading.{refusal_of_items}
-use Rattle.decl_text.specs.Accepting.{Passes, loose_checks}
-use Rattle.decl_text.specs.declared.decl.Numbered.{Numbered}
+use Rattle.decl_text.specs.Refusals.{Check, first_found, item_checks, line_reason, refusal, refused, said_reason}
+use Rattle.decl_text.specs.Accepting.{loose_checks}
+use Rattle.decl_text.proofs.Unrefused.{line_passes, none_refused}
 use Rattle.decl_text.specs.declared.item.Item.{Item}
 use Rattle.decl_text.specs.declared.reason.Reason.{Reason}
 use Rattle.decl_text.specs.declared.reason.Refusal.{Refusal}
@@ -38,17 +39,24 @@ pub map_or_none : (number : ℕ) (o : Option Reason) (rest : Option Refusal) →
 map_or_none number None rest none = (refl, none)
 map_or_none number (Some reason) rest none = absurd (grind arith)
 
+some_reason :
+    (keeps : Check Item → Bool) (checks : List (Check Item)) (known : Known) (o : Option Item) → said_reason checks known o ≡ None → said_reason (filter keeps checks) known o ≡ None
+some_reason keeps checks known None none = refl
+some_reason keeps checks known (Some said) none = some_checks keeps checks known said none
+
 some_pass :
-    (keeps : Check Item → Bool) (checks : List (Check Item)) (known : Known) (items : List Numbered) → refusal_of_items checks known items None ≡ None
-    → refusal_of_items (filter keeps checks) known items None ≡ None
-unfolding refusal_of_items
-some_pass keeps checks known [] none = refl
-some_pass keeps checks known (next ∷ items) none =
-    let parts = map_or_none next.line (first_found checks known next.item) (refusal_of_items checks (after known next.item) items None) none in
-    ap (λ o. option_or (option_map (refused next.line) o) (refusal_of_items (filter keeps checks) (after known next.item) items None))
-    (some_checks keeps checks known next.item parts.0)
-    ∙ some_pass keeps checks (after known next.item) items parts.1
+    (keeps : Check Item → Bool) (checks : List (Check Item)) (known : Known) (number : ℕ) (all : List (List ℕ)) → refusal checks known number all ≡ None
+    → refusal (filter keeps checks) known number all ≡ None
+unfolding refusal
+some_pass keeps checks known number [] none = refl
+some_pass keeps checks known number (line ∷ lines) none =
+    let parts = none_refused checks known number line lines none in
+    let fine = line_passes checks known line parts.0 in
+    let here : line_reason (filter keeps checks) known line ≡ None =
+    ap (λ o. option_or o (said_reason (filter keeps checks) known (said (words line)))) fine.0 ∙ some_reason keeps checks known (said (words line)) fine.1 in
+    ap (λ o. option_or (option_map (refused number) o) (refusal (filter keeps checks) (after_line known (said (words line))) (number + 1) lines)) here
+    ∙ some_pass keeps checks (after_line known (said (words line))) (number + 1) lines parts.1
 
 -- all checks but that of rescuers find nothing where all do
-pub passes_loose : (items : List Numbered) → Passes item_checks items → Passes loose_checks items
-passes_loose items passes = some_pass (λ check. not (number_of_reason check.reason == 10)) item_checks nothing items passes
+pub passes_loose : (all : List (List ℕ)) → refusal item_checks nothing 1 all ≡ None → refusal loose_checks nothing 1 all ≡ None
+passes_loose all passes = some_pass (λ check. not (number_of_reason check.reason == 10)) item_checks nothing 1 all passes

@@ -61,6 +61,7 @@ room_left devices (what.Disk sectors) few room =
     (leb-false 32 (length devices) first.0, ltb-false 262144 (all_sectors devices + sectors) parts.1)
 room_left devices what.Linear few room = (leb-false 32 (length devices) room, omega arith)
 room_left devices (what.Stripe chunk) few room = (leb-false 32 (length devices) room, omega arith)
+room_left devices (what.Zoned chunk) few room = (leb-false 32 (length devices) room, omega arith)
 room_left devices (what.Limit longest chunk) few room = (leb-false 32 (length devices) room, omega arith)
 room_left devices (what.Mirror records) few room = (leb-false 32 (length devices) room, omega arith)
 
@@ -69,6 +70,7 @@ pools_small : (does : What) (members : List (List ℕ)) (reserve : ℕ) (rescuer
 pools_small (what.Disk sectors) members reserve rescuer formed small = (omega (arith, formed.1), omega arith)
 pools_small what.Linear members reserve rescuer formed small = (ltb-false 1024 reserve (or_parts (nat_lt 1024 reserve) false small).0, omega arith)
 pools_small (what.Stripe chunk) members reserve rescuer formed small = (ltb-false 1024 reserve (or_parts (nat_lt 1024 reserve) false small).0, omega arith)
+pools_small (what.Zoned chunk) members reserve rescuer formed small = (ltb-false 1024 reserve (or_parts (nat_lt 1024 reserve) false small).0, omega arith)
 pools_small (what.Limit longest chunk) members reserve rescuer formed small = (ltb-false 1024 reserve (or_parts (nat_lt 1024 reserve) false small).0, omega arith)
 pools_small (what.Mirror records) members reserve rescuer formed small =
     let parts = or_parts (nat_lt 1024 records) (nat_lt 1024 reserve || false) small in
@@ -79,6 +81,7 @@ has_numbers : (does : What) (members : List (List ℕ)) (reserve : ℕ) (rescuer
 has_numbers (what.Disk sectors) members reserve rescuer formed = tt
 has_numbers what.Linear members reserve rescuer formed = tt
 has_numbers (what.Stripe chunk) members reserve rescuer formed = formed
+has_numbers (what.Zoned chunk) members reserve rescuer formed = formed
 has_numbers (what.Limit longest chunk) members reserve rescuer formed = formed
 has_numbers (what.Mirror records) members reserve rescuer formed = tt
 

@@ -51,6 +51,7 @@ device_falls : (n : ℕ) (does : What) (rest : List PoolId) → IsFalling (2 * n
 device_falls n (what.Disk sectors) rest falls = fall_higher (2 * n) (2 * (n + 1)) rest (omega arith) falls
 device_falls n what.Linear rest falls = (omega arith, falls)
 device_falls n (what.Stripe chunk) rest falls = (omega arith, falls)
+device_falls n (what.Zoned chunk) rest falls = (omega arith, falls)
 device_falls n (what.Limit longest chunk) rest falls = (omega arith, falls)
 device_falls n (what.Mirror records) rest falls = (omega arith, (omega arith, falls))
 

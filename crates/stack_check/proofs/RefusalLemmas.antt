@@ -65,6 +65,7 @@ accepts_closed decl known (Ok accepted) drafted closed = (
   subst (λ (k : Known). Means k accepted.stack accepted.scripts.items) (sym drafted.1) closed.1,
   closed.2,
   closed.3,
+  closed.4,
 )
 accepts_closed decl known (Err (Refused refusal)) drafted closed = fault_left item_checks nothing decl.items decl.fault drafted.0 ∙ closed
 accepts_closed decl known (Err Memory) drafted closed = tt

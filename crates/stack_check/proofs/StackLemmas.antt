@@ -36,6 +36,9 @@ has_shape kind.Linear members numbers takes =
 has_shape (kind.Stripe chunk) members numbers takes =
     let parts = and_parts (nat_le 1 members) (nat_le members 8) takes in
     (numbers, leb-true 1 members parts.0, leb-true members 8 parts.1)
+has_shape (kind.Zoned chunk) members numbers takes =
+    let parts = and_parts (nat_le 1 members) (nat_le members 8) takes in
+    (numbers, leb-true 1 members parts.0, leb-true members 8 parts.1)
 has_shape (kind.Limit longest chunk) members numbers takes = (numbers, eqb-true members 1 takes)
 has_shape (kind.Mirror records) members numbers takes =
     let parts = and_parts (nat_le 1 members) (nat_le members 8) takes in
@@ -45,6 +48,7 @@ own_is : (kind : Kind) → own_sectors kind ≡ sectors_of (what_of kind)
 own_is (kind.Disk sectors bad) = refl
 own_is kind.Linear = refl
 own_is (kind.Stripe chunk) = refl
+own_is (kind.Zoned chunk) = refl
 own_is (kind.Limit longest chunk) = refl
 own_is (kind.Mirror records) = refl
 

@@ -90,6 +90,7 @@ pub size-grown : (number : ℕ) (does : What) (members : List Tree) → size (gr
 size-grown number (what.Disk sectors) members = refl
 size-grown number what.Linear members = size-over number kind.Linear members
 size-grown number (what.Stripe chunk) members = size-over number (kind.Stripe chunk) members
+size-grown number (what.Zoned chunk) members = size-over number (kind.Zoned chunk) members
 size-grown number (what.Limit longest chunk) members = size-over number (kind.Limit longest chunk) members
 size-grown number (what.Mirror records) members = size-over number (kind.Mirror 0) members
 
@@ -98,6 +99,7 @@ pub what_size_le : (does : What) (sizes : List ℕ) → what_size does sizes ≤
 what_size_le (what.Disk sectors) sizes = omega arith
 what_size_le what.Linear sizes = size_of_le kind.Linear sizes
 what_size_le (what.Stripe chunk) sizes = size_of_le (kind.Stripe chunk) sizes
+what_size_le (what.Zoned chunk) sizes = size_of_le (kind.Zoned chunk) sizes
 what_size_le (what.Limit longest chunk) sizes = size_of_le (kind.Limit longest chunk) sizes
 what_size_le (what.Mirror records) sizes = size_of_le (kind.Mirror 0) sizes
 

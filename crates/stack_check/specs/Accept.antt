@@ -1,5 +1,6 @@
 -- What becomes of the declarations of a text.
 use Rattle.std.specs.Prelude.{◌≡◌, Result, Ok, Err, None, Some}
+use Rattle.stack_base.specs.Stack.{HasRescuers}
 use Rattle.decl_text.specs.Read.{Read}
 use Rattle.decl_text.specs.Known.{nothing}
 use Rattle.decl_text.specs.Refusals.{item_checks}
@@ -9,11 +10,11 @@ use Rattle.decl_text.specs.declared.accepted.Accepted.{Accepted}
 use Rattle.decl_text.specs.declared.reason.ReadFault.{ReadFault}
 use Rattle.decl_text.specs.declared.reason.ReadFault.TheVariants.{Refused, Memory}
 
--- no line is refused, and they mean this; or this is the first refusal
+-- no line is refused, and they mean this, where each mirror of two members or more has a rescuer; or this is the first refusal
 abbrev pub Accepts : Read → Result Accepted ReadFault → Type 0
 Accepts decl (Ok accepted) =
     (refusal_of_items item_checks nothing decl.items decl.fault ≡ None)
     × Means (known_of_items nothing decl.items) accepted.stack accepted.scripts.items
-    × (accepted.rest ≡ decl.rest) × (accepted.line ≡ decl.line)
+    × HasRescuers accepted.stack × (accepted.rest ≡ decl.rest) × (accepted.line ≡ decl.line)
 Accepts decl (Err (Refused refusal)) = refusal_of_items item_checks nothing decl.items decl.fault ≡ Some refusal
 Accepts decl (Err Memory) = Unit {0}

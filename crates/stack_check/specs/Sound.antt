@@ -15,6 +15,7 @@ abbrev pub HasNumbers : What → Type 0
 HasNumbers (what.Disk sectors) = Unit {0}
 HasNumbers what.Linear = Unit {0}
 HasNumbers (what.Stripe chunk) = 1 ≤ chunk
+HasNumbers (what.Zoned chunk) = 1 ≤ chunk
 HasNumbers (what.Limit longest chunk) = 1 ≤ longest
 HasNumbers (what.Mirror records) = Unit {0}
 
@@ -56,6 +57,7 @@ abbrev pub what_size : What → List ℕ → ℕ
 what_size (what.Disk sectors) sizes = sectors
 what_size what.Linear sizes = size_of kind.Linear sizes
 what_size (what.Stripe chunk) sizes = size_of (kind.Stripe chunk) sizes
+what_size (what.Zoned chunk) sizes = size_of (kind.Zoned chunk) sizes
 what_size (what.Limit longest chunk) sizes = size_of (kind.Limit longest chunk) sizes
 what_size (what.Mirror records) sizes = size_of (kind.Mirror 0) sizes
 

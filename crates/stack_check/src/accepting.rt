@@ -1,14 +1,9 @@
 //! What becomes of the declarations of a text.
-ghost use Rattle.std.specs.Prelude.{◌≡◌, List};
-ghost use Rattle.decl_text.specs.Known.{nothing};
-ghost use Rattle.decl_text.specs.Refusals.{item_checks};
-ghost use Rattle.decl_text.specs.Reading.{known_of_items};
-ghost use Rattle.decl_text.specs.Accepting.{Passes};
-ghost use Rattle.decl_text.specs.declared.decl.Numbered.{Numbered as Line};
+ghost use Rattle.std.specs.Prelude.{◌≡◌, None};
 ghost use Rattle.decl_text.specs.Read.{AreDeclarations, IsDeclaration};
 ghost use Rattle.stack_check.specs.Accept.{Accepts};
 ghost use Rattle.stack_check.specs.Adding.{AddsLine};
-ghost use Rattle.stack_check.specs.Drafting.{Closes, Drafts};
+ghost use Rattle.stack_check.specs.Drafting.{Closes, Drafts, IsDeclaredBy};
 
 use crate::draft::Draft;
 use crate::fault::AddFault;
@@ -16,7 +11,7 @@ use crate::finish::finish;
 use decl_text::{Accepted, Decl, DeclParts, Numbered, ReadFault, Refusal};
 use std::alloc::Global;
 
-/// The stack and the scripts that the declarations mean.
+/// The stack and the scripts that the declarations mean. Each mirror of two members or more has a rescuer then.
 ///
 /// # Errors
 ///
@@ -45,7 +40,7 @@ fn close(
     rest: u64,
     line: u64,
 ) -> Result<Accepted, ReadFault>
-    requires { (items : List Line) × Passes item_checks items × (known_of_items nothing items ≡ draft) }
+    requires { fault ≡ None → ∥ IsDeclaredBy draft ∥₁ }
     ensures { Closes draft.entry fault rest line result }
 {
     if let Some(refusal) = fault {

@@ -67,6 +67,7 @@ fn kind_of(alloc: Global, what: What, number: u32, bad: &[BadAt]) -> Result<Kind
         }
         What::Linear => Ok(Kind::Linear),
         What::Stripe { chunk } => Ok(Kind::Stripe { chunk }),
+        What::Zoned { chunk } => Ok(Kind::Zoned { chunk }),
         What::Limit { max, chunk } => Ok(Kind::Limit { max, chunk }),
         What::Mirror { records } => Ok(Kind::Mirror {
             records: records as u32,

@@ -75,7 +75,7 @@ impl<'a> Model for Draft<'a> {
 
     ghost Value = { Known };
 
-    ghost view = { λ draft. record { devices = draft.devices; fs = draft.fs; bad = draft.bad.items; scripts = draft.scripts; no_memory = draft.no_memory; writes = [] } };
+    ghost view = { λ draft. record { devices = draft.devices; fs = draft.fs; bad = draft.bad.items; scripts = draft.scripts; no_memory = draft.no_memory; writes = []; rounds = []; syncs = 0; resizes = [] } };
 
     ghost invariant = { λ draft. AreOfDisks draft.devices draft.bad.items × HasFewElements draft.fs };
 }
@@ -94,7 +94,7 @@ impl<'a> Draft<'a> {
         }
     }
 
-    /// Adds what a line says, which is no write, if no check finds it wrong.
+    /// Adds what a line of the declarations says, if no check finds it wrong.
     pub(crate) fn add(&mut self, item: Item<'a>) -> Result<(), AddFault>
         requires { IsDeclaration item }
         ensures { Adds self.old item.entry self.new result }
@@ -111,7 +111,7 @@ impl<'a> Draft<'a> {
             Item::Fs { bios, vecs } => self.add_fs(bios, vecs),
             Item::Script { pool, script } => self.add_script(&pool, script),
             Item::NoMemory => self.add_no_memory(),
-            Item::Write { .. } => unreachable!(),
+            Item::Write { .. } | Item::Sync | Item::Resize { .. } => unreachable!(),
         }
     }
 

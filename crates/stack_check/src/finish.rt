@@ -1,11 +1,8 @@
 //! The stack and the scripts that a draft means.
-ghost use Rattle.std.specs.Prelude.{◌≡◌, IfOk, List};
-ghost use Rattle.stack_base.specs.Stack.{IsStack};
-ghost use Rattle.decl_text.specs.Known.{nothing};
-ghost use Rattle.decl_text.specs.Refusals.{item_checks};
-ghost use Rattle.decl_text.specs.Reading.{known_of_items};
-ghost use Rattle.decl_text.specs.Accepting.{Means, Passes, reserves_or_two};
-ghost use Rattle.decl_text.specs.declared.decl.Numbered.{Numbered};
+ghost use Rattle.std.specs.Prelude.{◌≡◌, IfOk};
+ghost use Rattle.stack_base.specs.Stack.{HasRescuers, IsStack};
+ghost use Rattle.decl_text.specs.Accepting.{Means, reserves_or_two};
+ghost use Rattle.stack_check.specs.Drafting.{IsDeclaredBy};
 
 use crate::built::devices_of;
 use crate::draft::{Draft, FsReserves};
@@ -22,8 +19,10 @@ pub(crate) fn finish(
     rest: u64,
     line: u64,
 ) -> Result<Accepted, AllocError>
-    requires { (items : List Numbered) × Passes item_checks items × (known_of_items nothing items ≡ draft) }
-    ensures { IfOk result (λ accepted. Means draft.entry accepted.stack accepted.scripts.items × (accepted.rest ≡ rest) × (accepted.line ≡ line)) }
+    requires { ∥ IsDeclaredBy draft ∥₁ }
+    ensures means { IfOk result (λ accepted. Means draft.entry accepted.stack accepted.scripts.items) }
+    ensures rescuers { IfOk result (λ accepted. HasRescuers accepted.stack) }
+    ensures rest { IfOk result (λ accepted. (accepted.rest ≡ rest) × (accepted.line ≡ line)) }
 {
     let (stack, scripts) = meaning(alloc, draft)?;
     Ok(Accepted {

@@ -38,11 +38,6 @@ impl Placed<'_> {
     pub(crate) fn is_followed(&self, suffix: &[u8], word: &Word<'_>) -> bool
         ensures { result ≡ bytes_eq (self.now.name ++ suffix.now) word.now }
     {
-        let word = word.bytes();
-        if word.len() < suffix.len() {
-            return false;
-        }
-        let (front, back) = word.split_at(word.len() - suffix.len());
-        back == suffix && self.name.is(front)
+        word.is_joined(self.name.bytes(), suffix)
     }
 }

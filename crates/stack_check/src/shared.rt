@@ -62,9 +62,9 @@ fn push_pools(pools: &mut Vec<PoolId>, number: usize, what: What) -> Result<(), 
             pools.push(PoolId::Records(device))?;
             pools.push(PoolId::Bios(device))?;
         }
-        What::Linear | What::Stripe { .. } | What::Limit { .. } => pools.push(PoolId::Bios(
-            device,
-        ))?,
+        What::Linear | What::Stripe { .. } | What::Zoned { .. } | What::Limit { .. } => pools.push(
+            PoolId::Bios(device),
+        )?,
     }
     Ok(())
 }

@@ -18,7 +18,8 @@ pub(crate) fn takes(what: What, count: usize) -> bool
     match what {
         What::Disk { .. } => count == 0,
         What::Limit { .. } => count == 1,
-        What::Linear | What::Stripe { .. } | What::Mirror { .. } => 1 <= count && count <= 8,
+        What::Linear | What::Stripe { .. } | What::Zoned { .. } | What::Mirror { .. } => 1 <= count
+            && count <= 8,
     }
 }
 
@@ -29,7 +30,8 @@ pub(crate) fn is_large(what: What, reserve: u64) -> bool
     match what {
         What::Disk { .. } => false,
         What::Mirror { records } => records > MOST_ELEMENTS || reserve > MOST_ELEMENTS,
-        What::Linear | What::Stripe { .. } | What::Limit { .. } => reserve > MOST_ELEMENTS,
+        What::Linear | What::Stripe { .. } | What::Zoned { .. } | What::Limit { .. } => reserve
+            > MOST_ELEMENTS,
     }
 }
 
@@ -40,7 +42,8 @@ pub(crate) fn has_zero(what: What, reserve: u64) -> bool
     match what {
         What::Disk { .. } => false,
         What::Mirror { records } => records == 0 || reserve == 0,
-        What::Linear | What::Stripe { .. } | What::Limit { .. } => reserve == 0,
+        What::Linear | What::Stripe { .. } | What::Zoned { .. } | What::Limit { .. } => reserve
+            == 0,
     }
 }
 
@@ -82,6 +85,7 @@ pub(crate) fn size_of(what: What, sizes: &[u64]) -> u64
         What::Disk { sectors } => sectors,
         What::Linear => kind_size(&Kind::Linear, sizes),
         What::Stripe { chunk } => kind_size(&Kind::Stripe { chunk }, sizes),
+        What::Zoned { chunk } => kind_size(&Kind::Zoned { chunk }, sizes),
         What::Limit { max, chunk } => kind_size(&Kind::Limit { max, chunk }, sizes),
         What::Mirror { .. } => kind_size(&Kind::Mirror { records: 0 }, sizes),
     }

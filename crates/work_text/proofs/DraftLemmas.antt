@@ -1,8 +1,8 @@
 -- The writes so far: what each of them is, and one more.
-use Rattle.std.proofs.Common.{◌≡◌, ℕ, ◌+◌, ◌<◌, ◌≤◌, ◌||◌, Bool, false, List, [], ◌∷◌, ◌++◌, length, get_or, map, Some, None, Option, cond, nat_lt, true, refl, ap, sym, ◌∙◌, subst, inl, inr, arith}
+use Rattle.std.proofs.Common.{◌≡◌, ℕ, ◌+◌, ◌<◌, ◌≤◌, ◌==◌, ◌||◌, Bool, false, List, [], ◌∷◌, ◌++◌, length, get_or, map, Some, None, Option, cond, nat_lt, not, true, refl, ap, sym, ◌∙◌, subst, inl, inr, arith}
 use Rattle.std.specs.Prelude.{All, Contains, sum_by, is_none, unwrap_or}
 use Rattle.std.specs.List.{list_any}
-use Rattle.std.proofs.lemmas.List.Elements.{All-map, All-head, All-tail, Contains-get_or, Contains-push_cases}
+use Rattle.std.proofs.lemmas.List.Elements.{All-cons, All-map, All-nil, All-head, All-tail, Contains-get_or, Contains-push_cases}
 use Rattle.std.proofs.lemmas.List.Sums.{sum_by-cons, sum_by_push}
 use Rattle.stack_base.specs.declared.stack.Stack.{Stack}
 use Rattle.stack_base.specs.Stack.{IsStack}
@@ -17,15 +17,22 @@ use Rattle.layout_model.specs.Writes.{IsWrite}
 use Rattle.layout_model.proofs.WriteSizes.{parts_le_elements}
 use Rattle.decl_text.specs.Accepting.{shown_devices}
 use Rattle.decl_text.specs.Checks.{is_among, shares}
-use Rattle.decl_text.specs.Known.{Known, Written, all_members, device_of, tree_of}
+use Rattle.decl_text.specs.Known.{Known, Written, all_members, device_of, present, tree_of}
 use Rattle.decl_text.specs.Refusals.{first_found}
 use Rattle.decl_text.specs.declared.reason.Reason.{Reason}
 use Rattle.decl_text.specs.declared.reason.Reason.TheVariants as reason
 use Rattle.decl_text.specs.declared.item.Item.TheVariants as item
+use Rattle.work_text.specs.declared.Work.{Work}
+use Rattle.work_text.proofs.Rounds.{of_round, first_of_round, of_round_none, of_round_push}
+use Rattle.std.proofs.lemmas.List.{length-map, map_push}
 use Rattle.decl_text.proofs.ShownTrees.{shown_trees}
 use Rattle.work_text.specs.Work.{all_checks, elements_in, written}
-use Rattle.work_text.specs.Marks.{is_member}
-use Rattle.work_text.specs.Draft.{item_with, known_with}
+use Rattle.work_text.specs.Marks.{AreMarks, is_member}
+use Rattle.decl_text.specs.Checks.{is_empty_list}
+use Rattle.work_text.specs.declared.draft.Draft.{Draft}
+use Rattle.work_text.specs.Draft.{IsDraft, item_with, known_so_far, known_with}
+use Rattle.work_text.proofs.OverlapLemmas.{marks_next}
+use Rattle.work_text.proofs.Rests.{IsPaired}
 
 abbrev Served : Stack → List Write → Type 0
 Served stack writes = (write : Write) → Contains writes write → IsWrite stack write
@@ -33,10 +40,37 @@ Served stack writes = (write : Write) → Contains writes write → IsWrite stac
 all_served : (stack : Stack) (writes : List Write) → Served stack writes → All (IsWrite stack) writes
 all_served stack writes served = λ k d lt. served (get_or writes k d) (Contains-get_or writes k d lt)
 
--- each has a sector
-pub counts : (stack : Stack) (writes : List Write) → Served stack writes → All (λ (w : Written). 1 ≤ w.count) (map written writes)
-counts stack writes served =
-    All-map (λ (w : Written). 1 ≤ w.count) written writes (λ k d lt. (all_served stack writes served k d lt).some)
+-- each of those of a round has a sector
+first_some : (b : Bool) (w : Written) (more : List Written) → 1 ≤ w.count → All (λ (w : Written). 1 ≤ w.count) more → All (λ (w : Written). 1 ≤ w.count) (cond b (w ∷ more) more)
+first_some true w more first all = All-cons (λ (w : Written). 1 ≤ w.count) w more first all
+first_some false w more first all = all
+
+round_some : (n : ℕ) (writes : List Written) (rounds : List ℕ) → All (λ (w : Written). 1 ≤ w.count) writes → All (λ (w : Written). 1 ≤ w.count) (of_round n writes rounds)
+round_some n [] rounds all = All-nil (λ (w : Written). 1 ≤ w.count)
+round_some n (w ∷ writes) [] all = All-nil (λ (w : Written). 1 ≤ w.count)
+round_some n (w ∷ writes) (r ∷ rounds) all =
+    subst (All (λ (w : Written). 1 ≤ w.count)) (sym (first_of_round n r w writes rounds))
+    (first_some (r == n) w (of_round n writes rounds) (All-head (λ (w : Written). 1 ≤ w.count) w writes all)
+    (round_some n writes rounds (All-tail (λ (w : Written). 1 ≤ w.count) w writes all)))
+
+pub counts : (stack : Stack) (work : Work) (syncs : ℕ) → Served stack work.writes.items → All (λ (w : Written). 1 ≤ w.count) (present (known_with stack work syncs))
+counts stack work syncs served =
+    round_some syncs (map written work.writes.items) work.rounds.items
+    (All-map (λ (w : Written). 1 ≤ w.count) written work.writes.items (λ k d lt. (all_served stack work.writes.items served k d lt).some))
+
+-- the present round with one more write of it, and the next one without any
+pub present_more : (stack : Stack) (work : Work) (syncs : ℕ) (more : Work) (write : Write) → length work.rounds.items ≡ length work.writes.items
+    → more.writes.items ≡ work.writes.items ++ write ∷ [] → more.rounds.items ≡ work.rounds.items ++ syncs ∷ []
+    → present (known_with stack more syncs) ≡ present (known_with stack work syncs) ++ written write ∷ []
+present_more stack work syncs more write paired writes rounds =
+    ap (λ (ws : List Write). of_round syncs (map written ws) more.rounds.items) writes
+    ∙ ap (λ (ws : List Written). of_round syncs ws more.rounds.items) (map_push written work.writes.items write)
+    ∙ ap (of_round syncs (map written work.writes.items ++ written write ∷ [])) rounds
+    ∙ of_round_push syncs (map written work.writes.items) work.rounds.items (written write) (paired ∙ sym (length-map work.writes.items written))
+
+pub present_next : (stack : Stack) (work : Work) (syncs : ℕ) → All (λ round. round ≤ syncs) work.rounds.items → present (known_with stack work (syncs + 1)) ≡ []
+present_next stack work syncs past =
+    of_round_none (syncs + 1) (map written work.writes.items) work.rounds.items (λ k d lt. omega (arith, past k d lt))
 
 -- what a text says that a write needs is what it needs
 tree_same : (stack : Stack) → IsStack stack → (number : ℕ) → number < length stack.devices.items → tree_of (shown_devices stack) number ≡ tree stack number
@@ -66,7 +100,7 @@ row_of member past shared long much =
 
 abbrev at_number : Known → ℕ → ℕ → ℕ → ℕ → ℕ → Option Reason
 at_number known task start count tag n =
-    row_of (is_among (all_members known.devices) n) (nat_lt (size (tree_of known.devices n)) (start + count)) (list_any (shares n start count) known.writes) (nat_lt 2048 count)
+    row_of (is_among (all_members known.devices) n) (nat_lt (size (tree_of known.devices n)) (start + count)) (list_any (shares n start count) (present known)) (nat_lt 2048 count)
     (nat_lt most_elements (sum_by (elements_in known.devices) known.writes + elements_in known.devices (record { task = task; dev = n; start = start; count = count; tag = tag })))
 
 abbrev by_place : Known → ℕ → ℕ → ℕ → ℕ → Option ℕ → Option Reason
@@ -82,17 +116,18 @@ pub found_nowhere : (known : Known) (name : List ℕ) (task start count tag : �
     → first_found all_checks known (item.Write task name (record { start = start; len = count }) tag) ≡ Some reason.NoSuchDevice
 found_nowhere known name task start count tag none = found_by known name task start count tag ∙ ap (by_place known task start count tag) none
 
--- the checks of a write, by what the stack and the writes so far say
-pub found_with : (stack : Stack) → IsStack stack → (writes : List Write) → Served stack writes → (write : Write) → write.dev.0 < length stack.devices.items
+-- the checks of a write, by what the stack and the work so far say
+pub found_with : (stack : Stack) → IsStack stack → (work : Work) (syncs : ℕ) → Served stack work.writes.items → (write : Write) → write.dev.0 < length stack.devices.items
     → (name : List ℕ) → device_of (shown_devices stack) name ≡ Some write.dev.0
-    → first_found all_checks (known_with stack writes) (item_with name write)
+    → first_found all_checks (known_with stack work syncs) (item_with name write)
     ≡ row_of (is_member stack write.dev.0) (nat_lt (size (tree stack write.dev.0)) (write.start + write.count))
-    (list_any (shares write.dev.0 write.start write.count) (map written writes)) (nat_lt 2048 write.count)
-    (nat_lt most_elements (all_elements stack writes + elements stack write))
-found_with stack good writes served write there name named =
-    let known = known_with stack writes in
+    (list_any (shares write.dev.0 write.start write.count) (present (known_with stack work syncs))) (nat_lt 2048 write.count)
+    (nat_lt most_elements (all_elements stack work.writes.items + elements stack write))
+found_with stack good work syncs served write there name named =
+    let known = known_with stack work syncs in
+    let writes = work.writes.items in
     let dev = write.dev.0 in
-    let shared = list_any (shares dev write.start write.count) (map written writes) in
+    let shared = list_any (shares dev write.start write.count) (present known) in
     let past = λ (t : Tree). nat_lt (size t) (write.start + write.count) in
     let much = λ (n : ℕ). nat_lt most_elements n in
     found_by known name write.task write.start write.count write.tag
@@ -145,4 +180,31 @@ bound_more stack good writes z bound write needs so_far need is allowed =
       fragments = omega (arith, so_far.fragments, need.fragments);
       entries = so_far.entries;
       fewer = omega (arith, so_far.fewer, need.elements, need.fragments);
+    }
+
+-- a list of one more is not empty
+pub some_there : {X : Type 0} (xs : List X) (x : X) → not (is_empty_list (xs ++ x ∷ [])) ≡ true
+some_there [] x = refl
+some_there (y ∷ xs) x = refl
+
+-- each write has its round
+pub draft_paired : (stack : Stack) (draft : Draft) → IsDraft stack draft → IsPaired (known_so_far stack draft)
+draft_paired stack draft is = is.paired ∙ sym (length-map draft.work.writes.items written)
+
+-- the end of a round
+pub next_round : (stack : Stack) (draft : Draft) → IsDraft stack draft → draft.syncs < 1024
+    → IsDraft stack (record { work = draft.work; syncs = draft.syncs + 1; is_written = false; marks = draft.marks })
+next_round stack draft is few =
+    let none : present (known_with stack draft.work (draft.syncs + 1)) ≡ [] = present_next stack draft.work draft.syncs is.past in
+    record {
+      bound = is.bound;
+      served = is.served;
+      paired = is.paired;
+      past = λ k d lt. omega (arith, is.past k d lt);
+      few_syncs = omega arith;
+      few_resizes = is.few_resizes;
+      pools = is.pools;
+      written = sym (ap (λ (ws : List Written). not (is_empty_list ws)) none);
+      marks = subst (λ (ws : List Written). AreMarks stack (draft.syncs + 1 + 1) ws draft.marks.items) (sym none)
+          (marks_next stack (draft.syncs + 1) (present (known_so_far stack draft)) draft.marks.items is.marks);
     }

@@ -1,12 +1,16 @@
 pub mod MarkLemmas
 pub mod NameLemmas
+pub mod PoolLemmas
+pub mod Rounds
+pub mod Saying
+pub mod Rests
 pub mod LineLemmas
 pub mod OverlapLemmas
 pub mod DraftLemmas
 pub mod LoopLemmas
-mod Saying
 mod Fronts
-mod Rests
 pub mod Wholes
 pub mod Unrefused
 pub mod Ready
+pub mod WorkLemmas
+mod RoundsApart

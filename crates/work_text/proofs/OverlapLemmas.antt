@@ -1,5 +1,5 @@
 -- Which sectors of a device the writes so far have, by its marks.
-use Rattle.std.proofs.Common.{◌≡◌, ℕ, zero, suc, ◌+◌, ◌<◌, ◌≤◌, ◌==◌, ◌&&◌, ◌||◌, Bool, true, false, nat_le, nat_lt, ◌-◌, List, [], ◌∷◌, ◌++◌, length, get_or, set, Some, refl, ap, sym, ◌∙◌, subst, inl, inr, arith, length-set}
+use Rattle.std.proofs.Common.{◌≡◌, ℕ, zero, suc, ◌+◌, ◌<◌, ◌≤◌, ◌==◌, ◌&&◌, ◌||◌, Bool, true, false, cond, nat_le, nat_lt, ◌-◌, List, [], ◌∷◌, ◌++◌, length, get_or, set, Some, refl, ap, sym, ◌∙◌, subst, inl, inr, arith, length-set}
 use Rattle.std.specs.Prelude.{All, slice_get}
 use Rattle.std.specs.List.{list_any, range_with_len}
 use Rattle.std.proofs.lemmas.Bool.{cases_eq, cases_lt, cases_Bool, and_parts, ltb-true, leb-true, lt-ltb, le-leb, eq-eqb, ne_eqb, and_from, false_from_ne_true, both_ways}
@@ -90,11 +90,11 @@ any_along p q start (suc len) same =
     ∙ ap (λ b. q start || b) (any_along p q (start + 1) len (λ at le lt. same at (omega arith) (omega arith)))
 
 -- the marks of a device tell whether some write shares a sector with a run
-pub row_shares : (stack : Stack) (writes : List Written) (dev : ℕ) (row : List Bool) (start len : ℕ) → IsRow stack writes dev row → start + len ≤ length row → 1 ≤ len
+pub row_shares : (stack : Stack) (mark : ℕ) (writes : List Written) (dev : ℕ) (row : List ℕ) (start len : ℕ) → IsRow stack mark writes dev row → start + len ≤ length row → 1 ≤ len
     → All (λ (w : Written). 1 ≤ w.count) writes
-    → list_any (λ at. get_or row at false) (range_with_len start len) ≡ list_any (shares dev start len) writes
-row_shares stack writes dev row start len marked within some has =
-    any_along (λ at. get_or row at false) (λ at. list_any (covers dev at) writes) start len (λ at le lt. marked.told at (omega arith))
+    → list_any (λ at. get_or row at 0 == mark) (range_with_len start len) ≡ list_any (shares dev start len) writes
+row_shares stack mark writes dev row start len marked within some has =
+    any_along (λ at. get_or row at 0 == mark) (λ at. list_any (covers dev at) writes) start len (λ at le lt. marked.told at (omega arith))
     ∙ run_shares dev start len writes some has
 
 slice_get-set_same : {X : Type 0} (xs : List X) (i : ℕ) (y : X) → i < length xs → slice_get (set xs i y) i ≡ Some y
@@ -108,6 +108,10 @@ slice_get-set_other (x ∷ xs) zero zero y other = absurd (other refl)
 slice_get-set_other (x ∷ xs) zero (suc j) y other = refl
 slice_get-set_other (x ∷ xs) (suc i) zero y other = refl
 slice_get-set_other (x ∷ xs) (suc i) (suc j) y other = slice_get-set_other xs i j y (λ e. other (ap suc e))
+
+or_true : (b : Bool) → (b || true) ≡ true
+or_true true = refl
+or_true false = refl
 
 or_false : (b : Bool) → (b || false) ≡ b
 or_false true = refl
@@ -127,12 +131,21 @@ covers_there dev at w writes there =
     ∙ ap (λ b. list_any (covers dev at) writes || b) (or_false (covers dev at w) ∙ ap (λ b. b && (nat_le w.start at && nat_lt at (w.start + w.count))) (ne_eqb w.dev dev (λ e. there (sym e))))
     ∙ or_false (list_any (covers dev at) writes)
 
+-- a place that is marked where this holds
+marked_is : (b : Bool) (mark old : ℕ) → (cond b mark old == mark) ≡ ((old == mark) || b)
+marked_is true mark old = eq-eqb mark mark refl ∙ sym (or_true (old == mark))
+marked_is false mark old = sym (or_false (old == mark))
+
+marked_past : (b : Bool) (mark old : ℕ) → old ≤ mark → cond b mark old ≤ mark
+marked_past true mark old past = omega arith
+marked_past false mark old past = past
+
 -- the marks of one more write
-pub marks_more : (stack : Stack) (writes : List Written) (marks : List (List Bool)) (w : Written) (old row : List Bool) → AreMarks stack writes marks
+pub marks_more : (stack : Stack) (mark : ℕ) (writes : List Written) (marks : List (List ℕ)) (w : Written) (old row : List ℕ) → AreMarks stack mark writes marks
     → slice_get marks w.dev ≡ Some old → length row ≡ length old
-    → ((at : ℕ) → get_or row at false ≡ (get_or old at false || (nat_le w.start at && nat_lt at (w.start + w.count))))
-    → AreMarks stack (writes ++ w ∷ []) (set marks w.dev row)
-marks_more stack writes marks w old row are found long marked =
+    → ((at : ℕ) → get_or row at 0 ≡ cond (nat_le w.start at && nat_lt at (w.start + w.count)) mark (get_or old at 0))
+    → AreMarks stack mark (writes ++ w ∷ []) (set marks w.dev row)
+marks_more stack mark writes marks w old row are found long marked =
     let here : w.dev < length marks = slice_get_within marks w.dev old found in
     record {
       count = length-set marks w.dev row ∙ are.count;
@@ -140,24 +153,40 @@ marks_more stack writes marks w old row are found long marked =
           elim (cases_eq dev w.dev) [
             | inl same ↦
                 let got : Some row ≡ Some next = sym (slice_get-set_same marks w.dev row here) ∙ ap (slice_get (set marks w.dev row)) (sym same) ∙ is in
-                let before : IsRow stack writes dev old = are.each dev old (ap (slice_get marks) same ∙ found) in
-                subst (IsRow stack (writes ++ w ∷ []) dev) (same_Some row next got)
+                let before : IsRow stack mark writes dev old = are.each dev old (ap (slice_get marks) same ∙ found) in
+                subst (IsRow stack mark (writes ++ w ∷ []) dev) (same_Some row next got)
                 (record {
                   long = λ top. long ∙ before.long top;
                   told = λ at lt.
-                      marked at ∙ ap (λ b. b || (nat_le w.start at && nat_lt at (w.start + w.count))) (before.told at (omega arith)) ∙ sym (covers_here dev at w writes same);
+                      ap (λ n. n == mark) (marked at) ∙ marked_is (nat_le w.start at && nat_lt at (w.start + w.count)) mark (get_or old at 0)
+                      ∙ ap (λ b. b || (nat_le w.start at && nat_lt at (w.start + w.count))) (before.told at (omega arith)) ∙ sym (covers_here dev at w writes same);
+                  past = λ at lt. subst (λ n. n ≤ mark) (sym (marked at)) (marked_past (nat_le w.start at && nat_lt at (w.start + w.count)) mark (get_or old at 0) (before.past at (omega arith)));
                 })
             | inr other ↦
-                let before : IsRow stack writes dev next = are.each dev next (sym (slice_get-set_other marks w.dev dev row other) ∙ is) in
+                let before : IsRow stack mark writes dev next = are.each dev next (sym (slice_get-set_other marks w.dev dev row other) ∙ is) in
                 record {
                   long = before.long;
                   told = λ at lt. before.told at lt ∙ sym (covers_there dev at w writes other);
+                  past = before.past;
                 }
           ];
     }
 
+-- the marks of the next round, of which no write is known yet
+pub marks_next : (stack : Stack) (mark : ℕ) (writes : List Written) (marks : List (List ℕ)) → AreMarks stack mark writes marks → AreMarks stack (mark + 1) [] marks
+marks_next stack mark writes marks are = record {
+  count = are.count;
+  each = λ dev row is.
+      let before = are.each dev row is in
+      record {
+        long = before.long;
+        told = λ at lt. ne_eqb (get_or row at 0) (mark + 1) (λ same. omega (arith, same, before.past at lt));
+        past = λ at lt. omega (arith, before.past at lt);
+      };
+}
+
 -- a row that is read at a place
-pub row_read : (stack : Stack) (writes : List Written) (marks : List (List Bool)) (dev : ℕ) (row : List Bool) → AreMarks stack writes marks → dev < length stack.devices.items
+pub row_read : (stack : Stack) (mark : ℕ) (writes : List Written) (marks : List (List ℕ)) (dev : ℕ) (row : List ℕ) → AreMarks stack mark writes marks → dev < length stack.devices.items
     → row ≡ get_or marks dev row → slice_get marks dev ≡ Some row
-row_read stack writes marks dev row are known is =
+row_read stack mark writes marks dev row are known is =
     slice_get-get_or marks dev row (omega (arith, are.count)) ∙ ap Some (sym is)

@@ -1,144 +1,180 @@
--- Refusals of lines from the first write on: of what was declared before, they go by the devices alone.
-use Rattle.std.proofs.Common.{◌≡◌, ℕ, ◌+◌, Bool, true, false, not, ◌&&◌, List, [], ◌∷◌, ◌++◌, Option, None, Some, refl, ◌∙◌, ap, inl, inr}
-use Rattle.std.specs.Prelude.{if◌then◌else◌}
+-- Refusals of lines from the first write or `sync` line on: of what was declared before, they go by the devices alone.
+use Rattle.std.proofs.Common.{◌≡◌, ℕ, ◌+◌, true, false, List, [], ◌∷◌, ◌++◌, length, Option, None, Some, if◌then◌else◌, refl, sym, ◌∙◌, ap, inl, inr, arith}
 use Rattle.std.specs.Option.{option_map, option_or}
-use Rattle.std.proofs.lemmas.Bool.{or_parts, cases_Bool, both_ways}
-use Rattle.decl_text.specs.Text.{words, is_text}
-use Rattle.decl_text.specs.Items.{malformed, misnumbered, writes, declares, said}
-use Rattle.decl_text.specs.Known.{Known, Written, nothing, after_line}
-use Rattle.decl_text.specs.Checks.{is_empty_list, bad_word}
+use Rattle.std.proofs.lemmas.Bool.{cases_Bool, ne_eqb}
+use Rattle.std.proofs.lemmas.List.{length_push}
+use Rattle.decl_text.specs.Text.{words}
+use Rattle.decl_text.specs.Items.{said}
+use Rattle.decl_text.specs.Known.{Known, Written, after_line, number_in, present}
+use Rattle.decl_text.specs.Stands.{is_front, stand_by, stand_of}
+use Rattle.decl_text.specs.declared.stand.Stand.{Stand}
+use Rattle.decl_text.specs.declared.stand.Stand.TheVariants as stand
+use Rattle.decl_text.specs.Reading.{is_work_line}
 use Rattle.decl_text.specs.Refusals.{first_found, line_checks, said_reason, refused, refusal, known_after}
 use Rattle.decl_text.specs.declared.reason.Reason.{Reason}
-use Rattle.decl_text.specs.declared.reason.Reason.TheVariants as reason
 use Rattle.decl_text.specs.declared.item.Item.{Item}
 use Rattle.decl_text.specs.declared.item.Item.TheVariants as item
+use Rattle.decl_text.specs.Steps.{Begins as StartsSo}
+use Rattle.decl_text.proofs.LineLemmas.{same_found, told_parts}
+use Rattle.decl_text.proofs.Unrefused.{map_none, or_none}
 use Rattle.work_text.specs.Work.{all_checks}
-use Rattle.decl_text.specs.Steps.{Begins}
-use Rattle.work_text.proofs.Saying.{Writes, IsWrite, said_writes, said_is_write, writes_alone}
-use Rattle.work_text.proofs.Fronts.{same_found, second_none}
+use Rattle.work_text.specs.Whole.{work_of}
+use Rattle.work_text.specs.Lines.{CanStand}
+use Rattle.work_text.proofs.Rounds.{of_round, of_round_push}
+use Rattle.work_text.proofs.Saying.{Begins, Works, said_begins, said_begun, said_works}
 
--- what writes are checked by
-abbrev pub seen : Known → Known
-seen known = record nothing { devices = known.devices; writes = known.writes }
+-- the same but for the work
+abbrev pub with_work : Known → Known → Known
+with_work known from = record known { writes = from.writes; rounds = from.rounds; syncs = from.syncs; resizes = from.resizes }
 
--- the same but for the writes
-abbrev pub with_writes : Known → List Written → Known
-with_writes known writes = record known { writes = writes }
+-- each write has its round
+abbrev pub IsPaired : Known → Type 0
+IsPaired known = length known.rounds ≡ length known.writes
 
--- lines before which there is a write, or which begin with one
+-- a write or a `sync` line was there
+abbrev pub IsBehind : Known → Type 0
+IsBehind known = is_front (stand_of known) ≡ false
+
+-- lines before which there was one, or which begin with one
 abbrev pub Follow : Known → List (List ℕ) → Type 0
-Follow known lines = (is_empty_list known.writes ≡ true → Begins (λ line. writes (words line)) lines)
+Follow known lines = stand_of known ≡ stand.Front → StartsSo is_work_line lines
 
-reasons_seen : (known : Known) (o : Option Item) → Writes o → said_reason all_checks known o ≡ said_reason all_checks (seen known) o
+reasons_seen : (known : Known) (o : Option Item) → Works o → said_reason all_checks known o ≡ said_reason all_checks (work_of known) o
 unfolding first_found
 reasons_seen known None is = refl
 reasons_seen known (Some (item.Write task dev range tag)) is = refl
+reasons_seen known (Some item.Sync) is = refl
+reasons_seen known (Some (item.Resize pool min)) is = refl
 reasons_seen known _ is = absurd is
 
-after_seen : (known : Known) (o : Option Item) → Writes o → seen (after_line known o) ≡ after_line (seen known) o
+after_seen : (known : Known) (o : Option Item) → Works o → work_of (after_line known o) ≡ after_line (work_of known) o
 after_seen known None is = refl
 after_seen known (Some (item.Write task dev range tag)) is = refl
+after_seen known (Some item.Sync) is = refl
+after_seen known (Some (item.Resize pool min)) is = refl
 after_seen known _ is = absurd is
 
-after_with : (known : Known) (o : Option Item) (writes : List Written) → Writes o → with_writes (after_line known o) writes ≡ with_writes known writes
-after_with known None writes is = refl
-after_with known (Some (item.Write task dev range tag)) writes is = refl
-after_with known _ writes is = absurd is
+after_with : (known from : Known) (o : Option Item) → Works o → with_work (after_line known o) from ≡ with_work known from
+after_with known from None is = refl
+after_with known from (Some (item.Write task dev range tag)) is = refl
+after_with known from (Some item.Sync) is = refl
+after_with known from (Some (item.Resize pool min)) is = refl
+after_with known from _ is = absurd is
 
-not_empty : {A : Type 0} (xs : List A) (x : A) → is_empty_list (xs ++ x ∷ []) ≡ false
-not_empty [] x = refl
-not_empty (y ∷ xs) x = refl
+pub after_paired : (known : Known) (o : Option Item) → Works o → IsPaired known → IsPaired (after_line known o)
+after_paired known None is paired = paired
+after_paired known (Some (item.Write task dev range tag)) is paired =
+    omega (
+      arith,
+      paired,
+      length_push known.rounds known.syncs,
+      length_push known.writes (record { task = task; dev = number_in known.devices dev; start = range.start; count = range.len; tag = tag }),
+    )
+after_paired known (Some item.Sync) is paired = paired
+after_paired known (Some (item.Resize pool min)) is paired = paired
+after_paired known _ is paired = absurd is
 
-stays_filled : (known : Known) (o : Option Item) → is_empty_list known.writes ≡ false → Writes o → is_empty_list (after_line known o).writes ≡ false
-stays_filled known None filled is = filled
-stays_filled known (Some (item.Write task dev range tag)) filled is = not_empty known.writes _
-stays_filled known _ filled is = absurd is
+-- some write is a write of the present round
+some_write : (writes : List Written) (write : Written) (syncs : ℕ) → is_front (stand_by (writes ++ write ∷ []) syncs) ≡ false
+some_write [] write syncs = refl
+some_write (first ∷ writes) write syncs = refl
 
-is_filled : (known : Known) (o : Option Item) → IsWrite o → is_empty_list (after_line known o).writes ≡ false
-is_filled known (Some (item.Write task dev range tag)) is = not_empty known.writes _
-is_filled known _ is = absurd is
+behind_write : (known : Known) (write : Written) → IsPaired known → is_front (stand_by (of_round known.syncs (known.writes ++ write ∷ []) (known.rounds ++ known.syncs ∷ [])) known.syncs) ≡ false
+behind_write known write paired =
+    ap (λ ws. is_front (stand_by ws known.syncs)) (of_round_push known.syncs known.writes known.rounds write paired) ∙ some_write (present known) write known.syncs
 
--- a line that is not wrong by itself has the right words
-well_worded : (b c d : Bool) (x y z : Reason) → (if b then Some x else (if c then Some y else (if d then Some z else None))) ≡ None → c ≡ false
-well_worded true c d x y z none = absurd (cc)
-well_worded false true d x y z none = absurd (cc)
-well_worded false false d x y z none = refl
+some_sync : (writes : List Written) (syncs : ℕ) → is_front (stand_by writes (syncs + 1)) ≡ false
+some_sync [] syncs = ap (λ b. is_front (if b then stand.Front else stand.BehindSync)) (ne_eqb (syncs + 1) 0 (λ same. omega (arith, same)))
+some_sync (write ∷ writes) syncs = refl
 
-words_stand : (known : Known) (line : List ℕ) → first_found line_checks known line ≡ None → bad_word known line ≡ false
-unfolding first_found
-words_stand known line none =
-    well_worded (not (is_text line)) (bad_word known line) (misnumbered (words line)) reason.NotText reason.BadWord reason.BadNumber none
+stays_behind : (known : Known) (o : Option Item) → IsPaired known → IsBehind known → Works o → IsBehind (after_line known o)
+stays_behind known None paired behind is = behind
+stays_behind known (Some (item.Write task dev range tag)) paired behind is =
+    behind_write known (record { task = task; dev = number_in known.devices dev; start = range.start; count = range.len; tag = tag }) paired
+stays_behind known (Some item.Sync) paired behind is = some_sync _ known.syncs
+stays_behind known (Some (item.Resize pool min)) paired behind is = behind
+stays_behind known _ paired behind is = absurd is
 
-filled_declares : (b e : Bool) → e ≡ false → (b && not e) ≡ false → b ≡ false
-filled_declares true e filled none = absurd (let n = rw filled at none in cc)
-filled_declares false e filled none = refl
+gets_behind : (known : Known) (o : Option Item) → IsPaired known → Begins o → IsBehind (after_line known o)
+gets_behind known (Some (item.Write task dev range tag)) paired is =
+    behind_write known (record { task = task; dev = number_in known.devices dev; start = range.start; count = range.len; tag = tag }) paired
+gets_behind known (Some item.Sync) paired is = some_sync _ known.syncs
+gets_behind known _ paired is = absurd is
 
--- such a line, behind a write or as the first of lines that begin with one, says a write or nothing, and a write is there behind it
-record Step (known : Known) (o : Option Item) : Type 0 where
-  alone : Writes o
-  filled : is_empty_list (after_line known o).writes ≡ false
+-- a line that is not wrong says something of the work or nothing, and a write or a `sync` line was there behind it
+pub record Step (known : Known) (o : Option Item) : Type 0 where
+  pub works : Works o
+  pub paired : IsPaired (after_line known o)
+  pub behind : IsBehind (after_line known o)
 
-step_behind : (known : Known) (line : List ℕ) → is_empty_list known.writes ≡ false → first_found line_checks known line ≡ None → Step known (said (words line))
-step_behind known line filled none =
-    let parts = or_parts (malformed (words line)) (declares (words line) && not (is_empty_list known.writes)) (words_stand known line none) in
-    let alone = said_writes (words line) (filled_declares (declares (words line)) (is_empty_list known.writes) filled parts.1) in
-    record { alone = alone; filled = stays_filled known (said (words line)) filled alone }
+front_is : (s : Stand) → is_front s ≡ true → s ≡ stand.Front
+front_is stand.Front is = refl
+front_is stand.BehindSync is = absurd (cc)
+front_is stand.BehindWrite is = absurd (cc)
 
-step_first : (known : Known) (line : List ℕ) → writes (words line) ≡ true → first_found line_checks known line ≡ None → Step known (said (words line))
-step_first known line write none =
-    let parts = or_parts (malformed (words line)) (declares (words line) && not (is_empty_list known.writes)) (words_stand known line none) in
-    let is = said_is_write (words line) write parts.0 in
-    record { alone = writes_alone (said (words line)) is; filled = is_filled known (said (words line)) is }
+pub step : (known : Known) (line : List ℕ) → IsPaired known → CanStand known line → first_found line_checks known line ≡ None → Step known (said (words line))
+step known line paired stands none =
+    let right = told_parts known line none in
+    elim (cases_Bool (is_front (stand_of known))) [
+      | inl front ↦
+          let begins = stands (front_is (stand_of known) front) in
+          let works = said_begun (words line) begins right.numbered in
+          record {
+            works = works;
+            paired = after_paired known (said (words line)) works paired;
+            behind = gets_behind known (said (words line)) paired (said_begins (words line) begins right.formed);
+          }
+      | inr behind ↦
+          let works = said_works (stand_of known) (words line) behind right.placed right.numbered in
+          record {
+            works = works;
+            paired = after_paired known (said (words line)) works paired;
+            behind = stays_behind known (said (words line)) paired behind works;
+          }
+    ]
 
-step : (known : Known) (line : List ℕ) (lines : List (List ℕ)) → Follow known (line ∷ lines) → first_found line_checks known line ≡ None → Step known (said (words line))
-step known line lines follow none = elim (cases_Bool (is_empty_list known.writes)) [
-  | inl empty ↦ step_first known line (follow empty) none
-  | inr filled ↦ step_behind known line filled none
-]
+pub never_front : (known : Known) → IsBehind known → stand_of known ≡ stand.Front → ⊥
+never_front known behind front = let is = sym (ap is_front front) ∙ behind in cc
 
-follows : (known : Known) (lines : List (List ℕ)) → is_empty_list known.writes ≡ false → Follow known lines
-follows known lines filled = λ empty. absurd (both_ways (is_empty_list known.writes) filled empty)
+follows : (known : Known) (lines : List (List ℕ)) → IsBehind known → Follow known lines
+follows known lines behind = λ front. absurd (never_front known behind front)
 
 refused_step : (known : Known) (number : ℕ) (lines : List (List ℕ)) (f : Option Reason) (o : Option Item) → (f ≡ None → Step known o)
-    → ((k : Known) → Follow k lines → refusal all_checks k (number + 1) lines ≡ refusal all_checks (seen k) (number + 1) lines)
+    → ((k : Known) → IsPaired k → Follow k lines → refusal all_checks k (number + 1) lines ≡ refusal all_checks (work_of k) (number + 1) lines)
     → option_or (option_map (refused number) (option_or f (said_reason all_checks known o))) (refusal all_checks (after_line known o) (number + 1) lines)
-    ≡ option_or (option_map (refused number) (option_or f (said_reason all_checks (seen known) o))) (refusal all_checks (after_line (seen known) o) (number + 1) lines)
+    ≡ option_or (option_map (refused number) (option_or f (said_reason all_checks (work_of known) o))) (refusal all_checks (after_line (work_of known) o) (number + 1) lines)
 refused_step known number lines (Some reason) o steps rest = refl
 refused_step known number lines None o steps rest =
     let s = steps refl in
-    let same : refusal all_checks (after_line known o) (number + 1) lines ≡ refusal all_checks (after_line (seen known) o) (number + 1) lines =
-    rest (after_line known o) (follows (after_line known o) lines s.filled)
-    ∙ ap (λ k. refusal all_checks k (number + 1) lines) (after_seen known o s.alone) in
-    ap (λ r. option_or (option_map (refused number) r) (refusal all_checks (after_line known o) (number + 1) lines)) (reasons_seen known o s.alone)
-    ∙ ap (option_or (option_map (refused number) (said_reason all_checks (seen known) o))) same
+    let same : refusal all_checks (after_line known o) (number + 1) lines ≡ refusal all_checks (after_line (work_of known) o) (number + 1) lines =
+    rest (after_line known o) s.paired (follows (after_line known o) lines s.behind)
+    ∙ ap (λ k. refusal all_checks k (number + 1) lines) (after_seen known o s.works) in
+    ap (λ r. option_or (option_map (refused number) r) (refusal all_checks (after_line known o) (number + 1) lines)) (reasons_seen known o s.works)
+    ∙ ap (option_or (option_map (refused number) (said_reason all_checks (work_of known) o))) same
 
-pub rest_refused : (known : Known) (number : ℕ) (lines : List (List ℕ)) → Follow known lines
-    → refusal all_checks known number lines ≡ refusal all_checks (seen known) number lines
+pub rest_refused : (known : Known) (number : ℕ) (lines : List (List ℕ)) → IsPaired known → Follow known lines
+    → refusal all_checks known number lines ≡ refusal all_checks (work_of known) number lines
 unfolding refusal
-rest_refused known number [] follow = refl
-rest_refused known number (line ∷ lines) follow =
-    refused_step known number lines (first_found line_checks known line) (said (words line)) (step known line lines follow)
+rest_refused known number [] paired follow = refl
+rest_refused known number (line ∷ lines) paired follow =
+    refused_step known number lines (first_found line_checks known line) (said (words line)) (step known line paired follow)
     (λ k. rest_refused k (number + 1) lines)
-    ∙ ap (λ f. option_or (option_map (refused number) (option_or f (said_reason all_checks (seen known) (said (words line)))))
-    (refusal all_checks (after_line (seen known) (said (words line))) (number + 1) lines)) (same_found known (seen known) line refl)
+    ∙ ap (λ f. option_or (option_map (refused number) (option_or f (said_reason all_checks (work_of known) (said (words line)))))
+    (refusal all_checks (after_line (work_of known) (said (words line))) (number + 1) lines)) (same_found known (work_of known) line refl)
 
-unmapped : {A B : Type 0} (g : A → B) (o : Option A) → option_map g o ≡ None → o ≡ None
-unmapped g None none = refl
-unmapped g (Some x) none = absurd (cc)
-
--- where they are not refused, they leave all but the writes as it was
-pub rest_known : (known : Known) (number : ℕ) (lines : List (List ℕ)) → Follow known lines → refusal all_checks known number lines ≡ None
-    → known_after known lines ≡ with_writes known (known_after (seen known) lines).writes
+-- where they are not refused, they leave all but the work as it was
+pub rest_known : (known : Known) (number : ℕ) (lines : List (List ℕ)) → IsPaired known → Follow known lines → refusal all_checks known number lines ≡ None
+    → known_after known lines ≡ with_work known (known_after (work_of known) lines)
 unfolding refusal
-rest_known known number [] follow none = refl
-rest_known known number (line ∷ lines) follow none =
+rest_known known number [] paired follow none = refl
+rest_known known number (line ∷ lines) paired follow none =
     let o = said (words line) in
     let f = first_found line_checks known line in
     let k = after_line known o in
     let parts : (option_map (refused number) (option_or f (said_reason all_checks known o)) ≡ None) × (refusal all_checks k (number + 1) lines ≡ None) =
-    second_none (option_map (refused number) (option_or f (said_reason all_checks known o))) (refusal all_checks k (number + 1) lines) none in
-    let here : f ≡ None = (second_none f (said_reason all_checks known o) (unmapped (refused number) _ parts.0)).0 in
-    let s : Step known o = step known line lines follow here in
-    rest_known k (number + 1) lines (follows k lines s.filled) parts.1
-    ∙ after_with known o (known_after (seen k) lines).writes s.alone
-    ∙ ap (λ seen. with_writes known (known_after seen lines).writes) (after_seen known o s.alone)
+    or_none (option_map (refused number) (option_or f (said_reason all_checks known o))) (refusal all_checks k (number + 1) lines) none in
+    let here : f ≡ None = (or_none f (said_reason all_checks known o) (map_none (refused number) _ parts.0)).0 in
+    let s : Step known o = step known line paired follow here in
+    rest_known k (number + 1) lines s.paired (follows k lines s.behind) parts.1
+    ∙ after_with known (known_after (work_of k) lines) o s.works
+    ∙ ap (λ seen. with_work known (known_after seen lines)) (after_seen known o s.works)

@@ -1,61 +1,13 @@
--- Texts that are not refused: no check finds anything in a line of theirs, and what each line keeps holds of all that they declare.
-use Rattle.std.proofs.Common.{◌≡◌, ℕ, zero, suc, ◌+◌, ◌≤◌, Bool, true, false, nat_lt, cond, List, [], ◌∷◌, length, Option, None, Some, refl, sym, ap, ◌∙◌}
-use Rattle.std.specs.Prelude.{slice_get}
-use Rattle.std.specs.Option.{option_map, option_or}
+-- Texts that are not refused: what each line keeps holds of all that they declare.
+use Rattle.std.proofs.Common.{◌≡◌, ℕ, ◌≤◌, nat_lt, List, length, None}
 use Rattle.std.proofs.lemmas.Bool.{ltb-false}
-use Rattle.std.proofs.lemmas.Option.{none-some, same_Some}
-use Rattle.decl_text.specs.Text.{lines, words, most_bytes}
-use Rattle.decl_text.specs.Items.{said}
-use Rattle.decl_text.specs.Known.{Known, nothing, after_line}
-use Rattle.decl_text.specs.Refusals.{Check, first_found, known_after, line_reason, refusal, refused}
-use Rattle.decl_text.specs.declared.item.Item.{Item}
+use Rattle.decl_text.specs.Text.{lines, most_bytes}
+use Rattle.decl_text.specs.Known.{Known, nothing}
+use Rattle.decl_text.specs.Refusals.{refusal, refused}
 use Rattle.decl_text.specs.declared.reason.Reason.TheVariants.{TooLong}
+use Rattle.decl_text.proofs.Unrefused.{IsKept, cond_none, kept_behind}
 use Rattle.work_text.specs.Work.{all_checks}
 use Rattle.work_text.specs.Whole.{text_refusal, known_of_text}
-
-pub or_none : {A : Type 0} (a b : Option A) → option_or a b ≡ None → (a ≡ None) × (b ≡ None)
-or_none None b none = (refl, none)
-or_none (Some x) b none = absurd (none-some x (sym none))
-
-map_none : {A B : Type 0} (f : A → B) (a : Option A) → option_map f a ≡ None → a ≡ None
-map_none f None none = refl
-map_none f (Some x) none = absurd (none-some (f x) (sym none))
-
-cond_none : {A : Type 0} (b : Bool) (x : A) (more : Option A) → cond b (Some x) more ≡ None → (b ≡ false) × (more ≡ None)
-cond_none true x more none = absurd (none-some x (sym none))
-cond_none false x more none = (refl, none)
-
--- where no check finds anything, the one at this place does not
-pub finds_nothing : {A : Type 0} (checks : List (Check A)) (known : Known) (x : A) (place : ℕ) (check : Check A)
-    → first_found checks known x ≡ None → slice_get checks place ≡ Some check → check.finds known x ≡ false
-unfolding first_found
-finds_nothing [] known x place check none there = cc
-finds_nothing (first ∷ checks) known x zero check none there =
-    let parts = cond_none (first.finds known x) first.reason (first_found checks known x) none in
-    ap (λ (c : Check _). c.finds known x) (sym (same_Some first check there)) ∙ parts.0
-finds_nothing (first ∷ checks) known x (suc place) check none there =
-    let parts = cond_none (first.finds known x) first.reason (first_found checks known x) none in
-    finds_nothing checks known x place check parts.1 there
-
--- a line is not refused, and none of those behind it is
-pub none_refused : (checks : List (Check Item)) (known : Known) (number : ℕ) (line : List ℕ) (left : List (List ℕ)) → refusal checks known number (line ∷ left) ≡ None
-    → (line_reason checks known line ≡ None) × (refusal checks (after_line known (said (words line))) (number + 1) left ≡ None)
-unfolding refusal
-none_refused checks known number line left none =
-    let parts = or_none (option_map (refused number) (line_reason checks known line)) (refusal checks (after_line known (said (words line))) (number + 1) left) none in
-    (map_none (refused number) (line_reason checks known line) parts.0, parts.1)
-
--- what each line keeps that is not refused
-abbrev pub IsKept : (Known → Type 0) → Type 0
-IsKept Holds = (known : Known) (line : List ℕ) → line_reason all_checks known line ≡ None → Holds known → Holds (after_line known (said (words line)))
-
--- it holds behind lines of which none is refused
-pub kept_behind : (Holds : Known → Type 0) → IsKept Holds → (known : Known) (number : ℕ) (left : List (List ℕ)) → refusal all_checks known number left ≡ None
-    → Holds known → Holds (known_after known left)
-kept_behind Holds keeps known number [] none here = here
-kept_behind Holds keeps known number (line ∷ left) none here =
-    let parts = none_refused all_checks known number line left none in
-    kept_behind Holds keeps (after_line known (said (words line))) (number + 1) left parts.1 (keeps known line parts.0 here)
 
 -- a text that is not refused is short, and none of its lines is
 pub text_lines : (text : List ℕ) → text_refusal text ≡ None → (length text ≤ most_bytes) × (refusal all_checks nothing 1 (lines text) ≡ None)
@@ -64,5 +16,5 @@ text_lines text fine =
     (ltb-false most_bytes (length text) parts.0, parts.1)
 
 -- so what each line keeps holds of what a text declares that is not refused
-pub kept_by_text : (Holds : Known → Type 0) → IsKept Holds → Holds nothing → (text : List ℕ) → text_refusal text ≡ None → Holds (known_of_text text)
-kept_by_text Holds keeps first text fine = kept_behind Holds keeps nothing 1 (lines text) (text_lines text fine).1 first
+pub kept_by_text : (Holds : Known → Type 0) → IsKept all_checks Holds → Holds nothing → (text : List ℕ) → text_refusal text ≡ None → Holds (known_of_text text)
+kept_by_text Holds keeps first text fine = kept_behind all_checks Holds keeps nothing 1 (lines text) (text_lines text fine).1 first

@@ -1,30 +1,45 @@
 -- The writes of a text so far.
-use Rattle.std.specs.Prelude.{◌≡◌, ◌+◌, ◌≤◌, List, ℕ, map, Contains, false, None, Some, Result, Ok, Err}
+use Rattle.std.specs.Prelude.{◌≡◌, ◌+◌, ◌≤◌, List, ℕ, filter, length, map, nat_le, not, All, Contains, false, None, Some, Result, Ok, Err}
+use Rattle.stack_base.specs.PoolId.{pool_number}
 use Rattle.stack_base.specs.declared.stack.Stack.{Stack}
 use Rattle.layout_model.specs.declared.write.Write.{Write}
 use Rattle.layout_model.specs.declared.counts.Needs.{Needs}
 use Rattle.layout_model.specs.Needs.{IsNeeds}
 use Rattle.layout_model.specs.Bound.{IsBound, most_elements}
 use Rattle.layout_model.specs.Writes.{IsWrite}
-use Rattle.decl_text.specs.Known.{Known, device_of}
+use Rattle.decl_text.specs.Known.{Known, device_of, present}
+use Rattle.decl_text.specs.Checks.{is_empty_list}
 use Rattle.decl_text.specs.Accepting.{shown_devices}
 use Rattle.decl_text.specs.Refusals.{first_found}
 use Rattle.decl_text.specs.declared.reason.Reason.{Reason}
 use Rattle.decl_text.specs.declared.item.Item.{Item}
 use Rattle.decl_text.specs.declared.item.Item.TheVariants as item
-use Rattle.work_text.specs.Work.{written, known_of, all_checks}
+use Rattle.work_text.specs.Work.{written, resized, known_of, last_round, all_checks}
+use Rattle.work_text.specs.declared.Resize.{Resize}
+use Rattle.work_text.specs.declared.Work.{Work}
 use Rattle.work_text.specs.Marks.{is_member, AreMarks}
 use Rattle.work_text.specs.declared.draft.Draft.{Draft}
 
--- what is known behind these writes
-abbrev pub known_with : Stack → List Write → Known
-known_with stack writes = record (known_of stack) { writes = map written writes }
+-- what is known behind the lines of this work, so many of which are `sync` lines
+abbrev pub known_with : Stack → Work → ℕ → Known
+known_with stack work syncs =
+    record (known_of stack) { writes = map written work.writes.items; rounds = work.rounds.items; syncs = syncs; resizes = map resized work.resizes.items }
 
--- the stack serves the writes, they need so much, and the marks tell of them
+abbrev pub known_so_far : Stack → Draft → Known
+known_so_far stack draft = known_with stack draft.work draft.syncs
+
+-- the stack serves the writes, they need so much, and the marks tell of those of the present round
 pub record IsDraft (stack : Stack) (draft : Draft) : Type 0 where
   pub bound : IsBound stack draft.work.writes.items draft.work.bound.z draft.work.bound
   pub served : (write : Write) → Contains draft.work.writes.items write → IsWrite stack write
-  pub marks : AreMarks stack (map written draft.work.writes.items) draft.marks.items
+  pub paired : length draft.work.rounds.items ≡ length draft.work.writes.items
+  -- no write is of a later round
+  pub past : All (λ round. round ≤ draft.syncs) draft.work.rounds.items
+  pub few_syncs : draft.syncs ≤ 1024
+  pub few_resizes : length draft.work.resizes.items ≤ 4096
+  pub pools : All (λ (resize : Resize). pool_number resize.pool ≤ 65) draft.work.resizes.items
+  pub written : draft.is_written ≡ not (is_empty_list (present (known_so_far stack draft)))
+  pub marks : AreMarks stack (draft.syncs + 1) (present (known_so_far stack draft)) draft.marks.items
 
 -- the write as a line says it that names its device so
 abbrev pub item_with : List ℕ → Write → Item
@@ -40,7 +55,14 @@ pub record CanFollow (stack : Stack) (draft : Draft) (write : Write) (needs : Ne
 -- however a line names its device, no check finds a write and it needs so much, or this check finds it first
 abbrev pub ChecksWrite : Stack → Draft → Write → Result Needs Reason → Type 0
 ChecksWrite stack draft write (Ok needs) =
-    ((name : List ℕ) → device_of (shown_devices stack) name ≡ Some write.dev.0 → first_found all_checks (known_with stack draft.work.writes.items) (item_with name write) ≡ None)
+    ((name : List ℕ) → device_of (shown_devices stack) name ≡ Some write.dev.0 → first_found all_checks (known_so_far stack draft) (item_with name write) ≡ None)
     × CanFollow stack draft write needs
 ChecksWrite stack draft write (Err reason) =
-    (name : List ℕ) → device_of (shown_devices stack) name ≡ Some write.dev.0 → first_found all_checks (known_with stack draft.work.writes.items) (item_with name write) ≡ Some reason
+    (name : List ℕ) → device_of (shown_devices stack) name ≡ Some write.dev.0 → first_found all_checks (known_so_far stack draft) (item_with name write) ≡ Some reason
+
+-- this is left of the work when all lines were read: what stands behind the last write is not, and the rest counts
+pub record IsLeftOf (work left : Work) : Type 0 where
+  pub writes : left.writes.items ≡ work.writes.items
+  pub rounds : left.rounds.items ≡ work.rounds.items
+  pub resizes : left.resizes.items ≡ filter (λ (resize : Resize). nat_le resize.round (last_round work.rounds.items)) work.resizes.items
+  pub bound : left.bound ≡ record { e = work.bound.e; g = work.bound.g; z = work.bound.z + last_round left.rounds.items + length left.resizes.items }

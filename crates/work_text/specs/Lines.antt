@@ -1,51 +1,61 @@
--- What a line among the writes says.
-use Rattle.std.specs.Prelude.{◌≡◌, ◌≤◌, true, false, List, ℕ, Option, None, Some, Result, Ok, Err}
+-- What a line from the first write or `sync` line on says.
+use Rattle.std.specs.Prelude.{◌≡◌, ◌≤◌, true, List, ℕ, Option, None, Some, Result, Ok, Err}
 use Rattle.std.specs.Option.{option_map}
 use Rattle.decl_text.specs.Text.{words}
-use Rattle.decl_text.specs.Items.{declares, said}
+use Rattle.decl_text.specs.Items.{said}
+use Rattle.decl_text.specs.Reading.{is_work_line}
+use Rattle.decl_text.specs.Stands.{stand_of}
+use Rattle.decl_text.specs.declared.stand.Stand.{Stand}
+use Rattle.decl_text.specs.declared.stand.Stand.TheVariants.{Front}
 use Rattle.decl_text.specs.Known.{Known, after, after_line}
-use Rattle.decl_text.specs.Checks.{is_empty_list}
 use Rattle.decl_text.specs.Refusals.{first_found, known_after, line_checks, line_reason, refusal, refused}
 use Rattle.decl_text.specs.declared.reason.ReadFault.{ReadFault}
 use Rattle.decl_text.specs.declared.reason.ReadFault.TheVariants.{Refused}
 use Rattle.decl_text.specs.declared.reason.ReadFault.TheVariants as fault
-use Rattle.decl_text.specs.declared.reason.Reason.TheVariants.{BadWord, NotText}
 use Rattle.decl_text.specs.declared.item.Item.{Item}
 use Rattle.decl_text.specs.declared.item.Item.TheVariants as item
 use Rattle.decl_text.specs.declared.line.LineFault.{LineFault}
 use Rattle.decl_text.specs.declared.line.LineFault.TheVariants.{Wrong, Memory}
 use Rattle.work_text.specs.Work.{all_checks}
 use Rattle.work_text.specs.declared.told.Told.{Told}
+use Rattle.work_text.specs.declared.told.Told.TheVariants as told
 
--- it declares nothing, or a write stands before it
+-- a write or a `sync` line stands before it, or it is one
+abbrev pub CanStandAt : Stand → List ℕ → Type 0
+CanStandAt stand line = stand ≡ Front → is_work_line line ≡ true
+
 abbrev pub CanStand : Known → List ℕ → Type 0
-CanStand known line = is_empty_list known.writes ≡ true → declares (words line) ≡ false
+CanStand known line = CanStandAt (stand_of known) line
 
--- why a line is wrong that declares something behind a write, by what it says alone
-abbrev pub late_of : Result (Option Item) LineFault → LineFault
-late_of (Err Memory) = Memory
-late_of (Err (Wrong NotText)) = Wrong NotText
-late_of _ = Wrong BadWord
-
--- what is told of a write
+-- what is told of the work
 abbrev pub item_of : Told → Item
-item_of told = item.Write told.task told.dev told.range told.tag
+item_of (told.Write task dev range tag) = item.Write task dev range tag
+item_of told.Sync = item.Sync
+item_of (told.Resize pool min) = item.Resize pool min
 
--- a write with the numbers of its form
-abbrev pub IsToldWrite : Item → Type 0
-IsToldWrite (item.Write task dev range tag) = (task ≤ 7) × (1 ≤ range.len)
-IsToldWrite _ = ⊥
+-- a write with the numbers of its form, a `sync` or a `resize` line
+abbrev pub IsToldWork : Item → Type 0
+IsToldWork (item.Write task dev range tag) = (task ≤ 7) × (1 ≤ range.len)
+IsToldWork item.Sync = Unit {0}
+IsToldWork (item.Resize pool min) = Unit {0}
+IsToldWork _ = ⊥
 
--- the line says nothing, or this write, or it is wrong by itself
+-- a write has a sector
+abbrev pub HasSectors : Told → Type 0
+HasSectors (told.Write task dev range tag) = 1 ≤ range.len
+HasSectors told.Sync = Unit {0}
+HasSectors (told.Resize pool min) = Unit {0}
+
+-- the line says nothing, or this of the work, or it is wrong by its words
 abbrev pub TellsIn : Known → List ℕ → Result (Option Told) LineFault → Type 0
 TellsIn known line (Ok None) = (first_found line_checks known line ≡ None) × (said (words line) ≡ None)
-TellsIn known line (Ok (Some told)) = (first_found line_checks known line ≡ None) × (said (words line) ≡ Some (item_of told)) × (1 ≤ told.range.len)
+TellsIn known line (Ok (Some told)) = (first_found line_checks known line ≡ None) × (said (words line) ≡ Some (item_of told)) × HasSectors told
 TellsIn known line (Err (Wrong reason)) = first_found line_checks known line ≡ Some reason
 TellsIn known line (Err Memory) = Unit {0}
 
--- so it does whatever is known, where it may stand
-abbrev pub Tells : List ℕ → Result (Option Told) LineFault → Type 0
-Tells line result = (known : Known) → CanStand known line → TellsIn known line result
+-- so it does behind all by which it stands there
+abbrev pub Tells : Stand → List ℕ → Result (Option Told) LineFault → Type 0
+Tells stand line result = (known : Known) → stand_of known ≡ stand → TellsIn known line result
 
 -- what is told passes all checks and is known then, or this check finds it
 abbrev pub Adds : Known → Item → Known → Result (Unit {0}) LineFault → Type 0

@@ -1,5 +1,5 @@
 -- What the marks of sectors tell of the writes so far.
-use Rattle.std.specs.Prelude.{◌≡◌, ◌+◌, ◌<◌, ◌==◌, ◌&&◌, nat_le, nat_lt, Bool, false, List, ℕ, length, slice_get, slice_index_or, Some}
+use Rattle.std.specs.Prelude.{◌≡◌, ◌+◌, ◌<◌, ◌≤◌, ◌==◌, ◌&&◌, nat_le, nat_lt, Bool, false, List, ℕ, length, slice_get, slice_index_or, Some}
 use Rattle.std.specs.List.{list_any}
 use Rattle.stack_base.specs.Tree.{tree, size}
 use Rattle.stack_base.specs.declared.stack.Stack.{Stack}
@@ -15,11 +15,13 @@ is_member stack dev = is_among (all_members (shown_devices stack)) dev
 abbrev pub covers : ℕ → ℕ → Written → Bool
 covers dev at write = (write.dev == dev) && (nat_le write.start at && nat_lt at (write.start + write.count))
 
--- the marks of a device stand where a write has the sector; one that is no member has a mark for each sector
-pub record IsRow (stack : Stack) (writes : List Written) (dev : ℕ) (row : List Bool) : Type 0 where
+-- this mark of a device stands where one of these writes has the sector, and no greater one does; a device that is no member has a place
+-- for each sector
+pub record IsRow (stack : Stack) (mark : ℕ) (writes : List Written) (dev : ℕ) (row : List ℕ) : Type 0 where
   pub long : is_member stack dev ≡ false → length row ≡ size (tree stack dev)
-  pub told : (at : ℕ) → at < length row → slice_index_or row at false ≡ list_any (covers dev at) writes
+  pub told : (at : ℕ) → at < length row → (slice_index_or row at 0 == mark) ≡ list_any (covers dev at) writes
+  pub past : (at : ℕ) → at < length row → slice_index_or row at 0 ≤ mark
 
-pub record AreMarks (stack : Stack) (writes : List Written) (marks : List (List Bool)) : Type 0 where
+pub record AreMarks (stack : Stack) (mark : ℕ) (writes : List Written) (marks : List (List ℕ)) : Type 0 where
   pub count : length marks ≡ length stack.devices.items
-  pub each : (dev : ℕ) (row : List Bool) → slice_get marks dev ≡ Some row → IsRow stack writes dev row
+  pub each : (dev : ℕ) (row : List ℕ) → slice_get marks dev ≡ Some row → IsRow stack mark writes dev row

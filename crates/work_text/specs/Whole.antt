@@ -1,10 +1,11 @@
 -- The first refusal of a whole text, and what an accepted text means.
-use Rattle.std.specs.Prelude.{◌≡◌, ◌≤◌, if◌then◌else◌, nat_lt, ℕ, List, [], drop, length, Option, None, Some}
+use Rattle.std.specs.Prelude.{◌≡◌, ◌≤◌, if◌then◌else◌, nat_lt, ℕ, List, [], drop, length, Option, None, Some, ◌<◌, false, slice_get, slice_index_or}
 use Rattle.fail_script.specs.Script.{Answers}
 use Rattle.stack_base.specs.declared.ids.PoolId.{PoolId}
 use Rattle.stack_base.specs.declared.stack.Stack.{Stack}
 use Rattle.decl_text.specs.Text.{lines, most_bytes}
-use Rattle.decl_text.specs.Known.{Known, nothing}
+use Rattle.decl_text.specs.Known.{Known, Written, nothing}
+use Rattle.decl_text.specs.Checks.{shares}
 use Rattle.decl_text.specs.Refusals.{refusal, refused, item_checks, known_after}
 use Rattle.decl_text.specs.Read.{Read}
 use Rattle.decl_text.specs.Reading.{IsRead, declarations, refusal_of_items, known_of_items}
@@ -21,6 +22,11 @@ text_refusal text = if nat_lt most_bytes (length text) then Some (refused 0 TooL
 abbrev pub known_of_text : List ℕ → Known
 known_of_text text = known_after nothing (lines text)
 
+-- the devices that are known, and the work
+abbrev pub work_of : Known → Known
+work_of known =
+    record nothing { devices = known.devices; writes = known.writes; rounds = known.rounds; syncs = known.syncs; resizes = known.resizes }
+
 -- the declarations were read, and are refused so: so is the text
 abbrev pub DeclarationsRefuse : Type 0
 DeclarationsRefuse =
@@ -29,15 +35,23 @@ DeclarationsRefuse =
 
 -- they are not, and mean this stack and these scripts: the rest of the text decides, by this stack
 pub record RestDecides (text : List ℕ) (read : Read) (stack : Stack) (scripts : List (PoolId × Answers)) : Type 0 where
-  -- the rest begins with a write, or has no line
+  -- the rest begins with a write or a `sync` line, or has no line
   pub begins : declarations (lines (drop read.rest text)) ≡ []
   pub refusals : text_refusal text ≡ refusal all_checks (known_of stack) read.line (lines (drop read.rest text))
-  -- where the text is not refused, it means this stack and these scripts, and the writes of the rest
+  -- where the text is not refused, it means this stack and these scripts, and the work of the rest
   pub means : text_refusal text ≡ None → Means (known_of_text text) stack scripts
-  pub writes : text_refusal text ≡ None → (known_of_text text).writes ≡ (known_after (known_of stack) (lines (drop read.rest text))).writes
+  pub work : text_refusal text ≡ None → work_of (known_of_text text) ≡ known_after (known_of stack) (lines (drop read.rest text))
 
 abbrev pub RestsDecide : Type 0
 RestsDecide =
     (text : List ℕ) (read : Read) (stack : Stack) (scripts : List (PoolId × Answers)) → length text ≤ most_bytes → IsRead text read
     → refusal_of_items item_checks nothing read.items read.fault ≡ None → Means (known_of_items nothing read.items) stack scripts
     → RestDecides text read stack scripts
+
+-- two writes of one round to one device have no sector in common, among the writes of lines of which none is refused
+abbrev pub RoundsAreApart : Type 0
+RoundsAreApart =
+    (stack : Stack) (number : ℕ) (all : List (List ℕ)) (i j : ℕ) (one other : Written) → refusal all_checks (known_of stack) number all ≡ None → i < j
+    → slice_get (known_after (known_of stack) all).writes i ≡ Some one → slice_get (known_after (known_of stack) all).writes j ≡ Some other
+    → slice_index_or (known_after (known_of stack) all).rounds i 0 ≡ slice_index_or (known_after (known_of stack) all).rounds j 0
+    → shares other.dev other.start other.count one ≡ false

@@ -1,10 +1,14 @@
 -- What writes of a text need, and which of them is too much.
-use Rattle.std.specs.Prelude.{◌+◌, nat_lt, Bool, false, List, [], ◌∷◌, ◌++◌, ℕ, sum_by}
+use Rattle.std.specs.Prelude.{◌≡◌, ◌+◌, ◌-◌, nat_le, nat_lt, Bool, false, List, [], ◌∷◌, ◌++◌, ℕ, filter, length, map, slice_index_or, sum_by}
+use Rattle.fail_script.specs.Script.{Answers, entries_of}
+use Rattle.stack_base.specs.declared.ids.PoolId.{PoolId}
 use Rattle.stack_base.specs.declared.stack.Stack.{Stack}
 use Rattle.layout_model.specs.declared.write.Write.{Write}
+use Rattle.work_text.specs.declared.Resize.{Resize}
+use Rattle.work_text.specs.declared.Work.{Work}
 use Rattle.layout_model.specs.Need.{needed, vectors}
-use Rattle.layout_model.specs.Bound.{most_elements}
-use Rattle.decl_text.specs.Known.{Known, Declared, Written, nothing, number_in, tree_of}
+use Rattle.layout_model.specs.Bound.{IsBound, most_elements}
+use Rattle.decl_text.specs.Known.{Known, Declared, Resized, Written, nothing, number_in, tree_of}
 use Rattle.decl_text.specs.Accepting.{shown_devices}
 use Rattle.decl_text.specs.Refusals.{Check, check, item_checks}
 use Rattle.decl_text.specs.declared.reason.Reason.TheVariants.{TooMuchWork}
@@ -26,6 +30,18 @@ too_much_work known (item.Write task dev range tag) =
     + elements_in known.devices (record { task = task; dev = number_in known.devices dev; start = range.start; count = range.len; tag = tag }))
 too_much_work known _ = false
 
+-- a `resize` line as it stands in a text
+abbrev pub resized : Resize → Resized
+resized resize = record { round = resize.round; pool = resize.pool; min = resize.min }
+
+-- the round of the last write, or the first round where there is none: `sync` lines behind it are left out
+abbrev pub last_round : List ℕ → ℕ
+last_round rounds = slice_index_or rounds (length rounds - 1) 0
+
+-- the `resize` lines of the rounds up to that one; those of `sync` lines that are left out are left out too
+abbrev pub kept_resizes : ℕ → List Resized → List Resized
+kept_resizes last resizes = filter (λ resize. nat_le resize.round last) resizes
+
 -- all checks of what a line says, in their order
 abbrev pub all_checks : List (Check Item)
 all_checks = item_checks ++ check TooMuchWork too_much_work ∷ []
@@ -33,3 +49,15 @@ all_checks = item_checks ++ check TooMuchWork too_much_work ∷ []
 -- what an accepted stack tells of the lines before the writes
 abbrev pub known_of : Stack → Known
 known_of stack = record nothing { devices = shown_devices stack }
+
+-- the entries of all scripts
+abbrev pub all_entries : List (PoolId × Answers) → ℕ
+all_entries scripts = sum_by (λ script. entries_of script.1) scripts
+
+-- this work is what the lines mean behind which so much is known, over this stack with these scripts
+pub record IsWork (stack : Stack) (scripts : List (PoolId × Answers)) (known : Known) (work : Work) : Type 0 where
+  pub writes : map written work.writes.items ≡ known.writes
+  pub rounds : work.rounds.items ≡ known.rounds
+  pub resizes : map resized work.resizes.items ≡ kept_resizes (last_round known.rounds) known.resizes
+  -- what the writes need; and the entries of the scripts, the rounds after the first, and the `resize` lines
+  pub bound : IsBound stack work.writes.items (all_entries scripts + last_round work.rounds.items + length work.resizes.items) work.bound

@@ -1,17 +1,24 @@
-//! The writes of a text so far.
-ghost use Rattle.std.specs.Prelude.{◌≡◌, ◌+◌, ◌<◌, ◌≤◌, [], ◌∷◌, ◌++◌, length, nat_lt, IfOk, OnOk};
+//! The work of a text so far.
+ghost use Rattle.std.specs.Prelude.{◌≡◌, ◌+◌, ◌^◌, ◌<◌, ◌≤◌, ◌==◌, ◌&&◌, [], ◌∷◌, ◌++◌, All, filter, length, map, nat_le, nat_lt, IfOk, IfSome, OnOk};
+ghost use Rattle.std.specs.List.{list_any};
+ghost use Rattle.stack_base.specs.PoolId.{pool_number};
 ghost use Rattle.stack_base.specs.Stack.{IsStack};
 ghost use Rattle.stack_base.specs.Tree.{size, tree};
-ghost use Rattle.work_text.specs.Draft.{ChecksWrite, IsDraft, known_with};
-ghost use Rattle.work_text.specs.Lines.{Adds, CanStand, ReadsLine, item_of};
+ghost use Rattle.decl_text.specs.Checks.{has_resize};
+ghost use Rattle.decl_text.specs.Stands.{stand_of};
+ghost use Rattle.decl_text.specs.declared.item.Item.TheVariants as item;
+ghost use Rattle.work_text.specs.Draft.{ChecksWrite, IsDraft, IsLeftOf, known_so_far};
+ghost use Rattle.work_text.specs.Lines.{Adds, CanStand, HasSectors, ReadsLine, item_of};
+ghost use Rattle.work_text.specs.Work.{known_of, last_round, resized};
 
-use crate::Work;
 use crate::marks::{Marks, no_marks};
 use crate::names::{device_of, is_member};
+use crate::pools::pool_of;
 use crate::told::{Told, told_by};
-use decl_text::{LineFault, Reason};
+use crate::{Resize, Work};
+use decl_text::{LineFault, Reason, Stand, Word};
 use layout_model::{Bounds, Needs, Write, need};
-use stack_base::{DevId, Stack};
+use stack_base::{DevId, PoolId, Range, Stack};
 use std::alloc::{AllocError, Global};
 
 /// A write may have so many sectors: 256 segments of eight.
@@ -20,10 +27,22 @@ const MOST_SECTORS: u64 = 2048;
 /// No scenario may need more elements.
 const MOST_ELEMENTS: u64 = 1_048_576;
 
-/// The writes of a text so far, and which sectors of the devices they have.
+/// A text may have so many `sync` lines, and so many `resize` lines.
+const MOST_SYNCS: u32 = 1024;
+
+const MOST_RESIZES: usize = 4096;
+
+/// A pool may keep so many elements.
+const MOST_RESERVE: u64 = 1024;
+
+/// The work of a text so far, and which sectors of the devices the writes of the present round have.
 #[derive(Debug, Drop)]
 pub(crate) struct Draft {
     pub(crate) work: Work,
+    /// How many `sync` lines there were.
+    pub(crate) syncs: u32,
+    /// Whether a write of the present round was there.
+    is_written: bool,
     marks: Vec<Marks>,
 }
 
@@ -31,7 +50,9 @@ impl Draft {
     /// No write yet. `entries` is the number of entries of all scripts.
     pub(crate) fn new(alloc: Global, stack: &Stack, entries: u64) -> Result<Draft, AllocError>
         requires { IsStack stack.now }
-        ensures { IfOk result (λ draft. IsDraft stack.now draft × (draft.work.writes.items ≡ []) × (draft.work.bound.z ≡ entries)) }
+        ensures draft { IfOk result (λ draft. IsDraft stack.now draft) }
+        ensures known { IfOk result (λ draft. known_so_far stack.now draft ≡ known_of stack.now) }
+        ensures entries { IfOk result (λ draft. draft.work.bound.z ≡ entries) }
     {
         let marks = no_marks(alloc, stack)?;
         let bound = Bounds {
@@ -41,12 +62,57 @@ impl Draft {
         };
         let work = Work {
             writes: Vec::new(alloc),
+            rounds: Vec::new(alloc),
+            resizes: Vec::new(alloc),
             bound,
         };
-        Ok(Draft { work, marks })
+        Ok(Draft {
+            work,
+            syncs: 0,
+            is_written: false,
+            marks,
+        })
     }
 
-    /// Adds the write that a line says, where it says one.
+    /// The work, without the `resize` lines behind the last write, and with what the others need.
+    pub(crate) fn finish(self, alloc: Global) -> Result<Work, AllocError>
+        requires entries { self.work.bound.z < 2 ^ 63 }
+        requires rounds { All (λ round. round ≤ 1024) self.work.rounds.items }
+        requires few { length self.work.resizes.items ≤ 4096 }
+        ensures { IfOk result (IsLeftOf self.work) }
+    {
+        let Work {
+            writes,
+            rounds,
+            resizes,
+            mut bound,
+        } = self.work;
+        let last = last_round(&rounds);
+        let resizes = lines_up_to(alloc, &resizes, last)?;
+        bound.z += u64::from(last) + resizes.len() as u64;
+        Ok(Work {
+            writes,
+            rounds,
+            resizes,
+            bound,
+        })
+    }
+
+    // Where the next line stands.
+    fn stand(&self, stack: &Stack) -> Stand
+        requires draft { IsDraft stack.now self.now }
+        ensures { result ≡ stand_of (known_so_far stack.now self.now) }
+    {
+        if self.is_written {
+            Stand::BehindWrite
+        } else if self.syncs == 0 {
+            Stand::Front
+        } else {
+            Stand::BehindSync
+        }
+    }
+
+    /// Adds what a line says of the work, where it says something.
     pub(crate) fn read_line(
         &mut self,
         alloc: Global,
@@ -55,43 +121,124 @@ impl Draft {
     ) -> Result<(), LineFault>
         requires stack { IsStack stack.now }
         requires draft { IsDraft stack.now self.old }
-        requires stands { CanStand (known_with stack.now self.old.work.writes.items) bytes.now }
+        requires stands { CanStand (known_so_far stack.now self.old) bytes.now }
         ensures draft { OnOk result (IsDraft stack.now self.new) }
         ensures entries { OnOk result (self.new.work.bound.z ≡ self.old.work.bound.z) }
-        ensures read { ReadsLine (known_with stack.now self.old.work.writes.items) bytes.now (known_with stack.now self.new.work.writes.items) result }
+        ensures read { ReadsLine (known_so_far stack.now self.old) bytes.now (known_so_far stack.now self.new) result }
     {
-        match told_by(alloc, bytes)? {
+        match told_by(alloc, self.stand(stack), bytes)? {
             None => Ok(()),
             Some(told) => self.add(stack, &told),
         }
     }
 
-    // Adds a write.
+    // Adds what is told.
     fn add(&mut self, stack: &Stack, told: &Told<'_>) -> Result<(), LineFault>
         requires stack { IsStack stack.now }
         requires draft { IsDraft stack.now self.old }
-        requires some { 1 ≤ told.now.range.len }
+        requires sectors { HasSectors told.now }
         ensures draft { OnOk result (IsDraft stack.now self.new) }
         ensures entries { OnOk result (self.new.work.bound.z ≡ self.old.work.bound.z) }
-        ensures added { Adds (known_with stack.now self.old.work.writes.items) (item_of told.now) (known_with stack.now self.new.work.writes.items) result }
+        ensures added { Adds (known_so_far stack.now self.old) (item_of told.now) (known_so_far stack.now self.new) result }
     {
-        let Some(dev) = device_of(stack, &told.dev) else {
+        match told {
+            Told::Write {
+                task,
+                dev,
+                range,
+                tag,
+            } => self.add_write(stack, *task, dev, *range, *tag),
+            Told::Sync => self.add_sync(stack),
+            Told::Resize { pool, min } => self.add_resize(stack, pool, *min),
+        }
+    }
+
+    // Ends the round.
+    #[tactic(auto, unfolding(decl_text::specs::Refusals::first_found))]
+    fn add_sync(&mut self, stack: &Stack) -> Result<(), LineFault>
+        requires draft { IsDraft stack.now self.old }
+        ensures draft { OnOk result (IsDraft stack.now self.new) }
+        ensures entries { OnOk result (self.new.work.bound.z ≡ self.old.work.bound.z) }
+        ensures added { Adds (known_so_far stack.now self.old) item.Sync (known_so_far stack.now self.new) result }
+    {
+        if self.syncs >= MOST_SYNCS {
+            return Err(LineFault::Wrong(Reason::TooLarge));
+        }
+        self.syncs += 1;
+        self.is_written = false;
+        Ok(())
+    }
+
+    // Adds the reserve of the pool of this name from the next round on.
+    #[tactic(auto, unfolding(decl_text::specs::Refusals::first_found))]
+    fn add_resize(&mut self, stack: &Stack, name: &Word<'_>, min: u64) -> Result<(), LineFault>
+        requires stack { IsStack stack.now }
+        requires draft { IsDraft stack.now self.old }
+        ensures draft { OnOk result (IsDraft stack.now self.new) }
+        ensures entries { OnOk result (self.new.work.bound.z ≡ self.old.work.bound.z) }
+        ensures added { Adds (known_so_far stack.now self.old) (item.Resize name.now min) (known_so_far stack.now self.new) result }
+    {
+        let pool = pool_of(stack, name);
+        if has_resize(&self.work.resizes, self.syncs, pool) {
+            return Err(LineFault::Wrong(Reason::NameTaken));
+        }
+        if self.work.resizes.len() >= MOST_RESIZES || min > MOST_RESERVE {
+            return Err(LineFault::Wrong(Reason::TooLarge));
+        }
+        if min == 0 {
+            return Err(LineFault::Wrong(Reason::ReserveZero));
+        }
+        let Some(pool) = pool else {
+            return Err(LineFault::Wrong(Reason::NoSuchPool));
+        };
+        let resize = Resize {
+            round: self.syncs,
+            pool,
+            min: min as u32,
+        };
+        keep_resize(&mut self.work.resizes, resize)?;
+        Ok(())
+    }
+
+    // Adds a write to the device of this name.
+    fn add_write(
+        &mut self,
+        stack: &Stack,
+        task: u32,
+        name: &Word<'_>,
+        range: Range,
+        tag: u64,
+    ) -> Result<(), LineFault>
+        requires stack { IsStack stack.now }
+        requires draft { IsDraft stack.now self.old }
+        requires some { 1 ≤ range.len }
+        ensures draft { OnOk result (IsDraft stack.now self.new) }
+        ensures entries { OnOk result (self.new.work.bound.z ≡ self.old.work.bound.z) }
+        ensures added { Adds (known_so_far stack.now self.old) (item.Write task name.now range tag) (known_so_far stack.now self.new) result }
+    {
+        let Some(dev) = device_of(stack, name) else {
             return Err(LineFault::Wrong(Reason::NoSuchDevice));
         };
         let write = Write {
-            task: told.task,
+            task,
             dev,
-            start: told.range.start,
-            count: told.range.len,
-            tag: told.tag,
+            start: range.start,
+            count: range.len,
+            tag,
         };
         let needs = match self.check(stack, &write) {
             Ok(needs) => needs,
             Err(reason) => return Err(LineFault::Wrong(reason)),
         };
-        keep(&mut self.work.writes, write)?;
+        keep(
+            &mut self.work.writes,
+            &mut self.work.rounds,
+            write,
+            self.syncs,
+        )?;
         let marks = &mut self.marks[dev.0 as usize];
-        marks.set(write.start, write.count);
+        marks.set(self.syncs + 1, write.start, write.count);
+        self.is_written = true;
         self.work.bound.e += needs.elements;
         self.work.bound.g += needs.fragments;
         Ok(())
@@ -112,7 +259,7 @@ impl Draft {
             return Err(Reason::PastEnd);
         }
         let marks = &self.marks[write.dev.0 as usize];
-        if marks.any(write.start, write.count) {
+        if marks.any(self.syncs + 1, write.start, write.count) {
             return Err(Reason::Overlap);
         }
         if write.count > MOST_SECTORS {
@@ -126,12 +273,65 @@ impl Draft {
     }
 }
 
-// Puts a write behind the others.
-fn keep(writes: &mut Vec<Write>, write: Write) -> Result<(), AllocError>
-    ensures { OnOk result (writes.new.items ≡ writes.old.items ++ write ∷ []) }
+// Puts a write of this round behind the others.
+fn keep(
+    writes: &mut Vec<Write>,
+    rounds: &mut Vec<u32>,
+    write: Write,
+    round: u32,
+) -> Result<(), AllocError>
+    ensures writes { OnOk result (writes.new.items ≡ writes.old.items ++ write ∷ []) }
+    ensures rounds { OnOk result (rounds.new.items ≡ rounds.old.items ++ round ∷ []) }
 {
     writes.push(write)?;
+    rounds.push(round)?;
     Ok(())
+}
+
+// Puts a `resize` line behind the others.
+fn keep_resize(resizes: &mut Vec<Resize>, resize: Resize) -> Result<(), AllocError>
+    ensures { OnOk result (resizes.new.items ≡ resizes.old.items ++ resize ∷ []) }
+{
+    resizes.push(resize)?;
+    Ok(())
+}
+
+// Whether one of these lines is of the pool, if there is one, and of this round.
+fn has_resize(resizes: &[Resize], round: u32, pool: Option<PoolId>) -> bool
+    requires small { IfSome pool (λ p. pool_number p ≤ 65) }
+    requires pools { All (λ resize. pool_number resize.pool ≤ 65) resizes.now }
+    ensures { result ≡ has_resize (map resized resizes.now) round pool }
+{
+    match pool {
+        Some(pool) => has_one(resizes, round, pool.no()),
+        None => false,
+    }
+}
+
+// Whether one of these lines is of the pool of this number and of this round.
+fn has_one(resizes: &[Resize], round: u32, number: u32) -> bool
+    requires { All (λ resize. pool_number resize.pool ≤ 65) resizes.now }
+    ensures { result ≡ list_any (λ resize. (resize.round == round) && (pool_number resize.pool == number)) resizes.now }
+{
+    resizes.iter().any(|resize| resize.round == round && resize.pool.no() == number)
+}
+
+// The lines of the rounds up to this one.
+fn lines_up_to(alloc: Global, resizes: &[Resize], last: u32) -> Result<Vec<Resize>, AllocError>
+    ensures { IfOk result (λ kept. kept.items ≡ filter (λ resize. nat_le resize.round last) resizes.now) }
+{
+    resizes
+        .iter()
+        .copied()
+        .filter(|resize| resize.round <= last)
+        .collect(alloc)
+}
+
+// The round of the last write, and 0 where there is none.
+fn last_round(rounds: &[u32]) -> u32
+    ensures { result ≡ last_round rounds.now }
+{
+    rounds.last().copied().unwrap_or(0)
 }
 
 // Whether the write ends behind its device.

@@ -1,32 +1,50 @@
-//! Reads the writes of a text.
+//! Reads the work of a text: its writes, their rounds, and the reserves that change between rounds.
 #![tactic(auto)]
 
 ghost use Rattle.std.specs.Prelude.{◌≡◌, ◌+◌, ◌<◌, ◌≤◌, ◌^◌, [], length, Contains, IfOk, OnOk};
 ghost use Rattle.layout_model.specs.Writes.{IsWrite};
 ghost use Rattle.decl_text.specs.Reading.{declarations};
-ghost use Rattle.work_text.specs.Draft.{IsDraft, known_with};
+ghost use Rattle.work_text.specs.Draft.{IsDraft, known_so_far};
 ghost use Rattle.work_text.specs.Lines.{CanStand, ReadsLines, ReadsNumbered};
-ghost use Rattle.work_text.specs.Reading.{ReadsWork, all_entries, work_lines};
+ghost use Rattle.work_text.specs.Reading.{ReadsWork, work_lines};
+ghost use Rattle.work_text.specs.Work.{all_entries, last_round};
 
 mod draft;
 pub mod laws;
 mod marks;
 mod names;
+mod pools;
 mod told;
 
 use crate::draft::Draft;
 use decl_text::{Accepted, LineFault, Lines, ReadFault};
 use layout_model::{Bounds, Write};
+use stack_base::PoolId;
 use std::alloc::Global;
+
+/// The reserve that a pool has from a round on.
+#[derive(Clone, Copy, Debug, PartialEq, Eq)]
+pub struct Resize {
+    /// The round that starts next.
+    pub round: u32,
+    pub pool: PoolId,
+    /// How many elements it keeps.
+    pub min: u32,
+}
 
 /// The writes of a text, in their order, and what they need together.
 #[derive(Debug, Drop)]
 pub struct Work {
     pub writes: Vec<Write>,
+    /// The round of each write, from 0 on: so many `sync` lines stand before it.
+    pub rounds: Vec<u32>,
+    /// The `resize` lines, in their order, but for those behind which no write follows.
+    pub resizes: Vec<Resize>,
     pub bound: Bounds,
 }
 
-/// The writes of a text whose declarations were accepted, which end before the first write.
+/// The work of a text whose declarations were accepted, which end before the first write or `sync` line. A `sync` line behind which no
+/// write follows is checked and left out, with its `resize` lines.
 ///
 /// # Errors
 ///
@@ -34,13 +52,15 @@ pub struct Work {
 pub fn read_work(alloc: Global, text: &[u8], accepted: &Accepted) -> Result<Work, ReadFault>
     requires rest { accepted.now.rest ≤ length text.now }
     requires lines { accepted.now.line + length text.now < 2 ^ 64 }
-    requires writes { declarations (work_lines text.now accepted.now) ≡ [] }
+    requires work { declarations (work_lines text.now accepted.now) ≡ [] }
     ensures read { ReadsWork text.now accepted.now result }
     ensures served { IfOk result (λ work. (write : _) → Contains work.writes.items write → IsWrite accepted.now.stack write) }
+    ensures few { IfOk result (λ work. last_round work.rounds.items + length work.resizes.items ≤ 5120) }
 {
     let mut draft = Draft::new(alloc, &accepted.stack, all_entries(accepted))?;
     read_lines(alloc, text, accepted, &mut draft)?;
-    Ok(draft.work)
+    let work = draft.finish(alloc)?;
+    Ok(work)
 }
 
 // The entries of all scripts. By the checks of declarations they fit.
@@ -54,7 +74,7 @@ fn all_entries(accepted: &Accepted) -> u64
     entries
 }
 
-// Adds the writes of all lines behind the declarations.
+// Adds what all lines behind the declarations say.
 fn read_lines(
     alloc: Global,
     text: &[u8],
@@ -63,11 +83,11 @@ fn read_lines(
 ) -> Result<(), ReadFault>
     requires rest { accepted.now.rest ≤ length text.now }
     requires lines { accepted.now.line + length text.now < 2 ^ 64 }
-    requires writes { declarations (work_lines text.now accepted.now) ≡ [] }
+    requires work { declarations (work_lines text.now accepted.now) ≡ [] }
     requires draft { IsDraft accepted.now.stack draft.old }
     ensures draft { OnOk result (IsDraft accepted.now.stack draft.new) }
     ensures entries { OnOk result (draft.new.work.bound.z ≡ draft.old.work.bound.z) }
-    ensures read { ReadsLines (known_with accepted.now.stack draft.old.work.writes.items) accepted.now.line (work_lines text.now accepted.now) (known_with accepted.now.stack draft.new.work.writes.items) result }
+    ensures read { ReadsLines (known_so_far accepted.now.stack draft.old) accepted.now.line (work_lines text.now accepted.now) (known_so_far accepted.now.stack draft.new) result }
 {
     let mut lines = Lines::from(text, accepted.rest as usize);
     let mut number = accepted.line;
@@ -78,7 +98,7 @@ fn read_lines(
     Ok(())
 }
 
-// Adds the write of the line with this number, where it says one.
+// Adds what the line with this number says.
 fn read_numbered(
     alloc: Global,
     bytes: &[u8],
@@ -87,10 +107,10 @@ fn read_numbered(
     draft: &mut Draft,
 ) -> Result<(), ReadFault>
     requires draft { IsDraft accepted.now.stack draft.old }
-    requires stands { CanStand (known_with accepted.now.stack draft.old.work.writes.items) bytes.now }
+    requires stands { CanStand (known_so_far accepted.now.stack draft.old) bytes.now }
     ensures draft { OnOk result (IsDraft accepted.now.stack draft.new) }
     ensures entries { OnOk result (draft.new.work.bound.z ≡ draft.old.work.bound.z) }
-    ensures read { ReadsNumbered (known_with accepted.now.stack draft.old.work.writes.items) number bytes.now (known_with accepted.now.stack draft.new.work.writes.items) result }
+    ensures read { ReadsNumbered (known_so_far accepted.now.stack draft.old) number bytes.now (known_so_far accepted.now.stack draft.new) result }
 {
     match draft.read_line(alloc, &accepted.stack, bytes) {
         Ok(()) => Ok(()),

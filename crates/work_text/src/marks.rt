@@ -1,5 +1,5 @@
-//! Which sectors of a device have a write.
-ghost use Rattle.std.specs.Prelude.{◌≡◌, ℕ, ◌+◌, ◌&&◌, ◌||◌, ◌<◌, ◌≤◌, [], nat_lt, nat_le, false, IfOk, length, replicate, slice_index_or};
+//! Which sectors of a device have a write of the present round.
+ghost use Rattle.std.specs.Prelude.{◌≡◌, ℕ, ◌+◌, ◌==◌, ◌&&◌, ◌<◌, ◌≤◌, if◌then◌else◌, [], nat_lt, nat_le, IfOk, length, replicate, slice_index_or};
 ghost use Rattle.std.specs.List.{list_any, range_with_len};
 ghost use Rattle.stack_base.specs.Stack.{IsStack};
 ghost use Rattle.work_text.specs.Marks.{AreMarks, IsRow};
@@ -12,7 +12,7 @@ use std::marker::Model;
 /// No mark, for each device of a stack.
 pub(crate) fn no_marks(alloc: Global, stack: &Stack) -> Result<Vec<Marks>, AllocError>
     requires { IsStack stack.now }
-    ensures { IfOk result (λ marks. AreMarks stack.now [] marks.items) }
+    ensures { IfOk result (λ marks. AreMarks stack.now 1 [] marks.items) }
 {
     let mut all = Vec::new(alloc);
     for place in 0..stack.devices.len() {
@@ -25,7 +25,7 @@ pub(crate) fn no_marks(alloc: Global, stack: &Stack) -> Result<Vec<Marks>, Alloc
 fn no_mark_of(alloc: Global, stack: &Stack, dev: DevId) -> Result<Marks, AllocError>
     requires stack { IsStack stack.now }
     requires known { dev.0 < length stack.now.devices.items }
-    ensures { IfOk result (λ row. IsRow stack.now [] dev.0 row) }
+    ensures { IfOk result (λ row. IsRow stack.now 1 [] dev.0 row) }
 {
     let sectors = if is_member(stack, dev) {
         0
@@ -35,16 +35,16 @@ fn no_mark_of(alloc: Global, stack: &Stack, dev: DevId) -> Result<Marks, AllocEr
     Marks::none(alloc, sectors)
 }
 
-/// A mark for each sector of a device.
+/// A mark for each sector of a device: a number for each round, and 0 where there is no mark.
 #[derive(Debug, Drop)]
 pub(crate) struct Marks {
-    sectors: Vec<bool>,
+    sectors: Vec<u32>,
 }
 
 impl Model for Marks {
-    ghost use Rattle.std.specs.Prelude.{Bool, List};
+    ghost use Rattle.std.specs.Prelude.{List, ℕ};
 
-    ghost Value = { List Bool };
+    ghost Value = { List ℕ };
 
     ghost view = { λ marks. marks.sectors.items };
 }
@@ -52,38 +52,38 @@ impl Model for Marks {
 impl Marks {
     /// No mark, at so many sectors.
     pub(crate) fn none(alloc: Global, sectors: u64) -> Result<Marks, AllocError>
-        ensures { IfOk result (λ marks. marks ≡ replicate sectors false) }
+        ensures { IfOk result (λ marks. marks ≡ replicate sectors 0) }
     {
-        let sectors = vec![in alloc; false; sectors as usize]?;
+        let sectors = vec![in alloc; 0; sectors as usize]?;
         Ok(Marks { sectors })
     }
 
-    /// Whether one of the `count` sectors from `start` on has a mark.
-    pub(crate) fn any(&self, start: u64, count: u64) -> bool
+    /// Whether one of the `count` sectors from `start` on has this mark.
+    pub(crate) fn any(&self, mark: u32, start: u64, count: u64) -> bool
         requires { start + count ≤ length self.now }
-        ensures { result ≡ list_any (λ at. slice_index_or self.now at false) (range_with_len start count) }
+        ensures { result ≡ list_any (λ at. slice_index_or self.now at 0 == mark) (range_with_len start count) }
     {
         let (_, from) = self.sectors.split_at(start as usize);
         let (run, _) = from.split_at(count as usize);
-        has_mark(run)
+        has_mark(run, mark)
     }
 
-    /// Marks the `count` sectors from `start` on.
-    pub(crate) fn set(&mut self, start: u64, count: u64)
+    /// Sets this mark at the `count` sectors from `start` on.
+    pub(crate) fn set(&mut self, mark: u32, start: u64, count: u64)
         requires { start + count ≤ length self.old }
         ensures long { length self.new ≡ length self.old }
-        ensures marked { (at : ℕ) → slice_index_or self.new at false ≡ (slice_index_or self.old at false || (nat_le start at && nat_lt at (start + count))) }
+        ensures marked { (at : ℕ) → slice_index_or self.new at 0 ≡ (if nat_le start at && nat_lt at (start + count) then mark else slice_index_or self.old at 0) }
     {
         let sectors = &mut self.sectors;
         for at in start..start + count {
-            sectors[at as usize] = true;
+            sectors[at as usize] = mark;
         }
     }
 }
 
-// Whether one of these is a mark.
-fn has_mark(run: &[bool]) -> bool
-    ensures { result ≡ list_any (λ mark. mark) run.now }
+// Whether one of these is this mark.
+fn has_mark(run: &[u32], mark: u32) -> bool
+    ensures { result ≡ list_any (λ one. one == mark) run.now }
 {
-    run.iter().any(|mark| *mark)
+    run.iter().any(|one| *one == mark)
 }

@@ -1,55 +1,55 @@
-//! What a line among the writes says.
-ghost use Rattle.std.specs.Prelude.{◌≡◌, ◌≤◌};
-ghost use Rattle.work_text.specs.Lines.{IsToldWrite, Tells, item_of, late_of};
+//! What a line from the first write or `sync` line on says.
+ghost use Rattle.std.specs.Prelude.{◌≡◌};
+ghost use Rattle.work_text.specs.Lines.{CanStandAt, HasSectors, IsToldWork, Tells, item_of};
 
-use decl_text::{Item, Line, LineFault, Reason, Word};
+use decl_text::{Item, Line, LineFault, Stand, Word};
 use stack_base::Range;
 use std::alloc::Global;
 
-/// A write as its line says it.
+/// What a line says of the work.
 #[derive(Debug, Drop)]
-pub(crate) struct Told<'a> {
-    pub(crate) task: u32,
-    /// The name of the device.
-    pub(crate) dev: Word<'a>,
-    pub(crate) range: Range,
-    pub(crate) tag: u64,
+pub(crate) enum Told<'a> {
+    /// A write to the device of this name.
+    Write {
+        task: u32,
+        dev: Word<'a>,
+        range: Range,
+        tag: u64,
+    },
+    /// The end of a round.
+    Sync,
+    /// The reserve of the pool of this name, from the next round on.
+    Resize {
+        pool: Word<'a>,
+        min: u64,
+    },
 }
 
-/// The write that a line says, and nothing where it is skipped.
+/// What a line says of the work, which stands there, and nothing where it is skipped.
 ///
 /// # Errors
 ///
-/// Where the line is wrong by itself, or declares something, which no line behind a write may, or where there is no memory.
-pub(crate) fn told_by<'a>(alloc: Global, bytes: &'a [u8]) -> Result<Option<Told<'a>>, LineFault>
-    ensures { Tells bytes.now result }
+/// Where the line is wrong by its words, or may not stand there, or where there is no memory.
+pub(crate) fn told_by<'a>(
+    alloc: Global,
+    stand: Stand,
+    bytes: &'a [u8],
+) -> Result<Option<Told<'a>>, LineFault>
+    requires { CanStandAt stand bytes.now }
+    ensures { Tells stand bytes.now result }
 {
     let line = Line::of(alloc, bytes)?;
-    if line.declares() {
-        return Err(late_of(line.said(alloc)));
-    }
-    match line.said(alloc)? {
+    match line.said(alloc, stand)? {
         None => Ok(None),
-        Some(item) => Ok(Some(write_of(item))),
+        Some(item) => Ok(Some(work_of(item))),
     }
 }
 
-// Why a line is wrong that declares something behind a write: for a byte that no text has, or else for its first word.
-fn late_of(said: Result<Option<Item<'_>>, LineFault>) -> LineFault
-    ensures { result ≡ late_of said.entry }
-{
-    match said {
-        Err(LineFault::Memory) => LineFault::Memory,
-        Err(LineFault::Wrong(Reason::NotText)) => LineFault::Wrong(Reason::NotText),
-        _ => LineFault::Wrong(Reason::BadWord),
-    }
-}
-
-// The write that the item is.
-fn write_of<'a>(item: Item<'a>) -> Told<'a>
-    requires { IsToldWrite item }
+// The item, as what it says of the work.
+fn work_of<'a>(item: Item<'a>) -> Told<'a>
+    requires { IsToldWork item }
     ensures same { item.entry ≡ item_of result }
-    ensures some { 1 ≤ result.range.len }
+    ensures sectors { HasSectors result }
 {
     match item {
         Item::Write {
@@ -57,12 +57,14 @@ fn write_of<'a>(item: Item<'a>) -> Told<'a>
             dev,
             range,
             tag,
-        } => Told {
+        } => Told::Write {
             task: task as u32,
             dev,
             range,
             tag,
         },
+        Item::Sync => Told::Sync,
+        Item::Resize { pool, min } => Told::Resize { pool, min },
         _ => unreachable!(),
     }
 }

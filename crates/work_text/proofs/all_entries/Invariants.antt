@@ -1,5 +1,5 @@
 use Rattle.std.proofs.Common.{◌≡◌, take}
-use Rattle.work_text.specs.Reading.{all_entries}
+use Rattle.work_text.specs.Work.{all_entries}
 use Rattle.work_text.proofs.all_entries.Given as goal
 
 abbrev pub invariant-loop-script : goal.invariant-loop-script

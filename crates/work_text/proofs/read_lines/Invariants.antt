@@ -1,12 +1,13 @@
-use Rattle.std.proofs.Common.{◌≡◌, ◌+◌, ◌-◌, ◌≤◌, true, [], length}
+use Rattle.std.proofs.Common.{◌≡◌, ◌+◌, ◌-◌, ◌≤◌, [], length}
 use Rattle.decl_text.specs.Text.{lines}
 use Rattle.decl_text.specs.Places.{left}
-use Rattle.decl_text.specs.Checks.{is_empty_list}
+use Rattle.decl_text.specs.Stands.{stand_of}
+use Rattle.decl_text.specs.declared.stand.Stand.TheVariants.{Front}
 use Rattle.decl_text.specs.Reading.{declarations}
 use Rattle.decl_text.specs.Refusals.{known_after, refusal}
 use Rattle.work_text.specs.Work.{all_checks}
 use Rattle.work_text.specs.Reading.{work_lines}
-use Rattle.work_text.specs.Draft.{IsDraft, known_with}
+use Rattle.work_text.specs.Draft.{IsDraft, known_so_far}
 use Rattle.work_text.proofs.read_lines.Given as goal
 
 abbrev pub invariant-loop-bytes : goal.invariant-loop-bytes
@@ -17,13 +18,13 @@ invariant-loop-bytes l = record {
   numbers : l.number ≤ l.accepted.line + l.lines.place;
   draft : IsDraft l.accepted.stack l.draft;
   entries : l.draft.work.bound.z ≡ l.initial.draft.work.bound.z;
-  -- the first line is a write
-  stands : is_empty_list (known_with l.accepted.stack l.draft.work.writes.items).writes ≡ true → declarations (lines (left l.lines)) ≡ [];
+  -- the first line is a write or a `sync` line
+  stands : stand_of (known_so_far l.accepted.stack l.draft) ≡ Front → declarations (lines (left l.lines)) ≡ [];
   -- what becomes of the rest becomes of all lines
-  refused : refusal all_checks (known_with l.accepted.stack l.draft.work.writes.items) l.number (lines (left l.lines))
-      ≡ refusal all_checks (known_with l.accepted.stack l.initial.draft.work.writes.items) l.accepted.line (work_lines l.text l.accepted);
-  known : known_after (known_with l.accepted.stack l.draft.work.writes.items) (lines (left l.lines))
-      ≡ known_after (known_with l.accepted.stack l.initial.draft.work.writes.items) (work_lines l.text l.accepted);
+  refused : refusal all_checks (known_so_far l.accepted.stack l.draft) l.number (lines (left l.lines))
+      ≡ refusal all_checks (known_so_far l.accepted.stack l.initial.draft) l.accepted.line (work_lines l.text l.accepted);
+  known : known_after (known_so_far l.accepted.stack l.draft) (lines (left l.lines))
+      ≡ known_after (known_so_far l.accepted.stack l.initial.draft) (work_lines l.text l.accepted);
 }
 
 abbrev pub decreases-loop-bytes : goal.decreases-loop-bytes

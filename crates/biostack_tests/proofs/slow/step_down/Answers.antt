@@ -1,8 +1,13 @@
-use Rattle.std.proofs.Common.{List, ℕ, length, sym, ap, ◌∙◌, subst, arith}
+use Rattle.std.proofs.Common.{List, ℕ, length, sum, sym, ap, ◌∙◌, subst, arith}
 use Rattle.std.proofs.lemmas.Option.{slice_get-get_or}
-use Rattle.stack_base.specs.Mapping.{slot, head}
+use Rattle.stack_base.specs.Cutting.{next}
+use Rattle.stack_base.specs.Mapping.{size_of, slot, head}
 use Rattle.stack_base.specs.Stack.{HasShape}
-use Rattle.stack_base.proofs.MemberSizes.{shape_few}
+use Rattle.stack_base.proofs.MemberSizes.{shape_few, members_small}
+use Rattle.stack_base.proofs.Heads.{head_bounds}
+use Rattle.stack_base.proofs.KindCuts.{kind_cuts}
+use Rattle.stack_base.proofs.Unfolded.{size-tree}
+use Rattle.layout_model.proofs.Over.{can_cut}
 use Rattle.biostack_tests.proofs.SlowSteps.{sized_shape, member_there, step_is}
 use Rattle.biostack_tests.proofs.slow.step_down.Goals as goal
 
@@ -13,20 +18,32 @@ head-first-requires-clause-shape c =
     (sym (c.deref.ensures.0 ∙ c.member_sizes-sizes.ensures c.args.device.now c.requires.found))
     (sized_shape c.args.stack.now c.requires.stack c.args.dev.0 c.args.device.now c.requires.found c.requires.cuts c.args.sector c.requires.within)
 
+-- they are small together, and the piece's first sector is on the device too
 pub slot-from-requires : goal.slot-from-requires
 slot-from-requires c =
+    let kind = c.args.device.now.kind in
+    let known = c.member_sizes-sizes.ensures c.args.device.now c.requires.found in
+    let sizes = c.deref-2.ensures.0 ∙ known in
+    let first = c.deref.ensures.0 ∙ known in
+    let good = c.requires.stack.each c.args.dev.0 c.args.device.now c.requires.found in
+    let can = can_cut kind (length c.args.device.now.members.items) good.shape c.requires.cuts in
+    let low = head_bounds (head kind c.deref.result.now) (next kind c.deref.result.now) (slot kind c.deref.result.now) (kind_cuts kind c.deref.result.now can) c.args.start c.args.sector c.requires.in_run in
     record {
-      shape = subst (λ (sizes : List ℕ). HasShape c.args.device.now.kind (length sizes))
-          (sym (c.deref-2.ensures.0 ∙ c.member_sizes-sizes.ensures c.args.device.now c.requires.found))
+      shape = subst (λ (sizes : List ℕ). HasShape kind (length sizes)) (sym sizes)
           (sized_shape c.args.stack.now c.requires.stack c.args.dev.0 c.args.device.now c.requires.found c.requires.cuts c.args.sector c.requires.within);
+      small = omega (arith, ap sum sizes, members_small c.args.stack.now c.requires.stack c.args.dev.0 c.args.device.now c.requires.found);
+      within = omega (arith, ap (size_of kind) sizes, size-tree c.args.stack.now c.requires.stack c.args.dev.0 c.args.device.now c.requires.found, c.head-first.ensures, low.1, c.requires.within);
     }
 
 pub slot-to-requires : goal.slot-to-requires
 slot-to-requires c =
+    let kind = c.args.device.now.kind in
+    let sizes = c.deref-3.ensures.0 ∙ c.member_sizes-sizes.ensures c.args.device.now c.requires.found in
     record {
-      shape = subst (λ (sizes : List ℕ). HasShape c.args.device.now.kind (length sizes))
-          (sym (c.deref-3.ensures.0 ∙ c.member_sizes-sizes.ensures c.args.device.now c.requires.found))
+      shape = subst (λ (sizes : List ℕ). HasShape kind (length sizes)) (sym sizes)
           (sized_shape c.args.stack.now c.requires.stack c.args.dev.0 c.args.device.now c.requires.found c.requires.cuts c.args.sector c.requires.within);
+      small = omega (arith, ap sum sizes, members_small c.args.stack.now c.requires.stack c.args.dev.0 c.args.device.now c.requires.found);
+      within = omega (arith, ap (size_of kind) sizes, size-tree c.args.stack.now c.requires.stack c.args.dev.0 c.args.device.now c.requires.found, c.requires.within);
     }
 
 -- the sector is in a member

@@ -8,7 +8,7 @@ use Rattle.biostack_top.proofs.built.first_unbuilt.Given as goal
 abbrev pub invariant-loop-bytes : goal.invariant-loop-bytes
 invariant-loop-bytes l = record {
   text : l.lines.text ≡ l.text;
-  rest : unbuilt l.seen l.number (lines (left l.lines)) ≡ unbuilt none_seen 1 (lines l.text);
+  rest : unbuilt l.many l.seen l.number (lines (left l.lines)) ≡ unbuilt l.many none_seen 1 (lines l.text);
   fine : NoneWrong (lines (left l.lines));
   short : length l.text ≤ 4194304;
   within : l.lines.place ≤ length l.text;

@@ -9,8 +9,8 @@ returns-in_err-accepted c =
     let p = err_from_is_err_and c.from_residual-in_err-accepted.result c.from_residual-in_err-accepted.ensures.1 in
     rw (p.1, p.2) (accept_refuses c.args.text.now c.in_ok-decl.decl c.in_err-accepted.field-0.0 c.in_ok-decl.ensures c.in_err-accepted.ensures)
 
-pub read_work-requires-clause-writes : goal.read_work-requires-clause-writes
-read_work-requires-clause-writes c = rest_begins c.args.text.now c.in_ok-decl.decl c.in_ok-accepted.accepted c.in_ok-decl.ensures c.in_ok-accepted.ensures
+pub read_work-requires-clause-work : goal.read_work-requires-clause-work
+read_work-requires-clause-work c = rest_begins c.args.text.now c.in_ok-decl.decl c.in_ok-accepted.accepted c.in_ok-decl.ensures c.in_ok-accepted.ensures
 
 pub returns-in_err-work : goal.returns-in_err-work
 returns-in_err-work c =
@@ -18,4 +18,4 @@ returns-in_err-work c =
     rw (p.1, p.2) (work_refuses c.args.text.now c.in_ok-decl.decl c.in_ok-accepted.accepted c.in_err-work.field-0.0 c.in_ok-decl.ensures c.in_ok-accepted.ensures c.in_err-work.ensures.read)
 
 pub returns : goal.returns
-returns c = (refl, says_all c.args.text.now c.in_ok-decl.decl c.in_ok-accepted.accepted c.in_ok-work.work c.in_ok-decl.ensures c.in_ok-accepted.ensures c.in_ok-work.ensures.read c.in_ok-work.ensures.served)
+returns c = (refl, says_all c.args.text.now c.in_ok-decl.decl _ c.in_ok-decl.ensures c.in_ok-accepted.ensures c.in_ok-work.ensures.read c.in_ok-work.ensures.served c.in_ok-work.ensures.few refl)

@@ -8,7 +8,7 @@ use Rattle.biostack_top.proofs.serve.layout.Goals as goal
 pub layout_lines-requires-clause-few : goal.layout_lines-requires-clause-few
 layout_lines-requires-clause-few g c =
     let scene = c.args.scene.now in
-    omega (arith, ap length c.deref.ensures.value, few_writes scene.accepted.stack scene.work.writes.items, c.requires.needs.allowed)
+    omega (arith, ap length c.deref.ensures.value, few_writes scene.accepted.stack scene.work.writes.items, c.requires.says.needs.allowed)
 
 pub write_layout-requires : goal.write_layout-requires
 write_layout-requires g c = subst (AreOnDevices c.args.scene.now.accepted.stack) (sym c.deref-2.ensures.value) c.in-Ok.ensures.known
@@ -19,11 +19,11 @@ returns-then-failed g c =
     let said = says_failed c.new-pen.ensures (sym c.failed.ensures ∙ c.if-failed.true) c.write_layout.ensures in
     let laid = subst (λ writes. AreLaid scene.accepted.stack 0 writes c.in-Ok.fragments.items) c.deref.ensures.value c.in-Ok.ensures.laid in (
       said.0,
-      c.requires.fine,
+      c.requires.says.fine,
       (
         layout_text scene.accepted.stack c.deref-2.result.now,
         true,
-        (scene.accepted.stack, scene.accepted.scripts.items, scene.work.writes.items, scene.work.bound, c.in-Ok.fragments.items, c.requires, laid, ap (layout_text scene.accepted.stack) c.deref-2.ensures.value, refl),
+        (scene.accepted.stack, scene.accepted.scripts.items, scene.work.writes.items, scene.work.bound, c.in-Ok.fragments.items, c.requires.says, laid, ap (layout_text scene.accepted.stack) c.deref-2.ensures.value, refl),
         said.1,
       ),
     )
@@ -34,10 +34,10 @@ returns g c =
     let said = says_done c.new-pen.ensures (sym c.failed.ensures ∙ c.if-failed.false) c.write_layout.ensures in
     let laid = subst (λ writes. AreLaid scene.accepted.stack 0 writes c.in-Ok.fragments.items) c.deref.ensures.value c.in-Ok.ensures.laid in (
       said.0,
-      c.requires.fine,
+      c.requires.says.fine,
       (
         layout_text scene.accepted.stack c.deref-2.result.now,
-        (scene.accepted.stack, scene.accepted.scripts.items, scene.work.writes.items, scene.work.bound, c.in-Ok.fragments.items, c.requires, laid, ap (layout_text scene.accepted.stack) c.deref-2.ensures.value, refl),
+        (scene.accepted.stack, scene.accepted.scripts.items, scene.work.writes.items, scene.work.bound, c.in-Ok.fragments.items, c.requires.says, laid, ap (layout_text scene.accepted.stack) c.deref-2.ensures.value, refl),
         said.1,
       ),
     )

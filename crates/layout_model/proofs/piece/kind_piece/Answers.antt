@@ -1,6 +1,9 @@
-use Rattle.std.proofs.Common.{map, sum, sym, ap, ◌∙◌, arith}
+use Rattle.std.proofs.Common.{length, map, sum, sym, ap, ◌∙◌, arith}
 use Rattle.std.proofs.lemmas.List.{length-map}
+use Rattle.std.proofs.lemmas.Option.{slice_get_within}
 use Rattle.stack_base.specs.declared.ids.DevId.{DevId}
+use Rattle.stack_base.specs.declared.stack.Kind.TheVariants.{Zoned}
+use Rattle.stack_base.proofs.MemberSizes.{members_small}
 use Rattle.stack_base.specs.Mapping.{size_of}
 use Rattle.stack_base.specs.Tree.{size, tree}
 use Rattle.stack_base.proofs.Unfolded.{size-tree}
@@ -23,7 +26,7 @@ limit_piece-requires-clause-max c =
 pub linear_piece-requires-clause-within : goal.linear_piece-requires-clause-within
 unfolding size_of
 linear_piece-requires-clause-within c =
-    let found = c.member_sizes.ensures c.args.device.now c.requires.found in
+    let found = c.member_sizes-in-Linear.ensures c.args.device.now c.requires.found in
     let all = ap sum (c.deref.ensures.0 ∙ found) in
     let whole = size-tree c.args.stack.now c.requires.stack c.args.dev.0 c.args.device.now c.requires.found in
     let linear = rw c.in-Linear.is at whole in
@@ -41,4 +44,33 @@ returns-in-Limit c = rw c.in-Limit.is (c.limit_piece.ensures _)
 
 pub returns-in-Linear : goal.returns-in-Linear
 returns-in-Linear c =
-    rw (c.in-Linear.is, ← c.member_sizes.ensures c.args.device.now c.requires.found, ← c.deref.ensures.0) c.linear_piece.ensures
+    rw (c.in-Linear.is, ← c.member_sizes-in-Linear.ensures c.args.device.now c.requires.found, ← c.deref.ensures.0) c.linear_piece.ensures
+
+-- a zoned device has its numbers and members, which are small
+pub zoned_piece-requires-clause-shape : goal.zoned_piece-requires-clause-shape
+zoned_piece-requires-clause-shape c =
+    let found = c.requires.found in
+    let size_at = λ (m : DevId). size (tree c.args.stack.now m.0) in
+    let sizes = c.member_sizes.ensures c.args.device.now found in
+    let count = ap length sizes ∙ length-map c.args.device.now.members.items size_at in
+    let shape = rw c.in-Zoned.is at (c.requires.stack.each c.args.dev.0 c.args.device.now found).shape in
+    (shape.0, omega (arith, count, shape.1), omega (arith, count, shape.2))
+
+pub zoned_piece-requires-clause-small : goal.zoned_piece-requires-clause-small
+zoned_piece-requires-clause-small c =
+    let sizes = c.member_sizes.ensures c.args.device.now c.requires.found in
+    omega (arith, ap sum sizes, members_small c.args.stack.now c.requires.stack c.args.dev.0 c.args.device.now c.requires.found)
+
+pub zoned_piece-requires-clause-within : goal.zoned_piece-requires-clause-within
+zoned_piece-requires-clause-within c =
+    let sizes = c.member_sizes.ensures c.args.device.now c.requires.found in
+    let whole = rw c.in-Zoned.is at (size-tree c.args.stack.now c.requires.stack c.args.dev.0 c.args.device.now c.requires.found) in
+    omega (arith, c.requires.within, whole, ap (size_of (Zoned c.in-Zoned.chunk)) sizes)
+
+pub returns-in-Zoned : goal.returns-in-Zoned
+returns-in-Zoned c =
+    rw (c.in-Zoned.is, ← c.member_sizes.ensures c.args.device.now c.requires.found) c.zoned_piece.ensures
+
+-- the device is one of the stack
+pub member_sizes-requires-in-Linear-clause-device : goal.member_sizes-requires-in-Linear-clause-device
+member_sizes-requires-in-Linear-clause-device c = slice_get_within c.args.stack.now.devices.items c.args.dev.0 c.args.device.now c.requires.found

@@ -1,5 +1,5 @@
 use Rattle.std.proofs.Common.{refl, arith}
-use Rattle.layout_model.proofs.PieceLemmas.{limit_piece_is}
+use Rattle.stack_base.proofs.KindPieces.{limit_piece_is}
 use Rattle.layout_model.proofs.piece.limit_piece.Goals as goal
 use Rattle.layout_model.proofs.piece.limit_piece.Goals.{then-chunk-eq0, else-chunk-eq0}
 

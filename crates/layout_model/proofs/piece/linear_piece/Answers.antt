@@ -1,4 +1,4 @@
-use Rattle.layout_model.proofs.PieceLemmas.{linear_piece_is}
+use Rattle.stack_base.proofs.KindPieces.{linear_piece_is}
 use Rattle.layout_model.proofs.piece.linear_piece.Goals as goal
 
 pub returns-then-at-size : goal.returns-then-at-size

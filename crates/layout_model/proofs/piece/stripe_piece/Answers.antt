@@ -1,5 +1,5 @@
 use Rattle.std.proofs.Common.{◌+◌, ◌*◌, ◌/◌, ◌%◌, sym, ap}
-use Rattle.layout_model.proofs.PieceLemmas.{stripe_piece_is}
+use Rattle.stack_base.proofs.KindPieces.{stripe_piece_is}
 use Rattle.layout_model.proofs.piece.stripe_piece.Goals as goal
 
 pub returns : goal.returns

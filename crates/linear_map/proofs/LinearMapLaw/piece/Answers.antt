@@ -1,5 +1,5 @@
 use Rattle.std.proofs.Common.{◌≡◌, ◌∙◌}
-use Rattle.linear_map.proofs.PieceLemmas.{linear_piece_is}
+use Rattle.stack_base.proofs.KindPieces.{linear_piece_is}
 use Rattle.linear_map.proofs.LinearMapLaw.piece.Goals as goal
 
 -- the loop goes over the sizes that the device is seen as

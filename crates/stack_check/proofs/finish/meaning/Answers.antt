@@ -10,7 +10,7 @@ use Rattle.stack_check.proofs.finish.meaning.Goals as goal
 pub returns : goal.returns
 returns c =
     let inside = c.draft.inside in
-    let known : Known = record { devices = inside.devices; fs = inside.fs; bad = inside.bad.items; scripts = inside.scripts; no_memory = inside.no_memory; writes = [] } in
+    let known : Known = record { devices = inside.devices; fs = inside.fs; bad = inside.bad.items; scripts = inside.scripts; no_memory = inside.no_memory; writes = []; rounds = []; syncs = 0; resizes = [] } in
     let stack : Stack = record { devices = c.in_ok-devices.devices; fs_bios = c.fs.inside.bios; fs_vecs = c.fs.inside.vecs } in
     let scripts = c.in_ok-scripts.scripts.items in
     let given = c.into_given.result.items in

@@ -16,7 +16,7 @@ pub invariant_of-result : goal.invariant_of-result
 invariant_of-result g c =
     numbered c.in_ok-slots.slots c.numbering.keys.items c.numbering.free.items _ c.args.count
     (subst (IsNumbered c.numbering.keys.items c.numbering.free.items) (omega (arith, c.numbering.auto.place-end, c.numbering-test.false)) c.numbering.invariant.0)
-    c.in_ok-slots.ensures.empty c.in_ok-slots.ensures.capacity c.numbering.invariant.2
+    c.in_ok-slots.ensures.empty c.in_ok-slots.ensures.capacity c.numbering.invariant.2 (omega arith)
 
 pub returns : goal.returns
 returns g c =

@@ -28,4 +28,4 @@ returns-clause-owed g c =
     let h = c.requires.turn in
     let t = g.T.Thing in
     let same = now_is _ h.1 c.slot_mut-kept.result.now h.3 c.slot_mut-kept.ensures.value in
-    subst (λ m. t.owes m c.serve-reply.result) (ap t.mark same ∙ h.5.1) c.serve-reply.ensures.owed
+    subst (λ m. t.owes m c.args.request c.serve-reply.result) (ap t.mark same ∙ h.5.1) c.serve-reply.ensures.owed

@@ -64,6 +64,6 @@ returns c =
       device_chain a.self.now a.name a.what a.names.now a.reserve a.rescuer
           ∙ ap (λ ds. device_reason ds a.name a.what a.names.now a.reserve a.rescuer) (sym (ap (λ (k : Known). k.devices) c.self.view_is))
           ∙ sym c.reason.ensures ∙ c.in_default.is,
-      ap (λ (ds : List Declared). record { devices = ds; fs = inside.fs; bad = inside.bad.items; scripts = inside.scripts; no_memory = inside.no_memory; writes = [] }) grown
+      ap (λ (ds : List Declared). record { devices = ds; fs = inside.fs; bad = inside.bad.items; scripts = inside.scripts; no_memory = inside.no_memory; writes = []; rounds = []; syncs = 0; resizes = [] }) grown
           ∙ ap (λ (k : Known). after k line) c.self.view_is,
     )

@@ -1,0 +1,5 @@
+pub mod CountingLemmas
+pub mod LaneLemmas
+pub mod WholeLemmas
+pub mod SectorLemmas
+pub mod Examples
