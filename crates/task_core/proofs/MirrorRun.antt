@@ -1,0 +1,256 @@
+-- A mirror of two, with one bio and one record in reserve and no ordinary memory: 25 events, in one of which a bio is punted.
+use Rattle.std.proofs.Common.{◌==◌, ◌&&◌, ◌||◌, ◌++◌, if◌then◌else◌, ℕ, Bool, inl, List, [], ◌∷◌, Option, None, Some, refl, arith, false, true}
+use Rattle.elem_ledger.specs.Ledger.{LedgerId}
+use Rattle.fail_script.specs.Script.{only_tail}
+use Rattle.stack_base.specs.declared.ids.DevId.{DevId}
+use Rattle.stack_base.specs.declared.ids.PoolId.TheVariants.{FsBios, Bios, Records}
+use Rattle.stack_base.specs.declared.ids.Status.TheVariants.{Ok}
+use Rattle.stack_base.specs.Tree.{Tree, Leaf, Mirrored}
+use Rattle.mempool_core.specs.Move.{opened, takes_spare, misses, gives}
+use Rattle.bio_records.specs.declared.bio.Pad.{Pad}
+use Rattle.bio_records.specs.Items.{Item}
+use Rattle.model_disks.specs.Disks.{DiskState}
+use Rattle.model_disks.specs.Moves as disk
+use Rattle.model_disks.specs.Moves.{written}
+use Rattle.bio_books.specs.Books.{BookState, Node, SlipItem, top_node, master_node, leg_node, keeping, told, lowered}
+use Rattle.bio_books.specs.Drops.{closed_of, Closed}
+use Rattle.bio_books.specs.Drops as end
+use Rattle.bio_books.specs.Links.{Made}
+use Rattle.task_core.specs.declared.event.Event.{Event}
+use Rattle.task_core.specs.declared.event.TaskId.TheVariants as id
+use Rattle.task_core.specs.declared.event.Got.TheVariants.{Spare, Missed}
+use Rattle.task_core.specs.declared.event.How.TheVariants as how
+use Rattle.task_core.specs.declared.event.End.TheVariants as left
+use Rattle.task_core.specs.declared.event.What.{What}
+use Rattle.task_core.specs.declared.event.What.TheVariants as what
+use Rattle.task_core.specs.Maps.{upd}
+use Rattle.task_core.specs.Scene.{Setup, Scene}
+use Rattle.task_core.specs.Requests.{HadBio, HadSlip, Missed as missed, LinkedTo, Did, Popped, Completed, DroppedTo, Present}
+use Rattle.task_core.specs.Lines.{rests, leg_at}
+use Rattle.task_core.specs.Tasks.{Todo, TaskState, Writer, Rescuer, Completer, NoBio, Empty, filled_short}
+use Rattle.task_core.specs.Objects.{clear_bio, clear_slip, done_one}
+use Rattle.task_core.specs.Runs.{State, IsRun}
+use Rattle.task_core.proofs.Turns.{Turn, follow, AreTurns, turns_run, takes, rescues, on_disk, in_book}
+
+abbrev pub a : DevId
+a = record { 0 = 0 }
+
+abbrev pub b : DevId
+b = record { 0 = 1 }
+
+abbrev pub m : DevId
+m = record { 0 = 2 }
+
+abbrev pub mirror : Tree
+mirror = Mirrored 2 (8 ∷ 8 ∷ []) (λ place. Leaf place 8)
+
+-- whether the mirror's set has a rescuer
+abbrev pub setup : Bool → Setup
+setup rescuer = record { count = 3; tree = λ dev. if dev == 2 then mirror else Leaf dev 8; rescuer = λ dev. rescuer && (dev == 2); places = λ writer. 4 }
+
+abbrev pub todo : Todo
+todo = record { number = 0; round = 0; write = record { task = 0; dev = m; start = 0; count = 1; tag = 0 } }
+
+abbrev tasks : ℕ → TaskState
+tasks place =
+    if place == 0 then Writer 0 (todo ∷ []) NoBio rests
+    else if place == 1 then Rescuer m rests
+    else if place == 2 then Completer a Empty
+    else Completer b Empty
+
+-- the reserves of the mirror's bios and records, and of any other pool
+abbrev reserve : ℕ → ℕ
+reserve number = if (number == 4) || (number == 5) then 1 else 2
+
+abbrev pub start : State
+start = record {
+  objects = record {
+    pool = λ number. opened (reserve number) (only_tail false);
+    rescue = λ dev. [];
+    disk = λ dev. disk.opened (record { 0 = dev }) 8 [];
+    book = λ writer. record { writer = writer; nodes = None ∷ None ∷ None ∷ None ∷ [] };
+    tally = record { round = 0; left = 1 ∷ []; statuses = Ok ∷ [] };
+  };
+  task = tasks;
+}
+
+module _ (some : LedgerId) where
+  abbrev pub ledger : ℕ → LedgerId
+  ledger number = record some { no = number }
+
+  abbrev scene : Scene
+  scene = record { setup = setup true; tasks = 4; books = 1; writes = 1; ledger = ledger }
+
+  abbrev bio : Item Pad
+  bio = filled_short 0 todo 0 (clear_bio (ledger 65))
+
+  abbrev slip : SlipItem
+  slip = clear_slip (ledger 5)
+
+  -- the two legs: both have the node at place 2, one after the other
+  abbrev leg : ℕ → Item Pad
+  leg number = leg_at bio.bio (clear_bio (ledger 4)) number 2 mirror
+
+  -- the write's node, which keeps the bio while the mirror copies it; the master, before and after its first leg's end; and a leg's node
+  abbrev top : Node
+  top = keeping bio (top_node 0 None)
+
+  abbrev master : Node
+  master = master_node 0 0 slip 2
+
+  abbrev half : Node
+  half = lowered (told master Ok None)
+
+  abbrev leg_end : ℕ → Closed
+  leg_end number = closed_of (told (leg_node 0 1) Ok (Some (leg number)))
+
+  -- the book with these nodes
+  abbrev nodes : Option Node → Option Node → Option Node → BookState → BookState
+  nodes first second third book = record book { nodes = first ∷ second ∷ third ∷ None ∷ [] }
+
+  abbrev completed : Item Pad → DiskState → DiskState
+  completed item disk = record disk { image = written item.bio disk.image; pending = [] }
+
+  -- up to the link of the first leg
+  abbrev pub begun : List Turn
+  begun =
+      takes 0 (HadBio Spare (clear_bio (ledger 65))) 65 takes_spare
+      ∷ in_book 0 (LinkedTo (Made 0)) 0 (nodes (Some (top_node 0 None)) None None)
+      ∷ takes 0 (HadSlip Spare slip) 5 takes_spare
+      ∷ in_book 0 (LinkedTo (Made 1)) 0 (nodes (Some top) (Some master) None)
+      ∷ takes 0 (HadBio Spare (clear_bio (ledger 4))) 4 takes_spare
+      ∷ in_book 0 (LinkedTo (Made 2)) 0 (nodes (Some top) (Some master) (Some (leg_node 0 1)))
+      ∷ []
+
+  abbrev turns : List Turn
+  turns =
+      begun
+      ++ takes 0 (missed false) 4 (misses false)
+      ∷ rescues 0 Did 2 (leg 0 ∷ [])
+      ∷ rescues 1 (Popped (leg 0)) 2 []
+      ∷ on_disk 1 Did 0 (disk.pushed (leg 0))
+      ∷ on_disk 2 (Completed 0 (leg 0) Ok) 0 (completed (leg 0))
+      ∷ in_book 2 (DroppedTo (end.Up (leg_end 0))) 0 (nodes (Some top) (Some master) None)
+      ∷ takes 2 Did 4 gives
+      ∷ in_book 2 (DroppedTo end.Left) 0 (nodes (Some top) (Some half) None)
+      ∷ takes 0 (HadBio Spare (clear_bio (ledger 4))) 4 takes_spare
+      ∷ in_book 0 (LinkedTo (Made 2)) 0 (nodes (Some top) (Some half) (Some (leg_node 0 1)))
+      ∷ on_disk 0 Did 1 (disk.pushed (leg 1))
+      ∷ on_disk 3 (Completed 0 (leg 1) Ok) 1 (completed (leg 1))
+      ∷ in_book 3 (DroppedTo (end.Up (leg_end 1))) 0 (nodes (Some top) (Some half) None)
+      ∷ takes 3 Did 4 gives
+      ∷ in_book 3 (DroppedTo (end.Up (closed_of (told half Ok None)))) 0 (nodes (Some top) None None)
+      ∷ takes 3 Did 5 gives
+      ∷ in_book 3 (DroppedTo (end.Top (closed_of (told top Ok None)))) 0 (nodes None None None)
+      ∷ takes 3 Did 65 gives
+      ∷ record { place = 3; reply = Did; change = λ old. record old { tally = done_one 0 Ok old.tally } }
+      ∷ []
+
+  abbrev w : What → Event
+  w what = record { task = id.Writer 0; what = what }
+
+  abbrev r : What → Event
+  r what = record { task = id.Rescuer m; what = what }
+
+  abbrev c : DevId → What → Event
+  c disk what = record { task = id.Completer disk; what = what }
+
+  abbrev pub begun_events : List Event
+  begun_events =
+      w (what.Take FsBios Spare) ∷ w (what.Link 0 how.Write 0)
+      ∷ w (what.Take (Records m) Spare) ∷ w (what.Link 0 how.Master 1)
+      ∷ w (what.Take (Bios m) Spare) ∷ w (what.Link 0 how.Leg 2)
+      ∷ []
+
+  abbrev events : List Event
+  events =
+      begun_events
+      ++ w (what.Try (Bios m) Missed) ∷ w (what.Punt m 1)
+      ∷ r (what.Pop m) ∷ r (what.Push a 0 1 0)
+      ∷ c a (what.Complete a 0 Ok) ∷ c a (what.Drop 0 2 Ok left.Up) ∷ c a (what.Give (Bios m)) ∷ c a (what.Drop 0 1 Ok left.Left)
+      ∷ w (what.Take (Bios m) Spare) ∷ w (what.Link 0 how.Leg 2) ∷ w (what.Push b 0 1 1)
+      ∷ c b (what.Complete b 0 Ok) ∷ c b (what.Drop 0 2 Ok left.Up) ∷ c b (what.Give (Bios m)) ∷ c b (what.Drop 0 1 Ok left.Up)
+      ∷ c b (what.Give (Records m)) ∷ c b (what.Drop 0 0 Ok left.Top) ∷ c b (what.Give FsBios) ∷ c b (what.Done 0 Ok)
+      ∷ []
+
+  are_turns : AreTurns scene start turns events
+  unfolding upd
+  are_turns = (
+    (refl, refl, (Present 0, (refl, refl), refl), refl, (((omega arith, omega arith), refl), refl)),
+    (
+      (refl, refl, tt, refl, ((refl, refl), refl)),
+      (
+        (refl, refl, tt, refl, (((omega arith, omega arith), refl), refl)),
+        (
+          (refl, refl, tt, refl, ((refl, refl), refl)),
+          (
+            (refl, refl, tt, refl, (((omega arith, omega arith), refl), refl)),
+            (
+              (refl, refl, tt, refl, ((refl, refl), refl)),
+              (
+                (refl, refl, tt, refl, ((inl refl, refl), refl)),
+                (
+                  (refl, refl, tt, refl, refl),
+                  (
+                    (refl, refl, tt, refl, (refl, refl)),
+                    (
+                      (refl, refl, tt, refl, refl),
+                      (
+                        (refl, refl, tt, refl, (record { taken = refl; status = refl; after = refl }, refl)),
+                        (
+                          (refl, refl, tt, refl, ((refl, refl, refl, refl), refl)),
+                          (
+                            (refl, refl, tt, refl, (omega arith, refl)),
+                            (
+                              (refl, refl, tt, refl, ((omega arith, refl), refl)),
+                              (
+                                (refl, refl, tt, refl, (((omega arith, omega arith), refl), refl)),
+                                (
+                                  (refl, refl, tt, refl, ((refl, refl), refl)),
+                                  (
+                                    (refl, refl, tt, refl, refl),
+                                    (
+                                      (refl, refl, tt, refl, (record { taken = refl; status = refl; after = refl }, refl)),
+                                      (
+                                        (refl, refl, tt, refl, ((refl, refl, refl, refl), refl)),
+                                        (
+                                          (refl, refl, tt, refl, (omega arith, refl)),
+                                          (
+                                            (refl, refl, tt, refl, ((refl, refl, refl, refl), refl)),
+                                            (
+                                              (refl, refl, tt, refl, (omega arith, refl)),
+                                              (
+                                                (refl, refl, tt, refl, ((refl, refl, refl, refl), refl)),
+                                                (
+                                                  (refl, refl, tt, refl, (omega arith, refl)),
+                                                  (
+                                                    (refl, refl, tt, refl, refl),
+                                                    tt,
+                                                  ),
+                                                ),
+                                              ),
+                                            ),
+                                          ),
+                                        ),
+                                      ),
+                                    ),
+                                  ),
+                                ),
+                              ),
+                            ),
+                          ),
+                        ),
+                      ),
+                    ),
+                  ),
+                ),
+              ),
+            ),
+          ),
+        ),
+      ),
+    ),
+  )
+
+  mirror_runs : IsRun scene start events (follow (setup true) start turns)
+  mirror_runs = turns_run scene start turns events are_turns

@@ -1,0 +1,76 @@
+-- The same mirror without a rescuer: the first leg waits in the writer's own list while the writer waits for the bio of the second, and the
+-- only bio in reserve is the first leg's. No event can come, though the write is unfinished.
+use Rattle.std.proofs.Common.{◌≡◌, ◌<◌, ◌==◌, if◌then◌else◌, ℕ, zero, suc, [], ◌∷◌, Some, refl, arith, false}
+use Rattle.elem_ledger.specs.Ledger.{LedgerId}
+use Rattle.stack_base.specs.declared.ids.SetId.TheVariants.{Of}
+use Rattle.task_core.specs.declared.event.What.{What}
+use Rattle.task_core.specs.Maps.{upd}
+use Rattle.task_core.specs.Scene.{Scene}
+use Rattle.task_core.specs.Requests.{Reply, Present}
+use Rattle.task_core.specs.Lines.{rests}
+use Rattle.task_core.specs.Tasks.{Writer, Completer, NoBio, Empty, request}
+use Rattle.task_core.specs.Objects.{Objects, Serves}
+use Rattle.task_core.specs.Events.{what_of}
+use Rattle.task_core.specs.Runs.{State, IsRun, HasFree, unfinished}
+use Rattle.task_core.proofs.Turns.{follow, AreTurns, turns_run}
+use Rattle.task_core.proofs.Blocked.{IsBare, bare_waits, idle_waits}
+use Rattle.task_core.proofs.MirrorRun as mirrored
+
+abbrev start : State
+start = record mirrored.start {
+  task = λ place.
+      if place == 0 then Writer 0 (mirrored.todo ∷ []) NoBio rests
+      else if place == 1 then Completer mirrored.a Empty
+      else Completer mirrored.b Empty;
+}
+
+module _ (some : LedgerId) where
+  abbrev scene : Scene
+  scene = record { setup = mirrored.setup false; tasks = 3; books = 1; writes = 1; ledger = mirrored.ledger some }
+
+  abbrev stuck : State
+  stuck = follow (mirrored.setup false) start (mirrored.begun some)
+
+  are_turns : AreTurns scene start (mirrored.begun some) (mirrored.begun_events some)
+  unfolding upd
+  are_turns = (
+    (refl, refl, (Present 0, (refl, refl), refl), refl, (((omega arith, omega arith), refl), refl)),
+    (
+      (refl, refl, tt, refl, ((refl, refl), refl)),
+      (
+        (refl, refl, tt, refl, (((omega arith, omega arith), refl), refl)),
+        (
+          (refl, refl, tt, refl, ((refl, refl), refl)),
+          (
+            (refl, refl, tt, refl, (((omega arith, omega arith), refl), refl)),
+            (
+              (refl, refl, tt, refl, ((refl, refl), refl)),
+              tt,
+            ),
+          ),
+        ),
+      ),
+    ),
+  )
+
+  runs_there : IsRun scene start (mirrored.begun_events some) stuck
+  runs_there = turns_run scene start (mirrored.begun some) (mirrored.begun_events some) are_turns
+
+  one_is_unfinished : unfinished stuck ≡ 1
+  one_is_unfinished = refl
+
+  bare : IsBare (stuck.objects.pool 4)
+  unfolding upd
+  bare = record { spares = refl; refused = refl; used = refl }
+
+  none_at : (place : ℕ) → place < 3 → (reply : Reply) (new : Objects) (what : What)
+      → Serves scene.ledger stuck.objects (request scene.setup (stuck.task place)) reply new
+      → what_of (request scene.setup (stuck.task place)) reply ≡ Some what → ⊥
+  unfolding upd
+  none_at zero here reply new what serves told = bare_waits scene.ledger stuck.objects (Of mirrored.m) bare reply new what serves told
+  none_at (suc zero) here reply new what serves told = idle_waits scene.ledger stuck.objects mirrored.a refl reply new what serves told
+  none_at (suc (suc zero)) here reply new what serves told = idle_waits scene.ledger stuck.objects mirrored.b refl reply new what serves told
+  none_at (suc (suc (suc place))) here reply new what serves told = absurd (omega (arith, here))
+
+  no_event : HasFree scene stuck → ⊥
+  no_event (event, (new, (place, steps)), free) = none_at place steps.here steps.reply new.objects event.what steps.serves steps.told
