@@ -1,0 +1,118 @@
+-- What bios still need at the devices of a stack.
+use Rattle.std.proofs.Common.{◌≡◌, ◌+◌, ◌-◌, ◌<◌, ◌≤◌, ℕ, suc, zero, IsTrue, List, length, Some, inl, inr, refl, sym, ◌∙◌, ap, subst, arith, get_or}
+use Rattle.std.specs.Prelude.{slice_get, sum_by}
+use Rattle.std.specs.List.{range_with_len}
+use Rattle.stack_base.specs.declared.ids.DevId.{DevId}
+use Rattle.stack_base.specs.declared.ids.Range.{Range}
+use Rattle.stack_base.specs.declared.stack.Device.{Device}
+use Rattle.stack_base.specs.declared.stack.Stack.{Stack}
+use Rattle.stack_base.specs.declared.stack.Kind.{Kind}
+use Rattle.stack_base.specs.Stack.{IsStack}
+use Rattle.stack_base.specs.Tree.{Tree, Leaf, Split, Mirrored, size, tree}
+use Rattle.layout_model.specs.Need.{needed}
+use Rattle.layout_model.proofs.RangeSums.{sum_next}
+use Rattle.layout_model.proofs.Begun.{needed_legs}
+use Rattle.bio_records.specs.declared.bio.Bio.{Bio}
+use Rattle.bio_records.specs.declared.bio.Pad.{Pad}
+use Rattle.bio_records.specs.Items.{Item}
+use Rattle.bio_split.specs.Split.{split_rest}
+use Rattle.bio_books.specs.Books.{SlipItem}
+use Rattle.task_core.specs.Scene.{Setup, tree_at, number_of, setup_of}
+use Rattle.task_core.specs.Lines.{Want, ToCut, ToMaster, first_length, landed, legs_of, leg_at}
+use Rattle.block_core.specs.Rooms.{need_at, leg_need}
+use Rattle.block_core.proofs.Moves.{piece}
+use Rattle.block_core.proofs.Geometry.{IsThere, is_cut, number_of_tree, members_at, sizes_at, lands_needs, cuts}
+use Rattle.block_core.proofs.Orders.{AskFits}
+use Rattle.std.proofs.lemmas.List.{length-map}
+use Rattle.std.proofs.lemmas.Option.{slice_get-get_or, slice_get_cases}
+use Rattle.stack_base.specs.Tree.{Shape, Keeps as Keeping_, Cuts, Copies as Copying_, shape_of}
+use Rattle.layout_model.proofs.ByShape.{cuts_is, copies_is, keeps_is, member_is}
+
+-- what is known of needs at the devices of a stack
+pub record Needs (setup : Setup) : Type 0 where
+  pub lands : (bio : Bio) → IsThere setup bio → need_at setup (landed (tree_at setup bio.dev) bio) ≡ need_at setup bio
+  pub cut : (bio hand : Item Pad) (key number : ℕ) (kind : Kind) (sizes : List ℕ) (members : ℕ → Tree) → IsThere setup bio.bio
+      → tree_at setup bio.bio.dev ≡ Split number kind sizes members → IsTrue (is_cut (Split number kind sizes members) bio.bio.range)
+      → need_at setup bio.bio ≡ need_at setup (piece bio hand (first_length kind sizes bio.bio.range) key kind sizes members).bio
+      + (1 + need_at setup (split_rest bio (first_length kind sizes bio.bio.range)).bio)
+  pub leg : (bio : Bio) (hand : Item Pad) (leg key : ℕ) → IsThere setup bio → leg < legs_of (tree_at setup bio.dev)
+      → 1 + need_at setup (leg_at bio hand leg key (tree_at setup bio.dev)).bio ≡ leg_need (tree_at setup bio.dev) bio.range leg
+
+-- each leg has its own node
+one_each : (f : ℕ → ℕ) (a n : ℕ) → sum_by (λ k. 1 + f k) (range_with_len a n) ≡ n + sum_by f (range_with_len a n)
+one_each f a zero = refl
+one_each f a (suc n) = omega (arith, sum_next (λ k. 1 + f k) a n, sum_next f a n, one_each f (a + 1) n)
+
+-- a bio at a mirror needs a master beside its legs
+pub mirror_need : (t : Tree) (range : Range) (dev : ℕ) (slip : SlipItem) → AskFits t range dev (ToMaster slip) → 1 ≤ range.len
+    → 1 + sum_by (leg_need t range) (range_with_len 0 (legs_of t - 0)) ≡ needed t range.start range.len
+mirror_need (Mirrored number sizes members) range dev slip fits some =
+    let f : ℕ → ℕ = λ k. needed (members k) range.start range.len in
+    let all : length sizes - 0 ≡ length sizes = omega arith in
+    let same : sum_by (leg_need (Mirrored number sizes members) range) (range_with_len 0 (length sizes - 0)) ≡ sum_by (λ k. 1 + f k) (range_with_len 0 (length sizes)) =
+    ap (λ n. sum_by (leg_need (Mirrored number sizes members) range) (range_with_len 0 n)) all in
+    omega (arith, same, needed_legs number sizes members range.start range.len some, one_each f 0 (length sizes))
+mirror_need (Leaf number sectors) range dev slip fits some = absurd fits
+mirror_need (Split number kind sizes members) range dev slip fits some = absurd fits
+
+-- a cut needs a node
+pub cut_need : (setup : Setup) → Needs setup → (bio : Item Pad) (want : Want) (t : Tree) → tree_at setup bio.bio.dev ≡ t → IsThere setup bio.bio → AskFits t bio.bio.range bio.bio.dev.0 (ToCut want)
+    → 1 ≤ need_at setup bio.bio
+cut_need setup n bio want (Split number kind sizes members) same is fits = omega (arith, n.cut bio bio 0 number kind sizes members is same fits.0)
+cut_need setup n bio want (Leaf number sectors) same is fits = absurd fits
+cut_need setup n bio want (Mirrored number sizes members) same is fits = absurd fits
+
+-- the first of the legs that are left
+pub legs_on : (t : Tree) (range : Range) (leg : ℕ) → leg < legs_of t
+    → sum_by (leg_need t range) (range_with_len leg (legs_of t - leg)) ≡ leg_need t range leg + sum_by (leg_need t range) (range_with_len (leg + 1) (legs_of t - (leg + 1)))
+legs_on t range leg lt =
+    let one_more : legs_of t - leg ≡ suc (legs_of t - (leg + 1)) = omega arith in
+    ap (λ n. sum_by (leg_need t range) (range_with_len leg n)) one_more ∙ sum_next (leg_need t range) leg (legs_of t - (leg + 1))
+
+-- no more legs are left than they need nodes
+pub legs_few : (t : Tree) (range : Range) (leg : ℕ) → legs_of t - leg ≤ sum_by (leg_need t range) (range_with_len leg (legs_of t - leg))
+legs_few (Mirrored number sizes members) range leg =
+    omega (arith, one_each (λ k. needed (members k) range.start range.len) leg (length sizes - leg))
+legs_few (Leaf number sectors) range leg = omega arith
+legs_few (Split number kind sizes members) range leg = omega arith
+
+module _ (stack : Stack) (good : IsStack stack) (places : ℕ → ℕ) where
+  abbrev setup : Setup
+  setup = setup_of stack places
+
+  LegOf : Bio → Item Pad → ℕ → ℕ → Tree → Type 0
+  LegOf bio hand leg key t = leg < legs_of t → 1 + need_at setup (leg_at bio hand leg key t).bio ≡ leg_need t bio.range leg
+
+  leg_of : (bio : Bio) (hand : Item Pad) (leg key : ℕ) → IsThere setup bio → LegOf bio hand leg key (tree stack bio.dev.0)
+  unfolding LegOf
+  leg_of bio hand leg key is = elim ((slice_get_cases stack.devices.items bio.dev.0).1) [
+    | inl x ↦ by_shape x.0 x.2 (shape_of x.0.kind) refl
+    | inr past ↦ absurd (let h = past.0 in let known = is.device in omega arith)
+  ]
+    where
+      none : (t other : Tree) → t ≡ other → legs_of other ≡ 0 → LegOf bio hand leg key t
+      none t other same zero_legs lt = absurd (let q : legs_of t ≡ 0 = ap legs_of same ∙ zero_legs in omega (arith, lt, q))
+
+      by_shape : (device : Device) → slice_get stack.devices.items bio.dev.0 ≡ Some device → (shape : Shape) → shape_of device.kind ≡ shape → LegOf bio hand leg key (tree stack bio.dev.0)
+      by_shape device found (Keeping_ sectors) e = none (tree stack bio.dev.0) _ (keeps_is stack good bio.dev.0 device found sectors e) refl
+      by_shape device found Cuts e = none (tree stack bio.dev.0) _ (cuts_is stack good bio.dev.0 device found e) refl
+      by_shape device found Copying_ e = subst (LegOf bio hand leg key) (sym (copies_is stack good bio.dev.0 device found e)) here
+        where
+          here : LegOf bio hand leg key (Mirrored bio.dev.0 (sizes_at stack device) (members_at stack bio.dev.0 device))
+          here lt =
+              let items = device.members.items in
+              let few : leg < length items = omega (arith, lt, length-map items (λ (m : DevId). size (tree stack m.0))) in
+              let m : DevId = get_or items leg (record { 0 = 0 }) in
+              let at : slice_get items leg ≡ Some m = slice_get-get_or items leg (record { 0 = 0 }) few in
+              let member : members_at stack bio.dev.0 device leg ≡ tree stack m.0 = member_is stack good bio.dev.0 device found leg m at in
+              let dev : number_of (members_at stack bio.dev.0 device leg) ≡ m.0 = ap number_of member ∙ number_of_tree stack m.0 in
+              let same : tree stack (number_of (members_at stack bio.dev.0 device leg)) ≡ members_at stack bio.dev.0 device leg = ap (tree stack) dev ∙ sym member in
+              ap (λ t. 1 + needed t bio.range.start bio.range.len) same
+
+  pub needs_known : Needs setup
+  unfolding LegOf
+  needs_known = record {
+    lands = λ bio is. lands_needs stack good places bio is;
+    cut = λ bio hand key number kind sizes members is at many. (cuts stack good places bio hand key number kind sizes members is at many).needs_part;
+    leg = λ bio hand leg key is lt. leg_of bio hand leg key is lt;
+  }

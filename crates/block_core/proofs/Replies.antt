@@ -1,0 +1,266 @@
+-- Whatever is answered to a task is an event, or changes nothing.
+use Rattle.std.proofs.Common.{◌≡◌, ◌+◌, ◌<◌, ◌⊎◌, if◌then◌else◌, ℕ, Bool, true, false, List, [], ◌∷◌, Option, None, Some, inl, inr, refl, sym, ◌∙◌, ap, true≢false}
+use Rattle.std.proofs.lemmas.Bool.{eq-eqb}
+use Rattle.elem_ledger.specs.Ledger.{LedgerId}
+use Rattle.stack_base.specs.declared.ids.DevId.{DevId}
+use Rattle.stack_base.specs.PoolId.{pool_number}
+use Rattle.stack_base.specs.declared.ids.PoolId.{PoolId}
+use Rattle.stack_base.specs.declared.ids.PoolId.TheVariants.{FsVecs, Records}
+use Rattle.mempool_core.specs.Move.{PoolState, misses, after_move, missed}
+use Rattle.mempool_core.specs.Position.{uses_entry}
+use Rattle.bio_records.specs.declared.bio.Pad.{Pad}
+use Rattle.bio_records.specs.declared.tasks.TaskLists.{TaskLists}
+use Rattle.bio_records.specs.Items.{Item}
+use Rattle.bioset_pools.specs.Sets.{bios_of}
+use Rattle.bio_books.specs.Books.{VectorItem, SlipItem}
+use Rattle.bio_books.specs.Drops.{Closed}
+use Rattle.bio_books.specs.Drops as end
+use Rattle.bio_books.specs.Links.{Made, NoRoom, Stray}
+use Rattle.task_core.specs.declared.event.What.{What}
+use Rattle.task_core.specs.Maps.{upd}
+use Rattle.task_core.specs.Scene.{Setup, Scene}
+use Rattle.task_core.specs.Lines.{Takes, Punts, Links, ToPush, ToCut, ToRecord, ToMaster, Doing, Rests, Drives, Copies, Breaks, Line, line_request, line_answered}
+use Rattle.task_core.specs.Requests as requests
+use Rattle.task_core.specs.Requests.{Request, Reply}
+use Rattle.task_core.specs.Tasks.{TaskState, Writer, Rescuer, Completer, Keeper, Keeps, Stops, Duty, Resizes, Starts, Todo, Taken, NoBio, HasBio, HasBoth, Empty, Brings, Carries, Fails, request, answered, with_bio, needs_vector, closed_request, look_of}
+use Rattle.task_core.specs.Objects.{Objects, Serves}
+use Rattle.task_core.specs.Events.{what_of, resize_of, id_of}
+use Rattle.task_core.specs.Opened.{scene}
+use Rattle.task_core.specs.Runs.{State, IsLet}
+use Rattle.block_core.specs.Replies.{IsEventOrNothing}
+use Rattle.block_core.proofs.Sums.{upd-same, upd-other, same_or_not}
+use Rattle.block_core.proofs.Ready.{IsReady, not_refused}
+
+-- a request that a task has, and the reserve of a pool changes where nothing of it is out
+abbrev pub IsFair : Objects → Request → Type 0
+IsFair objects (requests.Resize pool min) = (objects.pool (pool_number pool)).facts.out ≡ 0
+IsFair objects requests.LookRound = ⊥
+IsFair objects requests.LookLeft = ⊥
+IsFair objects request = Unit {0}
+
+-- nothing is found: a take that waits missed, or a look found nothing
+abbrev pub IsIdle : Request → Reply → Type 0
+IsIdle (requests.TakeBio set true) (requests.Missed used) = Unit {0}
+IsIdle requests.TakeVec (requests.Missed used) = Unit {0}
+IsIdle (requests.TakeSlip dev) (requests.Missed used) = Unit {0}
+IsIdle (requests.Pop dev) requests.Nothing = Unit {0}
+IsIdle (requests.Complete disk) requests.Nothing = Unit {0}
+IsIdle request reply = ⊥
+
+abbrev IsTold : Request → Reply → Type 0
+IsTold request reply = (what : What) × (what_of request reply ≡ Some what)
+
+-- a miss that used up no entry leaves the pool as it is
+same_pool : (objects new : Objects) (number : ℕ) → false ≡ uses_entry (objects.pool number).script (objects.pool number).facts.pos
+    → new ≡ record objects { pool = upd objects.pool number (after_move (objects.pool number) (misses false)) } → new ≡ objects
+same_pool objects new number none is = is ∙ ap (λ (pools : ℕ → PoolState). record objects { pool = pools }) (λ j k. stays k j)
+  where
+    pool : PoolState
+    pool = objects.pool number
+
+    left : missed pool ≡ pool
+    left = ap (λ (b : Bool). record pool { facts = record pool.facts { pos = if b then pool.facts.pos + 1 else pool.facts.pos } }) (sym none)
+
+    stays : (k : ℕ) → upd objects.pool number (missed pool) k ≡ objects.pool k
+    stays k = elim (same_or_not k number) [
+      | inl e ↦ ap (upd objects.pool number (missed pool)) e ∙ upd-same objects.pool number (missed pool) ∙ left ∙ ap objects.pool (sym e)
+      | inr ne ↦ upd-other objects.pool number (missed pool) k ne
+    ]
+
+module _ (ledger : ℕ → LedgerId) (old new : Objects) where
+  told_or_idle : (request : Request) (reply : Reply) → IsReady old request → IsFair old request → Serves ledger old request reply new
+      → IsTold request reply ⊎ (IsIdle request reply × (new ≡ old))
+  told_or_idle (requests.TakeBio set true) (requests.HadBio got bio) ready fair h = inl (_, refl)
+  told_or_idle (requests.TakeBio set true) (requests.Missed true) ready fair h = inl (_, refl)
+  told_or_idle (requests.TakeBio set true) (requests.Missed false) ready fair h = inr (tt, same_pool old new (pool_number (bios_of set)) h.0.1 h.1)
+  told_or_idle (requests.TakeBio set true) _ ready fair h = absurd h
+  told_or_idle (requests.TakeBio set false) (requests.HadBio got bio) ready fair h = inl (_, refl)
+  told_or_idle (requests.TakeBio set false) (requests.Missed used) ready fair h = inl (_, refl)
+  told_or_idle (requests.TakeBio set false) _ ready fair h = absurd h
+  told_or_idle requests.TakeVec (requests.HadVec got vector) ready fair h = inl (_, refl)
+  told_or_idle requests.TakeVec (requests.Missed true) ready fair h = inl (_, refl)
+  told_or_idle requests.TakeVec (requests.Missed false) ready fair h = inr (tt, same_pool old new (pool_number FsVecs) h.0.1 h.1)
+  told_or_idle requests.TakeVec _ ready fair h = absurd h
+  told_or_idle (requests.TakeSlip dev) (requests.HadSlip got slip) ready fair h = inl (_, refl)
+  told_or_idle (requests.TakeSlip dev) (requests.Missed true) ready fair h = inl (_, refl)
+  told_or_idle (requests.TakeSlip dev) (requests.Missed false) ready fair h = inr (tt, same_pool old new (pool_number (Records dev)) h.0.1 h.1)
+  told_or_idle (requests.TakeSlip dev) _ ready fair h = absurd h
+  told_or_idle (requests.GiveBio bio) requests.Did ready fair h = inl (_, refl)
+  told_or_idle (requests.GiveBio bio) _ ready fair h = absurd h
+  told_or_idle (requests.GiveVec vector) requests.Did ready fair h = inl (_, refl)
+  told_or_idle (requests.GiveVec vector) _ ready fair h = absurd h
+  told_or_idle (requests.GiveSlip slip) requests.Did ready fair h = inl (_, refl)
+  told_or_idle (requests.GiveSlip slip) _ ready fair h = absurd h
+  told_or_idle (requests.Punt dev moved) requests.Did ready fair h = inl (_, refl)
+  told_or_idle (requests.Punt dev moved) _ ready fair h = absurd h
+  told_or_idle (requests.Pop dev) (requests.Popped bio) ready fair h = inl (_, refl)
+  told_or_idle (requests.Pop dev) requests.Nothing ready fair h = inr (tt, h.1)
+  told_or_idle (requests.Pop dev) _ ready fair h = absurd h
+  told_or_idle (requests.Push bio) requests.Did ready fair h = inl (_, refl)
+  told_or_idle (requests.Push bio) _ ready fair h = absurd h
+  told_or_idle (requests.Complete disk) (requests.Completed index bio status) ready fair h = inl (_, refl)
+  told_or_idle (requests.Complete disk) requests.Nothing ready fair h = inr (tt, h.1)
+  told_or_idle (requests.Complete disk) _ ready fair h = absurd h
+  told_or_idle (requests.Link writer opening) (requests.LinkedTo (Made place)) ready fair h = inl (_, refl)
+  told_or_idle (requests.Link writer opening) (requests.LinkedTo (NoRoom back)) ready fair h =
+      absurd (true≢false (not_refused ledger old new (requests.Link writer opening) (requests.LinkedTo (NoRoom back)) ready h))
+  told_or_idle (requests.Link writer opening) (requests.LinkedTo (Stray back)) ready fair h =
+      absurd (true≢false (not_refused ledger old new (requests.Link writer opening) (requests.LinkedTo (Stray back)) ready h))
+  told_or_idle (requests.Link writer opening) _ ready fair h = absurd h
+  told_or_idle (requests.Drop writer node status part) (requests.DroppedTo end.Left) ready fair h = inl (_, refl)
+  told_or_idle (requests.Drop writer node status part) (requests.DroppedTo (end.Up closed)) ready fair h = inl (_, refl)
+  told_or_idle (requests.Drop writer node status part) (requests.DroppedTo (end.Top closed)) ready fair h = inl (_, refl)
+  told_or_idle (requests.Drop writer node status part) (requests.DroppedTo (end.Stray back)) ready fair h =
+      absurd (true≢false (not_refused ledger old new (requests.Drop writer node status part) (requests.DroppedTo (end.Stray back)) ready h))
+  told_or_idle (requests.Drop writer node status part) _ ready fair h = absurd h
+  told_or_idle (requests.Done write status) requests.Did ready fair h = inl (_, refl)
+  told_or_idle (requests.Done write status) _ ready fair h = absurd h
+  told_or_idle (requests.Resize pool min) (requests.OutIs out) ready fair h =
+      let none : out ≡ 0 = h.0 ∙ fair in
+      inl (_, ap (λ b. resize_of b pool min) (eq-eqb out 0 none))
+  told_or_idle (requests.Resize pool min) _ ready fair h = absurd h
+  told_or_idle (requests.NextRound round) requests.Did ready fair h = inl (_, refl)
+  told_or_idle (requests.NextRound round) _ ready fair h = absurd h
+  told_or_idle requests.LookRound reply ready fair h = absurd fair
+  told_or_idle requests.LookLeft reply ready fair h = absurd fair
+  told_or_idle requests.Rest reply ready fair h = absurd h
+
+-- a task that found nothing stays as it is
+module _ (setup : Setup) where
+  line_stays : (doing : Doing) (lists : TaskLists) (reply : Reply) → IsIdle (line_request setup doing lists) reply
+      → line_answered setup doing lists reply ≡ record { doing = doing; lists = lists }
+  line_stays Rests lists reply idle = absurd idle
+  line_stays (Breaks breach) lists reply idle = absurd idle
+  line_stays (Drives bio ToPush) lists reply idle = absurd idle
+  line_stays (Drives bio (ToCut (Takes true))) lists (requests.Missed used) idle = refl
+  line_stays (Drives bio (ToCut (Takes true))) lists _ idle = absurd idle
+  line_stays (Drives bio (ToCut (Takes false))) lists (requests.Missed used) idle = absurd idle
+  line_stays (Drives bio (ToCut (Takes false))) lists _ idle = absurd idle
+  line_stays (Drives bio (ToCut Punts)) lists reply idle = absurd idle
+  line_stays (Drives bio (ToCut (Links hand))) lists reply idle = absurd idle
+  line_stays (Drives bio ToRecord) lists (requests.Missed used) idle = refl
+  line_stays (Drives bio ToRecord) lists _ idle = absurd idle
+  line_stays (Drives bio (ToMaster slip)) lists reply idle = absurd idle
+  line_stays (Copies bio master leg (Takes true)) lists (requests.Missed used) idle = refl
+  line_stays (Copies bio master leg (Takes true)) lists _ idle = absurd idle
+  line_stays (Copies bio master leg (Takes false)) lists (requests.Missed used) idle = absurd idle
+  line_stays (Copies bio master leg (Takes false)) lists _ idle = absurd idle
+  line_stays (Copies bio master leg Punts) lists reply idle = absurd idle
+  line_stays (Copies bio master leg (Links hand)) lists reply idle = absurd idle
+
+  bio_stays : (b : Bool) (number : ℕ) (todo : Todo) (later : List Todo) (bio : Item Pad) (line : Line) (reply : Reply) → line.doing ≡ Rests → IsIdle (with_bio number b todo) reply
+      → answered setup (Writer number (todo ∷ later) (HasBio bio) (record line { doing = Rests })) reply ≡ Writer number (todo ∷ later) (HasBio bio) (record line { doing = Rests })
+  bio_stays true number todo later bio line (requests.Missed used) rests idle = refl
+  bio_stays true number todo later bio line _ rests idle = absurd idle
+  bio_stays false number todo later bio line reply rests idle = absurd idle
+
+  writer_stays : (number : ℕ) (todos : List Todo) (taken : Taken) (doing : Doing) (lists : TaskLists) (reply : Reply)
+      → IsIdle (request setup (Writer number todos taken (record { doing = doing; lists = lists }))) reply
+      → answered setup (Writer number todos taken (record { doing = doing; lists = lists })) reply ≡ Writer number todos taken (record { doing = doing; lists = lists })
+  writer_stays number [] taken Rests lists reply idle = absurd idle
+  writer_stays number (todo ∷ later) NoBio Rests lists (requests.Missed used) idle = refl
+  writer_stays number (todo ∷ later) NoBio Rests lists _ idle = absurd idle
+  writer_stays number (todo ∷ later) (HasBio bio) Rests lists reply idle =
+      bio_stays (needs_vector todo.write) number todo later bio (record { doing = Rests; lists = lists }) reply refl idle
+  writer_stays number (todo ∷ later) (HasBoth bio vector) Rests lists reply idle = absurd idle
+  writer_stays number todos taken (Drives bio ask) lists reply idle = ap (Writer number todos taken) (line_stays (Drives bio ask) lists reply idle)
+  writer_stays number todos taken (Copies bio master leg want) lists reply idle = ap (Writer number todos taken) (line_stays (Copies bio master leg want) lists reply idle)
+  writer_stays number todos taken (Breaks breach) lists reply idle = absurd idle
+
+  rescuer_stays : (dev : DevId) (doing : Doing) (lists : TaskLists) (reply : Reply) → IsIdle (request setup (Rescuer dev (record { doing = doing; lists = lists }))) reply
+      → answered setup (Rescuer dev (record { doing = doing; lists = lists })) reply ≡ Rescuer dev (record { doing = doing; lists = lists })
+  rescuer_stays dev Rests lists requests.Nothing idle = refl
+  rescuer_stays dev Rests lists _ idle = absurd idle
+  rescuer_stays dev (Drives bio ask) lists reply idle = ap (Rescuer dev) (line_stays (Drives bio ask) lists reply idle)
+  rescuer_stays dev (Copies bio master leg want) lists reply idle = ap (Rescuer dev) (line_stays (Copies bio master leg want) lists reply idle)
+  rescuer_stays dev (Breaks breach) lists reply idle = absurd idle
+
+  held_moves : (writer : ℕ) (closed : Closed) (vector : Option VectorItem) (bio : Option (Item Pad)) (slip : Option SlipItem) (parent : Option ℕ) (reply : Reply)
+      → IsIdle (closed_request writer closed vector bio slip parent) reply → ⊥
+  held_moves writer closed (Some vector) bio slip parent reply idle = idle
+  held_moves writer closed None (Some bio) slip parent reply idle = idle
+  held_moves writer closed None None (Some slip) parent reply idle = idle
+  held_moves writer closed None None None (Some parent) reply idle = idle
+  held_moves writer closed None None None None reply idle = idle
+
+  task_stays : (x : TaskState) (reply : Reply) → IsIdle (request setup x) reply → answered setup x reply ≡ x
+  task_stays (Writer number todos taken line) reply idle = writer_stays number todos taken line.doing line.lists reply idle
+  task_stays (Rescuer dev line) reply idle = rescuer_stays dev line.doing line.lists reply idle
+  task_stays (Completer disk Empty) requests.Nothing idle = refl
+  task_stays (Completer disk Empty) _ idle = absurd idle
+  task_stays (Completer disk (Brings bio status)) reply idle = absurd idle
+  task_stays (Completer disk (Carries writer closed)) reply idle =
+      absurd (held_moves writer closed closed.held.vector closed.held.bio closed.held.slip closed.parent reply idle)
+  task_stays (Completer disk (Fails breach)) reply idle = absurd idle
+  task_stays (Keeper (Keeps [])) reply idle = absurd idle
+  task_stays (Keeper (Keeps (Resizes pool min later ∷ duties))) reply idle = absurd idle
+  task_stays (Keeper (Keeps (Starts round later ∷ duties))) reply idle = absurd idle
+  task_stays (Keeper (Stops breach)) reply idle = absurd idle
+
+  -- what a task asks for is fair
+  fair_line : (objects : Objects) (doing : Doing) (lists : TaskLists) → IsFair objects (line_request setup doing lists)
+  fair_line objects Rests lists = tt
+  fair_line objects (Breaks breach) lists = tt
+  fair_line objects (Drives bio ToPush) lists = tt
+  fair_line objects (Drives bio (ToCut (Takes waits))) lists = tt
+  fair_line objects (Drives bio (ToCut Punts)) lists = tt
+  fair_line objects (Drives bio (ToCut (Links hand))) lists = tt
+  fair_line objects (Drives bio ToRecord) lists = tt
+  fair_line objects (Drives bio (ToMaster slip)) lists = tt
+  fair_line objects (Copies bio master leg (Takes waits)) lists = tt
+  fair_line objects (Copies bio master leg Punts) lists = tt
+  fair_line objects (Copies bio master leg (Links hand)) lists = tt
+
+  fair_bio : (objects : Objects) (b : Bool) (number : ℕ) (todo : Todo) → IsFair objects (with_bio number b todo)
+  fair_bio objects true number todo = tt
+  fair_bio objects false number todo = tt
+
+  fair_writer : (objects : Objects) (number : ℕ) (todos : List Todo) (taken : Taken) (doing : Doing) (lists : TaskLists)
+      → IsFair objects (request setup (Writer number todos taken (record { doing = doing; lists = lists })))
+  fair_writer objects number [] taken Rests lists = tt
+  fair_writer objects number (todo ∷ later) NoBio Rests lists = tt
+  fair_writer objects number (todo ∷ later) (HasBio bio) Rests lists = fair_bio objects (needs_vector todo.write) number todo
+  fair_writer objects number (todo ∷ later) (HasBoth bio vector) Rests lists = tt
+  fair_writer objects number todos taken (Drives bio ask) lists = fair_line objects (Drives bio ask) lists
+  fair_writer objects number todos taken (Copies bio master leg want) lists = fair_line objects (Copies bio master leg want) lists
+  fair_writer objects number todos taken (Breaks breach) lists = tt
+
+  fair_rescuer : (objects : Objects) (dev : DevId) (doing : Doing) (lists : TaskLists) → IsFair objects (request setup (Rescuer dev (record { doing = doing; lists = lists })))
+  fair_rescuer objects dev Rests lists = tt
+  fair_rescuer objects dev (Drives bio ask) lists = fair_line objects (Drives bio ask) lists
+  fair_rescuer objects dev (Copies bio master leg want) lists = fair_line objects (Copies bio master leg want) lists
+  fair_rescuer objects dev (Breaks breach) lists = tt
+
+  fair_held : (objects : Objects) (writer : ℕ) (closed : Closed) (vector : Option VectorItem) (bio : Option (Item Pad)) (slip : Option SlipItem) (parent : Option ℕ)
+      → IsFair objects (closed_request writer closed vector bio slip parent)
+  fair_held objects writer closed (Some vector) bio slip parent = tt
+  fair_held objects writer closed None (Some bio) slip parent = tt
+  fair_held objects writer closed None None (Some slip) parent = tt
+  fair_held objects writer closed None None None (Some parent) = tt
+  fair_held objects writer closed None None None None = tt
+
+  fair_task : (objects : Objects) (x : TaskState) → ((pool : PoolId) (min later : ℕ) (duties : List Duty) → x ≡ Keeper (Keeps (Resizes pool min later ∷ duties))
+      → (objects.pool (pool_number pool)).facts.out ≡ 0) → IsFair objects (request setup x)
+  fair_task objects (Writer number todos taken line) home = fair_writer objects number todos taken line.doing line.lists
+  fair_task objects (Rescuer dev line) home = fair_rescuer objects dev line.doing line.lists
+  fair_task objects (Completer disk Empty) home = tt
+  fair_task objects (Completer disk (Brings bio status)) home = tt
+  fair_task objects (Completer disk (Carries writer closed)) home = fair_held objects writer closed closed.held.vector closed.held.bio closed.held.slip closed.parent
+  fair_task objects (Completer disk (Fails breach)) home = tt
+  fair_task objects (Keeper (Keeps [])) home = tt
+  fair_task objects (Keeper (Keeps (Resizes pool min later ∷ duties))) home = home pool min later duties refl
+  fair_task objects (Keeper (Keeps (Starts round later ∷ duties))) home = tt
+  fair_task objects (Keeper (Stops breach)) home = tt
+
+pub event_or_nothing : (scene : Scene) (s : State) (place : ℕ) → place < scene.tasks → IsLet scene.ledger s.objects (s.task place) (look_of (s.task place))
+    → IsReady s.objects (request scene.setup (s.task place))
+    → ((pool : PoolId) (min later : ℕ) (duties : List Duty) → s.task place ≡ Keeper (Keeps (Resizes pool min later ∷ duties)) → (s.objects.pool (pool_number pool)).facts.out ≡ 0)
+    → (reply : Reply) (new : Objects) → Serves scene.ledger s.objects (request scene.setup (s.task place)) reply new → IsEventOrNothing scene s place reply new
+event_or_nothing scene s place here see ready home reply new serves =
+    elim (told_or_idle scene.ledger s.objects new (request scene.setup (s.task place)) reply ready (fair_task scene.setup s.objects (s.task place) home) serves) [
+      | inl told ↦ inl (
+        record { task = id_of (s.task place); what = told.0 },
+        record { here = here; by = refl; is_let = see; reply = reply; told = told.1; serves = serves; goes_on = refl },
+      )
+      | inr idle ↦ inr (idle.1, task_stays scene.setup (s.task place) reply idle.0)
+    ]

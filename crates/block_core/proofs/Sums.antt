@@ -1,0 +1,128 @@
+-- Sums over maps and books when one place changes.
+use Rattle.std.proofs.Common.{◌≡◌, ◌≢◌, ◌+◌, ◌*◌, ◌<◌, ◌≤◌, ◌⊎◌, ℕ, zero, suc, length, Option, None, Some, inl, inr, refl, sym, ◌∙◌, ap, subst, arith}
+use Rattle.std.proofs.lemmas.Bool.{eq-eqb, ne_eqb}
+use Rattle.std.proofs.lemmas.List.{length-set, get_or-set_same, get_or-set_other, get_or_past}
+use Rattle.bio_books.specs.Books.{Node, BookState, node_at, with_node}
+use Rattle.task_core.specs.Maps.{upd}
+use Rattle.block_core.specs.Weights.{Weight, sum_at, one, weigh_option, book_weight}
+
+pub upd-same : {X : Type 0} (f : ℕ → X) (i : ℕ) (v : X) → upd f i v i ≡ v
+unfolding upd
+upd-same f i v = rw (eq-eqb i i refl)
+
+pub upd-other : {X : Type 0} (f : ℕ → X) (i : ℕ) (v : X) (j : ℕ) → j ≢ i → upd f i v j ≡ f j
+unfolding upd
+upd-other f i v j ne = rw (ne_eqb j i ne)
+
+pub one-same : (i : ℕ) → one i i ≡ 1
+unfolding one
+one-same i = rw (eq-eqb i i refl)
+
+pub one-other : (i j : ℕ) → i ≢ j → one i j ≡ 0
+unfolding one
+one-other i j ne = rw (ne_eqb i j ne)
+
+pub same_or_not : (i j : ℕ) → (i ≡ j) ⊎ (i ≢ j)
+same_or_not i j = grind arith
+
+pub weight-upd : {X : Type 0} (w : X → ℕ) (f : ℕ → X) (i : ℕ) (v : X) (k : ℕ) → w (upd f i v k) + one i k * w (f i) ≡ w (f k) + one i k * w v
+weight-upd {X} w f i v k =
+    elim (same_or_not i k) [
+      | inl e ↦
+          let P : ℕ → Type 0 = λ j. w (upd f i v j) + one i j * w (f i) ≡ w (f j) + one i j * w v in
+          let a : w (upd f i v i) ≡ w v = ap w (upd-same f i v) in
+          let b : one i i ≡ 1 = one-same i in
+          let here : P i = rw (a, b) (omega arith) in
+          subst P e here
+      | inr ne ↦
+          let a : w (upd f i v k) ≡ w (f k) = ap w (upd-other f i v k (λ e. ne (sym e))) in
+          let b : one i k ≡ 0 = one-other i k ne in
+          rw (a, b) (omega arith)
+    ]
+
+pub sum_at-other : {X : Type 0} (w : ℕ → X → ℕ) (n : ℕ) (f : ℕ → X) (i : ℕ) (v : X) → n ≤ i → sum_at w n (upd f i v) ≡ sum_at w n f
+unfolding sum_at
+sum_at-other w zero f i v h = refl
+sum_at-other w (suc n) f i v h =
+    let a : w n (upd f i v n) ≡ w n (f n) = ap (w n) (upd-other f i v n (omega arith)) in
+    let b = sum_at-other w n f i v (omega arith) in
+    cc
+
+pub sum_at-upd : {X : Type 0} (w : ℕ → X → ℕ) (n : ℕ) (f : ℕ → X) (i : ℕ) (v : X) → i < n → sum_at w n (upd f i v) + w i (f i) ≡ sum_at w n f + w i v
+unfolding sum_at
+sum_at-upd w zero f i v h = absurd (omega arith)
+sum_at-upd w (suc n) f i v h =
+    elim (same_or_not i n) [
+      | inl e ↦
+          let P : ℕ → Type 0 = λ j. w j (upd f i v j) ≡ w i v in
+          let a : P n = subst P e (ap (w i) (upd-same f i v)) in
+          let c : w i (f i) ≡ w n (f n) = ap (λ j. w j (f j)) e in
+          let b : sum_at w n (upd f i v) ≡ sum_at w n f = sum_at-other w n f i v (omega arith) in
+          omega arith
+      | inr ne ↦
+          let a : w n (upd f i v n) ≡ w n (f n) = ap (w n) (upd-other f i v n (λ e. ne (sym e))) in
+          let b : sum_at w n (upd f i v) + w i (f i) ≡ sum_at w n f + w i v = sum_at-upd w n f i v (omega arith) in
+          omega arith
+    ]
+
+-- a node that is open stands in the list
+pub within_book : (book : BookState) (place : ℕ) (node : Node) → node_at book place ≡ Some node → place < length book.nodes
+within_book book place node e =
+    elim (below_or place (length book.nodes)) [
+      | inl lt ↦ lt
+      | inr ge ↦ let p : node_at book place ≡ None = get_or_past book.nodes place None ge in absurd (let g : None ≡ Some node = sym p ∙ e in cc)
+    ]
+  where
+    below_or : (i j : ℕ) → (i < j) ⊎ (j ≤ i)
+    below_or i j = grind arith
+
+-- a book with another node is the map with another place
+pub with_node_is : (book : BookState) (place : ℕ) (v : Option Node) → place < length book.nodes → (k : ℕ) → node_at (with_node book place v) k ≡ upd (node_at book) place v k
+with_node_is book place v lt k = elim (same_or_not k place) [
+  | inl e ↦
+      let Q : ℕ → Type 0 = λ x. node_at (with_node book place v) x ≡ upd (node_at book) place v x in
+      subst Q (sym e) (get_or-set_same book.nodes place v None lt ∙ sym (upd-same (node_at book) place v))
+  | inr ne ↦ get_or-set_other book.nodes place k v None ne ∙ sym (upd-other (node_at book) place v k ne)
+]
+
+-- the nodes of a book, one of them another
+pub book_upd : (w : Weight) (writer : ℕ) (book : BookState) (place : ℕ) (v : Option Node) → place < length book.nodes
+    → book_weight w writer (with_node book place v) + weigh_option (w.node writer place) (node_at book place) ≡ book_weight w writer book + weigh_option (w.node writer place) v
+book_upd w writer book place v lt =
+    let g : ℕ → Option Node → ℕ = λ place. weigh_option (w.node writer place) in
+    let same : length (with_node book place v).nodes ≡ length book.nodes = length-set book.nodes place v in
+    let f : node_at (with_node book place v) ≡ upd (node_at book) place v = λ j k. with_node_is book place v lt k j in
+    let a : book_weight w writer (with_node book place v) ≡ sum_at g (length book.nodes) (upd (node_at book) place v) =
+    ap (λ n. sum_at g n (node_at (with_node book place v))) same ∙ ap (sum_at g (length book.nodes)) f in
+    omega (arith, a, sum_at-upd g (length book.nodes) (node_at book) place v lt)
+
+-- what stands at a place once one place of one book is another
+pub node_upd : (g : Option Node → ℕ) (f : ℕ → BookState) (writer place : ℕ) (v : Option Node) (w k : ℕ) → place < length (f writer).nodes
+    → g (node_at (upd f writer (with_node (f writer) place v) w) k) + one writer w * one place k * g (node_at (f writer) place)
+    ≡ g (node_at (f w) k) + one writer w * one place k * g v
+node_upd g f writer place v w k lt =
+    elim (same_or_not writer w) [
+      | inr ne ↦
+          let a : upd f writer (with_node (f writer) place v) w ≡ f w = upd-other f writer (with_node (f writer) place v) w (λ e. ne (sym e)) in
+          let b : one writer w ≡ 0 = one-other writer w ne in
+          rw (a, b) (omega arith)
+      | inl e ↦
+          let P : ℕ → Type 0 = λ x. g (node_at (upd f writer (with_node (f writer) place v) x) k) + one writer x * one place k * g (node_at (f writer) place)
+          ≡ g (node_at (f x) k) + one writer x * one place k * g v in
+          subst P e (here (same_or_not place k))
+    ]
+  where
+    here : (place ≡ k) ⊎ (place ≢ k)
+        → g (node_at (upd f writer (with_node (f writer) place v) writer) k) + one writer writer * one place k * g (node_at (f writer) place)
+        ≡ g (node_at (f writer) k) + one writer writer * one place k * g v
+    here (inl e) =
+        let Q : ℕ → Type 0 = λ x. g (node_at (upd f writer (with_node (f writer) place v) writer) x) + one writer writer * one place x * g (node_at (f writer) place)
+        ≡ g (node_at (f writer) x) + one writer writer * one place x * g v in
+        let a : upd f writer (with_node (f writer) place v) writer ≡ with_node (f writer) place v = upd-same f writer (with_node (f writer) place v) in
+        let c : node_at (with_node (f writer) place v) place ≡ v = get_or-set_same (f writer).nodes place v None lt in
+        subst Q e (rw (a, c, one-same writer, one-same place) (omega arith))
+    here (inr ne) =
+        let a : upd f writer (with_node (f writer) place v) writer ≡ with_node (f writer) place v = upd-same f writer (with_node (f writer) place v) in
+        let c : node_at (with_node (f writer) place v) k ≡ node_at (f writer) k = get_or-set_other (f writer).nodes place k v None (λ q. ne (sym q)) in
+        let z : one place k ≡ 0 = one-other place k ne in
+        rw (a, c, z) (omega arith)

@@ -1,0 +1,6 @@
+use Rattle.block_core.proofs.Roomy.{books_have_room}
+use Rattle.block_core.proofs.laws.books_have_room.Goals as goal
+
+-- src/laws.rt
+pub returns : goal.returns
+returns c = books_have_room

@@ -1,0 +1,6 @@
+use Rattle.block_core.proofs.Wholes.{none_waits_for_itself}
+use Rattle.block_core.proofs.laws.none_waits_for_itself.Goals as goal
+
+-- src/laws.rt
+pub returns : goal.returns
+returns c = none_waits_for_itself

@@ -1,0 +1,34 @@
+-- How many events a run can have.
+use Rattle.std.specs.Prelude.{◌+◌, ◌-◌, ◌*◌, ◌≤◌, ℕ, List, length, sum_by}
+use Rattle.elem_ledger.specs.Ledger.{LedgerId}
+use Rattle.fail_script.specs.Script.{Answers, entries_of}
+use Rattle.stack_base.specs.declared.ids.PoolId.{PoolId}
+use Rattle.layout_model.specs.Bound.{all_elements, all_parts}
+use Rattle.task_core.specs.declared.event.Event.{Event}
+use Rattle.task_core.specs.Opened.{Scenario, round_count, scene, start}
+use Rattle.task_core.specs.Runs.{State, IsRun}
+use Rattle.block_core.specs.Charges.{rank}
+use Rattle.block_core.specs.Sound.{IsScenario, IsNaming}
+
+-- the entries of scripts, the rounds behind the first, and the changes of reserves
+abbrev pub waits : Scenario → ℕ
+waits s = sum_by (λ (script : PoolId × Answers). entries_of script.1) s.scripts + (round_count s - 1) + length s.changes
+
+-- what no run exceeds: eight events an element, two a fragment, and one an entry of a script, a round behind the first and a change of a
+-- reserve
+abbrev pub most_steps : Scenario → ℕ
+most_steps s = 8 * all_elements s.stack s.writes + 2 * all_parts s.stack s.writes + waits s
+
+-- nor does the rank of the state in which runs begin
+abbrev pub OpenedRankIsBounded : Type 0
+OpenedRankIsBounded = (s : Scenario) (ledger : ℕ → LedgerId) → IsScenario s → IsNaming ledger → rank (scene s ledger) (start s) ≤ most_steps s
+
+-- no run of any scenario has more events
+abbrev pub RunsAreBounded : Type 0
+RunsAreBounded = (s : Scenario) (ledger : ℕ → LedgerId) (events : List Event) (state : State) → IsScenario s → IsNaming ledger
+    → IsRun (scene s ledger) (start s) events state → length events ≤ most_steps s
+
+-- nor more elements of any pool out
+abbrev pub OutsAreBounded : Type 0
+OutsAreBounded = (s : Scenario) (ledger : ℕ → LedgerId) (events : List Event) (state : State) → IsScenario s → IsNaming ledger
+    → IsRun (scene s ledger) (start s) events state → (number : ℕ) → (state.objects.pool number).facts.out ≤ most_steps s

@@ -1,0 +1,150 @@
+-- The fragments that a run has completed, and those that are still to come.
+use Rattle.std.specs.Prelude.{◌≡◌, ◌+◌, ◌<◌, ◌≤◌, ◌==◌, ◌&&◌, if◌then◌else◌, ℕ, Bool, List, [], ◌∷◌, ◌++◌, sum_by, Contains}
+use Rattle.std.specs.List.{range_with_len, flat_map}
+use Rattle.elem_ledger.specs.Ledger.{LedgerId}
+use Rattle.stack_base.specs.Tree.{Tree, Leaf, Split, Mirrored, tree}
+use Rattle.layout_model.specs.declared.fragment.Fragment.{Fragment}
+use Rattle.layout_model.specs.Fragments.{IsFragmentOf}
+use Rattle.layout_model.specs.Plan.{plan, leaves}
+use Rattle.bio_records.specs.declared.bio.Bio.{Bio}
+use Rattle.bio_records.specs.declared.bio.Pad.{Pad}
+use Rattle.bio_records.specs.Items.{Item}
+use Rattle.bio_records.specs.Runs.{place_number}
+use Rattle.task_core.specs.declared.event.Event.{Event}
+use Rattle.task_core.specs.Scene.{Setup, Scene, tree_at}
+use Rattle.task_core.specs.Requests.{Reply, Completed}
+use Rattle.task_core.specs.Lines.{rests}
+use Rattle.task_core.specs.Tasks.{Todo, TaskState, Writer, Rescuer, Completer, Keeper}
+use Rattle.task_core.specs.Opened.{Scenario, scene, start, setup, todos}
+use Rattle.task_core.specs.Runs.{State, IsRun, HasEnded}
+use Rattle.block_core.specs.Weights.{Weight, Spot, Lined, Rescued, Pending, Brought, total, legs_left}
+use Rattle.block_core.specs.Sound.{IsScenario, IsNaming}
+
+-- the place of a bio's first sector in its write
+abbrev pub offset_of : Bio → ℕ
+offset_of bio = place_number bio.at
+
+-- the fragment that a bio at a disk is
+abbrev pub fragment_of : Bio → Fragment
+fragment_of bio = record { write = bio.write; offset = offset_of bio; len = bio.range.len; disk = bio.dev; at = bio.range.start }
+
+-- the fragments that a bio comes to from its device on
+abbrev pub fragments_of : Setup → Bio → List Fragment
+fragments_of setup bio = leaves (plan (tree_at setup bio.dev) bio.write (offset_of bio) bio.range.start bio.range.len)
+
+-- those of one leg of a bio that a mirror copies
+abbrev pub leg_fragments : Tree → Bio → ℕ → List Fragment
+leg_fragments (Leaf number sectors) bio leg = []
+leg_fragments (Split number kind sizes members) bio leg = []
+leg_fragments (Mirrored number sizes members) bio leg = leaves (plan (members leg) bio.write (offset_of bio) bio.range.start bio.range.len)
+
+-- those of a write
+abbrev pub todo_fragments : Setup → Todo → List Fragment
+todo_fragments setup todo = leaves (plan (tree_at setup todo.write.dev) todo.number 0 todo.write.start todo.write.count)
+
+-- What is still to come, where each fragment counts as `value` says: all of a bio in a line or in a rescue list, the one that a pending bio
+-- is, all of the legs that are still to be made, and all of the writes that are still to begin. A bio that its disk is done with has none.
+abbrev pub bio_comes : Setup → (Fragment → ℕ) → Spot → Item Pad → ℕ
+bio_comes setup value (Lined limit) item = sum_by value (fragments_of setup item.bio)
+bio_comes setup value Rescued item = sum_by value (fragments_of setup item.bio)
+bio_comes setup value Pending item = value (fragment_of item.bio)
+bio_comes setup value Brought item = 0
+
+abbrev pub legs_come : Setup → (Fragment → ℕ) → Bio → ℕ → ℕ
+legs_come setup value bio leg = sum_by (λ k. sum_by value (leg_fragments (tree_at setup bio.dev) bio k)) (range_with_len leg (legs_left setup bio leg))
+
+abbrev pub to_come : Setup → (Fragment → ℕ) → Weight
+to_come setup value = record {
+  todo = λ writer todos taken. sum_by (λ todo. sum_by value (todo_fragments setup todo)) todos;
+  bio = bio_comes setup value;
+  copy = λ bio master leg. legs_come setup value bio leg;
+  hand = λ bio. 0;
+  vector = λ vector. 0;
+  slip = λ slip. 0;
+  node = λ writer place node. 0;
+  closed = λ task writer closed. 0;
+}
+
+-- the fragment of which a disk replies that it is done
+abbrev pub completed_by : Reply → List Fragment
+completed_by (Completed index bio status) = fragment_of bio.bio ∷ []
+completed_by reply = []
+
+-- the fragments that a run completes, in their order
+abbrev pub completed : (scene : Scene) (old : State) (events : List Event) (new : State) → IsRun scene old events new → List Fragment
+completed scene old [] new run = []
+completed scene old (event ∷ events) new (next, (place, steps), run) = completed_by steps.reply ++ completed scene next events new run
+
+-- the fragments of all writes of a scenario
+abbrev pub planned : Scenario → List Fragment
+planned s = flat_map (todo_fragments (setup s)) (todos s)
+
+-- However fragments count, what a run has completed and what is still to come are together what was planned.
+abbrev pub FragmentsAddUp : Type 0
+FragmentsAddUp = (s : Scenario) (ledger : ℕ → LedgerId) (events : List Event) (state : State) → IsScenario s → IsNaming ledger
+    → (run : IsRun (scene s ledger) (start s) events state) (value : Fragment → ℕ)
+    → sum_by value (completed (scene s ledger) (start s) events state run) + total (scene s ledger) (to_come (setup s) value) state
+    ≡ sum_by value (planned s)
+
+-- how often a fragment is among these
+abbrev pub is_same : Fragment → Fragment → Bool
+is_same f g = f.write == g.write && f.offset == g.offset && f.len == g.len && f.disk.0 == g.disk.0 && f.at == g.at
+
+abbrev pub is_it : Fragment → Fragment → ℕ
+is_it f g = if is_same f g then 1 else 0
+
+abbrev pub times : Fragment → List Fragment → ℕ
+times f fragments = sum_by (is_it f) fragments
+
+-- a fragment of one of the scenario's writes, as the layout has it
+abbrev pub IsOfScenario : Scenario → Fragment → Type 0
+IsOfScenario s f = (todo : Todo) × Contains (todos s) todo × IsFragmentOf (tree s.stack todo.write.dev.0) todo.number 0 todo.write.start todo.write.count f
+
+-- no run completes a fragment twice, nor one that no write has
+abbrev pub NoneIsCompletedTwice : Type 0
+NoneIsCompletedTwice = (s : Scenario) (ledger : ℕ → LedgerId) (events : List Event) (state : State) → IsScenario s → IsNaming ledger
+    → (run : IsRun (scene s ledger) (start s) events state) (f : Fragment) → times f (completed (scene s ledger) (start s) events state run) ≤ 1
+
+abbrev pub NoOtherIsCompleted : Type 0
+NoOtherIsCompleted = (s : Scenario) (ledger : ℕ → LedgerId) (events : List Event) (state : State) → IsScenario s → IsNaming ledger
+    → (run : IsRun (scene s ledger) (start s) events state) (f : Fragment)
+    → 0 < times f (completed (scene s ledger) (start s) events state run) → IsOfScenario s f
+
+-- a task with nothing to submit, and no bio in any list or disk
+abbrev pub HasNone : TaskState → Type 0
+HasNone (Writer number todos taken line) = (todos ≡ []) × (line ≡ rests)
+HasNone (Rescuer dev line) = line ≡ rests
+HasNone (Completer disk carried) = Unit {0}
+HasNone (Keeper keeping) = Unit {0}
+
+pub record NothingComes (scene : Scene) (state : State) : Type 0 where
+  pub tasks : (place : ℕ) → place < scene.tasks → HasNone (state.task place)
+  pub rescued : (dev : ℕ) → dev < scene.setup.count → state.objects.rescue dev ≡ []
+  pub pending : (dev : ℕ) → dev < scene.setup.count → (state.objects.disk dev).pending ≡ []
+
+-- and where nothing is left to come, each fragment of each write was completed exactly once
+abbrev pub EachIsCompletedOnce : Type 0
+EachIsCompletedOnce = (s : Scenario) (ledger : ℕ → LedgerId) (events : List Event) (state : State) → IsScenario s → IsNaming ledger
+    → (run : IsRun (scene s ledger) (start s) events state) → NothingComes (scene s ledger) state → (f : Fragment) → IsOfScenario s f
+    → times f (completed (scene s ledger) (start s) events state run) ≡ 1
+
+-- no element is out of any pool, and no writer has a write that is still to begin
+abbrev pub HasBegun : TaskState → Type 0
+HasBegun (Writer number todos taken line) = todos ≡ []
+HasBegun (Rescuer dev line) = Unit {0}
+HasBegun (Completer disk carried) = Unit {0}
+HasBegun (Keeper keeping) = Unit {0}
+
+pub record AllIsHome (scene : Scene) (state : State) : Type 0 where
+  pub pools : (number : ℕ) → (state.objects.pool number).facts.out ≡ 0
+  pub tasks : (place : ℕ) → place < scene.tasks → HasBegun (state.task place)
+
+-- then nothing is left to come
+abbrev pub NothingComesWhereAllIsHome : Type 0
+NothingComesWhereAllIsHome = (s : Scenario) (ledger : ℕ → LedgerId) (events : List Event) (state : State) → IsScenario s → IsNaming ledger
+    → IsRun (scene s ledger) (start s) events state → AllIsHome (scene s ledger) state → NothingComes (scene s ledger) state
+
+-- as it is where a run has ended
+abbrev pub NothingComesWhereEnded : Type 0
+NothingComesWhereEnded = (s : Scenario) (ledger : ℕ → LedgerId) (events : List Event) (state : State) → IsScenario s → IsNaming ledger
+    → IsRun (scene s ledger) (start s) events state → HasEnded state → AllIsHome (scene s ledger) state × NothingComes (scene s ledger) state

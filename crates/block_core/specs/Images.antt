@@ -1,0 +1,93 @@
+-- What disks hold after the fragments that a run has completed.
+use Rattle.std.specs.Prelude.{◌≡◌, ◌+◌, ◌-◌, ◌<◌, ◌≤◌, ◌==◌, ◌&&◌, if◌then◌else◌, nat_le, nat_lt, ℕ, Bool, true, List, [], ◌∷◌, length, slice_get, slice_index_or, All}
+use Rattle.std.specs.List.{AllPairs}
+use Rattle.std.specs.Option.{option_map_or}
+use Rattle.elem_ledger.specs.Ledger.{LedgerId}
+use Rattle.stack_base.specs.declared.ids.Status.TheVariants as status
+use Rattle.stack_base.specs.Fault.{status_eq}
+use Rattle.stack_base.specs.Tree.{size, tree}
+use Rattle.stack_base.specs.Words.{sector_data, zero_sector}
+use Rattle.layout_model.specs.declared.fragment.Fragment.{Fragment}
+use Rattle.layout_model.specs.declared.write.Write.{Write}
+use Rattle.layout_model.specs.Laid.{round_of, IsLaid}
+use Rattle.layout_model.specs.May.{fault_of}
+use Rattle.bio_records.specs.declared.bio.Pad.{Pad}
+use Rattle.bio_records.specs.Items.{Item}
+use Rattle.task_core.specs.declared.event.Event.{Event}
+use Rattle.task_core.specs.Opened.{Scenario, scene, start, setup}
+use Rattle.task_core.specs.Runs.{State, IsRun}
+use Rattle.block_core.specs.Sound.{IsScenario, IsNaming}
+use Rattle.block_core.specs.Fragments.{completed, IsOfScenario, NothingComes}
+
+-- the tag of a write
+abbrev pub tag_of : Scenario → ℕ → ℕ
+tag_of s number = option_map_or (λ (write : Write). write.tag) (slice_get s.writes number) 0
+
+-- whether a fragment has this sector of a disk
+abbrev pub lies_at : Fragment → ℕ → ℕ → Bool
+lies_at f disk at = f.disk.0 == disk && (nat_le f.at at && nat_lt at (f.at + f.len))
+
+-- and no fault, so that the sector is written
+abbrev pub writes_at : Scenario → Fragment → ℕ → ℕ → Bool
+writes_at s f disk at = lies_at f disk at && status_eq (fault_of s.stack f) status.Ok
+
+-- what the sector holds then: the data of that sector of the write, or what it held before
+abbrev pub put : Scenario → ℕ → ℕ → Fragment → List ℕ → List ℕ
+put s disk at f held = if writes_at s f disk at then sector_data (tag_of s f.write) (f.offset + (at - f.at)) else held
+
+-- and after all of these, one after the other
+abbrev pub held_after : Scenario → ℕ → ℕ → List Fragment → List ℕ → List ℕ
+held_after s disk at [] held = held
+held_after s disk at (f ∷ fragments) held = held_after s disk at fragments (put s disk at f held)
+
+-- Each sector of each disk holds the data of the last fragment without a fault there that the run has completed, and zeros where there is
+-- none.
+abbrev pub ImagesAreOfCompleted : Type 0
+ImagesAreOfCompleted = (s : Scenario) (ledger : ℕ → LedgerId) (events : List Event) (state : State) → IsScenario s → IsNaming ledger
+    → (run : IsRun (scene s ledger) (start s) events state) (disk at : ℕ) → at < size (tree s.stack disk)
+    → slice_index_or (state.objects.disk disk).image at [] ≡ held_after s disk at (completed (scene s ledger) (start s) events state run) zero_sector
+
+-- the round of a fragment's write
+abbrev pub round_at : Scenario → Fragment → ℕ
+round_at s f = round_of s.rounds f.write
+
+-- of each round one fragment at most writes the sector
+abbrev pub OneARound : Scenario → ℕ → ℕ → Type 0
+OneARound s disk at = (f g : Fragment) → IsOfScenario s f → IsOfScenario s g → writes_at s f disk at ≡ true → writes_at s g disk at ≡ true
+    → round_at s f ≡ round_at s g → f ≡ g
+
+-- and of these fragments those that write it come round by round
+abbrev pub ComeInRounds : Scenario → ℕ → ℕ → List Fragment → Type 0
+ComeInRounds s disk at fragments =
+    AllPairs (λ f g. writes_at s f disk at ≡ true → writes_at s g disk at ≡ true → round_at s f ≤ round_at s g) fragments
+
+-- So where nothing is left to come, a sector holds what is laid out there, if one fragment a round at most writes it and rounds were completed
+-- one after the other.
+abbrev pub ImagesAreLaidByRounds : Type 0
+ImagesAreLaidByRounds = (s : Scenario) (ledger : ℕ → LedgerId) (events : List Event) (state : State) → IsScenario s → IsNaming ledger
+    → length s.rounds ≡ length s.writes → (run : IsRun (scene s ledger) (start s) events state) → NothingComes (scene s ledger) state
+    → (disk at : ℕ) → at < size (tree s.stack disk) → OneARound s disk at → ComeInRounds s disk at (completed (scene s ledger) (start s) events state run)
+    → IsLaid s.stack s.writes s.rounds disk at (slice_index_or (state.objects.disk disk).image at [])
+
+-- what waits in disks is of the present round
+abbrev pub PendingIsPresent : Scenario → State → Type 0
+PendingIsPresent s state = (disk : ℕ) → disk < (setup s).count
+    → All (λ (item : Item Pad). round_of s.rounds item.bio.write ≡ state.objects.tally.round) (state.objects.disk disk).pending
+
+-- where that is so in all states of a run, its fragments come round by round
+abbrev pub RoundsComeInOrder : Type 0
+RoundsComeInOrder = (s : Scenario) (ledger : ℕ → LedgerId) (events : List Event) (state : State) → IsScenario s → IsNaming ledger
+    → (run : IsRun (scene s ledger) (start s) events state)
+    → ((before : List Event) (between : State) → IsRun (scene s ledger) (start s) before between → PendingIsPresent s between)
+    → (disk at : ℕ) → ComeInRounds s disk at (completed (scene s ledger) (start s) events state run)
+
+-- no two fragments write one sector of a disk
+abbrev pub NoneOverlap : Scenario → Type 0
+NoneOverlap s = (disk at : ℕ) (f g : Fragment) → IsOfScenario s f → IsOfScenario s g → writes_at s f disk at ≡ true → writes_at s g disk at ≡ true
+    → f ≡ g
+
+-- and so it does, whatever the order, if no fragments overlap
+abbrev pub ImagesAreLaidWhereNoneOverlap : Type 0
+ImagesAreLaidWhereNoneOverlap = (s : Scenario) (ledger : ℕ → LedgerId) (events : List Event) (state : State) → IsScenario s → IsNaming ledger
+    → length s.rounds ≡ length s.writes → NoneOverlap s → IsRun (scene s ledger) (start s) events state → NothingComes (scene s ledger) state
+    → (disk at : ℕ) → at < size (tree s.stack disk) → IsLaid s.stack s.writes s.rounds disk at (slice_index_or (state.objects.disk disk).image at [])

@@ -1,0 +1,15 @@
+pub mod Weights
+pub mod Levels
+pub mod Places
+pub mod Rounds
+pub mod Waits
+pub mod Sound
+pub mod Charges
+pub mod Bounded
+pub mod Rooms
+pub mod Breaks
+pub mod Few
+pub mod Stuck
+pub mod Fragments
+pub mod Images
+pub mod Replies

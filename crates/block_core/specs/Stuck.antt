@@ -1,0 +1,22 @@
+-- That no state of a run is stuck, however long the run is.
+use Rattle.std.specs.Prelude.{◌≤◌, ◌⊎◌, ℕ, List}
+use Rattle.elem_ledger.specs.Ledger.{LedgerId}
+use Rattle.task_core.specs.declared.event.Event.{Event}
+use Rattle.task_core.specs.Opened.{Scenario, scene, start}
+use Rattle.task_core.specs.Runs.{State, IsRun, unfinished, HasFree, HasEnded}
+use Rattle.stack_base.specs.Stack.{HasRescuers}
+use Rattle.block_core.specs.Sound.{IsScenario, IsNaming, HasReserves, AreInOrder}
+use Rattle.block_core.specs.Breaks.{IsAllowed}
+
+-- While a write of a scenario that is allowed is unfinished, an event can come next that needs no ordinary memory: where each mirror of two
+-- members or more has a rescuer, each pool keeps an element and the rounds go up.
+abbrev pub NoAllowedStateIsStuck : Type 0
+NoAllowedStateIsStuck = (s : Scenario) (ledger : ℕ → LedgerId) (events : List Event) (state : State) → IsScenario s → IsAllowed s → HasRescuers s.stack
+    → HasReserves s → AreInOrder s.rounds → IsNaming ledger → IsRun (scene s ledger) (start s) events state → 1 ≤ unfinished state
+    → HasFree (scene s ledger) state
+
+-- So a run of it that no such event can follow has ended: each write is done, and each element is at home.
+abbrev pub EachRunGoesOnOrHasEnded : Type 0
+EachRunGoesOnOrHasEnded = (s : Scenario) (ledger : ℕ → LedgerId) (events : List Event) (state : State) → IsScenario s → IsAllowed s → HasRescuers s.stack
+    → HasReserves s → AreInOrder s.rounds → IsNaming ledger → IsRun (scene s ledger) (start s) events state
+    → HasFree (scene s ledger) state ⊎ HasEnded state

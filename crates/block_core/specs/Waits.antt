@@ -1,0 +1,36 @@
+-- Tasks that wait for an element, and what stands behind them meanwhile.
+use Rattle.std.specs.Prelude.{◌≡◌, ◌⊎◌, ℕ, true, false, [], All}
+use Rattle.stack_base.specs.declared.ids.DevId.{DevId}
+use Rattle.bio_records.specs.declared.tasks.TaskLists.{TaskLists}
+use Rattle.task_core.specs.Scene.{Setup, Scene}
+use Rattle.task_core.specs.Lines.{Want, Takes, Punts, Links, ToPush, ToCut, ToRecord, ToMaster, Doing, Rests, Drives, Copies, Breaks, is_of}
+use Rattle.task_core.specs.Tasks.{TaskState, Writer, Rescuer, Completer, Keeper}
+use Rattle.task_core.specs.Runs.{State}
+
+-- no bio of a device's set is in the lists of a task that waits for one, and one is tried for without waiting, and others are punted, only
+-- where the set has a rescuer
+abbrev pub NoneBehind : Setup → DevId → Want → TaskLists → Type 0
+NoneBehind setup dev (Takes true) lists = All (λ item. is_of dev item ≡ false) lists.list0 × All (λ item. is_of dev item ≡ false) lists.list1
+NoneBehind setup dev (Takes false) lists = setup.rescuer dev.0 ≡ true
+NoneBehind setup dev Punts lists = setup.rescuer dev.0 ≡ true
+NoneBehind setup dev (Links hand) lists = Unit {0}
+
+abbrev pub DoesNotWaitForItself : Setup → Doing → TaskLists → Type 0
+DoesNotWaitForItself setup Rests lists = Unit {0}
+DoesNotWaitForItself setup (Drives bio ToPush) lists = Unit {0}
+DoesNotWaitForItself setup (Drives bio (ToCut want)) lists = NoneBehind setup bio.bio.dev want lists
+DoesNotWaitForItself setup (Drives bio ToRecord) lists = Unit {0}
+DoesNotWaitForItself setup (Drives bio (ToMaster slip)) lists = Unit {0}
+DoesNotWaitForItself setup (Copies bio master leg want) lists = NoneBehind setup bio.dev want lists
+DoesNotWaitForItself setup (Breaks breach) lists = Unit {0}
+
+abbrev pub TaskDoesNotWait : Setup → TaskState → Type 0
+TaskDoesNotWait setup (Writer number todo taken line) = DoesNotWaitForItself setup line.doing line.lists
+TaskDoesNotWait setup (Rescuer dev line) = DoesNotWaitForItself setup line.doing line.lists
+TaskDoesNotWait setup (Completer disk carried) = Unit {0}
+TaskDoesNotWait setup (Keeper keeping) = Unit {0}
+
+pub record NoneWaitsForItself (scene : Scene) (state : State) : Type 0 where
+  pub tasks : (place : ℕ) → TaskDoesNotWait scene.setup (state.task place)
+  -- bios wait for rescuers only where there is one
+  pub rescued : (dev : ℕ) → (state.objects.rescue dev ≡ []) ⊎ (scene.setup.rescuer dev ≡ true)

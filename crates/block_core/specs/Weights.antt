@@ -1,0 +1,142 @@
+-- Sums over all places of a state.
+use Rattle.std.specs.Prelude.{◌+◌, ◌-◌, ◌*◌, ◌==◌, if◌then◌else◌, ℕ, zero, suc, List, length, sum_by, Option, None, Some}
+use Rattle.bio_records.specs.declared.bio.Bio.{Bio}
+use Rattle.bio_records.specs.declared.bio.Pad.{Pad}
+use Rattle.bio_records.specs.Items.{Item}
+use Rattle.bio_books.specs.Books.{Node, BookState, VectorItem, SlipItem, Holding, node_at, parent_of}
+use Rattle.bio_books.specs.Drops.{Closed}
+use Rattle.model_disks.specs.Disks.{DiskState}
+use Rattle.task_core.specs.Scene.{Setup, Scene, tree_at}
+use Rattle.task_core.specs.Lines.{Want, Takes, Punts, Links, Ask, ToPush, ToCut, ToRecord, ToMaster, Doing, Rests, Drives, Copies, Breaks, Line, legs_of}
+use Rattle.task_core.specs.Tasks.{Todo, Taken, NoBio, HasBio, HasBoth, Carried, Empty, Brings, Carries, Fails, TaskState, Writer, Rescuer, Completer, Keeper}
+use Rattle.task_core.specs.Runs.{State}
+
+-- 1 where two numbers are the same
+unfoldable pub one : ℕ → ℕ → ℕ
+one i j = if i == j then 1 else 0
+
+-- the sum of the weights of the places below n
+unfoldable pub sum_at : {X : Type 0} → (ℕ → X → ℕ) → ℕ → (ℕ → X) → ℕ
+sum_at w zero f = 0
+sum_at w (suc n) f = sum_at w n f + w n (f n)
+
+abbrev pub weigh_option : {X : Type 0} → (X → ℕ) → Option X → ℕ
+weigh_option w None = 0
+weigh_option w (Some x) = w x
+
+-- where a bio is: in the line of a task of this limit, in a rescue list, pending, or in a completer's hand
+pub data Spot : Type 0 where
+  Lined : (limit : ℕ) → Spot
+  Rescued : Spot
+  Pending : Spot
+  Brought : Spot
+
+-- one weight for each kind of thing; a node by the writer of its book and its place there, a closed one by the place of the task that carries it
+pub record Weight : Type 0 where
+  -- the writes that a writer has still to begin, the first of them in its hand or not
+  pub todo : (writer : ℕ) → List Todo → Taken → ℕ
+  pub bio : Spot → Item Pad → ℕ
+  -- a bio that a mirror copies, by the place of its master and the leg that is made next
+  pub copy : Bio → (master leg : ℕ) → ℕ
+  pub hand : Item Pad → ℕ
+  pub vector : VectorItem → ℕ
+  pub slip : SlipItem → ℕ
+  pub node : (writer place : ℕ) → Node → ℕ
+  pub closed : (task writer : ℕ) → Closed → ℕ
+
+abbrev pub want_weight : Weight → Want → ℕ
+want_weight w (Takes waits) = 0
+want_weight w Punts = 0
+want_weight w (Links hand) = w.hand hand
+
+abbrev pub ask_weight : Weight → Ask → ℕ
+ask_weight w ToPush = 0
+ask_weight w (ToCut want) = want_weight w want
+ask_weight w ToRecord = 0
+ask_weight w (ToMaster slip) = w.slip slip
+
+abbrev pub doing_weight : Weight → ℕ → Doing → ℕ
+doing_weight w limit Rests = 0
+doing_weight w limit (Drives bio ask) = w.bio (Lined limit) bio + ask_weight w ask
+doing_weight w limit (Copies bio master leg want) = w.copy bio master leg + want_weight w want
+doing_weight w limit (Breaks breach) = 0
+
+abbrev pub line_weight : Weight → ℕ → Line → ℕ
+line_weight w limit line =
+    doing_weight w limit line.doing + sum_by (w.bio (Lined limit)) line.lists.list0 + sum_by (w.bio (Lined limit)) line.lists.list1
+
+abbrev pub taken_weight : Weight → Taken → ℕ
+taken_weight w NoBio = 0
+taken_weight w (HasBio bio) = w.hand bio
+taken_weight w (HasBoth bio vector) = w.hand bio + w.vector vector
+
+abbrev pub carried_weight : Weight → ℕ → Carried → ℕ
+carried_weight w task Empty = 0
+carried_weight w task (Brings bio status) = w.bio Brought bio
+carried_weight w task (Carries writer closed) = w.closed task writer closed
+carried_weight w task (Fails breach) = 0
+
+-- a writer submits at any device, of which there are at most 32, and the rescuer of a device's set below that device
+abbrev pub task_weight : Weight → ℕ → TaskState → ℕ
+task_weight w place (Writer number todo taken line) = w.todo number todo taken + taken_weight w taken + line_weight w 32 line
+task_weight w place (Rescuer dev line) = line_weight w dev.0 line
+task_weight w place (Completer disk carried) = carried_weight w place carried
+task_weight w place (Keeper keeping) = 0
+
+-- the nodes of a book
+abbrev pub book_weight : Weight → ℕ → BookState → ℕ
+book_weight w writer book = sum_at (λ place. weigh_option (w.node writer place)) (length book.nodes) (node_at book)
+
+abbrev pub total : Scene → Weight → State → ℕ
+total scene w s =
+    sum_at (task_weight w) scene.tasks s.task
+    + sum_at (λ dev bios. sum_by (w.bio Rescued) bios) scene.setup.count s.objects.rescue
+    + sum_at (λ dev (disk : DiskState). sum_by (w.bio Pending) disk.pending) scene.setup.count s.objects.disk
+    + sum_at (book_weight w) scene.books s.objects.book
+
+-- the elements of pool p
+abbrev pub holding_elements : ℕ → Holding → ℕ
+holding_elements p held =
+    weigh_option (λ (bio : Item Pad). one bio.share.no p) held.bio
+    + weigh_option (λ (vector : VectorItem). one vector.share.no p) held.vector
+    + weigh_option (λ (slip : SlipItem). one slip.share.no p) held.slip
+
+abbrev pub elements : ℕ → Weight
+elements p = record {
+  todo = λ writer todos taken. 0;
+  bio = λ spot bio. one bio.share.no p;
+  copy = λ bio master leg. 0;
+  hand = λ bio. one bio.share.no p;
+  vector = λ vector. one vector.share.no p;
+  slip = λ slip. one slip.share.no p;
+  node = λ writer place node. holding_elements p node.held;
+  closed = λ task writer closed. holding_elements p closed.held;
+}
+
+-- the references to the node at place k of writer w's book: bios that name it, nodes right under it, and the legs that are still to be made
+-- where it is a master
+abbrev pub names : ℕ → ℕ → Item Pad → ℕ
+names w k bio = one bio.bio.writer w * one bio.bio.node k
+
+abbrev pub under : ℕ → ℕ → ℕ → Option ℕ → ℕ
+under w k writer None = 0
+under w k writer (Some parent) = one writer w * one parent k
+
+abbrev pub legs_left : Setup → Bio → ℕ → ℕ
+legs_left setup bio leg = legs_of (tree_at setup bio.dev) - leg
+
+abbrev pub refs : Setup → ℕ → ℕ → Weight
+refs setup w k = record {
+  todo = λ writer todos taken. 0;
+  bio = λ spot. names w k;
+  copy = λ bio master leg. one bio.writer w * one master k * legs_left setup bio leg;
+  hand = λ bio. 0;
+  vector = λ vector. 0;
+  slip = λ slip. 0;
+  node = λ writer place node. under w k writer (parent_of node.role);
+  closed = λ task writer closed. under w k writer closed.parent;
+}
+
+abbrev pub count_of : Option Node → ℕ
+count_of None = 0
+count_of (Some node) = node.count

@@ -1,0 +1,116 @@
+//! What holds of every run, as functions that do nothing.
+ghost use Rattle.block_core.specs.Bounded.{OpenedRankIsBounded, OutsAreBounded, RunsAreBounded};
+ghost use Rattle.block_core.specs.Breaks.{NoTaskBreaks};
+ghost use Rattle.block_core.specs.Charges.{EventsLowerRank};
+ghost use Rattle.block_core.specs.Few.{EndsAreFew, NoCounterIsFull, OutsAreFew};
+ghost use Rattle.block_core.specs.Fragments.{EachIsCompletedOnce, FragmentsAddUp, NoOtherIsCompleted, NoneIsCompletedTwice, NothingComesWhereAllIsHome, NothingComesWhereEnded};
+ghost use Rattle.block_core.specs.Images.{ImagesAreLaidByRounds, ImagesAreLaidWhereNoneOverlap, ImagesAreOfCompleted, RoundsComeInOrder};
+ghost use Rattle.block_core.specs.Replies.{RepliesAreEvents};
+ghost use Rattle.block_core.specs.Rooms.{BooksHaveRoom};
+ghost use Rattle.block_core.specs.Sound.{EachIsDoneOnce, EveryRunIsSound, NoStateIsStuck, NoTaskWaitsForItself};
+ghost use Rattle.block_core.specs.Stuck.{EachRunGoesOnOrHasEnded, NoAllowedStateIsStuck};
+
+/// After every event of every run of every scenario each pool adds up and has as many elements out as there are in hands, lists and nodes, and
+/// each node waits for as many ends as refer to it, and for at least one. The tally has the number of unfinished writes of each round, none
+/// of an earlier round is unfinished, and nothing is begun of a later one. Nodes have levels that go down from each to those under it: the
+/// element of a bio that names a node is of the pool of the node's level, and that of a part, vector or record that it holds is of that pool
+/// or of one above it. Each book has a place for every node that its writer's writes still open.
+pub fn every_run_is_sound()
+    ensures { EveryRunIsSound }
+{}
+
+/// No run of any scenario tells a write done twice.
+pub fn each_is_done_once()
+    ensures { EachIsDoneOnce }
+{}
+
+/// Where each mirror of two members or more has a rescuer, no task of any run waits for a bio of a set while it has one of that set in its own
+/// lists, and bios wait for rescuers only where there are some.
+pub fn none_waits_for_itself()
+    ensures { NoTaskWaitsForItself }
+{}
+
+/// While a write of a run is unfinished, an event can come next that needs no ordinary memory, whatever came before: where each mirror of two
+/// or more members has a rescuer, each pool keeps an element, the rounds of writes go up, and fewer than 2^64 - 9 events came. In a
+/// scenario that is allowed it does not matter how many came.
+pub fn no_state_is_stuck()
+    ensures few { NoStateIsStuck }
+    ensures allowed { NoAllowedStateIsStuck }
+{}
+
+/// Every event of every run lowers the rank of the state, which is all that can still come of it. So no run of any scenario has more than
+/// 8 E + 2 G + Z events, nor a pool more elements out: for the elements E and the fragments G of all its writes, and for its script entries,
+/// rounds behind the first and changes of reserves, Z together.
+pub fn runs_are_bounded()
+    ensures lowers { EventsLowerRank }
+    ensures opened { OpenedRankIsBounded }
+    ensures bounded { RunsAreBounded }
+    ensures outs { OutsAreBounded }
+{}
+
+/// After every event of every run of every scenario each book has a place for each node that is open there or that its writer's writes have
+/// still to open.
+pub fn books_have_room()
+    ensures { BooksHaveRoom }
+{}
+
+/// No task of any run of any scenario that is allowed meets a refusal: whatever a book answers to what a task asks it for next, it has a vacant
+/// place, and each node that is named is open there; and where the keeper may change a reserve, every element is at home. So no task breaks off,
+/// and whatever is answered to a task is an event that comes next, or changes neither the task nor an object.
+pub fn no_task_breaks()
+    ensures unrefused { NoTaskBreaks }
+    ensures replies { RepliesAreEvents }
+{}
+
+/// No pool of any run of any scenario has more elements out than all writes need, and no node waits for more ends than its book has places and
+/// there are tasks, and one. So in a scenario that is allowed no counter of 64 bits comes to its largest number.
+pub fn no_counter_is_full()
+    ensures outs { OutsAreFew }
+    ensures ends { EndsAreFew }
+    ensures counters { NoCounterIsFull }
+{}
+
+/// So a run of a scenario that is allowed either can go on with an event that needs no ordinary memory, or has ended: each write is done, and
+/// each element is at home.
+pub fn each_run_goes_on_or_has_ended()
+    ensures { EachRunGoesOnOrHasEnded }
+{}
+
+/// Every run of every scenario completes each fragment of each write at most once, and no other. However fragments are counted, those that a
+/// run has completed and those that are still to come are together those of the scenario's writes. So where nothing is left to come each was
+/// completed exactly once.
+pub fn fragments_are_completed_once()
+    ensures all { FragmentsAddUp }
+    ensures once { NoneIsCompletedTwice }
+    ensures others { NoOtherIsCompleted }
+    ensures ended { EachIsCompletedOnce }
+{}
+
+/// Nothing is left to come where no element is out of any pool and each write was begun: then no bio waits for a rescuer or in a disk, and no
+/// task submits one. So it is where a run has ended.
+pub fn nothing_comes_where_all_is_home()
+    ensures home { NothingComesWhereAllIsHome }
+    ensures ended { NothingComesWhereEnded }
+{}
+
+/// In every run of every scenario each sector of each disk holds the data of the last fragment without a fault there that the run has
+/// completed, at that fragment's place in its write, and zeros where there is none.
+pub fn images_are_of_completed()
+    ensures { ImagesAreOfCompleted }
+{}
+
+/// So where nothing is left to come, a sector holds what is laid out there, if of each round one fragment at most writes it and the rounds
+/// were completed one after the other.
+pub fn images_are_laid_by_rounds()
+    ensures { ImagesAreLaidByRounds }
+{}
+
+/// Where no two fragments write one sector, images are laid out in whatever order the fragments were completed.
+pub fn images_are_laid_where_none_overlap()
+    ensures { ImagesAreLaidWhereNoneOverlap }
+{}
+
+/// Where in all states of a run what waits in disks is of the present round, its fragments are completed round by round.
+pub fn rounds_come_in_order()
+    ensures { RoundsComeInOrder }
+{}

@@ -1,0 +1,4 @@
+//! Laws of all runs.
+#![tactic(auto)]
+
+pub mod laws;
