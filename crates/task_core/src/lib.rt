@@ -5,10 +5,12 @@
 //! relation that cites the object's own moves (`specs/Objects.antt`). An event is both halves at once (`specs/Runs.antt`).
 #![tactic(auto)]
 
+mod ended;
 mod event;
 pub mod laws;
 mod routes;
 pub mod within;
 
+pub use ended::Ended;
 pub use event::{Breach, End, Event, Got, How, TaskId, What};
 pub use routes::{Cut, Driver, Manner, Routes};
