@@ -10,3 +10,7 @@ pub mod Opened
 pub mod Laws
 pub mod Within
 pub mod Routed
+pub mod Stage
+pub mod Homes
+pub mod Views
+pub mod Turns

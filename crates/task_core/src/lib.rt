@@ -8,9 +8,13 @@
 mod ended;
 mod event;
 pub mod laws;
+mod objects;
 mod routes;
+mod step;
 pub mod within;
 
 pub use ended::Ended;
 pub use event::{Breach, End, Event, Got, How, TaskId, What};
+pub use objects::{Ask, Chooser, Objects, Oldest, Unmade};
 pub use routes::{Cut, Driver, Manner, Routes};
+pub use step::Step;
