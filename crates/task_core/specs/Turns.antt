@@ -82,36 +82,37 @@ abbrev pub Follows : {S : Type 0} → (S → Request → Reply → S → Type 0)
 Follows serves setup task request Nothing middle new step = (left : ℕ) × serves middle LookLeft (LeftOver left) new × (step ≡ idle_step left)
 Follows serves setup task request reply middle new step = (new ≡ middle) × (step ≡ step_of setup task request reply)
 
--- the objects were asked for this, and the task goes on with their reply
-pub record Asks {S : Type 0} (serves : S → Request → Reply → S → Type 0) (setup : Setup) (asked : Request) (task : TaskState) (old : S)
-    (next : TaskState) (new : S) (step : Step) : Type 0 where
+-- the objects were asked for this, and the task goes on with their reply, for which they owe what they do
+pub record Asks {S : Type 0} (serves : S → Request → Reply → S → Type 0) (owes : Request → Reply → Type 0) (setup : Setup) (asked : Request)
+    (task : TaskState) (old : S) (next : TaskState) (new : S) (step : Step) : Type 0 where
   pub reply : Reply
   pub middle : S
   pub replied : serves old asked reply middle
+  pub owed : owes asked reply
   pub goes_on : next ≡ answered setup task reply
   pub follows : Follows serves setup (id_of task) asked reply middle new step
 
 -- the same for what a task asks for next, which may be nothing
-abbrev pub AsksFor : {S : Type 0} → (S → Request → Reply → S → Type 0) → Setup → Request → TaskState → S → TaskState → S → Step → Type 0
-AsksFor serves setup Rest task old next new step = (next ≡ task) × (new ≡ old) × (step ≡ resting_step (breach_of task))
-AsksFor serves setup asked task old next new step = Asks serves setup asked task old next new step
+abbrev pub AsksFor : {S : Type 0} → (S → Request → Reply → S → Type 0) → (Request → Reply → Type 0) → Setup → Request → TaskState → S → TaskState → S → Step → Type 0
+AsksFor serves owes setup Rest task old next new step = (next ≡ task) × (new ≡ old) × (step ≡ resting_step (breach_of task))
+AsksFor serves owes setup asked task old next new step = Asks serves owes setup asked task old next new step
 
-abbrev pub Acts : {S : Type 0} → (S → Request → Reply → S → Type 0) → Setup → TaskState → S → TaskState → S → Step → Type 0
-Acts serves setup task old next new step = AsksFor serves setup (request setup task) task old next new step
+abbrev pub Acts : {S : Type 0} → (S → Request → Reply → S → Type 0) → (Request → Reply → Type 0) → Setup → TaskState → S → TaskState → S → Step → Type 0
+Acts serves owes setup task old next new step = AsksFor serves owes setup (request setup task) task old next new step
 
 -- what a task saw lets it ask, or it waits
-abbrev pub ActsIf : {S : Type 0} → Bool → (S → Request → Reply → S → Type 0) → Setup → TaskState → S → TaskState → S → Step → Type 0
-ActsIf true serves setup task old next new step = Acts serves setup task old next new step
-ActsIf false serves setup task old next new step = (next ≡ task) × (new ≡ old) × (step ≡ Waiting)
+abbrev pub ActsIf : {S : Type 0} → Bool → (S → Request → Reply → S → Type 0) → (Request → Reply → Type 0) → Setup → TaskState → S → TaskState → S → Step → Type 0
+ActsIf true serves owes setup task old next new step = Acts serves owes setup task old next new step
+ActsIf false serves owes setup task old next new step = (next ≡ task) × (new ≡ old) × (step ≡ Waiting)
 
-abbrev pub TurnsBy : {S : Type 0} → Option Request → (S → Request → Reply → S → Type 0) → Setup → TaskState → S → TaskState → S → Step → Type 0
-TurnsBy None serves setup task old next new step = Acts serves setup task old next new step
-TurnsBy {S = S} (Some look) serves setup task old next new step =
-    (seen : Reply) × (between : S) × serves old look seen between × ActsIf (lets task seen) serves setup task between next new step
+abbrev pub TurnsBy : {S : Type 0} → Option Request → (S → Request → Reply → S → Type 0) → (Request → Reply → Type 0) → Setup → TaskState → S → TaskState → S → Step → Type 0
+TurnsBy None serves owes setup task old next new step = Acts serves owes setup task old next new step
+TurnsBy {S = S} (Some look) serves owes setup task old next new step =
+    (seen : Reply) × (between : S) × serves old look seen between × ActsIf (lets task seen) serves owes setup task between next new step
 
 -- A step of a task: it looks where it has to, asks one object for what it asks for next, and goes on with the reply.
-abbrev pub Turns : {S : Type 0} → (S → Request → Reply → S → Type 0) → Setup → TaskState → S → TaskState → S → Step → Type 0
-Turns serves setup task old next new step = TurnsBy (look_of task) serves setup task old next new step
+abbrev pub Turns : {S : Type 0} → (S → Request → Reply → S → Type 0) → (Request → Reply → Type 0) → Setup → TaskState → S → TaskState → S → Step → Type 0
+Turns serves owes setup task old next new step = TurnsBy (look_of task) serves owes setup task old next new step
 
 -- the chooser was asked where a bio was completed, and else it stays
 abbrev pub Chosen : {C : Type 0} → (C → ℕ → ℕ → C → Type 0) → (DevId → ℕ → ℕ → ℕ → Type 0) → C → Step → C → Type 0
