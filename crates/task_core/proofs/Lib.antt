@@ -16,3 +16,5 @@ pub mod Fits
 pub mod TaskStays
 pub mod RouteOf
 pub mod Opening
+pub mod LineHomes
+pub mod TaskHomes

@@ -12,7 +12,7 @@ use Rattle.task_core.specs.Requests.{Reply}
 use Rattle.task_core.specs.Lines.{Want, Takes, Punts, Links, Ask, ToPush, ToCut, ToRecord, ToMaster, Doing, Rests, Drives, Copies, Breaks, Line, line_request, line_answered}
 use Rattle.task_core.specs.Tasks.{Todo, Taken, NoBio, HasBio, HasBoth, Carried, Empty, Brings, Carries, Fails, Duty, Resizes, Starts, Keeping, Keeps, Stops, TaskState, Writer, Rescuer, Completer, Keeper, request, answered}
 use Rattle.task_core.specs.Routed.{setup}
-use Rattle.task_core.specs.Stage.{Stage, has_book, has_rescuer, has_disk, is_pool, is_bios, is_vecs, is_slips, IsHome, HoldsHome, Fits, Owes}
+use Rattle.task_core.specs.Stage.{Stage, has_book, has_rescuer, has_disk, is_pool, is_bios, is_vecs, is_slips, IsHome, ClosedFits, Fits, Owes}
 use Rattle.task_core.specs.Within.{LineFits}
 
 -- a bio of a writer with a book, in an element at home
@@ -56,15 +56,10 @@ TakenIsHome stage NoBio = Unit {0}
 TakenIsHome stage (HasBio bio) = IsHome stage is_bios bio.share
 TakenIsHome stage (HasBoth bio vector) = IsHome stage is_bios bio.share × IsHome stage is_vecs vector.share
 
--- the write of a closed top node is one of the scenario
-abbrev pub TopFits : Stage → ℕ → Option ℕ → Type 0
-TopFits stage write None = write < stage.writes
-TopFits stage write (Some parent) = Unit {0}
-
 abbrev pub CarriedFits : Stage → Carried → Type 0
 CarriedFits stage Empty = Unit {0}
 CarriedFits stage (Brings bio status) = IsOwned stage bio
-CarriedFits stage (Carries writer closed) = IsTrue (has_book stage writer) × HoldsHome stage closed.held × TopFits stage closed.write closed.parent
+CarriedFits stage (Carries writer closed) = IsTrue (has_book stage writer) × ClosedFits stage closed
 CarriedFits stage (Fails breach) = Unit {0}
 
 abbrev pub DutyFits : Stage → Duty → Type 0
@@ -85,13 +80,13 @@ IsTaskOf stage (Keeper keeping) = KeepingFits stage keeping
 
 -- What such a submission asks for fits the objects, and with what they owe for it, it stays one.
 pub record LinesStayHome : Type 0 where
-  pub asks : (stage : Stage) (line : Line) → IsLineOf stage line → Fits stage (line_request (setup stage.routing) line.doing line.lists)
+  pub asks : (stage : Stage) (line : Line) → IsStack stage.routing.stack → IsLineOf stage line → Fits stage (line_request (setup stage.routing) line.doing line.lists)
   pub goes_on : (stage : Stage) (line : Line) (reply : Reply) → IsStack stage.routing.stack → IsLineOf stage line
       → Owes stage (line_request (setup stage.routing) line.doing line.lists) reply
       → IsLineOf stage (line_answered (setup stage.routing) line.doing line.lists reply)
 
 -- So it is with tasks.
 pub record TasksStayHome : Type 0 where
-  pub asks : (stage : Stage) (task : TaskState) → IsTaskOf stage task → Fits stage (request (setup stage.routing) task)
+  pub asks : (stage : Stage) (task : TaskState) → IsStack stage.routing.stack → IsTaskOf stage task → Fits stage (request (setup stage.routing) task)
   pub goes_on : (stage : Stage) (task : TaskState) (reply : Reply) → IsStack stage.routing.stack → IsTaskOf stage task
       → Owes stage (request (setup stage.routing) task) reply → IsTaskOf stage (answered (setup stage.routing) task reply)

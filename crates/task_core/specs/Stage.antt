@@ -15,7 +15,7 @@ use Rattle.bio_books.specs.Drops.{Closed, Ended}
 use Rattle.bio_books.specs.Drops as end
 use Rattle.bio_books.specs.Links.{Linked, Made, NoRoom, Stray}
 use Rattle.task_core.specs.Scene.{is_device, is_disk, has_set, is_mirror}
-use Rattle.task_core.specs.Requests.{Request, Reply, Opening, Write, Chain, Master, Leg, TakeBio, TakeVec, TakeSlip, GiveBio, GiveVec, GiveSlip, Punt, Pop, Push, Complete, Link, Drop, Done, Resize, HadBio, HadVec, HadSlip, Popped, Completed, LinkedTo, DroppedTo}
+use Rattle.task_core.specs.Requests.{Request, Reply, Opening, Write, Chain, Master, Leg, TakeBio, TakeVec, TakeSlip, GiveBio, GiveVec, GiveSlip, Punt, Pop, Push, Complete, Link, Drop, Done, Resize, NextRound, LookRound, LookLeft, HadBio, HadVec, HadSlip, Missed, Did, Popped, Completed, LinkedTo, DroppedTo, OutIs, Present, LeftOver, Nothing, Spent}
 use Rattle.task_core.specs.Within.{IsWithin}
 use Rattle.task_core.specs.Routed.{Routing, places_at, setup}
 
@@ -127,19 +127,45 @@ LinkFits stage (Made node) = Unit {0}
 LinkFits stage (NoRoom back) = HoldsHome stage back
 LinkFits stage (Stray back) = HoldsHome stage back
 
+-- a closed node: what it kept is at home, and where it has no parent its write is one of the scenario
+abbrev pub TopFits : Stage → ℕ → Option ℕ → Type 0
+TopFits stage write None = write < stage.writes
+TopFits stage write (Some parent) = Unit {0}
+
+pub record ClosedFits (stage : Stage) (closed : Closed) : Type 0 where
+  pub held : HoldsHome stage closed.held
+  pub top : TopFits stage closed.write closed.parent
+
 abbrev pub DropFits : Stage → Ended → Type 0
 DropFits stage end.Left = Unit {0}
-DropFits stage (end.Up closed) = HoldsHome stage closed.held
-DropFits stage (end.Top closed) = HoldsHome stage closed.held × (closed.write < stage.writes)
+DropFits stage (end.Up closed) = ClosedFits stage closed
+DropFits stage (end.Top closed) = ClosedFits stage closed
 DropFits stage (end.Stray part) = IsBioHome stage part
 
--- What they hand out for it is at home in them too, and what they take from is the pool that was named.
+-- What they owe for it: a reply that answers it, and that nothing could be done for want of a ticket is one. What they hand out is at home in
+-- them too, and what was taken is of the pool that was named.
 abbrev pub Owes : Stage → Request → Reply → Type 0
+Owes stage request Spent = Unit {0}
 Owes stage (TakeBio set waits) (HadBio got bio) = IsTaken stage is_bios (pool_number (bios_of set)) bio.share
+Owes stage (TakeBio set waits) (Missed used) = Unit {0}
 Owes stage TakeVec (HadVec got vector) = IsTaken stage is_vecs (pool_number FsVecs) vector.share
+Owes stage TakeVec (Missed used) = Unit {0}
 Owes stage (TakeSlip dev) (HadSlip got slip) = IsTaken stage is_slips (pool_number (Records dev)) slip.share
+Owes stage (TakeSlip dev) (Missed used) = Unit {0}
+Owes stage (GiveBio bio) Did = Unit {0}
+Owes stage (GiveVec vector) Did = Unit {0}
+Owes stage (GiveSlip slip) Did = Unit {0}
+Owes stage (Punt dev moved) Did = Unit {0}
 Owes stage (Pop dev) (Popped bio) = IsServed stage bio
+Owes stage (Pop dev) Nothing = Unit {0}
+Owes stage (Push bio) Did = Unit {0}
 Owes stage (Complete disk) (Completed index bio status) = IsServed stage bio × (bio.bio.dev ≡ disk)
+Owes stage (Complete disk) Nothing = Unit {0}
 Owes stage (Link writer opening) (LinkedTo answer) = LinkFits stage answer
 Owes stage (Drop writer node status part) (DroppedTo ended) = DropFits stage ended
-Owes stage request reply = Unit {0}
+Owes stage (Done write status) Did = Unit {0}
+Owes stage (Resize pool min) (OutIs out) = Unit {0}
+Owes stage (NextRound round) Did = Unit {0}
+Owes stage LookRound (Present round) = Unit {0}
+Owes stage LookLeft (LeftOver count) = Unit {0}
+Owes stage request reply = ⊥

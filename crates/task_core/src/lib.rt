@@ -7,6 +7,7 @@
 
 mod ended;
 mod event;
+pub mod homes;
 pub mod laws;
 mod objects;
 mod routes;
