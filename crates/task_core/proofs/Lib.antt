@@ -18,3 +18,4 @@ pub mod RouteOf
 pub mod Opening
 pub mod LineHomes
 pub mod TaskHomes
+pub mod KeeperLemmas

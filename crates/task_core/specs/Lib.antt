@@ -14,3 +14,5 @@ pub mod Stage
 pub mod Homes
 pub mod Views
 pub mod Turns
+pub mod CarriedViews
+pub mod KeeperViews

@@ -5,9 +5,11 @@
 //! relation that cites the object's own moves (`specs/Objects.antt`). An event is both halves at once (`specs/Runs.antt`).
 #![tactic(auto)]
 
+mod carried;
 mod ended;
 mod event;
 pub mod homes;
+mod keeper;
 pub mod laws;
 mod objects;
 mod routes;

@@ -1,0 +1,50 @@
+-- What a completer carries, without its boxes.
+use Rattle.std.specs.Prelude.{◌≡◌, None, Some}
+use Rattle.elem_ledger.specs.declared.element.Element.{Element}
+use Rattle.bio_records.specs.declared.bio.Pad.{Pad}
+use Rattle.bio_records.specs.declared.bio.Slip.{Slip}
+use Rattle.bio_records.specs.declared.segment.Vector.{Vector}
+use Rattle.bio_records.specs.declared.body.BioBody.{BioBody}
+use Rattle.bio_records.specs.Items.{item_of, IsAlone}
+use Rattle.bio_books.specs.declared.node.ClosedNode.{ClosedNode}
+use Rattle.bio_books.specs.Drops.{Closed}
+use Rattle.bio_books.specs.Views.{closed_node_of, slip_item, IsAlonePart}
+use Rattle.task_core.specs.declared.carried.Load.{Load}
+use Rattle.task_core.specs.declared.carried.Load.TheVariants as load
+use Rattle.task_core.specs.Tasks.{Carried, Empty, Brings, Carries, Fails}
+use Rattle.task_core.specs.Views.{vec_item}
+
+abbrev pub carried_of : Load → Carried
+carried_of load.Empty = Empty
+carried_of (load.Brings bio status) = Brings (item_of bio) status
+carried_of (load.Carries writer node) = Carries writer (closed_node_of node)
+carried_of (load.Fails breach kept) = Fails breach
+
+-- a bio that is carried is in no list
+abbrev pub IsLoadAlone : Load → Type 0
+IsLoadAlone load.Empty = Unit {0}
+IsLoadAlone (load.Brings bio status) = IsAlone bio
+IsLoadAlone (load.Carries writer node) = IsAlonePart node.held.bio
+IsLoadAlone (load.Fails breach kept) = Unit {0}
+
+-- a closed node with this element beside what else it holds
+abbrev pub with_vector : Element Vector → ClosedNode → Closed
+with_vector vector rest =
+    let closed = closed_node_of rest in
+    record closed { held = record closed.held { vector = Some (vec_item vector) } }
+
+abbrev pub with_bio : Element (BioBody Pad) → ClosedNode → Closed
+with_bio bio rest =
+    let closed = closed_node_of rest in
+    record closed { held = record closed.held { bio = Some (item_of bio) } }
+
+abbrev pub with_slip : Element Slip → ClosedNode → Closed
+with_slip slip rest =
+    let closed = closed_node_of rest in
+    record closed { held = record closed.held { slip = Some (slip_item slip) } }
+
+-- all that it held was given back
+pub record HoldsNothing (node : ClosedNode) : Type 0 where
+  pub vector : node.held.vector ≡ None
+  pub bio : node.held.bio ≡ None
+  pub slip : node.held.slip ≡ None
