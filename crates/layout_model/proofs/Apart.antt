@@ -29,7 +29,7 @@ Apart (Mirrored number sizes members) =
     ((j k disk : ℕ) → j < k → k < length sizes → HasDisk (members j) disk → HasDisk (members k) disk → ⊥) × ((k : ℕ) → Apart (members k))
 
 -- a way ends at a disk of the tree
-place_has : (t : Tree) (s : ℕ) (choices : List ℕ) → Fits t s choices → HasDisk t (place t s choices).disk
+pub place_has : (t : Tree) (s : ℕ) (choices : List ℕ) → Fits t s choices → HasDisk t (place t s choices).disk
 unfolding Fits place HasDisk
 place_has (Leaf number sectors) s choices fits = refl
 place_has (Split number kind sizes members) s choices fits = ((slot kind sizes s).member, place_has (members (slot kind sizes s).member) (slot kind sizes s).at choices fits)

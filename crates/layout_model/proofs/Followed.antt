@@ -1,13 +1,10 @@
 -- The sectors of a fragment follow one another on its disk.
-use Rattle.std.proofs.Common.{◌≡◌, ◌+◌, ◌-◌, ◌<◌, ◌≤◌, ℕ, zero, suc, List, [], ◌∷◌, length, refl, sym, ap, ◌∙◌, subst, inl, inr, arith}
+use Rattle.std.proofs.Common.{◌≡◌, ◌+◌, ◌-◌, ◌<◌, ◌≤◌, ℕ, zero, suc, List, [], ◌∷◌, refl, sym, ap, ◌∙◌, subst, inl, inr, arith}
 use Rattle.std.proofs.lemmas.Bool.{cases_lt}
-use Rattle.stack_base.specs.declared.stack.Kind.{Kind}
 use Rattle.stack_base.specs.Mapping.{Slot, slot, head}
 use Rattle.stack_base.specs.Cutting.{next, IsCut}
 use Rattle.stack_base.specs.Tree.{Tree, Leaf, Split, Mirrored}
-use Rattle.layout_model.specs.declared.fragment.Fragment.{Fragment}
-use Rattle.layout_model.specs.Way.{Fits, Place, heads, place}
-use Rattle.layout_model.specs.Fragments.{IsFragmentOf, Together}
+use Rattle.layout_model.specs.Way.{Place, heads, place}
 use Rattle.layout_model.specs.Laws.{FragmentsFollow}
 use Rattle.layout_model.proofs.Sound.{Sound, cut_of_split, sound_leg, sound_piece}
 

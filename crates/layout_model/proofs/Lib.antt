@@ -34,3 +34,6 @@ pub mod Ways
 pub mod MayLemmas
 pub mod LoneDisk
 pub mod Followed
+pub mod OneSlot
+pub mod OneFragment
+pub mod OneWay

@@ -12,7 +12,7 @@ use Rattle.layout_model.proofs.Sound.{Sound}
 use Rattle.layout_model.proofs.Apart.{HasDisk, Apart}
 
 -- what holds of each member, and of the empty disk behind them, holds at every place
-at_each_place : (P : Tree → Type 0) (number : ℕ) (list : List Tree) → P (Leaf number 0) → ((k : ℕ) → k < length list → P (member_at number list k)) → (k : ℕ) → P (member_at number list k)
+pub at_each_place : (P : Tree → Type 0) (number : ℕ) (list : List Tree) → P (Leaf number 0) → ((k : ℕ) → k < length list → P (member_at number list k)) → (k : ℕ) → P (member_at number list k)
 at_each_place P number list behind each k = elim (cases_lt k (length list)) [
   | inl within ↦ each k within
   | inr past ↦ subst P (sym (get_or_past list k (Leaf number 0) past)) behind

@@ -24,7 +24,7 @@ module _ (stack : Stack) (good : IsStack stack) where
   under_le (up p k {x = x} member u) = omega (arith, member_below p k x member, under_le u)
 
   -- of two devices above one, one is under the other
-  under_one_way : {x d e : ℕ} → Under stack x d → Under stack x e → Under stack d e ⊎ Under stack e d
+  pub under_one_way : {x d e : ℕ} → Under stack x d → Under stack x e → Under stack d e ⊎ Under stack e d
   under_one_way itself v = inl v
   under_one_way (up p k member u) itself = inr (up p k member u)
   under_one_way (up p k {x = x} member u) (up q i {d = e} also v) =

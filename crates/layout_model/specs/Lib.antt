@@ -10,3 +10,4 @@ pub mod Needs
 pub mod Bound
 pub mod May
 pub mod Laid
+pub mod OneWay

@@ -1,4 +1,5 @@
 //! The laws of the plan and of its fragments, over every tree of devices that cut as their kinds say, and so over every stack.
+ghost use Rattle.layout_model.specs.OneWay.{OneWayARound};
 ghost use Rattle.layout_model.specs.Laws.{PlanOfPieces, PlanOfLegs, PlanOfDisk, PlanGivesFragments, PlanKeepsOrder, PlanTakesNeeded, FragmentsAreCounted, TreesAreSound, PlanFragmentsDiffer, FragmentsCover, FragmentsFollow, WaysAreTold, OkIsAlone, SomeEndIsOpen, EndsOfDisk};
 
 /// Where a device cuts a run, the plan of the run is the plan of its first piece in the member that the piece goes to, and then the
@@ -81,4 +82,10 @@ pub fn some_end_is_open()
 /// A run that comes to a disk may end as its fragment does, and not otherwise.
 pub fn ends_of_disk()
     ensures { EndsOfDisk }
+{}
+
+/// Where writes of one round have no sector in common and go to devices that are no members, at most one of their sectors has a way to a
+/// sector of a disk, and it has one way there: by one row of choices, and in one fragment.
+pub fn one_way_a_round()
+    ensures { OneWayARound }
 {}
