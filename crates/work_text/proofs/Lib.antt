@@ -14,3 +14,10 @@ pub mod Unrefused
 pub mod Ready
 pub mod WorkLemmas
 mod RoundsApart
+pub mod Fit
+mod GeneratorLemmas
+mod GeneratedFacts
+pub mod Said
+pub mod Generating
+pub mod GeneratedWrites
+pub mod GeneratedTexts

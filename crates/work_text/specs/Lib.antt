@@ -4,3 +4,5 @@ pub mod Lines
 pub mod Marks
 pub mod Draft
 pub mod Whole
+pub mod Fit
+pub mod Generated

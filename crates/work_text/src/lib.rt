@@ -10,6 +10,7 @@ ghost use Rattle.work_text.specs.Reading.{ReadsWork, work_lines};
 ghost use Rattle.work_text.specs.Work.{all_entries, last_round};
 
 mod draft;
+mod generator;
 pub mod laws;
 mod marks;
 mod names;
@@ -17,6 +18,7 @@ mod pools;
 mod told;
 
 use crate::draft::Draft;
+pub use crate::generator::generate;
 use decl_text::{Accepted, LineFault, Lines, ReadFault};
 use layout_model::{Bounds, Write};
 use stack_base::PoolId;

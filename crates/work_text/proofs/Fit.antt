@@ -1,0 +1,227 @@
+-- Lines from the first write or `sync` line on that are not refused mean work as it has to be.
+use Rattle.std.proofs.Common.{◌≡◌, ◌⊎◌, ℕ, zero, suc, ◌+◌, ◌<◌, ◌≤◌, ◌==◌, Bool, true, false, nat_lt, nat_le, cond, List, [], ◌∷◌, ◌++◌, length, map, get_or, Option, None, Some, inl, inr, refl, sym, ap, ◌∙◌, subst, arith}
+use Rattle.std.specs.Prelude.{All, slice_get}
+use Rattle.std.specs.List.{AllPairs, list_any}
+use Rattle.std.specs.Option.{option_map, option_to_list}
+use Rattle.std.proofs.lemmas.Bool.{both_ways, eq-eqb, eqb-false, ltb-false, leb-false, or_parts}
+use Rattle.std.proofs.lemmas.List.{append-nil, length-map, length_push}
+use Rattle.std.proofs.lemmas.List.Elements.{All-cons, All-filter, All-head, All-nil, All-push, All-tail, All-weaker}
+use Rattle.std.proofs.lemmas.List.Quantifiers.{all_pairs_push}
+use Rattle.std.proofs.lemmas.Option.{same_Some, slice_get-map}
+use Rattle.stack_base.specs.declared.ids.DevId.{DevId}
+use Rattle.stack_base.specs.declared.stack.Device.{Device}
+use Rattle.stack_base.specs.declared.stack.Stack.{Stack}
+use Rattle.layout_model.specs.declared.write.Write.{Write}
+use Rattle.layout_model.specs.OneWay.{IsTop, AreApart}
+use Rattle.decl_text.specs.Text.{words}
+use Rattle.decl_text.specs.Items.{said}
+use Rattle.decl_text.specs.Accepting.{shown_devices}
+use Rattle.decl_text.specs.Checks.{is_among, not_a_top, reserve_zero, shares, too_large}
+use Rattle.decl_text.specs.Fit.{IsReserve}
+use Rattle.decl_text.specs.Known.{Known, Declared, Resized, Written, after_line, all_members, number_in, pool_of}
+use Rattle.decl_text.specs.Reading.{declarations}
+use Rattle.decl_text.specs.Refusals.{check, known_after, refusal, said_reason}
+use Rattle.decl_text.specs.Stands.{stand_of}
+use Rattle.decl_text.specs.declared.item.Item.{Item}
+use Rattle.decl_text.specs.declared.item.Item.TheVariants as item
+use Rattle.decl_text.specs.declared.reason.Reason.TheVariants as reason
+use Rattle.decl_text.specs.declared.stand.Stand.TheVariants.{Front}
+use Rattle.decl_text.proofs.Unrefused.{finds_nothing, line_passes, none_refused}
+use Rattle.work_text.specs.Fit.{WorkIsFit}
+use Rattle.work_text.specs.Reading.{work_lines}
+use Rattle.work_text.specs.Work.{all_checks, known_of, kept_resizes, last_round, resized, written}
+use Rattle.work_text.proofs.LoopLemmas.{first_works}
+use Rattle.work_text.proofs.NameLemmas.{among_members}
+use Rattle.work_text.proofs.Rests.{never_front, step}
+use Rattle.work_text.proofs.RoundsApart.{rounds_apart}
+use Rattle.work_text.proofs.Saying.{Works}
+use Rattle.work_text.proofs.WorkLemmas.{last_few}
+
+-- a write by a writer of a small number to a device that is no member
+record IsFitWrite (devices : List Declared) (write : Written) : Type 0 where
+  task : write.task ≤ 7
+  top : is_among (all_members devices) write.dev ≡ false
+
+abbrev IsFitResize : Resized → Type 0
+IsFitResize resize = IsReserve resize.min
+
+record IsFit (known : Known) : Type 0 where
+  paired : length known.rounds ≡ length known.writes
+  writes : All (IsFitWrite known.devices) known.writes
+  order : AllPairs (λ round later. round ≤ later) known.rounds
+  past : All (λ round. round ≤ known.syncs) known.rounds
+  syncs : known.syncs ≤ 1024
+  reserves : All IsFitResize known.resizes
+  few : length known.resizes ≤ 4096
+
+-- the checks by their places
+too_small : (known : Known) (said : Item) → said_reason all_checks known (Some said) ≡ None → too_large known said ≡ false
+too_small known said none = finds_nothing all_checks known said 4 (check reason.TooLarge too_large) none refl
+
+some_kept : (known : Known) (said : Item) → said_reason all_checks known (Some said) ≡ None → reserve_zero known said ≡ false
+some_kept known said none = finds_nothing all_checks known said 6 (check reason.ReserveZero reserve_zero) none refl
+
+is_top : (known : Known) (said : Item) → said_reason all_checks known (Some said) ≡ None → not_a_top known said ≡ false
+is_top known said none = finds_nothing all_checks known said 8 (check reason.NotATop not_a_top) none refl
+
+-- one more reserve
+more_reserves : (known : Known) (pool : List ℕ) (min : ℕ) → IsFit known → IsReserve min → length known.resizes < 4096
+    → All IsFitResize (after_line known (Some (item.Resize pool min))).resizes × (length (after_line known (Some (item.Resize pool min))).resizes ≤ 4096)
+more_reserves known pool min fit one few = by_pool (pool_of known.devices pool)
+  where
+    by_pool : (p : Option _) → All IsFitResize (known.resizes ++ option_to_list (option_map (λ p. record { round = known.syncs; pool = p; min = min }) p))
+        × (length (known.resizes ++ option_to_list (option_map (λ p. record { round = known.syncs; pool = p; min = min }) p)) ≤ 4096)
+    by_pool None = rw (append-nil known.resizes) (fit.reserves, omega (arith, few))
+    by_pool (Some p) = (
+      All-push IsFitResize known.resizes (record { round = known.syncs; pool = p; min = min }) fit.reserves one,
+      let r : Resized = record { round = known.syncs; pool = p; min = min } in omega (arith, few, length_push known.resizes r),
+    )
+
+-- a line that passes all checks keeps this
+after_fit : (known : Known) (o : Option Item) → Works o → said_reason all_checks known o ≡ None → IsFit known → IsFit (after_line known o)
+after_fit known None works none fit = fit
+after_fit known (Some (item.Write task dev range tag)) works none fit =
+    let said = item.Write task dev range tag in
+    let write : Written = record { task = task; dev = number_in known.devices dev; start = range.start; count = range.len; tag = tag } in
+    record {
+      paired = omega (arith, fit.paired, length_push known.rounds known.syncs, length_push known.writes write);
+      writes = All-push (IsFitWrite known.devices) known.writes write fit.writes (record { task = works.0; top = is_top known said none });
+      order = all_pairs_push (λ round later. round ≤ later) known.rounds known.syncs fit.order (λ k d lt. fit.past k d lt);
+      past = All-push (λ round. round ≤ known.syncs) known.rounds known.syncs fit.past (omega arith);
+      syncs = fit.syncs;
+      reserves = fit.reserves;
+      few = fit.few;
+    }
+after_fit known (Some item.Sync) works none fit =
+    let more = (or_parts _ _ (too_small known item.Sync none)).0 in
+    let lt = leb-false 1024 known.syncs more in
+    record {
+      paired = fit.paired;
+      writes = fit.writes;
+      order = fit.order;
+      past = All-weaker (λ round. round ≤ known.syncs) (λ round. round ≤ known.syncs + 1) (λ round le. omega (arith, le)) known.rounds fit.past;
+      syncs = omega (arith, lt);
+      reserves = fit.reserves;
+      few = fit.few;
+    }
+after_fit known (Some (item.Resize pool min)) works none fit =
+    let said = item.Resize pool min in
+    let small = or_parts _ _ (too_small known said none) in
+    let lt = leb-false 4096 (length known.resizes) small.0 in
+    let most = ltb-false 1024 min (or_parts _ _ small.1).0 in
+    let never = eqb-false min 0 (or_parts _ _ (some_kept known said none)).0 in
+    let more = more_reserves known pool min fit (omega (arith, never), most) (omega (arith, lt)) in
+    record {
+      paired = fit.paired;
+      writes = fit.writes;
+      order = fit.order;
+      past = fit.past;
+      syncs = fit.syncs;
+      reserves = more.0;
+      few = more.1;
+    }
+after_fit known _ works none fit = absurd works
+
+lines_fit : (known : Known) (number : ℕ) (lines : List (List ℕ)) → (stand_of known ≡ Front → declarations lines ≡ []) → refusal all_checks known number lines ≡ None → IsFit known
+    → IsFit (known_after known lines)
+lines_fit known number [] begins none fit = fit
+lines_fit known number (line ∷ lines) begins none fit =
+    let parts = none_refused all_checks known number line lines none in
+    let passes = line_passes all_checks known line parts.0 in
+    let next = step known line fit.paired (λ front. first_works line lines (begins front)) passes.0 in
+    lines_fit (after_line known (said (words line))) (number + 1) lines (λ front. absurd (never_front (after_line known (said (words line))) next.behind front)) parts.1
+    (after_fit known (said (words line)) next.works passes.1 fit)
+
+nothing_fits : (stack : Stack) → IsFit (known_of stack)
+nothing_fits stack = record {
+  paired = refl;
+  writes = All-nil (IsFitWrite (known_of stack).devices);
+  order = λ i j d lt within. absurd (omega (arith, within));
+  past = All-nil (λ round. round ≤ 0);
+  syncs = omega arith;
+  reserves = All-nil IsFitResize;
+  few = omega arith;
+}
+
+-- the devices stay those of the stack
+after_devices : (known : Known) (o : Option Item) → Works o → (after_line known o).devices ≡ known.devices
+after_devices known None works = refl
+after_devices known (Some (item.Write task dev range tag)) works = refl
+after_devices known (Some item.Sync) works = refl
+after_devices known (Some (item.Resize pool min)) works = refl
+after_devices known _ works = absurd works
+
+lines_devices : (known : Known) (number : ℕ) (lines : List (List ℕ)) → (stand_of known ≡ Front → declarations lines ≡ []) → refusal all_checks known number lines ≡ None
+    → length known.rounds ≡ length known.writes → (known_after known lines).devices ≡ known.devices
+lines_devices known number [] begins none paired = refl
+lines_devices known number (line ∷ lines) begins none paired =
+    let parts = none_refused all_checks known number line lines none in
+    let passes = line_passes all_checks known line parts.0 in
+    let next = step known line paired (λ front. first_works line lines (begins front)) passes.0 in
+    lines_devices (after_line known (said (words line))) (number + 1) lines (λ front. absurd (never_front (after_line known (said (words line))) next.behind front)) parts.1 next.paired
+    ∙ after_devices known (said (words line)) next.works
+
+-- what holds of all that is shown holds of what shows so
+unmapped : {X Y : Type 0} (P : Y → Type 0) (f : X → Y) (xs : List X) → All P (map f xs) → All (λ x. P (f x)) xs
+unmapped P f [] all = All-nil (λ x. P (f x))
+unmapped P f (x ∷ xs) all = All-cons (λ x. P (f x)) x xs (All-head P (f x) (map f xs) all) (unmapped P f xs (All-tail P (f x) (map f xs) all))
+
+any_not : {X : Type 0} (p : X → Bool) (xs : List X) (i : ℕ) (x : X) → list_any p xs ≡ false → slice_get xs i ≡ Some x → p x ≡ false
+any_not p [] i x none found = absurd (grind arith)
+any_not p (y ∷ ys) zero x none found = ap p (sym (same_Some y x found)) ∙ (or_parts (p y) (list_any p ys) none).0
+any_not p (y ∷ ys) (suc i) x none found = any_not p ys i x (or_parts (p y) (list_any p ys) none).1 found
+
+-- a device that is among no members is no member
+no_member : (stack : Stack) (number : ℕ) → is_among (all_members (shown_devices stack)) number ≡ false → IsTop stack number
+no_member stack number none device place (at, found, is) =
+    let of_device = any_not (λ (d : Device). list_any (λ (m : DevId). m.0 == number) d.members.items) stack.devices.items device at (among_members stack number ∙ none) found in
+    let of_member = any_not (λ (m : DevId). m.0 == number) at.members.items place (record { 0 = number }) of_device is in
+    both_ways (number == number) of_member (eq-eqb number number refl)
+
+-- writes that share no sector are apart
+apart_by : (a b : Write) → shares b.dev.0 b.start b.count (written a) ≡ false → AreApart a b
+apart_by a b none dev = by_tests (nat_lt b.start (a.start + a.count)) (nat_lt a.start (b.start + b.count)) refl refl none
+  where
+    by_tests : (p q : Bool) → nat_lt b.start (a.start + a.count) ≡ p → nat_lt a.start (b.start + b.count) ≡ q → shares b.dev.0 b.start b.count (written a) ≡ false
+        → (a.start + a.count ≤ b.start) ⊎ (b.start + b.count ≤ a.start)
+    by_tests false q is also none = inl (ltb-false b.start (a.start + a.count) is)
+    by_tests true false is also none = inr (ltb-false a.start (b.start + b.count) also)
+    by_tests true true is also none = absurd (let same = eq-eqb a.dev.0 b.dev.0 dev in let all : shares b.dev.0 b.start b.count (written a) ≡ true = rw (same, is, also) refl in both_ways _ none all)
+
+kept_few : (last : ℕ) (resizes : List Resized) → length (kept_resizes last resizes) ≤ length resizes
+kept_few last [] = omega arith
+kept_few last (x ∷ xs) = by_test (nat_le x.round last) (kept_few last xs)
+  where
+    by_test : (b : Bool) → length (kept_resizes last xs) ≤ length xs → length (cond b (x ∷ kept_resizes last xs) (kept_resizes last xs)) ≤ length (x ∷ xs)
+    by_test true few = omega (arith, few)
+    by_test false few = omega (arith, few)
+
+pub work_is_fit : WorkIsFit
+work_is_fit text accepted work begins (none, is) =
+    let stack = accepted.stack in
+    let lines = work_lines text accepted in
+    let known = known_after (known_of stack) lines in
+    let fit = lines_fit (known_of stack) accepted.line lines (λ front. begins) none (nothing_fits stack) in
+    let devices : known.devices ≡ shown_devices stack = lines_devices (known_of stack) accepted.line lines (λ front. begins) none refl in
+    let writes : All (λ write. IsFitWrite known.devices (written write)) work.writes.items = unmapped (IsFitWrite known.devices) written work.writes.items (subst (All (IsFitWrite known.devices)) (sym is.writes) fit.writes) in
+    record {
+      writers = All-weaker (λ write. IsFitWrite known.devices (written write)) (λ write. write.task ≤ 7) (λ write one. one.task) work.writes.items writes;
+      paired = ap length is.rounds ∙ fit.paired ∙ ap length (sym is.writes) ∙ length-map work.writes.items written;
+      order = subst (AllPairs (λ round later. round ≤ later)) (sym is.rounds) fit.order;
+      apart = record {
+        tops = All-weaker (λ write. IsFitWrite known.devices (written write)) (λ write. IsTop stack write.dev.0)
+            (λ write one. no_member stack write.dev.0 (ap (λ ds. is_among (all_members ds) write.dev.0) (sym devices) ∙ one.top)) work.writes.items writes;
+        apart = λ i j a b lt found other round.
+            apart_by a b (rounds_apart stack accepted.line lines i j (written a) (written b) none lt
+            (shown_at is.writes i a found) (shown_at is.writes j b other)
+            (ap (λ rs. get_or rs i 0) (sym is.rounds) ∙ round ∙ ap (λ rs. get_or rs j 0) is.rounds));
+      };
+      reserves = unmapped IsFitResize resized work.resizes.items
+          (subst (All IsFitResize) (sym is.resizes) (All-filter (λ (r : Resized). nat_le r.round (last_round known.rounds)) IsFitResize known.resizes fit.reserves));
+      last = last_few work.rounds.items (subst (All (λ round. round ≤ 1024)) (sym is.rounds)
+          (All-weaker (λ round. round ≤ known.syncs) (λ round. round ≤ 1024) (λ round le. omega (arith, le, fit.syncs)) known.rounds fit.past));
+      few = omega (arith, length-map work.resizes.items resized, ap length is.resizes, kept_few (last_round known.rounds) known.resizes, fit.few);
+    }
+  where
+    shown_at : {known : List Written} → map written work.writes.items ≡ known → (i : ℕ) (write : Write) → slice_get work.writes.items i ≡ Some write → slice_get known i ≡ Some (written write)
+    shown_at same i write found = ap (λ ws. slice_get ws i) (sym same) ∙ slice_get-map written work.writes.items i ∙ ap (option_map written) found

@@ -1,0 +1,6 @@
+use Rattle.work_text.proofs.Fit.{work_is_fit}
+use Rattle.work_text.proofs.laws.work_is_fit.Goals as goal
+
+-- src/laws.rt
+pub returns : goal.returns
+returns c = work_is_fit
