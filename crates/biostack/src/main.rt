@@ -2,7 +2,7 @@
 #![tactic(auto)]
 
 use biostack_top::{Ending, biostack};
-use outside_io::{Pen, StdSink, StdSource};
+use outside_io::{StdSink, StdSource};
 use std::alloc::AllocError;
 use std::env;
 use std::io::ErrorKind;
@@ -21,7 +21,7 @@ fn words(rt: &(impl Env + AllocGlobal)) -> Result<Vec<String>, AllocError> {
 fn main(rt: HostRuntime) -> ExitCode {
     let mut errors = StdSink::new(rt.stderr());
     let Ok(words) = words(&rt) else {
-        Ending::Memory.tell(&mut Pen::new(), &mut errors);
+        let _told = Ending::Memory.tell(&mut errors);
         return ExitCode::from(Ending::Memory.exit().0);
     };
     let mut source = StdSource::new(rt.stdin());

@@ -17,7 +17,8 @@ use Rattle.layout_model.proofs.Apart.{frags_have}
 use Rattle.layout_model.proofs.Stacks.{tree_sound, disk_under}
 use Rattle.layout_model.proofs.Under.{under_le}
 use Rattle.layout_model.proofs.Whole.{frags_are}
-use Rattle.biostack_top.specs.LayoutText.{AreOnDevices, AreLaid}
+use Rattle.report_text.specs.LayoutText.{AreOnDevices}
+use Rattle.biostack_top.specs.LayoutText.{AreLaid}
 
 -- the fragments of a write go to devices of the stack
 pub known_disks : (stack : Stack) → IsStack stack → (write : Write) → IsWrite stack write → (number : ℕ) (own : List Fragment)

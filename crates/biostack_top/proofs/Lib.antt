@@ -4,7 +4,6 @@ pub mod PathLemmas
 pub mod ReportLemmas
 pub mod ServeLemmas
 pub mod EndingLemmas
-pub mod CheckLemmas
 pub mod LayoutLemmas
 pub mod SceneLemmas
 pub mod BuiltLemmas

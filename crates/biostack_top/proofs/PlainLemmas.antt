@@ -29,7 +29,7 @@ use Rattle.decl_text.specs.Fit.{IsFitBad, IsFitStack}
 use Rattle.work_text.proofs.Ready.{writes_ready}
 use Rattle.model_disks.specs.Disks.{IsBadRange}
 use Rattle.biostack_top.specs.Scene.{Says}
-use Rattle.biostack_top.specs.CheckText.{most_steps}
+use Rattle.report_text.specs.CheckText.{most_steps}
 use Rattle.biostack_top.specs.Scenario.{scenario_of, vector_count}
 use Rattle.biostack_top.specs.Built.{IsOneDisk, IsOneWrite, unbuilt_in}
 use Rattle.biostack_top.specs.Runs.{AreOneDisk, AreOneWrite, IsDisk, IsPlain}

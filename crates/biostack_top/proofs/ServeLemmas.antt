@@ -1,9 +1,9 @@
 -- What a text that was read makes of the call.
-use Rattle.std.proofs.Common.{◌≡◌, ℕ, Bool, true, false, List, Option, refl, subst}
+use Rattle.std.proofs.Common.{◌≡◌, ℕ, List, Option, subst}
+use Rattle.std.specs.Prelude.{Result, Ok, Err}
+use Rattle.outside_io.specs.Saying.{AppendsFront, Writes}
 use Rattle.std.specs.Io.KnownBytes.{Appends, Consumes}
 use Rattle.outside_io.specs.Causes.{Rose}
-use Rattle.outside_io.specs.Saying.{AppendsFront, Says}
-use Rattle.outside_io.proofs.SaysLemmas.{says_cause, says_fresh}
 use Rattle.outside_io.specs.Reading.{IsRead}
 use Rattle.biostack_top.specs.declared.order.Order.{Order}
 use Rattle.biostack_top.specs.declared.ending.Ending.{Ending}
@@ -21,13 +21,13 @@ text_ends Memory order c text asked was_read taken quiet ends = (order, asked, (
 text_ends Usage order c text asked was_read taken quiet ends = absurd ends
 text_ends ReadFault order c text asked was_read taken quiet ends = absurd ends
 
--- a pen that had not failed left a front of the text at its fault, and the whole without one
-pub says_failed : {a b : Option (List ℕ)} {f g : ℕ} {was is : Bool} {text : List ℕ} → was ≡ false → is ≡ true → Says a f was b g is text → Rose f g × AppendsFront a b text
-says_failed {a} {b} {f} {g} {was} {is} {text} fresh failed says =
-    let from_fresh = subst (λ x. Says a f false b g x text) failed (says_fresh fresh says) in
-    (says_cause from_fresh, from_fresh.front refl)
+-- a text that was written, by how that ended
+pub written_whole : {E : Type 0} {a b : Option (List ℕ)} {f g : ℕ} {text : List ℕ} {result : Result Unit E} {done : Unit} → result ≡ Ok done
+    → Writes a f b g result text → (g ≡ f) × Appends a b text
+written_whole {E} {a} {b} {f} {g} {text} {result} {done} is written =
+    let whole = subst (λ (r : Result Unit E). Writes a f b g r text) is written in (whole.cause.quiet, whole.whole)
 
-pub says_done : {a b : Option (List ℕ)} {f g : ℕ} {was is : Bool} {text : List ℕ} → was ≡ false → is ≡ false → Says a f was b g is text → (g ≡ f) × Appends a b text
-says_done {a} {b} {f} {g} {was} {is} {text} fresh done says =
-    let from_fresh = subst (λ x. Says a f false b g x text) done (says_fresh fresh says) in
-    (from_fresh.quiet refl, (from_fresh.whole refl).1)
+pub written_front : {E : Type 0} {a b : Option (List ℕ)} {f g : ℕ} {text : List ℕ} {result : Result Unit E} {fault : E} → result ≡ Err fault
+    → Writes a f b g result text → Rose f g × AppendsFront a b text
+written_front {E} {a} {b} {f} {g} {text} {result} {fault} is written =
+    let front = subst (λ (r : Result Unit E). Writes a f b g r text) is written in (front.cause.failed, front.front)

@@ -9,7 +9,7 @@ use Rattle.work_text.specs.Whole.{known_of_text}
 use Rattle.decl_text.specs.Accepting.{script_of}
 use Rattle.stack_base.specs.declared.ids.PoolId.TheVariants.{FsBios, FsVecs}
 use Rattle.biostack_top.specs.Scene.{Says}
-use Rattle.biostack_top.specs.CheckText.{most_steps}
+use Rattle.report_text.specs.CheckText.{most_steps}
 use Rattle.biostack_top.specs.Scenario.{Scenario, scenario_of}
 use Rattle.decl_text.specs.Fit.{IsFitStack}
 use Rattle.biostack_top.specs.Built.{unbuilt_in}

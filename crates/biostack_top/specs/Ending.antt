@@ -20,8 +20,9 @@ use Rattle.biostack_top.specs.Scenario.{Scenario, scenario_of, EachMayEnd, Holds
 use Rattle.biostack_top.specs.Machine.{State, Event, RunsTo, HasEnded, start}
 use Rattle.biostack_top.specs.Runs.{IsPlain, EveryRunHolds}
 use Rattle.biostack_top.specs.Report.{Ended, ended_as, report}
-use Rattle.biostack_top.specs.CheckText.{check_text}
-use Rattle.biostack_top.specs.LayoutText.{AreLaid, layout_text}
+use Rattle.report_text.specs.CheckText.{check_text}
+use Rattle.report_text.specs.LayoutText.{layout_text}
+use Rattle.biostack_top.specs.LayoutText.{AreLaid}
 use Rattle.biostack_top.specs.Orders.{order_of}
 use Rattle.biostack_top.specs.Scene.{Says}
 use Rattle.biostack_top.specs.Built.{refusal_for}

@@ -4,7 +4,6 @@ pub mod Machine
 pub mod Path
 pub mod Runs
 pub mod Report
-pub mod CheckText
 pub mod LayoutText
 pub mod Orders
 pub mod Scene

@@ -14,7 +14,7 @@ use Rattle.layout_model.specs.declared.totals.Bounds.{Bounds}
 use Rattle.layout_model.specs.Need.{segments, vectors}
 use Rattle.layout_model.specs.May.{MayEnd}
 use Rattle.layout_model.specs.Laid.{IsLaid}
-use Rattle.biostack_top.specs.CheckText.{most_steps}
+use Rattle.report_text.specs.CheckText.{most_steps}
 
 pub record Scenario : Type 0 where
   pub stack : Stack

@@ -1,6 +1,6 @@
 -- A scenario of the code, as the definitions see it.
 use Rattle.biostack_top.specs.Scenario as plain
-use Rattle.biostack_top.specs.CheckText.{most_steps}
+use Rattle.report_text.specs.CheckText.{most_steps}
 use Rattle.biostack_top.specs.declared.scenario.Scenario.{Scenario}
 
 abbrev pub scenario_view : Scenario → plain.Scenario

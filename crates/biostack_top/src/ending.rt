@@ -1,11 +1,11 @@
 //! How a call of the program ends: an exit status and a line on errors for each cause.
 ghost use Rattle.std.specs.Prelude.{◌≡◌};
-ghost use Rattle.outside_io.specs.Saying.{Says};
+ghost use Rattle.outside_io.specs.Saying.{Says, Writes};
 ghost use Rattle.biostack_top.specs.Ending.{exit_of, line_of, refusal_text};
 
 use decl_text::Refusal;
 use itoa::Buffer;
-use outside_io::{Pen, Sink};
+use outside_io::{Failed, Pen, Sink};
 
 /// The line for words that ask for nothing that the program does.
 const USAGE: &[u8] =
@@ -50,9 +50,22 @@ impl Ending {
         })
     }
 
-    /// Writes the line of this ending to errors, and nothing where nothing went wrong. A fault of theirs leaves a front of the line.
-    pub fn tell<E: Sink>(self, pen: &mut Pen, errors: &mut E)
-        ensures { Says (E.held errors.old) (E.faults errors.old) pen.old.failed (E.held errors.new) (E.faults errors.new) pen.new.failed (line_of self) }
+    /// Writes the line of this ending to errors, in one call where they take it whole, and nothing where nothing went wrong.
+    ///
+    /// # Errors
+    ///
+    /// `Failed` only where their count of faults rose. They took a front of the line then.
+    pub fn tell<E: Sink>(self, errors: &mut E) -> Result<(), Failed>
+        ensures { Writes (E.held errors.old) (E.faults errors.old) (E.held errors.new) (E.faults errors.new) result (line_of self) }
+    {
+        let mut pen = Pen::new();
+        self.say(&mut pen, errors);
+        pen.finish(errors)
+    }
+
+    // The line of this ending.
+    fn say<E: Sink>(self, pen: &mut Pen, errors: &mut E)
+        ensures { Says (E.held errors.old) (E.faults errors.old) pen.old (E.held errors.new) (E.faults errors.new) pen.new (line_of self) }
     {
         match self {
             Ending::Done | Ending::NotAllWell => {}
@@ -67,7 +80,7 @@ impl Ending {
 
 // `biostack: line L: NUMBER NAME`
 fn tell_refusal<E: Sink>(pen: &mut Pen, errors: &mut E, refusal: Refusal, name: &[u8])
-    ensures { Says (E.held errors.old) (E.faults errors.old) pen.old.failed (E.held errors.new) (E.faults errors.new) pen.new.failed
+    ensures { Says (E.held errors.old) (E.faults errors.old) pen.old (E.held errors.new) (E.faults errors.new) pen.new
         (refusal_text refusal name.now) }
 {
     let mut line_digits = Buffer::new();

@@ -1,16 +1,14 @@
-//! Makes the fragments of all writes, and writes where each of them goes.
-ghost use Rattle.std.specs.Prelude.{◌≡◌, ◌^◌, ◌<◌, ◌≤◌, ◌++◌, List, length, Contains, IfOk, OnOk};
+//! Makes the fragments of all writes.
+ghost use Rattle.std.specs.Prelude.{◌≡◌, ◌^◌, ◌≤◌, ◌++◌, List, length, Contains, IfOk, OnOk};
 ghost use Rattle.stack_base.specs.Stack.{IsStack};
 ghost use Rattle.stack_base.specs.Tree.{tree};
 ghost use Rattle.layout_model.specs.Fragments.{AreFragments};
 ghost use Rattle.layout_model.specs.Writes.{IsWrite};
-ghost use Rattle.outside_io.specs.Saying.{Says};
-ghost use Rattle.biostack_top.specs.LayoutText.{name_at, fragment_line, layout_text, AreOnDevices, AreLaid};
+ghost use Rattle.report_text.specs.LayoutText.{AreOnDevices};
+ghost use Rattle.biostack_top.specs.LayoutText.{AreLaid};
 
-use itoa::Buffer;
 use layout_model::{Fragment, Write, fragments};
-use outside_io::{Pen, Sink};
-use stack_base::{DevId, Stack};
+use stack_base::Stack;
 use std::alloc::{AllocError, Global};
 
 // Appends the fragments of a write.
@@ -51,61 +49,4 @@ pub(crate) fn layout_lines(
         add_fragments(alloc, stack, number as u32, write, &mut all)?;
     }
     Ok(all)
-}
-
-// The name of the device with this number.
-fn name_of(stack: &Stack, device: DevId) -> &[u8]
-    requires { device.0 < length stack.now.devices.items }
-    ensures { result.now ≡ name_at stack.now device.0 }
-{
-    stack.devices[device.0 as usize].name.as_str().as_bytes()
-}
-
-// `fragment W OFFSET LEN DISK AT`
-fn fragment_line<K: Sink>(pen: &mut Pen, out: &mut K, stack: &Stack, fragment: &Fragment)
-    requires { fragment.now.disk.0 < length stack.now.devices.items }
-    ensures { Says (K.held out.old) (K.faults out.old) pen.old.failed (K.held out.new) (K.faults out.new) pen.new.failed
-        (fragment_line stack.now fragment.now) }
-{
-    let mut write_digits = Buffer::new();
-    let write = write_digits.format(fragment.write).as_bytes();
-    let mut offset_digits = Buffer::new();
-    let offset = offset_digits.format(fragment.offset).as_bytes();
-    let mut len_digits = Buffer::new();
-    let len = len_digits.format(fragment.len).as_bytes();
-    let disk = name_of(stack, fragment.disk);
-    let mut at_digits = Buffer::new();
-    let at = at_digits.format(fragment.at).as_bytes();
-    pen.put(
-        out,
-        &[
-            b"fragment ",
-            write,
-            b" ",
-            offset,
-            b" ",
-            len,
-            b" ",
-            disk,
-            b" ",
-            at,
-            b"\n",
-        ],
-    );
-}
-
-/// Writes a line for each fragment, in their order, or a front of this where the sink fails.
-pub(crate) fn write_layout<K: Sink>(
-    pen: &mut Pen,
-    out: &mut K,
-    fragments: &[Fragment],
-    stack: &Stack,
-)
-    requires { AreOnDevices stack.now fragments.now }
-    ensures { Says (K.held out.old) (K.faults out.old) pen.old.failed (K.held out.new) (K.faults out.new) pen.new.failed
-        (layout_text stack.now fragments.now) }
-{
-    'fragments: for fragment in fragments {
-        fragment_line(pen, out, stack, fragment);
-    }
 }

@@ -1,11 +1,12 @@
 //! The top call of `biostack`: all that the program does, over any source and sinks.
 #![tactic(auto)]
 
-ghost use Rattle.std.specs.Prelude.{◌≡◌, ◌↔◌, List, ℕ, map, is_some, Bool, false, true, None, Some};
+ghost use Rattle.std.specs.Prelude.{◌≡◌, ◌↔◌, List, ℕ, map, is_some, true, None, Some, Result};
 ghost use Rattle.std.specs.String.{string_bytes};
 ghost use Rattle.outside_io.specs.Causes.{Rose};
 ghost use Rattle.outside_io.specs.Reading.{IsRead};
-ghost use Rattle.outside_io.specs.Saying.{Says};
+ghost use Rattle.outside_io.specs.Saying.{Writes};
+ghost use Rattle.outside_io.specs.declared.source.Failed.{Failed};
 ghost use Rattle.biostack_top.specs.declared.ending.Ending.{Ending as Endings};
 ghost use Rattle.biostack_top.specs.declared.order.Order.{Order};
 ghost use Rattle.biostack_top.specs.declared.order.Order.TheVariants as orders;
@@ -14,7 +15,6 @@ ghost use Rattle.biostack_top.specs.Built.{refusal_for};
 ghost use Rattle.biostack_top.specs.Ending.{EndsBy, limit, exit_of, line_of};
 
 mod built;
-mod check;
 mod ending;
 pub mod laws;
 mod layout;
@@ -26,7 +26,7 @@ mod scene;
 mod serve;
 
 pub use ending::{Ending, Exit};
-use outside_io::{Pen, Sink, Source};
+use outside_io::{Sink, Source};
 use std::alloc::Global;
 
 /// Carries out the words after the program's name: reads a scenario from the source and checks it, and then runs it to its end and
@@ -49,7 +49,7 @@ pub fn biostack<S: Source, K: Sink, E: Sink>(
           source = record { old = S.left source.old; new = S.left source.new; before = S.faults source.old; now = S.faults source.new };
           out = record { old = K.held out.old; new = K.held out.new; before = K.faults out.old; now = K.faults out.new };
         }
-        × ((failed : Bool) × Says (E.held errors.old) (E.faults errors.old) false (E.held errors.new) (E.faults errors.new) failed (line_of ending)) }
+        × ((told : Result Unit Failed) × Writes (E.held errors.old) (E.faults errors.old) (E.held errors.new) (E.faults errors.new) told (line_of ending)) }
 
     // What each status alone says.
     ensures usage { (result.0 ≡ 2) ↔ (order_of (map string_bytes words.now) ≡ None) }
@@ -60,6 +60,6 @@ pub fn biostack<S: Source, K: Sink, E: Sink>(
     ensures write_fault { result.0 ≡ 5 → Rose (K.faults out.old) (K.faults out.new) }
 {
     let ending = serve::serve(alloc, words, source, out);
-    ending.tell(&mut Pen::new(), errors);
+    let _told = ending.tell(errors);
     ending.exit()
 }

@@ -1,7 +1,7 @@
 //! Writes the report of a run that has ended.
 ghost use Rattle.std.specs.Prelude.{◌≡◌};
 ghost use Rattle.std.specs.Option.{option_to_list};
-ghost use Rattle.outside_io.specs.Saying.{Says};
+ghost use Rattle.outside_io.specs.Saying.{Says, Writes};
 ghost use Rattle.model_disks.specs.Runs.{written_runs};
 ghost use Rattle.biostack_top.specs.Path.{state_of};
 ghost use Rattle.biostack_top.specs.Scenario.{name_of};
@@ -11,7 +11,7 @@ use crate::path::Objects;
 use itoa::Buffer;
 use mempool_core::Facts;
 use model_disks::Disk;
-use outside_io::{Pen, Sink};
+use outside_io::{Failed, Pen, Sink};
 use stack_base::{Range, Stack, Status};
 
 fn status_word(status: Status) -> &'static [u8]
@@ -27,7 +27,7 @@ fn status_word(status: Status) -> &'static [u8]
 
 // `write W STATUS`
 fn write_line<K: Sink>(pen: &mut Pen, out: &mut K, number: u64, status: Status)
-    ensures { Says (K.held out.old) (K.faults out.old) pen.old.failed (K.held out.new) (K.faults out.new) pen.new.failed
+    ensures { Says (K.held out.old) (K.faults out.old) pen.old (K.held out.new) (K.faults out.new) pen.new
         (write_line number status) }
 {
     let mut digits = Buffer::new();
@@ -38,7 +38,7 @@ fn write_line<K: Sink>(pen: &mut Pen, out: &mut K, number: u64, status: Status)
 // The line of the one write, where it was told done.
 #[tactic(auto, using(outside_io::proofs::SaysLemmas::saying))]
 fn write_lines<K: Sink>(pen: &mut Pen, out: &mut K, status: Option<Status>)
-    ensures { Says (K.held out.old) (K.faults out.old) pen.old.failed (K.held out.new) (K.faults out.new) pen.new.failed
+    ensures { Says (K.held out.old) (K.faults out.old) pen.old (K.held out.new) (K.faults out.new) pen.new
         (write_lines 0 (option_to_list status)) }
 {
     if let Some(status) = status {
@@ -48,7 +48,7 @@ fn write_lines<K: Sink>(pen: &mut Pen, out: &mut K, status: Option<Status>)
 
 // `disk NAME sum HEX`
 fn disk_line<K: Sink>(pen: &mut Pen, out: &mut K, name: &[u8], words: u64)
-    ensures { Says (K.held out.old) (K.faults out.old) pen.old.failed (K.held out.new) (K.faults out.new) pen.new.failed
+    ensures { Says (K.held out.old) (K.faults out.old) pen.old (K.held out.new) (K.faults out.new) pen.new
         (disk_line name.now words) }
 {
     let mut digits = [0; 16];
@@ -58,7 +58,7 @@ fn disk_line<K: Sink>(pen: &mut Pen, out: &mut K, name: &[u8], words: u64)
 
 // `run NAME START LEN`
 fn run_line<K: Sink>(pen: &mut Pen, out: &mut K, name: &[u8], run: Range)
-    ensures { Says (K.held out.old) (K.faults out.old) pen.old.failed (K.held out.new) (K.faults out.new) pen.new.failed
+    ensures { Says (K.held out.old) (K.faults out.old) pen.old (K.held out.new) (K.faults out.new) pen.new
         (run_line name.now run) }
 {
     let mut start_digits = Buffer::new();
@@ -70,7 +70,7 @@ fn run_line<K: Sink>(pen: &mut Pen, out: &mut K, name: &[u8], run: Range)
 
 // A line for each run of written sectors, by rising start.
 fn run_lines<K: Sink>(pen: &mut Pen, out: &mut K, name: &[u8], disk: &Disk)
-    ensures { Says (K.held out.old) (K.faults out.old) pen.old.failed (K.held out.new) (K.faults out.new) pen.new.failed
+    ensures { Says (K.held out.old) (K.faults out.old) pen.old (K.held out.new) (K.faults out.new) pen.new
         (run_lines name.now (written_runs disk.now.image)) }
 {
     let mut from = 0;
@@ -82,7 +82,7 @@ fn run_lines<K: Sink>(pen: &mut Pen, out: &mut K, name: &[u8], disk: &Disk)
 
 // `pool POOL reserve MIN ordinary A spare B`
 fn pool_line<K: Sink>(pen: &mut Pen, out: &mut K, pool: &[u8], facts: Facts)
-    ensures { Says (K.held out.old) (K.faults out.old) pen.old.failed (K.held out.new) (K.faults out.new) pen.new.failed
+    ensures { Says (K.held out.old) (K.faults out.old) pen.old (K.held out.new) (K.faults out.new) pen.new
         (pool_line pool.now facts) }
 {
     let mut min_digits = Buffer::new();
@@ -109,7 +109,7 @@ fn pool_line<K: Sink>(pen: &mut Pen, out: &mut K, pool: &[u8], facts: Facts)
 
 // `steps S of B`
 fn steps_line<K: Sink>(pen: &mut Pen, out: &mut K, steps: u64, bound: u64)
-    ensures { Says (K.held out.old) (K.faults out.old) pen.old.failed (K.held out.new) (K.faults out.new) pen.new.failed
+    ensures { Says (K.held out.old) (K.faults out.old) pen.old (K.held out.new) (K.faults out.new) pen.new
         (steps_line steps bound) }
 {
     let mut steps_digits = Buffer::new();
@@ -122,7 +122,7 @@ fn steps_line<K: Sink>(pen: &mut Pen, out: &mut K, steps: u64, bound: u64)
 // The disk's line and those of its runs, where there is a disk.
 #[tactic(auto, using(outside_io::proofs::SaysLemmas::saying))]
 fn disk_lines<K: Sink>(pen: &mut Pen, out: &mut K, stack: &Stack, disk: &Disk)
-    ensures { Says (K.held out.old) (K.faults out.old) pen.old.failed (K.held out.new) (K.faults out.new) pen.new.failed
+    ensures { Says (K.held out.old) (K.faults out.old) pen.old (K.held out.new) (K.faults out.new) pen.new
         (disk_lines (name_of stack.now) disk.now.image) }
 {
     if let Some(device) = stack.devices.first() {
@@ -132,20 +132,25 @@ fn disk_lines<K: Sink>(pen: &mut Pen, out: &mut K, stack: &Stack, disk: &Disk)
     }
 }
 
-/// Writes the whole report, or a front of it where the sink fails.
+/// Writes the whole report.
+///
+/// # Errors
+///
+/// `Failed` only where the sink's count of faults rose. The sink took a front of the report then.
 pub fn write_report<K: Sink>(
-    pen: &mut Pen,
     out: &mut K,
     stack: &Stack,
     bound: u64,
     objects: &Objects,
-)
-    ensures { Says (K.held out.old) (K.faults out.old) pen.old.failed (K.held out.new) (K.faults out.new) pen.new.failed
+) -> Result<(), Failed>
+    ensures { Writes (K.held out.old) (K.faults out.old) (K.held out.new) (K.faults out.new) result
         (report (ended_with stack.now bound (state_of objects.now) objects.now.steps)) }
 {
-    write_lines(pen, out, objects.status);
-    disk_lines(pen, out, stack, &objects.disk);
-    pool_line(pen, out, b"fs.bios", objects.bios.facts());
-    pool_line(pen, out, b"fs.vecs", objects.vecs.facts());
-    steps_line(pen, out, objects.steps, bound);
+    let mut pen = Pen::new();
+    write_lines(&mut pen, out, objects.status);
+    disk_lines(&mut pen, out, stack, &objects.disk);
+    pool_line(&mut pen, out, b"fs.bios", objects.bios.facts());
+    pool_line(&mut pen, out, b"fs.vecs", objects.vecs.facts());
+    steps_line(&mut pen, out, objects.steps, bound);
+    pen.finish(out)
 }

@@ -1,8 +1,8 @@
 //! Does what the words ask for.
-ghost use Rattle.std.specs.Prelude.{◌≡◌, ◌^◌, ◌<◌, map, nat_lt, false, IfOk, OnErr};
+ghost use Rattle.std.specs.Prelude.{◌≡◌, ◌^◌, ◌<◌, map, nat_lt, IfOk, OnErr};
 ghost use Rattle.std.specs.Option.{option_to_list};
 ghost use Rattle.std.specs.String.{string_bytes};
-ghost use Rattle.outside_io.specs.Saying.{Says};
+ghost use Rattle.outside_io.specs.Saying.{Writes};
 ghost use Rattle.biostack_top.specs.Runs.{IsPlain};
 ghost use Rattle.biostack_top.specs.ScenarioViews.{scenario_view};
 ghost use Rattle.biostack_top.specs.Report.{Ended, report};
@@ -13,16 +13,16 @@ ghost use Rattle.biostack_top.specs.Ending.{EndsBy, MayEndAs, TextEndsBy, all_we
 ghost use Rattle.biostack_top.specs.declared.order.Order.TheVariants as order;
 
 use crate::built::first_unbuilt;
-use crate::check::write_check;
 use crate::ending::Ending;
-use crate::layout::{layout_lines, write_layout};
+use crate::layout::layout_lines;
 use crate::order::{Order, order_of};
 use crate::path::run_scenario;
 use crate::report::write_report;
 use crate::scenario::{Scenario, two_scripts};
 use crate::scene::{Scene, read_scene};
 use decl_text::{Accepted, ReadFault, Refusal};
-use outside_io::{Pen, ReadError, Sink, Source, read_up_to};
+use outside_io::{Failed, ReadError, Sink, Source, read_up_to};
+use report_text::{write_check, write_layout};
 use stack_base::Status;
 use std::alloc::{AllocError, Global};
 
@@ -39,25 +39,24 @@ fn ended_well(status: Option<Status>) -> bool
     }
 }
 
-// Runs the scenario to its end and writes the report. Answers whether the sink failed, and whether each write ended well. Want of memory
+// Runs the scenario to its end and writes the report. Answers how the writing of the report ended, and whether each write ended well. Want of memory
 // comes before any writing.
 fn run_and_report<K: Sink>(
     alloc: Global,
     scenario: Scenario<'_>,
     out: &mut K,
-) -> Result<(bool, bool), AllocError>
+) -> Result<(Result<(), Failed>, bool), AllocError>
     requires plain { IsPlain (scenario_view scenario) }
     requires bound { (scenario_view scenario).bound < 2 ^ 64 }
     ensures said { IfOk result (λ told. (e : Ended) × MayEndAs (scenario_view scenario.entry) e
-        × Says (K.held out.old) (K.faults out.old) false (K.held out.new) (K.faults out.new) told.0 (report e) × (told.1 ≡ all_well e.statuses)) }
+        × Writes (K.held out.old) (K.faults out.old) (K.held out.new) (K.faults out.new) told.0 (report e) × (told.1 ≡ all_well e.statuses)) }
     ensures unsaid { OnErr result (K.held out.new ≡ K.held out.old) }
 {
     let stack = scenario.stack;
     let bound = scenario.bounds.total();
     let objects = run_scenario(alloc, scenario)?;
-    let mut pen = Pen::new();
-    write_report(&mut pen, out, stack, bound, &objects);
-    Ok((pen.failed(), ended_well(objects.status)))
+    let written = write_report(out, stack, bound, &objects);
+    Ok((written, ended_well(objects.status)))
 }
 
 // Whether some write is of a round behind the first.
@@ -113,15 +112,18 @@ fn run<K: Sink>(alloc: Global, scene: Scene<'_>, out: &mut K) -> Ending
         writes: &work.writes,
         bounds: &work.bound,
     };
-    let Ok((failed, well)) = run_and_report(alloc, scenario, out) else {
+    let Ok((written, well)) = run_and_report(alloc, scenario, out) else {
         return Ending::Memory;
     };
-    if failed {
-        Ending::WriteFault
-    } else if well {
-        Ending::Done
-    } else {
-        Ending::NotAllWell
+    match written {
+        Err(Failed) => Ending::WriteFault,
+        Ok(()) => {
+            if well {
+                Ending::Done
+            } else {
+                Ending::NotAllWell
+            }
+        }
     }
 }
 
@@ -135,12 +137,9 @@ fn check<K: Sink>(scene: &Scene<'_>, out: &mut K) -> Ending
       now = K.faults out.new;
     } }
 {
-    let mut pen = Pen::new();
-    write_check(&mut pen, out, &scene.accepted.stack, &scene.work.bound);
-    if pen.failed() {
-        Ending::WriteFault
-    } else {
-        Ending::Done
+    match write_check(&scene.accepted.stack, &scene.work.bound, out) {
+        Ok(()) => Ending::Done,
+        Err(Failed) => Ending::WriteFault,
     }
 }
 
@@ -157,12 +156,9 @@ fn layout<K: Sink>(alloc: Global, scene: &Scene<'_>, out: &mut K) -> Ending
     let Ok(fragments) = layout_lines(alloc, &scene.accepted.stack, &scene.work.writes) else {
         return Ending::Memory;
     };
-    let mut pen = Pen::new();
-    write_layout(&mut pen, out, &fragments, &scene.accepted.stack);
-    if pen.failed() {
-        Ending::WriteFault
-    } else {
-        Ending::Done
+    match write_layout(&fragments, &scene.accepted.stack, out) {
+        Ok(()) => Ending::Done,
+        Err(Failed) => Ending::WriteFault,
     }
 }
 

@@ -5,8 +5,7 @@
 //! one of the outside, and not one that it made up.
 //!
 //! There are sources and sinks in memory, some that fail at given calls, and the readers and
-//! writers of std. [`read_up_to`] reads a source, and [`put_parts`] and a [`Pen`] write texts to
-//! a sink.
+//! writers of std. [`read_up_to`] reads a source, and a [`Pen`] writes texts to a sink.
 #![tactic(auto)]
 
 mod fail;
@@ -19,7 +18,7 @@ mod std_ends;
 
 pub use fail::{FailSink, FailSource};
 pub use memory::{MemSink, MemSource};
-pub use pen::{Pen, put_parts};
+pub use pen::Pen;
 pub use read::{ReadError, read_up_to};
 pub use sink::Sink;
 pub use source::{Failed, Source};

@@ -1,7 +1,7 @@
 -- What was said are the fragments of the scene's writes.
 use Rattle.std.proofs.Common.{true, refl, sym, ap, subst, length, ◌∙◌, arith}
-use Rattle.biostack_top.specs.LayoutText.{AreLaid, AreOnDevices, layout_text}
-use Rattle.biostack_top.proofs.ServeLemmas.{says_failed, says_done}
+use Rattle.report_text.specs.LayoutText.{AreOnDevices, layout_text}
+use Rattle.biostack_top.specs.LayoutText.{AreLaid}
 use Rattle.biostack_top.proofs.LayoutLemmas.{few_writes}
 use Rattle.biostack_top.proofs.serve.layout.Goals as goal
 
@@ -13,31 +13,31 @@ layout_lines-requires-clause-few g c =
 pub write_layout-requires : goal.write_layout-requires
 write_layout-requires g c = subst (AreOnDevices c.args.scene.now.accepted.stack) (sym c.deref-2.ensures.value) c.in-Ok.ensures.known
 
-pub returns-then-failed : goal.returns-then-failed
-returns-then-failed g c =
+pub returns-in-Ok-write_layout : goal.returns-in-Ok-write_layout
+returns-in-Ok-write_layout g c =
     let scene = c.args.scene.now in
-    let said = says_failed c.new-pen.ensures (sym c.failed.ensures ∙ c.if-failed.true) c.write_layout.ensures in
+    let written = c.in-Ok-write_layout.ensures in
     let laid = subst (λ writes. AreLaid scene.accepted.stack 0 writes c.in-Ok.fragments.items) c.deref.ensures.value c.in-Ok.ensures.laid in (
-      said.0,
+      written.cause.quiet,
       c.requires.says.fine,
       (
         layout_text scene.accepted.stack c.deref-2.result.now,
-        true,
         (scene.accepted.stack, scene.accepted.scripts.items, scene.work.writes.items, scene.work.bound, c.in-Ok.fragments.items, c.requires.says, laid, ap (layout_text scene.accepted.stack) c.deref-2.ensures.value, refl),
-        said.1,
+        written.whole,
       ),
     )
 
 pub returns : goal.returns
 returns g c =
     let scene = c.args.scene.now in
-    let said = says_done c.new-pen.ensures (sym c.failed.ensures ∙ c.if-failed.false) c.write_layout.ensures in
+    let written = c.in-Err.ensures in
     let laid = subst (λ writes. AreLaid scene.accepted.stack 0 writes c.in-Ok.fragments.items) c.deref.ensures.value c.in-Ok.ensures.laid in (
-      said.0,
+      written.cause.failed,
       c.requires.says.fine,
       (
         layout_text scene.accepted.stack c.deref-2.result.now,
+        true,
         (scene.accepted.stack, scene.accepted.scripts.items, scene.work.writes.items, scene.work.bound, c.in-Ok.fragments.items, c.requires.says, laid, ap (layout_text scene.accepted.stack) c.deref-2.ensures.value, refl),
-        said.1,
+        written.front,
       ),
     )

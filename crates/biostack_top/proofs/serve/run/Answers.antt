@@ -8,7 +8,7 @@ use Rattle.work_text.specs.Work.{last_round, resized}
 use Rattle.biostack_top.specs.Built.{unbuilt_in}
 use Rattle.biostack_top.specs.Report.{report}
 use Rattle.biostack_top.proofs.PlainLemmas.{two_pools}
-use Rattle.biostack_top.proofs.ServeLemmas.{says_failed, says_done}
+use Rattle.biostack_top.proofs.ServeLemmas.{written_whole, written_front}
 use Rattle.biostack_top.proofs.ToldLemmas.{Handed, handed_plain, told_run}
 use Rattle.biostack_top.proofs.serve.run.Goals as goal
 
@@ -36,8 +36,8 @@ run_and_report-requires-clause-bound g c =
     let needs = c.requires.says.needs in
     omega (arith, needs.allowed, needs.elements, needs.fewer, needs.entries, entries_few accepted.stack accepted.scripts.items accepted.is_stack accepted.declared, ap last_round c.requires.rounds, ap length c.requires.resizes, c.requires.few_rounds, length-map c.args.scene.work.resizes.items resized)
 
-pub returns-then-failed : goal.returns-then-failed
-returns-then-failed g c =
+pub returns-in-Err-written : goal.returns-in-Err-written
+returns-in-Err-written g c =
     let scene = c.args.scene in
     let none = sym c.in-Ok-None.ensures ∙ c.in-Ok-None.field-0-is in
     let h : Handed scene.text.now scene.accepted.stack scene.accepted.scripts.items scene.work.writes.items c.deref.result.now scene.work.bound
@@ -50,7 +50,7 @@ returns-then-failed g c =
     } in
     let told = c.in-Ok.ensures.said in
     let allowed = ap (λ r. option_or r (unbuilt_in scene.text.now)) c.requires.says.fine ∙ none in
-    let said = says_failed refl c.if-failed.true told.2 in
+    let said = written_front c.in-Err-written.is told.2 in
     (said.0, allowed, (report told.0, c.in-Ok.well, told_run h told.0 c.in-Ok.well told.1 told.3, said.1))
 
 pub returns-then-well : goal.returns-then-well
@@ -67,7 +67,7 @@ returns-then-well g c =
     } in
     let told = c.in-Ok.ensures.said in
     let allowed = ap (λ r. option_or r (unbuilt_in scene.text.now)) c.requires.says.fine ∙ none in
-    let said = says_done refl c.if-failed.false told.2 in
+    let said = written_whole c.in-Ok-written.is told.2 in
     (said.0, allowed, (report told.0, told_run h told.0 true told.1 (sym c.if-well.true ∙ told.3), said.1))
 
 pub returns : goal.returns
@@ -84,5 +84,5 @@ returns g c =
     } in
     let told = c.in-Ok.ensures.said in
     let allowed = ap (λ r. option_or r (unbuilt_in scene.text.now)) c.requires.says.fine ∙ none in
-    let said = says_done refl c.if-failed.false told.2 in
+    let said = written_whole c.in-Ok-written.is told.2 in
     (said.0, allowed, (report told.0, told_run h told.0 false told.1 (sym c.if-well.false ∙ told.3), said.1))

@@ -1,0 +1,17 @@
+-- What is told by the next turn stands behind what was told before it.
+use Rattle.std.proofs.Common.{◌≡◌, ◌++◌, take, drop, subst, arith}
+use Rattle.outside_io.proofs.SaysLemmas.{says_then, says_kept, says_next}
+use Rattle.outside_io.proofs.pen.Pen.say.Goals as goal
+
+pub saying-preserved : goal.saying-preserved
+saying-preserved g c =
+    let held = g.K.Sink.held c.make_room.new.sink in
+    let faults = g.K.Sink.faults c.make_room.new.sink in
+    let n = c.fill-at.result in
+    let rest = drop c.saying.at c.args.text.now in
+    let kept = says_kept held faults c.make_room.new.self c.fill-at.new.self (take n rest) c.fill-at.ensures.failed
+    (subst (λ xs. c.fill-at.new.self.pending ≡ c.make_room.new.self.pending ++ take n xs) c.split_at.ensures.back c.fill-at.ensures.pending) in
+    record {
+      within = omega (arith, c.fill-at.ensures.count);
+      said = says_next c.args.text.now c.saying.at n c.saying.invariant.said (says_then c.make_room.ensures.says kept);
+    }

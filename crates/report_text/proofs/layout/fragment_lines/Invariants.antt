@@ -1,0 +1,10 @@
+use Rattle.std.proofs.Common.{take}
+use Rattle.std.specs.List.{flat_map}
+use Rattle.outside_io.specs.Saying.{Says}
+use Rattle.report_text.specs.LayoutText.{fragment_line}
+use Rattle.report_text.proofs.layout.fragment_lines.Given as goal
+
+abbrev pub invariant-fragments : goal.invariant-fragments
+invariant-fragments g l =
+    Says (g.K.Sink.held l.fn.out) (g.K.Sink.faults l.fn.out) l.fn.pen (g.K.Sink.held l.out) (g.K.Sink.faults l.out) l.pen
+    (flat_map (fragment_line l.stack) (take l.fragment-index l.fragments))

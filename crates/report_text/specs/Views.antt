@@ -1,0 +1,61 @@
+-- What a report tells of a run that has ended, and of the objects that the machine of runs has then.
+use Rattle.std.specs.Prelude.{◌≡◌, ◌-◌, ◌<◌, ◌++◌, List, [], ◌∷◌, ℕ, length, map, take, drop, All}
+use Rattle.stack_base.specs.declared.ids.DevId.{DevId}
+use Rattle.stack_base.specs.declared.ids.PoolId.{PoolId}
+use Rattle.stack_base.specs.declared.stack.Device.{Device}
+use Rattle.stack_base.specs.declared.stack.Stack.{Stack}
+use Rattle.stack_base.specs.PoolId.{pool_number}
+use Rattle.mempool_core.specs.declared.Facts.{Facts}
+use Rattle.model_disks.specs.Disks.{DiskState}
+use Rattle.task_core.specs.declared.ended.Ended.{Ended}
+use Rattle.task_core.specs.Objects.{Objects}
+use Rattle.report_text.specs.Pools.{HasPool, disks_of, falling_pools, pool_name, pools_at}
+use Rattle.report_text.specs.Report.{Told, pool_line}
+
+-- a disk with what it holds
+abbrev pub image_of : DiskState → DevId × List (List ℕ)
+image_of disk = (disk.dev, disk.image)
+
+-- what is told of a run that has ended
+abbrev pub told_of : Ended → ℕ → Told
+told_of ended bound = record {
+  statuses = ended.statuses.items;
+  disks = map image_of ended.disks.items;
+  pools = ended.pools.items;
+  steps = ended.steps;
+  bound = bound;
+}
+
+-- the disks are those of the stack in the order of its devices, and the pools are the stack's by falling number
+pub record IsOf (stack : Stack) (ended : Ended) : Type 0 where
+  pub disks : map (λ (disk : DiskState). disk.dev) ended.disks.items ≡ disks_of stack
+  pub pools : map (λ (p : PoolId × Facts). p.0) ended.pools.items ≡ falling_pools stack
+
+-- what is told of the objects of a machine, whose disks and pools go by numbers
+abbrev pub told_by : Stack → Objects → ℕ → ℕ → Told
+told_by stack objects steps bound = record {
+  statuses = objects.tally.statuses;
+  disks = map (λ (dev : DevId). (dev, (objects.disk dev.0).image)) (disks_of stack);
+  pools = map (λ (pool : PoolId). (pool, (objects.pool (pool_number pool)).facts)) (falling_pools stack);
+  steps = steps;
+  bound = bound;
+}
+
+-- each of these disks is a device of the stack
+abbrev pub AreKnown : Stack → List DiskState → Type 0
+AreKnown stack disks = All (λ (dev : DevId). dev.0 < length stack.devices.items) (map (λ (disk : DiskState). disk.dev) disks)
+
+-- each of these pools is one of the stack
+abbrev pub AreOfStack : Stack → List (PoolId × Facts) → Type 0
+AreOfStack stack pools = All (HasPool stack) (map (λ (p : PoolId × Facts). p.0) pools)
+
+-- the line of a pool with these facts
+abbrev pub facts_line : Stack → PoolId × Facts → List ℕ
+facts_line stack p = pool_line (pool_name stack p.0) p.1
+
+-- where the pools of the first device stand last: those of each device, from the first to the last
+unfoldable pub own_of_each : List Device → List (PoolId × Facts) → List (PoolId × Facts)
+own_of_each [] pools = []
+own_of_each (device ∷ more) pools =
+    let front = length pools - length (pools_at 0 device.kind) in
+    drop front pools ++ own_of_each more (take front pools)
