@@ -1,5 +1,5 @@
 -- Submissions whose bios can all be served ask for what fits the objects, and stay such.
-use Rattle.std.proofs.Common.{◌≡◌, ◌≢◌, ◌<◌, ◌≤◌, ◌==◌, ◌&&◌, ◌||◌, ℕ, Bool, true, false, IsTrue, nat_lt, All, List, [], ◌∷◌, length, Option, None, Some, true≢false, slice_get, get_or, ◌+◌, inl, inr, refl, sym, ap, ◌∙◌, subst, arith}
+use Rattle.std.proofs.Common.{◌≡◌, ◌≢◌, ◌<◌, ◌≤◌, ◌==◌, ◌&&◌, ◌||◌, ℕ, Bool, true, false, IsTrue, All, List, [], ◌∷◌, length, Some, true≢false, slice_get, ◌+◌, inl, inr, refl, sym, ap, ◌∙◌, subst, arith}
 use Rattle.std.specs.Prelude.{not}
 use Rattle.std.proofs.lemmas.Bool.{lt-ltb}
 use Rattle.std.proofs.lemmas.List.Elements.{All-head, All-tail, All-nil}
@@ -22,18 +22,17 @@ use Rattle.bio_records.specs.declared.tasks.TaskLists.{TaskLists}
 use Rattle.bio_records.specs.Items.{Item}
 use Rattle.bio_lists.specs.Submission.{submitted, order}
 use Rattle.bio_split.specs.Split.{split_front, split_rest}
-use Rattle.bio_books.specs.Books.{SlipItem}
 use Rattle.bio_books.specs.Links.{Linked, Made, NoRoom, Stray}
-use Rattle.task_core.specs.Scene.{Setup, tree_at, is_device, is_disk, has_set, keeps_data, is_mirror}
+use Rattle.task_core.specs.Scene.{is_device, has_set, keeps_data, is_mirror}
 use Rattle.task_core.specs.Requests.{Reply, HadBio, HadSlip, Missed, Did, LinkedTo, Spent}
-use Rattle.task_core.specs.Lines.{Want, Takes, Punts, Links, Ask, ToPush, ToCut, ToRecord, ToMaster, Doing, Rests, Drives, Copies, Breaks, Line, first_length, first_waits, is_empty, mapped, landed, asks_at, driven, settled, goes_on, cut_at, legs_of, leg_at, copies, line_request, after_chain, after_master, after_leg, after_miss, line_answered}
+use Rattle.task_core.specs.Lines.{Takes, Punts, Links, ToPush, ToCut, ToRecord, ToMaster, Doing, Rests, Drives, Copies, Breaks, first_length, first_waits, is_empty, mapped, landed, asks_at, driven, settled, goes_on, cut_at, legs_of, leg_at, copies, line_request, after_chain, after_master, after_leg, line_answered}
 use Rattle.task_core.specs.Routed.{setup, places_at, sent}
 use Rattle.task_core.specs.Routed.{copies as copies_shape}
-use Rattle.task_core.specs.Within.{IsWithin, IsItemWithin, ListsAreWithin, is_cut, DoingFits, LineFits}
-use Rattle.task_core.specs.Stage.{Stage, has_book, has_rescuer, has_disk, has_mirror, is_bios, is_slips, IsHome, IsServed, AreServed, Fits, Owes}
-use Rattle.task_core.specs.Homes.{IsOwned, WantFits, AskIsHome, DoingIsHome, IsLineOf, LinesStayHome}
+use Rattle.task_core.specs.Within.{IsWithin, IsItemWithin, ListsAreWithin, is_cut, DoingFits}
+use Rattle.task_core.specs.Stage.{Stage, has_book, is_bios, IsHome, IsServed, AreServed, Fits, Owes}
+use Rattle.task_core.specs.Homes.{IsOwned, WantFits, DoingIsHome, IsLineOf, LinesStayHome}
 use Rattle.task_core.proofs.Waiting.{BothHave, all_ordered, all_submitted, all_punted, all_not_punted}
-use Rattle.task_core.proofs.Devices.{cut_is, cut_not_none, leg_there, mirror_legs}
+use Rattle.task_core.proofs.Devices.{cut_is, cut_not_none, mirror_legs}
 use Rattle.task_core.proofs.Landing.{first_at, lands_within}
 use Rattle.task_core.proofs.Fits.{settled_fits, parts_within, leg_within}
 

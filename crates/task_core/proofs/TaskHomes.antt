@@ -1,9 +1,8 @@
 -- Tasks of a scenario ask for what fits its objects, and stay such.
-use Rattle.std.proofs.Common.{◌≡◌, ◌<◌, ◌==◌, ℕ, Bool, true, false, IsTrue, All, List, [], ◌∷◌, Option, None, Some, refl}
+use Rattle.std.proofs.Common.{◌==◌, ℕ, Bool, true, false, IsTrue, All, List, [], ◌∷◌, Option, None, Some, refl}
 use Rattle.std.proofs.lemmas.List.Elements.{All-head, All-tail, All-nil, All-cons}
 use Rattle.stack_base.specs.declared.ids.DevId.{DevId}
 use Rattle.stack_base.specs.declared.ids.PoolId.{PoolId}
-use Rattle.stack_base.specs.declared.ids.Status.{Status}
 use Rattle.stack_base.specs.Stack.{IsStack}
 use Rattle.bio_records.specs.declared.bio.Pad.{Pad}
 use Rattle.bio_records.specs.Items.{Item}
@@ -14,12 +13,12 @@ use Rattle.bio_books.specs.Links.{Linked, Made, NoRoom, Stray}
 use Rattle.task_core.specs.declared.event.Breach.{Breach}
 use Rattle.task_core.specs.declared.event.Breach.TheVariants as breach
 use Rattle.task_core.specs.Requests.{Reply, HadBio, HadVec, Popped, Completed, LinkedTo, DroppedTo, OutIs, Did, Spent}
-use Rattle.task_core.specs.Lines.{Doing, Rests, Drives, Copies, Breaks, Line, rests, settled, line_request, line_answered}
-use Rattle.task_core.specs.Tasks.{Todo, Taken, NoBio, HasBio, HasBoth, Carried, Empty, Brings, Carries, Fails, Duty, Resizes, Starts, Keeping, Keeps, Stops, TaskState, Writer, Rescuer, Completer, Keeper, needs_vector, first_bio, filled, filled_short, with_bio, write_request, writer_request, rescuer_request, closed_request, carried_request, keeper_request, duty_request, request, begins, write_answered, writer_answered, rescuer_answered, given, after_drop, parent_or, carried_answered, after_resize, keeper_answered, answered}
+use Rattle.task_core.specs.Lines.{Doing, Rests, Breaks, Line, rests, settled, line_request, line_answered}
+use Rattle.task_core.specs.Tasks.{Todo, Taken, NoBio, HasBio, HasBoth, Carried, Empty, Brings, Carries, Fails, Duty, Resizes, Starts, Keeping, Keeps, Stops, TaskState, Writer, Rescuer, Completer, Keeper, needs_vector, filled, filled_short, with_bio, write_request, writer_request, rescuer_request, closed_request, carried_request, keeper_request, duty_request, request, begins, write_answered, writer_answered, rescuer_answered, given, after_drop, parent_or, carried_answered, after_resize, keeper_answered, answered}
 use Rattle.task_core.specs.Routed.{setup}
 use Rattle.task_core.specs.Within.{IsItemWithin, DoingFits}
-use Rattle.task_core.specs.Stage.{Stage, has_book, is_bios, is_vecs, IsHome, IsBioHome, IsVecHome, IsSlipHome, HoldsHome, TopFits, ClosedFits, DropFits, Fits, Owes, has_rescuer, has_disk}
-use Rattle.task_core.specs.Homes.{IsOwned, DoingIsHome, IsLineOf, TodoFits, TakenIsHome, CarriedFits, DutyFits, KeepingFits, IsTaskOf, LinesStayHome, TasksStayHome}
+use Rattle.task_core.specs.Stage.{Stage, has_book, is_vecs, IsHome, IsBioHome, IsVecHome, IsSlipHome, TopFits, DropFits, Fits, Owes, has_rescuer, has_disk}
+use Rattle.task_core.specs.Homes.{IsOwned, DoingIsHome, IsLineOf, TodoFits, TakenIsHome, CarriedFits, DutyFits, KeepingFits, IsTaskOf, TasksStayHome}
 use Rattle.task_core.proofs.LineHomes.{settled_home, line_asks, line_home}
 
 -- what a writer asks for outside of a submission

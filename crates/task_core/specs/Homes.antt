@@ -1,13 +1,11 @@
 -- What a task keeps, so that whatever it asks for fits the objects: each of its bios can be served, and each of its elements is at home.
-use Rattle.std.specs.Prelude.{◌≡◌, ◌<◌, ◌≤◌, ℕ, Bool, true, false, IsTrue, All, List, Option, None, Some}
+use Rattle.std.specs.Prelude.{◌<◌, ◌≤◌, true, false, IsTrue, All}
 use Rattle.stack_base.specs.declared.ids.DevId.{DevId}
 use Rattle.stack_base.specs.Stack.{IsStack}
 use Rattle.stack_base.specs.PoolId.{pool_number}
 use Rattle.layout_model.specs.Writes.{IsWrite}
 use Rattle.bio_records.specs.declared.bio.Pad.{Pad}
-use Rattle.bio_records.specs.declared.tasks.TaskLists.{TaskLists}
 use Rattle.bio_records.specs.Items.{Item}
-use Rattle.bio_books.specs.Drops.{Closed}
 use Rattle.task_core.specs.Requests.{Reply}
 use Rattle.task_core.specs.Lines.{Want, Takes, Punts, Links, Ask, ToPush, ToCut, ToRecord, ToMaster, Doing, Rests, Drives, Copies, Breaks, Line, line_request, line_answered}
 use Rattle.task_core.specs.Tasks.{Todo, Taken, NoBio, HasBio, HasBoth, Carried, Empty, Brings, Carries, Fails, Duty, Resizes, Starts, Keeping, Keeps, Stops, TaskState, Writer, Rescuer, Completer, Keeper, request, answered}
@@ -46,10 +44,11 @@ pub record IsLineOf (stage : Stage) (line : Line) : Type 0 where
   pub list0 : All (IsOwned stage) line.lists.list0
   pub list1 : All (IsOwned stage) line.lists.list1
 
--- a write of the scenario
+-- a write of the scenario, with no more segments than a vector has
 pub record TodoFits (stage : Stage) (todo : Todo) : Type 0 where
   pub write : IsWrite stage.routing.stack todo.write
   pub number : todo.number < stage.writes
+  pub few : todo.write.count ≤ 2048
 
 abbrev pub TakenIsHome : Stage → Taken → Type 0
 TakenIsHome stage NoBio = Unit {0}

@@ -14,5 +14,17 @@ pub mod Stage
 pub mod Homes
 pub mod Views
 pub mod Turns
+pub mod Tables
+pub mod ObjectsOf
+pub mod Plains
+pub mod Resizing
 pub mod CarriedViews
 pub mod KeeperViews
+pub mod LineViews
+pub mod Answers
+pub mod WriterViews
+pub mod Scenario
+pub mod RescuerViews
+pub mod TaskViews
+pub mod Filled
+pub mod Openings

@@ -1,5 +1,5 @@
 -- What the objects of a run are: which there are, of which ledgers their elements are, and what each call of them may be handed and hands out.
-use Rattle.std.specs.Prelude.{◌≡◌, ◌+◌, ◌/◌, ◌%◌, ◌<◌, ◌≤◌, ◌==◌, ◌&&◌, ◌||◌, ℕ, Bool, true, false, nat_lt, IsTrue, All, List, Option, None, Some}
+use Rattle.std.specs.Prelude.{◌≡◌, ◌/◌, ◌%◌, ◌<◌, ◌≤◌, ◌==◌, ◌&&◌, ◌||◌, ℕ, Bool, true, nat_lt, IsTrue, All, List, Option, None, Some}
 use Rattle.elem_ledger.specs.Ledger.{LedgerId}
 use Rattle.stack_base.specs.declared.ids.DevId.{DevId}
 use Rattle.stack_base.specs.declared.ids.PoolId.{PoolId}

@@ -3,10 +3,9 @@ use Rattle.std.specs.Prelude.{◌≡◌, ◌==◌, if◌then◌else◌, ℕ, Boo
 use Rattle.stack_base.specs.declared.ids.PoolId.TheVariants.{FsVecs, Records}
 use Rattle.bioset_pools.specs.Sets.{bios_of}
 use Rattle.bio_books.specs.Drops as end
-use Rattle.bio_books.specs.Links.{Made, NoRoom, Stray}
+use Rattle.bio_books.specs.Links.{NoRoom, Stray}
 use Rattle.task_core.specs.declared.event.Breach.{Breach}
 use Rattle.task_core.specs.declared.event.Breach.TheVariants as breach
-use Rattle.task_core.specs.declared.event.Event.{Event}
 use Rattle.task_core.specs.declared.event.TaskId.{TaskId}
 use Rattle.task_core.specs.declared.event.What.{What}
 use Rattle.task_core.specs.declared.event.What.TheVariants as what
@@ -18,7 +17,6 @@ use Rattle.task_core.specs.Lines.{Doing, Rests, Drives, Copies, Breaks}
 use Rattle.task_core.specs.Requests.{Request, Reply, Opening, Write, Chain, Master, Leg, TakeBio, TakeVec, TakeSlip, Link, Drop, Resize, LookLeft, Rest, Missed, LinkedTo, DroppedTo, OutIs, LeftOver, Nothing, Spent}
 use Rattle.task_core.specs.Tasks.{TaskState, Writer, Rescuer, Completer, Keeper, Carried, Empty, Brings, Carries, Fails, Keeping, Keeps, Stops, request, look_of, lets, answered}
 use Rattle.task_core.specs.Events.{id_of, what_of}
-use Rattle.task_core.specs.Views.{Choice}
 
 -- the node that an opening names, if it names one
 abbrev pub named : Opening → ℕ

@@ -1,5 +1,5 @@
 -- What calls of the objects are handed and answer, without its boxes: as requests and replies.
-use Rattle.std.specs.Prelude.{◌≡◌, ℕ, List, Option, None, Some, Result, Ok, Err}
+use Rattle.std.specs.Prelude.{◌≡◌, ℕ, Option, None, Some, Result, Ok, Err}
 use Rattle.elem_ledger.specs.declared.element.Element.{Element}
 use Rattle.mempool_core.specs.declared.Taken.{Taken}
 use Rattle.mempool_core.specs.declared.Taken.TheVariants as taken
@@ -7,7 +7,7 @@ use Rattle.bio_records.specs.declared.bio.Pad.{Pad}
 use Rattle.bio_records.specs.declared.bio.Slip.{Slip}
 use Rattle.bio_records.specs.declared.segment.Vector.{Vector}
 use Rattle.bio_records.specs.declared.body.BioBody.{BioBody}
-use Rattle.bio_records.specs.Items.{Item, item_of, IsAlone}
+use Rattle.bio_records.specs.Items.{item_of, IsAlone}
 use Rattle.bio_books.specs.Books.{VectorItem}
 use Rattle.bio_books.specs.Views.{vector_of, slip_item, linked_of, ended_of, IsAlonePart, IsLinkAlone, IsDroppedAlone}
 use Rattle.bio_books.specs.declared.book.Link.{Link}

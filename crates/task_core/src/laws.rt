@@ -1,5 +1,6 @@
 //! What holds of the machine's definitions, as functions that do nothing.
 ghost use Rattle.task_core.specs.Laws.{OneObjectChanges, OthersStay, PoolsAreNumbered, RunsAreJoined};
+ghost use Rattle.task_core.specs.ObjectsOf.{ObjectsStay};
 
 /// A request changes no object but the one that it is for.
 pub fn one_object_changes()
@@ -19,4 +20,9 @@ pub fn runs_are_joined()
 /// A pool of a stack is told by its number.
 pub fn pools_are_numbered()
     ensures { PoolsAreNumbered }
+{}
+
+/// What a call makes of the objects of a stage are objects of this stage, and all that they hand out is at home in them.
+pub fn objects_stay()
+    ensures { ObjectsStay }
 {}

@@ -5,19 +5,44 @@
 //! relation that cites the object's own moves (`specs/Objects.antt`). An event is both halves at once (`specs/Runs.antt`).
 #![tactic(auto)]
 
+mod calls;
 mod carried;
+mod copying;
+mod driving;
 mod ended;
 mod event;
 pub mod homes;
 mod keeper;
 pub mod laws;
+mod line;
 mod objects;
+mod one;
+mod open;
+mod place;
+mod plain;
+mod rescuer;
 mod routes;
 mod step;
+mod tally;
+mod task;
+mod todo;
 pub mod within;
+mod writer;
+mod writing;
 
+pub use carried::{Carried, Load};
 pub use ended::Ended;
 pub use event::{Breach, End, Event, Got, How, TaskId, What};
+pub use keeper::{Duty, Keeper};
+pub use line::{Doing, DriverAsk, HandedBack, Kept, Line, Want};
 pub use objects::{Ask, Chooser, Objects, Oldest, Unmade};
+pub use place::Seats;
+pub use plain::Plain;
+pub use rescuer::Rescuer;
 pub use routes::{Cut, Driver, Manner, Routes};
 pub use step::Step;
+pub use tally::Tally;
+pub use task::{Kind, Task};
+pub use todo::{Todo, Todos};
+pub use writer::Writer;
+pub use writing::Taken;

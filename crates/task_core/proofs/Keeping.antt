@@ -1,0 +1,405 @@
+-- What a call makes of the objects of a stage are objects of this stage, and what it hands out is at home.
+use Rattle.std.proofs.Common.{◌≡◌, ◌≢◌, ◌⊎◌, inl, inr, ◌+◌, ◌-◌, ◌*◌, ◌/◌, ◌%◌, ◌<◌, ◌≤◌, ◌==◌, ◌&&◌, ◌||◌, if◌then◌else◌, ℕ, Bool, true, false, List, length, take, drop, sum, set, get_or, Option, None, Some, refl, sym, ap, subst, ◌∙◌, arith, suc}
+use Rattle.std.specs.Prelude.{IfSome, IsTrue, slice_get}
+use Rattle.std.proofs.lemmas.Bool.Decides.{nat_tests}
+use Rattle.std.proofs.lemmas.Grind.{common_steps}
+use Rattle.std.proofs.lemmas.List.{get_or_past, length-set}
+use Rattle.std.proofs.lemmas.List.Elements.{All-append, All-drop, All-head, All-push, All-rest, All-set, All-take}
+use Rattle.std.proofs.lemmas.List.Sums.{sum_by-set}
+use Rattle.std.proofs.lemmas.Option.{get_or_from_slice_get, slice_get_within}
+use Rattle.elem_ledger.specs.Ledger.{LedgerId}
+use Rattle.stack_base.specs.declared.ids.DevId.{DevId}
+use Rattle.stack_base.specs.declared.ids.SetId.{SetId}
+use Rattle.stack_base.specs.declared.ids.SetId.TheVariants.{Fs, Of}
+use Rattle.stack_base.specs.declared.ids.PoolId.TheVariants.{Records}
+use Rattle.stack_base.specs.declared.ids.Status.{Status}
+use Rattle.stack_base.specs.declared.ids.Status.TheVariants.{Ok}
+use Rattle.stack_base.specs.PoolId.{pool_number}
+use Rattle.stack_base.specs.Fault.{status_eq}
+use Rattle.stack_base.specs.Tree.{tree, size}
+use Rattle.mempool_core.specs.Move.{PoolState}
+use Rattle.bioset_pools.specs.Sets.{bios_of}
+use Rattle.bio_records.specs.declared.bio.Pad.{Pad}
+use Rattle.bio_records.specs.Items.{Item}
+use Rattle.model_disks.specs.Disks.{DiskState}
+use Rattle.model_disks.specs.Moves.{pushed, written, Completes}
+use Rattle.model_disks.proofs.MoveLemmas.{bios_write_their_sectors}
+use Rattle.bio_books.specs.Books.{VectorItem, SlipItem, Node, BookState, node_at, with_node, parent_of, nothing_held, top_node, child_node, master_node, leg_node, keeping, raised, told, lowered, later_part}
+use Rattle.bio_books.specs.Links.{Linked, Made, NoRoom, Stray, Opens, ChainsAt, MastersAt, LegsAt}
+use Rattle.bio_books.specs.Drops.{Closed, Ended, DropsAt, closed_of, Left, Up, Top}
+use Rattle.bio_books.specs.Drops as end
+use Rattle.task_core.specs.declared.event.Got.{Got}
+use Rattle.task_core.specs.declared.event.Got.TheVariants.{Ordinary, Spare}
+use Rattle.task_core.specs.declared.event.Got.TheVariants as got
+use Rattle.task_core.specs.Maps.{upd}
+use Rattle.task_core.specs.Scene.{has_set}
+use Rattle.task_core.specs.Routed.{setup}
+use Rattle.task_core.specs.Requests.{Request, Reply, Opening, Write, Chain, Master, Leg, TakeBio, TakeVec, TakeSlip, GiveBio, GiveVec, GiveSlip, Punt, Pop, Push, Complete, Link, Drop, Done, Resize, NextRound, LookRound, LookLeft, HadBio, HadVec, HadSlip, Missed, Did, Popped, Completed, LinkedTo, DroppedTo, OutIs, Present, LeftOver, Nothing}
+use Rattle.task_core.specs.Objects.{TallyState, Objects, Has, Opened, Serves, done_one}
+use Rattle.task_core.specs.Opened.{at}
+use Rattle.task_core.specs.Stage.{Stage, has_mirror, is_set, is_bios, is_vecs, is_slips, IsHome, IsTaken, IsBioHome, IsVecHome, HoldsHome, IsServed, AreServed, OpeningFits, Fits, LinkFits, TopFits, ClosedFits, DropFits, Owes}
+use Rattle.task_core.specs.ObjectsOf.{IsDiskOf, IsNodeOf, IsBookOf, IsTallyOf, AreObjectsOf, AreNumbered}
+use Rattle.task_core.proofs.Frames.{upd_same, upd_other}
+
+same_by : (a b : ℕ) → (a == b) ≡ true → b ≡ a
+same_by a b e = grind (arith, nat_tests)
+
+apart_by : (a b : ℕ) → (a == b) ≡ false → a ≢ b
+apart_by a b e = grind (arith, nat_tests)
+
+-- what holds at each number holds so with one changed
+upd_keeps : {X : Type 0} (P : ℕ → X → Type 0) (f : ℕ → X) (i : ℕ) (x : X) → ((j : ℕ) → P j (f j)) → P i x → (j : ℕ) → P j (upd f i x j)
+upd_keeps P f i x all is j = by_case (j == i) refl
+  where
+    by_case : (b : Bool) → (j == i) ≡ b → P j (upd f i x j)
+    by_case true q = subst (λ k. P k (upd f i x k)) (same_by j i q) (subst (P i) (sym (upd_same f i x)) is)
+    by_case false q = subst (P j) (sym (upd_other f i x j (apart_by j i q))) (all j)
+
+-- the numbers of pools by their kinds
+even_of : (d : ℕ) → ((2 * d) % 2 ≡ 0) × ((2 * d) / 2 ≡ d)
+even_of d = (omega arith, omega arith)
+
+odd_of : (d : ℕ) → ((2 * d + 1) % 2 ≡ 1) × ((2 * d + 1) / 2 ≡ d)
+odd_of d = (omega arith, omega arith)
+
+or_true : (a : Bool) → (a || true) ≡ true
+or_true true = refl
+or_true false = refl
+
+pub set_is_bios : (stage : Stage) (of : SetId) → IsTrue (is_set stage of) → IsTrue (is_bios stage (pool_number (bios_of of)))
+set_is_bios stage Fs is = refl
+set_is_bios stage (Of dev) is =
+    let even = even_of dev.0 in
+    let right : ((2 * dev.0) % 2 == 0 && has_set (setup stage.routing) ((2 * dev.0) / 2)) ≡ true = rw (even.0, even.1) is in
+    rw (right) (or_true (2 * dev.0 == 65))
+
+pub mirror_is_slips : (stage : Stage) (dev : DevId) → IsTrue (has_mirror stage dev) → IsTrue (is_slips stage (pool_number (Records dev)))
+mirror_is_slips stage dev is = let odd = odd_of dev.0 in rw (odd.0, odd.1) is
+
+module _ (stage : Stage) where
+  -- an element that is taken is of the ledger of its pool
+  is_taken : (is_kind : Stage → ℕ → Bool) (number : ℕ) (share : LedgerId) → AreNumbered stage → IsTrue (is_kind stage number)
+      → share ≡ stage.ledger number → IsTaken stage is_kind number share
+  is_taken is_kind number share numbered kind is =
+      let same : share.no ≡ number = ap (λ (l : LedgerId). l.no) is ∙ numbered number in
+      record {
+        numbered = same;
+        home = record { ledger = is ∙ ap stage.ledger (sym same); kind = subst (λ n. IsTrue (is_kind stage n)) (sym same) kind };
+      }
+
+  -- one object changes
+  pools_change : (old : Objects) (pools : ℕ → PoolState) → AreObjectsOf stage old → AreObjectsOf stage (record old { pool = pools })
+  pools_change old pools all = record { rescue = all.rescue; disk = all.disk; book = all.book; tally = all.tally }
+
+  list_changes : (old : Objects) (dev : ℕ) (bios : List (Item Pad)) → AreServed stage bios → AreObjectsOf stage old
+      → AreObjectsOf stage (record old { rescue = upd old.rescue dev bios })
+  list_changes old dev bios are all = record {
+    rescue = upd_keeps (λ n x. AreServed stage x) old.rescue dev bios all.rescue are;
+    disk = all.disk;
+    book = all.book;
+    tally = all.tally;
+  }
+
+  disk_changes : (old : Objects) (dev : ℕ) (disk : DiskState) → IsDiskOf stage dev disk → AreObjectsOf stage old
+      → AreObjectsOf stage (record old { disk = upd old.disk dev disk })
+  disk_changes old dev disk is all = record {
+    rescue = all.rescue;
+    disk = upd_keeps (IsDiskOf stage) old.disk dev disk all.disk is;
+    book = all.book;
+    tally = all.tally;
+  }
+
+  book_changes : (old : Objects) (writer : ℕ) (book : BookState) → IsBookOf stage writer book → AreObjectsOf stage old
+      → AreObjectsOf stage (record old { book = upd old.book writer book })
+  book_changes old writer book is all = record {
+    rescue = all.rescue;
+    disk = all.disk;
+    book = upd_keeps (IsBookOf stage) old.book writer book all.book is;
+    tally = all.tally;
+  }
+
+  tally_changes : (old : Objects) (tally : TallyState) → IsTallyOf stage tally → AreObjectsOf stage old → AreObjectsOf stage (record old { tally = tally })
+  tally_changes old tally is all = record { rescue = all.rescue; disk = all.disk; book = all.book; tally = is }
+
+  -- disks
+  abbrev IsAtDisk : ℕ → Item Pad → Type 0
+  IsAtDisk dev item = IsServed stage item × (item.bio.dev ≡ at dev)
+
+  pushed_is : (dev : ℕ) (item : Item Pad) (disk : DiskState) → IsAtDisk dev item → IsDiskOf stage dev disk → IsDiskOf stage dev (pushed item disk)
+  pushed_is dev item disk is all = record {
+    dev_is = all.dev_is;
+    sectors = all.sectors;
+    bads = all.bads;
+    pending = All-push (IsAtDisk dev) disk.pending item all.pending is;
+  }
+
+  waits_there : (dev index : ℕ) (item : Item Pad) (disk : DiskState) → IsDiskOf stage dev disk → slice_get disk.pending index ≡ Some item → IsAtDisk dev item
+  waits_there dev index item disk all taken =
+      subst (IsAtDisk dev) (get_or_from_slice_get disk.pending index item item taken)
+      (all.pending index item (slice_get_within disk.pending index item taken))
+
+  image_keeps : (dev : ℕ) (item : Item Pad) (disk : DiskState) → IsDiskOf stage dev disk → IsAtDisk dev item → (b : Bool)
+      → length (if b then written item.bio disk.image else disk.image) ≡ size (tree stage.routing.stack dev)
+  image_keeps dev item disk all is false = all.sectors
+  image_keeps dev item disk all is true =
+      let inside = is.0.within.within in
+      let here : size (tree stage.routing.stack item.bio.dev.0) ≡ size (tree stage.routing.stack dev) =
+      ap (λ (d : DevId). size (tree stage.routing.stack d.0)) is.1 in
+      let sectors = all.sectors in
+      bios_write_their_sectors.size item.bio disk.image (omega (arith, inside, here, sectors)) ∙ sectors
+
+  completed_is : (dev index : ℕ) (item : Item Pad) (ending : Status) (old new : DiskState) → IsDiskOf stage dev old → Completes old index item ending new
+      → IsDiskOf stage dev new
+  completed_is dev index item ending old new all is =
+      let here = waits_there dev index item old all is.taken in
+      subst (IsDiskOf stage dev) (sym is.after) (
+      record {
+        dev_is = all.dev_is;
+        sectors = image_keeps dev item old all here (status_eq ending Ok);
+        bads = all.bads;
+        pending =
+            All-append (IsAtDisk dev) (take index old.pending) (drop (suc index) old.pending)
+            (All-take (IsAtDisk dev) index old.pending all.pending) (All-drop (IsAtDisk dev) (suc index) old.pending all.pending);
+      }
+      )
+
+  -- books
+  abbrev IsOpenOf : Option Node → Type 0
+  IsOpenOf node = IfSome node (IsNodeOf stage)
+
+  node_is : (writer place : ℕ) (book : BookState) → IsBookOf stage writer book → IsOpenOf (node_at book place)
+  node_is writer place book is = by_case (nat_lt_or place (length book.nodes))
+    where
+      nat_lt_or : (a b : ℕ) → (a < b) ⊎ (b ≤ a)
+      nat_lt_or a b = search arith
+
+      by_case : (place < length book.nodes) ⊎ (length book.nodes ≤ place) → IsOpenOf (node_at book place)
+      by_case (inl lt) = is.nodes place None lt
+      by_case (inr le) = subst IsOpenOf (sym (get_or_past book.nodes place None le)) tt
+
+  with_is : (writer place : ℕ) (book : BookState) (node : Option Node) → IsOpenOf node → IsBookOf stage writer book
+      → IsBookOf stage writer (with_node book place node)
+  with_is writer place book node open_ is = record { writer_is = is.writer_is; nodes = All-set IsOpenOf book.nodes place node open_ is.nodes }
+
+  holds_nothing : HoldsHome stage nothing_held
+  holds_nothing = record { bio = tt; vector = tt; slip = tt }
+
+  opens_is : (writer write : ℕ) (vector : Option VectorItem) (answer : Linked) (old new : BookState) → IsBookOf stage writer old
+      → (write < stage.writes) × IsVecHome stage vector → Opens old write vector answer new → IsBookOf stage writer new × LinkFits stage answer
+  opens_is writer write vector (Made place) old new is fits opens = (
+    subst (IsBookOf stage writer) (sym opens.1)
+        (with_is writer place old (Some (top_node write vector)) (record { write = fits.0; held = record { bio = tt; vector = fits.1; slip = tt } }) is),
+    tt,
+  )
+  opens_is writer write vector (NoRoom back) old new is fits opens = (
+    subst (IsBookOf stage writer) (sym opens.2) is,
+    subst (HoldsHome stage) (sym opens.1) (record { bio = tt; vector = fits.1; slip = tt }),
+  )
+  opens_is writer write vector (Stray back) old new is fits opens = absurd opens
+
+  chains_is : (writer parent : ℕ) (answer : Linked) (old new : BookState) → IsBookOf stage writer old → (node : Option Node) → IsOpenOf node
+      → ChainsAt old parent node answer new → IsBookOf stage writer new × LinkFits stage answer
+  chains_is writer parent (Made place) old new is (Some node) here chains = (
+    subst (IsBookOf stage writer) (sym chains.2)
+        (with_is writer parent _ (Some (raised node)) (record { write = here.write; held = here.held })
+        (with_is writer place old (Some (child_node node.write parent)) (record { write = here.write; held = holds_nothing }) is)),
+    tt,
+  )
+  chains_is writer parent (NoRoom back) old new is (Some node) here chains =
+      (subst (IsBookOf stage writer) (sym chains.2) is, subst (HoldsHome stage) (sym chains.1) holds_nothing)
+  chains_is writer parent (Stray back) old new is (Some node) here chains = absurd chains
+  chains_is writer parent (Stray back) old new is None here chains =
+      (subst (IsBookOf stage writer) (sym chains.1) is, subst (HoldsHome stage) (sym chains.0) holds_nothing)
+  chains_is writer parent (Made place) old new is None here chains = absurd chains
+  chains_is writer parent (NoRoom back) old new is None here chains = absurd chains
+
+  masters_is : (writer parent : ℕ) (part : Item Pad) (slip : SlipItem) (legs : ℕ) (answer : Linked) (old new : BookState) → IsBookOf stage writer old
+      → IsHome stage is_bios part.share × IsHome stage is_slips slip.share → (node : Option Node) → IsOpenOf node
+      → MastersAt old parent node part slip legs answer new → IsBookOf stage writer new × LinkFits stage answer
+  masters_is writer parent part slip legs (Made place) old new is fits (Some node) here masters = (
+    subst (IsBookOf stage writer) (sym masters.1)
+        (with_is writer parent _ (Some (keeping part node))
+        (record { write = here.write; held = record { bio = fits.0; vector = here.held.vector; slip = here.held.slip } })
+        (with_is writer place old (Some (master_node node.write parent slip legs))
+        (record { write = here.write; held = record { bio = tt; vector = tt; slip = record { ledger = fits.1.ledger; kind = fits.1.kind } } }) is)),
+    tt,
+  )
+  masters_is writer parent part slip legs (NoRoom back) old new is fits (Some node) here masters = (
+    subst (IsBookOf stage writer) (sym masters.2) is,
+    subst (HoldsHome stage) (sym masters.1) (record { bio = fits.0; vector = tt; slip = fits.1 }),
+  )
+  masters_is writer parent part slip legs (Stray back) old new is fits (Some node) here masters = absurd masters
+  masters_is writer parent part slip legs (Stray back) old new is fits None here masters = (
+    subst (IsBookOf stage writer) (sym masters.1) is,
+    subst (HoldsHome stage) (sym masters.0) (record { bio = fits.0; vector = tt; slip = fits.1 }),
+  )
+  masters_is writer parent part slip legs (Made place) old new is fits None here masters = absurd masters
+  masters_is writer parent part slip legs (NoRoom back) old new is fits None here masters = absurd masters
+
+  legs_is : (writer master : ℕ) (answer : Linked) (old new : BookState) → IsBookOf stage writer old → (node : Option Node) → IsOpenOf node
+      → LegsAt old master node answer new → IsBookOf stage writer new × LinkFits stage answer
+  legs_is writer master (Made place) old new is (Some node) here legs = (
+    subst (IsBookOf stage writer) (sym legs.1)
+        (with_is writer place old (Some (leg_node node.write master)) (record { write = here.write; held = holds_nothing }) is),
+    tt,
+  )
+  legs_is writer master (NoRoom back) old new is (Some node) here legs =
+      (subst (IsBookOf stage writer) (sym legs.2) is, subst (HoldsHome stage) (sym legs.1) holds_nothing)
+  legs_is writer master (Stray back) old new is (Some node) here legs = absurd legs
+  legs_is writer master (Stray back) old new is None here legs =
+      (subst (IsBookOf stage writer) (sym legs.1) is, subst (HoldsHome stage) (sym legs.0) holds_nothing)
+  legs_is writer master (Made place) old new is None here legs = absurd legs
+  legs_is writer master (NoRoom back) old new is None here legs = absurd legs
+
+  links_is : (writer : ℕ) (opening : Opening) (answer : Linked) (old new : BookState) → IsBookOf stage writer old → OpeningFits stage opening
+      → Opened old opening answer new → IsBookOf stage writer new × LinkFits stage answer
+  links_is writer (Write write vector) answer old new is fits opened = opens_is writer write vector answer old new is fits opened
+  links_is writer (Chain parent) answer old new is fits opened = chains_is writer parent answer old new is _ (node_is writer parent old is) opened
+  links_is writer (Master parent part slip legs) answer old new is fits opened =
+      masters_is writer parent part slip legs answer old new is (fits.1, fits.2) _ (node_is writer parent old is) opened
+  links_is writer (Leg master) answer old new is fits opened = legs_is writer master answer old new is _ (node_is writer master old is) opened
+
+  later_home : (held part : Option (Item Pad)) → IsBioHome stage held → IsBioHome stage part → IsBioHome stage (later_part held part)
+  later_home held None was came = was
+  later_home held (Some part) was came = came
+
+  told_holds : (node : Node) (status : Status) (part : Option (Item Pad)) → IsNodeOf stage node → IsBioHome stage part
+      → HoldsHome stage (told node status part).held
+  told_holds node status part is came =
+      record { bio = later_home node.held.bio part is.held.bio came; vector = is.held.vector; slip = is.held.slip }
+
+  top_fits : (write : ℕ) (parent : Option ℕ) → write < stage.writes → TopFits stage write parent
+  top_fits write None lt = lt
+  top_fits write (Some parent) lt = tt
+
+  closed_fits : (node : Node) (status : Status) (part : Option (Item Pad)) → IsNodeOf stage node → IsBioHome stage part
+      → ClosedFits stage (closed_of (told node status part))
+  closed_fits node status part is came = record { held = told_holds node status part is came; top = top_fits node.write (parent_of node.role) is.write }
+
+  drops_is : (writer place : ℕ) (status : Status) (part : Option (Item Pad)) (ended : Ended) (old new : BookState) → IsBookOf stage writer old
+      → IsBioHome stage part → (node : Option Node) → IsOpenOf node → DropsAt old place node status part ended new
+      → IsBookOf stage writer new × DropFits stage ended
+  drops_is writer place status part Left old new is came (Some node) here drops = (
+    subst (IsBookOf stage writer) (sym drops.1)
+        (with_is writer place old (Some (lowered (told node status part)))
+        (record { write = here.write; held = told_holds node status part here came }) is),
+    tt,
+  )
+  drops_is writer place status part (Up closed) old new is came (Some node) here drops = (
+    subst (IsBookOf stage writer) (sym drops.3) (with_is writer place old None tt is),
+    subst (ClosedFits stage) (sym drops.2) (closed_fits node status part here came),
+  )
+  drops_is writer place status part (Top closed) old new is came (Some node) here drops = (
+    subst (IsBookOf stage writer) (sym drops.3) (with_is writer place old None tt is),
+    subst (ClosedFits stage) (sym drops.2) (closed_fits node status part here came),
+  )
+  drops_is writer place status part (end.Stray back) old new is came (Some node) here drops = absurd drops
+  drops_is writer place status part (end.Stray back) old new is came None here drops =
+      (subst (IsBookOf stage writer) (sym drops.1) is, subst (IsBioHome stage) (sym drops.0) came)
+  drops_is writer place status part Left old new is came None here drops = absurd drops
+  drops_is writer place status part (Up closed) old new is came None here drops = absurd drops
+  drops_is writer place status part (Top closed) old new is came None here drops = absurd drops
+
+  -- the tally
+  lower_sum : (left : List ℕ) (round : ℕ) → round < length left → sum (set left round (get_or left round 0 - 1)) ≤ sum left
+  lower_sum left round lt = grind (arith, common_steps, sum_by-set)
+
+  done_is : (write : ℕ) (status : Status) (tally : TallyState) → IsTallyOf stage tally → IsTallyOf stage (done_one write status tally)
+  done_is write status tally is =
+      let less = lower_sum tally.left tally.round is.round in
+      let few = is.left in
+      record {
+        round = subst (λ n. tally.round < n) (sym (length-set tally.left _ _)) is.round;
+        left = omega (arith, less, few);
+        statuses = length-set tally.statuses write status ∙ is.statuses;
+      }
+
+  resized_is : (old new : Objects) (pools : ℕ → PoolState) (home : Bool) → AreObjectsOf stage old
+      → new ≡ (if home then record old { pool = pools } else old) → AreObjectsOf stage new
+  resized_is old new pools true all is = subst (AreObjectsOf stage) (sym is) (pools_change old pools all)
+  resized_is old new pools false all is = subst (AreObjectsOf stage) (sym is) all
+
+  moved_is : (old new : Objects) (pools : ℕ → PoolState) → AreObjectsOf stage old → new ≡ record old { pool = pools } → AreObjectsOf stage new
+  moved_is old new pools all is = subst (AreObjectsOf stage) (sym is) (pools_change old pools all)
+
+  had_is : (old new : Objects) (number : ℕ) (from : Got) → AreObjectsOf stage old → Has old number from new → AreObjectsOf stage new
+  had_is old new number Ordinary all has = moved_is old new _ all has.1
+  had_is old new number Spare all has = moved_is old new _ all has.1
+  had_is old new number got.Missed all has = absurd has
+
+  pub objects_stay : (old new : Objects) (request : Request) (reply : Reply) → Fits stage request → AreObjectsOf stage old
+      → Serves stage.ledger old request reply new → AreObjectsOf stage new
+  objects_stay old new (TakeBio set waits) (HadBio from bio) fits all serves = had_is old new _ from all serves.0
+  objects_stay old new (TakeBio set waits) (Missed used) fits all serves = moved_is old new _ all serves.1
+  objects_stay old new TakeVec (HadVec from vector) fits all serves = had_is old new _ from all serves.0
+  objects_stay old new TakeVec (Missed used) fits all serves = moved_is old new _ all serves.1
+  objects_stay old new (TakeSlip dev) (HadSlip from slip) fits all serves = had_is old new _ from all serves.0
+  objects_stay old new (TakeSlip dev) (Missed used) fits all serves = moved_is old new _ all serves.1
+  objects_stay old new (GiveBio bio) Did fits all serves = moved_is old new _ all serves.1
+  objects_stay old new (GiveVec vector) Did fits all serves = moved_is old new _ all serves.1
+  objects_stay old new (GiveSlip slip) Did fits all serves = moved_is old new _ all serves.1
+  objects_stay old new (Punt dev moved) Did fits all serves =
+      subst (AreObjectsOf stage) (sym serves)
+      (list_changes old dev.0 _ (All-append (IsServed stage) (old.rescue dev.0) moved (all.rescue dev.0) fits.1) all)
+  objects_stay old new (Pop dev) (Popped bio) fits all serves =
+      subst (AreObjectsOf stage) (sym serves.1)
+      (list_changes old dev.0 _ (All-rest (IsServed stage) bio (new.rescue dev.0) (old.rescue dev.0) serves.0 (all.rescue dev.0)) all)
+  objects_stay old new (Pop dev) Nothing fits all serves = subst (AreObjectsOf stage) (sym serves.1) all
+  objects_stay old new (Push bio) Did fits all serves =
+      subst (AreObjectsOf stage) (sym serves) (disk_changes old _ _ (pushed_is _ bio (old.disk bio.bio.dev.0) (fits.0, refl) (all.disk bio.bio.dev.0)) all)
+  objects_stay old new (Complete disk) (Completed index bio status) fits all serves =
+      subst (AreObjectsOf stage) (sym serves.1)
+      (disk_changes old disk.0 (new.disk disk.0) (completed_is disk.0 index bio status (old.disk disk.0) (new.disk disk.0) (all.disk disk.0) serves.0) all)
+  objects_stay old new (Complete disk) Nothing fits all serves = subst (AreObjectsOf stage) (sym serves.1) all
+  objects_stay old new (Link writer opening) (LinkedTo answer) fits all serves =
+      subst (AreObjectsOf stage) (sym serves.1)
+      (book_changes old writer (new.book writer)
+      (links_is writer opening answer (old.book writer) (new.book writer) (all.book writer) fits.1 serves.0).0 all)
+  objects_stay old new (Drop writer node status part) (DroppedTo ended) fits all serves =
+      subst (AreObjectsOf stage) (sym serves.1)
+      (book_changes old writer (new.book writer)
+      (drops_is writer node status part ended (old.book writer) (new.book writer) (all.book writer) fits.1 _
+      (node_is writer node (old.book writer) (all.book writer)) serves.0).0 all)
+  objects_stay old new (Done write status) Did fits all serves =
+      subst (AreObjectsOf stage) (sym serves) (tally_changes old _ (done_is write status old.tally all.tally) all)
+  objects_stay old new (NextRound round) Did fits all serves =
+      subst (AreObjectsOf stage) (sym serves.1)
+      (tally_changes old _ (record { round = serves.0; left = all.tally.left; statuses = all.tally.statuses }) all)
+  objects_stay old new LookRound (Present round) fits all serves = subst (AreObjectsOf stage) (sym serves.1) all
+  objects_stay old new LookLeft (LeftOver count) fits all serves = subst (AreObjectsOf stage) (sym serves.1) all
+  objects_stay old new (Resize pool min) (OutIs out) fits all serves = resized_is old new _ (out == 0) all serves.1
+  objects_stay old new request reply fits all serves = absurd serves
+
+  pub objects_owe : (old new : Objects) (request : Request) (reply : Reply) → AreNumbered stage → Fits stage request → AreObjectsOf stage old
+      → Serves stage.ledger old request reply new → Owes stage request reply
+  objects_owe old new (TakeBio set waits) (HadBio from bio) numbered fits all serves =
+      is_taken is_bios _ bio.share numbered (set_is_bios stage set fits) (ap (λ (b : Item Pad). b.share) serves.1)
+  objects_owe old new TakeVec (HadVec from vector) numbered fits all serves =
+      is_taken is_vecs 64 vector.share numbered refl (ap (λ (v : VectorItem). v.share) serves.1)
+  objects_owe old new (TakeSlip dev) (HadSlip from slip) numbered fits all serves =
+      is_taken is_slips _ slip.share numbered (mirror_is_slips stage dev fits) (ap (λ (s : SlipItem). s.share) serves.1)
+  objects_owe old new (Pop dev) (Popped bio) numbered fits all serves =
+      All-head (IsServed stage) bio (new.rescue dev.0) (subst (AreServed stage) serves.0 (all.rescue dev.0))
+  objects_owe old new (Complete disk) (Completed index bio status) numbered fits all serves =
+      waits_there disk.0 index bio (old.disk disk.0) (all.disk disk.0) serves.0.taken
+  objects_owe old new (Link writer opening) (LinkedTo answer) numbered fits all serves =
+      (links_is writer opening answer (old.book writer) (new.book writer) (all.book writer) fits.1 serves.0).1
+  objects_owe old new (Drop writer node status part) (DroppedTo ended) numbered fits all serves =
+      (drops_is writer node status part ended (old.book writer) (new.book writer) (all.book writer) fits.1 _
+      (node_is writer node (old.book writer) (all.book writer)) serves.0).1
+  objects_owe old new (TakeBio set waits) (Missed used) numbered fits all serves = tt
+  objects_owe old new TakeVec (Missed used) numbered fits all serves = tt
+  objects_owe old new (TakeSlip dev) (Missed used) numbered fits all serves = tt
+  objects_owe old new (GiveBio bio) Did numbered fits all serves = tt
+  objects_owe old new (GiveVec vector) Did numbered fits all serves = tt
+  objects_owe old new (GiveSlip slip) Did numbered fits all serves = tt
+  objects_owe old new (Punt dev moved) Did numbered fits all serves = tt
+  objects_owe old new (Pop dev) Nothing numbered fits all serves = tt
+  objects_owe old new (Push bio) Did numbered fits all serves = tt
+  objects_owe old new (Complete disk) Nothing numbered fits all serves = tt
+  objects_owe old new (Done write status) Did numbered fits all serves = tt
+  objects_owe old new (Resize pool min) (OutIs out) numbered fits all serves = tt
+  objects_owe old new (NextRound round) Did numbered fits all serves = tt
+  objects_owe old new LookRound (Present round) numbered fits all serves = tt
+  objects_owe old new LookLeft (LeftOver count) numbered fits all serves = tt
+  objects_owe old new request reply numbered fits all serves = absurd serves

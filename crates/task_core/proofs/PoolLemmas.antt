@@ -1,0 +1,103 @@
+-- A pool of the objects of one thread moves.
+use Rattle.std.proofs.Common.{◌≡◌, ◌≢◌, ◌==◌, ℕ, Bool, true, false, refl, sym, ap, ◌∙◌, arith}
+use Rattle.std.proofs.lemmas.Bool.Decides.{nat_tests}
+use Rattle.elem_ledger.specs.Ledger.{LedgerId}
+use Rattle.mempool_core.specs.Move.{PoolState, Move}
+use Rattle.mempool_core.specs.Pool.{LedgerPool}
+use Rattle.mempool_core.specs.Pool as pool
+use Rattle.task_core.specs.declared.plain.Plain.{Plain}
+use Rattle.task_core.specs.Maps.{upd}
+use Rattle.task_core.specs.Objects.{PoolMoves}
+use Rattle.task_core.specs.Plains.{is_of_set, by_kind, pool_at, objects_of, stage_of}
+
+same_by : (a b : ℕ) → (a == b) ≡ true → a ≡ b
+same_by a b e = grind (arith, nat_tests)
+
+not_64 : (m n : ℕ) → m ≡ n → n ≢ 64 → (m == 64) ≡ false
+not_64 m n e apart = grind (arith, nat_tests)
+
+-- a number stands for a pool of bios or of records
+pub stands_for_bios : (vecs : LedgerPool) (bios records : ℕ → LedgerPool) (n : ℕ) → n ≢ 64 → is_of_set n ≡ true → by_kind vecs bios records n ≡ bios n
+stands_for_bios vecs bios records n apart kind = let other : (n == 64) ≡ false = not_64 n n refl apart in rw (other, kind) refl
+
+pub stands_for_records : (vecs : LedgerPool) (bios records : ℕ → LedgerPool) (n : ℕ) → n ≢ 64 → is_of_set n ≡ false
+    → by_kind vecs bios records n ≡ records n
+stands_for_records vecs bios records n apart kind = let other : (n == 64) ≡ false = not_64 n n refl apart in rw (other, kind) refl
+
+-- one pool among those of each kind
+module _ (vecs : LedgerPool) (bios records : ℕ → LedgerPool) (n : ℕ) (x : LedgerPool) where
+  bios_at : n ≢ 64 → is_of_set n ≡ true → (m : ℕ) (b : Bool) → (m == n) ≡ b → by_kind vecs (upd bios n x) records m ≡ upd (by_kind vecs bios records) n x m
+  unfolding upd
+  bios_at apart kind m true q =
+      let other : (m == 64) ≡ false = not_64 m n (same_by m n q) apart in
+      let of_set : is_of_set m ≡ true = ap is_of_set (same_by m n q) ∙ kind in
+      rw (q, other, of_set) refl
+  bios_at apart kind m false q = rw (q) refl
+
+  pub bios_change : n ≢ 64 → is_of_set n ≡ true → by_kind vecs (upd bios n x) records ≡ upd (by_kind vecs bios records) n x
+  bios_change apart kind = λ k m. bios_at apart kind m (m == n) refl k
+
+  records_at : n ≢ 64 → is_of_set n ≡ false → (m : ℕ) (b : Bool) → (m == n) ≡ b
+      → by_kind vecs bios (upd records n x) m ≡ upd (by_kind vecs bios records) n x m
+  unfolding upd
+  records_at apart kind m true q =
+      let other : (m == 64) ≡ false = not_64 m n (same_by m n q) apart in
+      let of_set : is_of_set m ≡ false = ap is_of_set (same_by m n q) ∙ kind in
+      rw (q, other, of_set) refl
+  records_at apart kind m false q = rw (q) refl
+
+  pub records_change : n ≢ 64 → is_of_set n ≡ false → by_kind vecs bios (upd records n x) ≡ upd (by_kind vecs bios records) n x
+  records_change apart kind = λ k m. records_at apart kind m (m == n) refl k
+
+  vecs_at : (m : ℕ) (b : Bool) → (m == 64) ≡ b → by_kind x bios records m ≡ upd (by_kind vecs bios records) 64 x m
+  unfolding upd
+  vecs_at m true q = rw (q) refl
+  vecs_at m false q = rw (q) refl
+
+pub vecs_change : (vecs : LedgerPool) (bios records : ℕ → LedgerPool) (x : LedgerPool) → by_kind x bios records ≡ upd (by_kind vecs bios records) 64 x
+vecs_change vecs bios records x = λ k m. vecs_at vecs bios records 64 x m (m == 64) refl k
+
+-- a pool moves, and all else is as before
+module _ (old new : Plain) (n : ℕ) (x : LedgerPool) (is : pool_at new ≡ upd (pool_at old) n x)
+    (others : objects_of new ≡ record (objects_of old) { pool = (objects_of new).pool })
+    (setting : stage_of new ≡ record (stage_of old) { ledger = (stage_of new).ledger; most = (stage_of new).most }) where
+  state_at : (m : ℕ) (b : Bool) → (m == n) ≡ b → (upd (pool_at old) n x m).state ≡ upd (λ j. (pool_at old j).state) n x.state m
+  unfolding upd
+  state_at m true q = rw (q) refl
+  state_at m false q = rw (q) refl
+
+  states : (objects_of new).pool ≡ upd (objects_of old).pool n x.state
+  states =
+      let project : (ℕ → LedgerPool) → ℕ → PoolState = λ f m. (f m).state in
+      let each : project (upd (pool_at old) n x) ≡ upd (project (pool_at old)) n x.state = λ k m. state_at m (m == n) refl k in ap project is ∙ each
+
+  ledger_at : x.ledger ≡ (pool_at old n).ledger → (m : ℕ) (b : Bool) → (m == n) ≡ b → (upd (pool_at old) n x m).ledger ≡ (pool_at old m).ledger
+  unfolding upd
+  ledger_at e m true q = let same : m ≡ n = same_by m n q in rw (q) (e ∙ ap (λ j. (pool_at old j).ledger) (sym same))
+  ledger_at e m false q = rw (q) refl
+
+  most_at : x.most ≡ (pool_at old n).most → (m : ℕ) (b : Bool) → (m == n) ≡ b → (upd (pool_at old) n x m).most ≡ (pool_at old m).most
+  unfolding upd
+  most_at e m true q = let same : m ≡ n = same_by m n q in rw (q) (e ∙ ap (λ j. (pool_at old j).most) (sym same))
+  most_at e m false q = rw (q) refl
+
+  module _ (move : Move) (moves : pool.PoolMoves (pool_at old n) move x) where
+    pub moves_pool : PoolMoves (objects_of old) n move (objects_of new)
+    moves_pool = (
+      moves.moves.can,
+      others ∙ ap (λ f. record (objects_of old) { pool = f }) (states ∙ ap (upd (objects_of old).pool n) moves.moves.after),
+    )
+
+    ledgers : (stage_of new).ledger ≡ (stage_of old).ledger
+    ledgers =
+        let project : (ℕ → LedgerPool) → ℕ → LedgerId = λ f m. (f m).ledger in
+        let each : project (upd (pool_at old) n x) ≡ project (pool_at old) = λ k m. ledger_at moves.ledger m (m == n) refl k in ap project is ∙ each
+
+    mosts : (stage_of new).most ≡ (stage_of old).most
+    mosts =
+        let project : (ℕ → LedgerPool) → ℕ → ℕ = λ f m. (f m).most in
+        let each : project (upd (pool_at old) n x) ≡ project (pool_at old) = λ k m. most_at moves.most m (m == n) refl k in ap project is ∙ each
+
+    pub stage_kept : stage_of new ≡ stage_of old
+    stage_kept =
+        setting ∙ ap (λ f. record (stage_of old) { ledger = f; most = (stage_of new).most }) ledgers ∙ ap (λ f. record (stage_of old) { most = f }) mosts

@@ -1,0 +1,84 @@
+-- A submission without its boxes.
+use Rattle.std.specs.Prelude.{Bool, true, false, Result, Ok, Err}
+use Rattle.bio_records.specs.declared.tasks.TaskLists.{TaskLists}
+use Rattle.bio_records.specs.Items.{item_of, IsAlone}
+use Rattle.bio_books.specs.Views.{slip_item}
+use Rattle.task_core.specs.declared.line.Want.{Want as RealWant}
+use Rattle.task_core.specs.declared.objects.Unmade.{Unmade}
+use Rattle.task_core.specs.declared.step.Step.{Step}
+use Rattle.task_core.specs.declared.line.Want.TheVariants as want
+use Rattle.task_core.specs.declared.line.DriverAsk.{DriverAsk}
+use Rattle.task_core.specs.declared.line.DriverAsk.TheVariants as ask
+use Rattle.task_core.specs.declared.line.Doing.{Doing as RealDoing}
+use Rattle.task_core.specs.declared.line.Doing.TheVariants as doing
+use Rattle.task_core.specs.Lines.{Want, Takes, Punts, Links, Ask, ToPush, ToCut, ToRecord, ToMaster, Doing, Rests, Drives, Copies, Breaks, Line}
+
+abbrev pub want_of : RealWant → Want
+want_of (want.Takes waits) = Takes waits
+want_of want.Punts = Punts
+want_of (want.Links hand) = Links (item_of hand)
+
+abbrev pub ask_of : DriverAsk → Ask
+ask_of ask.ToPush = ToPush
+ask_of (ask.ToCut want) = ToCut (want_of want)
+ask_of ask.ToRecord = ToRecord
+ask_of (ask.ToMaster slip) = ToMaster (slip_item slip)
+
+abbrev pub doing_of : RealDoing → Doing
+doing_of doing.Rests = Rests
+doing_of (doing.Drives bio ask) = Drives (item_of bio) (ask_of ask)
+doing_of (doing.Copies bio master leg want) = Copies bio master leg (want_of want)
+doing_of (doing.Breaks breach kept was) = Breaks breach
+
+-- the lists; one that has broken off has them as they were where it asked
+abbrev pub lists_of : RealDoing → TaskLists → TaskLists
+lists_of doing.Rests lists = lists
+lists_of (doing.Drives bio ask) lists = lists
+lists_of (doing.Copies bio master leg want) lists = lists
+lists_of (doing.Breaks breach kept was) lists = was.value
+
+abbrev pub line_of : RealDoing → TaskLists → Line
+line_of doing lists = record { doing = doing_of doing; lists = lists_of doing lists }
+
+-- no element that is at hand is in a list
+abbrev pub IsWantAlone : RealWant → Type 0
+IsWantAlone (want.Takes waits) = Unit {0}
+IsWantAlone want.Punts = Unit {0}
+IsWantAlone (want.Links hand) = IsAlone hand
+
+abbrev pub IsAttemptAlone : Result (RealWant × Step) Unmade → Type 0
+IsAttemptAlone (Ok made) = IsWantAlone made.0
+IsAttemptAlone (Err back) = Unit {0}
+
+abbrev pub IsAskOfAlone : DriverAsk → Type 0
+IsAskOfAlone ask.ToPush = Unit {0}
+IsAskOfAlone (ask.ToCut want) = IsWantAlone want
+IsAskOfAlone ask.ToRecord = Unit {0}
+IsAskOfAlone (ask.ToMaster slip) = Unit {0}
+
+abbrev pub IsDoingAlone : RealDoing → Type 0
+IsDoingAlone doing.Rests = Unit {0}
+IsDoingAlone (doing.Drives bio ask) = IsAlone bio × IsAskOfAlone ask
+IsDoingAlone (doing.Copies bio master leg want) = IsWantAlone want
+IsDoingAlone (doing.Breaks breach kept was) = Unit {0}
+
+-- whether a submission has something to ask for
+abbrev pub is_asking : Doing → Bool
+is_asking Rests = false
+is_asking (Drives bio ask) = true
+is_asking (Copies bio master leg want) = true
+is_asking (Breaks breach) = false
+
+-- whether it is over
+abbrev pub is_over : Doing → Bool
+is_over Rests = true
+is_over (Drives bio ask) = false
+is_over (Copies bio master leg want) = false
+is_over (Breaks breach) = false
+
+-- whether it has broken off
+abbrev pub is_broken : Doing → Bool
+is_broken Rests = false
+is_broken (Drives bio ask) = false
+is_broken (Copies bio master leg want) = false
+is_broken (Breaks breach) = true

@@ -1,0 +1,132 @@
+-- The objects of one thread: what they are as the objects of a run, and what holds of them between calls.
+use Rattle.std.specs.Prelude.{◌≡◌, ◌⊎◌, ◌+◌, ◌-◌, ◌^◌, ◌%◌, ◌<◌, ◌≤◌, ◌==◌, ◌||◌, if◌then◌else◌, ℕ, Bool, true, List, [], length, min}
+use Rattle.elem_ledger.specs.Ledger.{LedgerId}
+use Rattle.fail_script.specs.Script.{only_tail}
+use Rattle.stack_base.specs.declared.ids.DevId.{DevId}
+use Rattle.stack_base.specs.declared.ids.PoolId.TheVariants.{Records}
+use Rattle.stack_base.specs.declared.ids.SetId.{SetId}
+use Rattle.stack_base.specs.declared.stack.Stack.{Stack}
+use Rattle.stack_base.specs.PoolId.{pool_number}
+use Rattle.stack_base.specs.Stack.{IsStack}
+use Rattle.stack_base.specs.Tree.{tree, size}
+use Rattle.layout_model.specs.May.{bads_of}
+use Rattle.mempool_core.specs.Move.{opened}
+use Rattle.mempool_core.specs.Pool.{LedgerPool}
+use Rattle.bioset_pools.specs.Sets.{bios_of}
+use Rattle.bio_records.specs.declared.bio.Pad.{Pad}
+use Rattle.bio_records.specs.Items.{Item}
+use Rattle.bio_records.specs.Rescue.{Rescue}
+use Rattle.bio_books.specs.Books.{BookState}
+use Rattle.model_disks.specs.Disks.{DiskState}
+use Rattle.model_disks.specs.Moves as disk
+use Rattle.task_core.specs.declared.plain.Plain.{Plain}
+use Rattle.task_core.specs.declared.tally.Tally.{Tally}
+use Rattle.task_core.specs.Tables.{look_up, AreAt}
+use Rattle.task_core.specs.Requests.{Request, Reply, NextRound, Did}
+use Rattle.task_core.specs.Objects.{TallyState, Objects, Serves}
+use Rattle.task_core.specs.Events.{pool_of}
+use Rattle.task_core.specs.Opened.{at, reserve_of}
+use Rattle.task_core.specs.ObjectsOf.{AreObjectsOf, AreNumbered}
+use Rattle.task_core.specs.Stage.{Stage, has_book, has_rescuer, has_disk, is_bios, is_slips}
+
+-- of what number each kind of entry is
+abbrev pub set_number : SetId × LedgerPool → ℕ
+set_number entry = pool_number (bios_of entry.0)
+
+abbrev pub records_number : DevId × LedgerPool → ℕ
+records_number entry = pool_number (Records entry.0)
+
+abbrev pub list_number : DevId × Rescue → ℕ
+list_number entry = entry.0.0
+
+abbrev pub disk_number : DiskState → ℕ
+disk_number disk = disk.dev.0
+
+abbrev pub book_number : ℕ × BookState → ℕ
+book_number entry = entry.0
+
+-- what the objects have of a number that none of them has: as opened, and with nothing in it
+abbrev pub no_pool : Stack → LedgerId → ℕ → LedgerPool
+no_pool stack some number = record {
+  ledger = record some { no = number };
+  state = opened (reserve_of stack (pool_of number)) (only_tail true);
+  most = reserve_of stack (pool_of number);
+}
+
+abbrev pub no_disk : Stack → ℕ → DiskState
+no_disk stack dev = disk.opened (at dev) (size (tree stack dev)) (bads_of stack dev)
+
+abbrev pub no_book : ℕ → BookState
+no_book writer = record { writer = writer; nodes = [] }
+
+-- the numbers of pools of bios: that of the writers' set is 65, and those of devices are even
+abbrev pub is_of_set : ℕ → Bool
+is_of_set number = number == 65 || number % 2 == 0
+
+-- what a number stands for among pools: the vectors' is 64, and those of records are odd
+abbrev pub by_kind : LedgerPool → (ℕ → LedgerPool) → (ℕ → LedgerPool) → ℕ → LedgerPool
+by_kind vecs bios records number = if number == 64 then vecs else if is_of_set number then bios number else records number
+
+abbrev pub bios_at : Plain → ℕ → LedgerPool
+bios_at plain = look_up set_number (λ entry. entry.1) (no_pool plain.stage.value.stack plain.vecs.ledger) plain.bios.items
+
+abbrev pub records_at : Plain → ℕ → LedgerPool
+records_at plain = look_up records_number (λ entry. entry.1) (no_pool plain.stage.value.stack plain.vecs.ledger) plain.records.items
+
+-- the pool of a number
+abbrev pub pool_at : Plain → ℕ → LedgerPool
+pool_at plain = by_kind plain.vecs (bios_at plain) (records_at plain)
+
+abbrev pub tally_of : Tally → TallyState
+tally_of tally = record { round = tally.round; left = tally.left.items; statuses = tally.statuses.items }
+
+abbrev pub objects_of : Plain → Objects
+objects_of plain = record {
+  pool = λ number. (pool_at plain number).state;
+  rescue = look_up list_number (λ entry. entry.1.bios) (λ dev. []) plain.lists.items;
+  disk = look_up disk_number (λ disk. disk) (no_disk plain.stage.value.stack) plain.disks.items;
+  book = look_up book_number (λ entry. entry.1) no_book plain.books.items;
+  tally = tally_of plain.tally;
+}
+
+abbrev pub stage_of : Plain → Stage
+stage_of plain = record {
+  routing = plain.stage.value;
+  writes = length plain.tally.statuses.items;
+  ledger = λ number. (pool_at plain number).ledger;
+  most = λ number. (pool_at plain number).most;
+}
+
+-- Each object that a stack has stands where the tables say.
+pub record AreSeated (plain : Plain) : Type 0 where
+  pub bios : AreAt set_number (is_bios (stage_of plain)) plain.seats.bios plain.bios.items
+  pub records : AreAt records_number (is_slips (stage_of plain)) plain.seats.records plain.records.items
+  pub lists : AreAt list_number (λ dev. has_rescuer (stage_of plain) (at dev)) plain.seats.lists plain.lists.items
+  pub disks : AreAt disk_number (λ dev. has_disk (stage_of plain) (at dev)) plain.seats.disks plain.disks.items
+  pub books : AreAt book_number (has_book (stage_of plain)) plain.seats.books plain.books.items
+
+-- What holds of these objects between calls.
+pub record Holds (plain : Plain) : Type 0 where
+  pub stack_is : IsStack plain.stage.value.stack
+  pub numbered : AreNumbered (stage_of plain)
+  pub seated : AreSeated plain
+  pub objects : AreObjectsOf (stage_of plain) (objects_of plain)
+
+-- the round behind the present one becomes the present one, where there is one
+abbrev pub Advances : TallyState → TallyState → Type 0
+Advances old new =
+    ((old.round + 1 < length old.left) × (new ≡ record old { round = old.round + 1 })) ⊎ ((length old.left ≤ old.round + 1) × (new ≡ old))
+
+-- where no later round exists, the last one stays
+abbrev pub StaysLast : Objects → Request → Reply → Objects → Type 0
+StaysLast old (NextRound round) Did new = (length old.tally.left ≤ old.tally.round + 1) × (new ≡ old)
+StaysLast old request reply new = ⊥
+
+-- what they tell of a call
+abbrev pub Tells : Plain → Request → Reply → Plain → Type 0
+Tells old request reply new =
+    Serves (stage_of old).ledger (objects_of old) request reply (objects_of new) ⊎ StaysLast (objects_of old) request reply (objects_of new)
+
+-- the bio at the chosen place is completed
+abbrev pub Picks : Plain → DevId → ℕ → ℕ → ℕ → Type 0
+Picks plain dev pending chosen index = (pending ≡ min (length ((objects_of plain).disk dev.0).pending) (2 ^ 64 - 1)) × (index ≡ chosen)

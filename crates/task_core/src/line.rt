@@ -1,0 +1,404 @@
+//! Submissions: the bio that its driver has, what the driver asks for, and the bios that wait (`submit_bio_noacct`, `block/blk-core.c`).
+ghost use Rattle.std.specs.Prelude.{◌≡◌, ◌<◌, length, [], ◌∷◌, true, None};
+ghost use Rattle.bio_records.specs.declared.bio.Pad.{Pad};
+ghost use Rattle.bio_records.specs.Items.{Item, item_of, IsAlone};
+ghost use Rattle.task_core.specs.Scene.{tree_at};
+ghost use Rattle.task_core.specs.Lines.{Rests, Drives, Copies as Copies', Breaks as Breaks', ToCut, asks_at, driven, goes_on, settled, rests, line_request};
+ghost use Rattle.task_core.specs.Within.{IsWithin, ListsAreWithin, is_cut, DoingFits, LineFits};
+ghost use Rattle.task_core.specs.Routed.{setup};
+ghost use Rattle.task_core.specs.Stage.{Fits, Owes};
+ghost use Rattle.task_core.specs.Homes.{IsLineOf};
+ghost use Rattle.task_core.specs.Turns.{doing_breach};
+ghost use Rattle.task_core.specs.LineViews.{want_of, ask_of, doing_of, lists_of, line_of, IsWantAlone, IsAskOfAlone, IsDoingAlone, is_asking};
+ghost use Rattle.task_core.specs.Answers.{Answers};
+
+use crate::copying::{Copying, leg, punt_to_copy, take_to_copy};
+use crate::driving::{chain, master, punt_to_cut, push, take_record, take_to_cut};
+use crate::event::{Breach, TaskId};
+use crate::homes::lines_stay_home;
+use crate::objects::{Objects, Unmade};
+use crate::routes::{Manner, Routes};
+use crate::step::Step;
+use bio_books::Back;
+use bio_lists::Submission;
+use bio_records::{Bio, BioElement, SlipElement, TaskLists};
+use stack_base::DevId;
+use std::marker::Model;
+use std::mem;
+use std::snapshot::Snapshot;
+
+/// What a driver does for a bio of its device's set.
+#[derive(Drop)]
+pub enum Want {
+    /// It takes one, and waits for it or not (`bio_alloc_bioset`, `block/bio.c`).
+    Takes { waits: bool },
+    /// An attempt that did not wait missed: it hands the bios of the set to its rescuer (`punt_bios_to_rescuer`, `block/bio.c`).
+    Punts,
+    /// It links a node for the bio that it has taken.
+    Links { hand: BioElement },
+}
+
+/// What a driver does with the bio that it has.
+#[derive(Drop)]
+pub enum DriverAsk {
+    /// A disk's takes it.
+    ToPush,
+    /// One that cuts wants a bio for the first piece.
+    ToCut(Want),
+    /// A mirror's takes a record.
+    ToRecord,
+    /// And with the record it links a master, which keeps the bio.
+    ToMaster(SlipElement),
+}
+
+/// What an object handed back where a task cannot go on.
+#[derive(Drop)]
+pub enum HandedBack {
+    /// What a call without a ticket was handed.
+    Unmade(Unmade),
+    /// What was to stand in a node that was not opened.
+    Unlinked(Back),
+}
+
+/// What a task that cannot go on keeps of what it was at.
+#[derive(Drop)]
+pub struct Kept {
+    /// The bio that its driver had.
+    pub bio: Option<BioElement>,
+    /// The bio that it had taken.
+    pub hand: Option<BioElement>,
+    /// What the object handed back.
+    pub back: HandedBack,
+}
+
+impl Kept {
+    /// What it had of a bio, and what came back of a call without a ticket.
+    pub(crate) fn unmade(bio: Option<BioElement>, back: Unmade) -> Kept
+        ensures { result ≡ record { bio = bio; hand = None; back = HandedBack.Unmade back } }
+    {
+        let back = HandedBack::Unmade(back);
+        Kept {
+            bio,
+            hand: None,
+            back,
+        }
+    }
+}
+
+/// What a submission is at.
+#[derive(Drop)]
+pub enum Doing {
+    /// It is over.
+    Rests,
+    /// The driver of the bio's device has it.
+    Drives {
+        bio: BioElement,
+        ask: DriverAsk,
+    },
+    /// A mirror copies a bio, which waits with its parent: the place of the master, and the leg that is made next.
+    Copies {
+        bio: Bio,
+        master: u32,
+        leg: u32,
+        want: Want,
+    },
+    /// It cannot go on. A punt that was refused has its bios back in `kept`, and no more in the lists; `lists` are these as they were before,
+    /// which have no bytes here.
+    Breaks {
+        breach: Breach,
+        kept: Kept,
+        lists: Snapshot<TaskLists>,
+    },
+}
+
+/// A submission, with the task's two lists.
+#[derive(Drop)]
+pub struct Line {
+    pub(crate) doing: Doing,
+    pub(crate) lists: TaskLists,
+}
+
+impl Model for Line {
+    ghost use Rattle.task_core.specs.Lines.{Line as LineState};
+    ghost use Rattle.task_core.specs.LineViews.{line_of, IsDoingAlone};
+
+    ghost Value = { LineState };
+
+    ghost view = { λ l. line_of l.doing l.lists };
+
+    ghost invariant = { λ l. IsDoingAlone l.doing };
+}
+
+// What the driver of a device does with a bio that has come to it.
+fn asked(routes: &Routes, dev: DevId, lists: &TaskLists) -> DriverAsk
+    requires { dev.0 < length routes.now.stack.devices.items }
+    ensures asks { (item : Item Pad) → item.bio.dev ≡ dev → asks_at (setup routes.now) lists.now item (tree_at (setup routes.now) dev) ≡ Drives item (ask_of result) }
+    ensures alone { IsAskOfAlone result }
+{
+    match routes.manner(dev) {
+        Manner::Keeps => DriverAsk::ToPush,
+        Manner::Cuts => DriverAsk::ToCut(Want::Takes {
+            waits: routes.first_waits(dev, lists),
+        }),
+        Manner::Copies => DriverAsk::ToRecord,
+    }
+}
+
+// The bio goes to its driver, with these lists.
+fn serve(routes: &Routes, mut bio: BioElement, lists: TaskLists) -> Line
+    requires within { IsWithin routes.now.stack (item_of bio).bio }
+    requires alone { IsAlone bio }
+    ensures { result ≡ record { doing = driven (setup routes.now) lists (item_of bio); lists = lists } }
+{
+    bio.body.bio = routes.land(bio.body.bio);
+    let ask = asked(routes, bio.body.bio.dev, &lists);
+    Line {
+        doing: Doing::Drives { bio, ask },
+        lists,
+    }
+}
+
+// The driver of a device has returned: the next bio goes to its driver, if one waits.
+pub(crate) fn go_on(routes: &Routes, mut lists: TaskLists, served: DevId) -> Line
+    requires { ListsAreWithin routes.now.stack lists }
+    ensures { result ≡ goes_on (setup routes.now) served lists }
+{
+    match lists.next(served) {
+        None => Line {
+            doing: Doing::Rests,
+            lists,
+        },
+        Some(bio) => serve(routes, bio, lists),
+    }
+}
+
+// It cannot go on, and had the second lists where it asked.
+pub(crate) fn broken_at(
+    breach: Breach,
+    kept: Kept,
+    lists: TaskLists,
+    was: Snapshot<TaskLists>,
+) -> Line
+    ensures { result ≡ record { doing = Breaks' breach; lists = was.value } }
+{
+    Line {
+        doing: Doing::Breaks {
+            breach,
+            kept,
+            lists: was,
+        },
+        lists,
+    }
+}
+
+// It cannot go on, and has its lists as they are.
+fn broken(breach: Breach, kept: Kept, lists: TaskLists) -> Line
+    ensures { result ≡ record { doing = Breaks' breach; lists = lists } }
+{
+    let was = Snapshot::of(&lists);
+    broken_at(breach, kept, lists, was)
+}
+
+// It breaks off.
+pub(crate) fn break_off(breach: Breach, kept: Kept, lists: TaskLists) -> (Line, Step)
+    ensures line { result.0 ≡ record { doing = Breaks' breach; lists = lists } }
+    ensures step { result.1 ≡ Step.Broken breach }
+{
+    (broken(breach, kept, lists), Step::Broken(breach))
+}
+
+// There was no ticket for its call.
+pub(crate) fn spent(bio: Option<BioElement>, back: Unmade, lists: TaskLists) -> (Line, Step)
+    ensures line { result.0 ≡ record { doing = Breaks' Breach.Spent; lists = lists } }
+    ensures step { result.1 ≡ Step.Broken Breach.Spent }
+{
+    break_off(Breach::Spent, Kept::unmade(bio, back), lists)
+}
+
+// What a driver that cuts does next.
+fn cut<O: Objects>(
+    objects: &mut O,
+    routes: &Routes,
+    task: TaskId,
+    bio: BioElement,
+    want: Want,
+    lists: TaskLists,
+) -> (Line, Step)
+    requires holds { O.holds objects.old }
+    requires alone { IsAlone bio × IsWantAlone want }
+    requires fits { Fits (O.stage objects.old) (line_request (setup routes.now) (Drives (item_of bio) (ToCut (want_of want))) lists) }
+    requires within { IsWithin routes.now.stack (item_of bio).bio }
+    requires cut { is_cut (tree_at (setup routes.now) (item_of bio).bio.dev) (item_of bio).bio.range ≡ true }
+    requires lists { ListsAreWithin routes.now.stack lists }
+    ensures step { Answers O.serves (Owes (O.stage objects.old)) (setup routes.now) task (Drives (item_of bio) (ToCut (want_of want))) lists objects.old result.0 objects.new result.1 }
+    ensures kept { O.holds objects.new × (O.stage objects.new ≡ O.stage objects.old) }
+{
+    match want {
+        Want::Takes { waits } => take_to_cut(objects, task, bio, waits, lists),
+        Want::Punts => punt_to_cut(objects, task, bio, lists),
+        Want::Links { hand } => chain(objects, routes, task, bio, hand, lists),
+    }
+}
+
+// What the driver of the bio's device does next.
+fn drive<O: Objects>(
+    objects: &mut O,
+    routes: &Routes,
+    task: TaskId,
+    bio: BioElement,
+    ask: DriverAsk,
+    lists: TaskLists,
+) -> (Line, Step)
+    requires holds { O.holds objects.old }
+    requires alone { IsAlone bio × IsAskOfAlone ask }
+    requires fits { Fits (O.stage objects.old) (line_request (setup routes.now) (Drives (item_of bio) (ask_of ask)) lists) }
+    requires within { DoingFits routes.now.stack (Drives (item_of bio) (ask_of ask)) }
+    requires lists { ListsAreWithin routes.now.stack lists }
+    ensures step { Answers O.serves (Owes (O.stage objects.old)) (setup routes.now) task (Drives (item_of bio) (ask_of ask)) lists objects.old result.0 objects.new result.1 }
+    ensures kept { O.holds objects.new × (O.stage objects.new ≡ O.stage objects.old) }
+{
+    match ask {
+        DriverAsk::ToPush => push(objects, routes, task, bio, lists),
+        DriverAsk::ToCut(want) => cut(objects, routes, task, bio, want, lists),
+        DriverAsk::ToRecord => take_record(objects, task, bio, lists),
+        DriverAsk::ToMaster(slip) => master(objects, routes, task, bio, slip, lists),
+    }
+}
+
+// What a mirror does next for a leg.
+fn copy<O: Objects>(
+    objects: &mut O,
+    routes: &Routes,
+    task: TaskId,
+    run: Copying,
+    want: Want,
+    lists: TaskLists,
+) -> (Line, Step)
+    requires holds { O.holds objects.old }
+    requires alone { IsWantAlone want }
+    requires fits { Fits (O.stage objects.old) (line_request (setup routes.now) (Copies' run.bio run.master run.leg (want_of want)) lists) }
+    requires within { DoingFits routes.now.stack (Copies' run.bio run.master run.leg (want_of want)) }
+    requires lists { ListsAreWithin routes.now.stack lists }
+    ensures step { Answers O.serves (Owes (O.stage objects.old)) (setup routes.now) task (Copies' run.bio run.master run.leg (want_of want)) lists objects.old result.0 objects.new result.1 }
+    ensures kept { O.holds objects.new × (O.stage objects.new ≡ O.stage objects.old) }
+{
+    match want {
+        Want::Takes { waits } => take_to_copy(objects, task, run, waits, lists),
+        Want::Punts => punt_to_copy(objects, task, run, lists),
+        Want::Links { hand } => leg(objects, routes, task, run, hand, lists),
+    }
+}
+
+// The next step of a submission that has something to ask for.
+fn turn<O: Objects>(
+    objects: &mut O,
+    routes: &Routes,
+    task: TaskId,
+    doing: Doing,
+    lists: TaskLists,
+) -> (Line, Step)
+    requires holds { O.holds objects.old }
+    requires alone { IsDoingAlone doing }
+    requires asks { is_asking (doing_of doing) ≡ true }
+    requires fits { Fits (O.stage objects.old) (line_request (setup routes.now) (doing_of doing) (lists_of doing lists)) }
+    requires within { LineFits routes.now.stack (line_of doing lists) }
+    ensures step { Answers O.serves (Owes (O.stage objects.old)) (setup routes.now) task (doing_of doing) (lists_of doing lists) objects.old result.0 objects.new result.1 }
+    ensures kept { O.holds objects.new × (O.stage objects.new ≡ O.stage objects.old) }
+{
+    match doing {
+        Doing::Drives { bio, ask } => drive(objects, routes, task, bio, ask, lists),
+        Doing::Copies {
+            bio,
+            master,
+            leg,
+            want,
+        } => copy(
+            objects,
+            routes,
+            task,
+            Copying { bio, master, leg },
+            want,
+            lists,
+        ),
+        Doing::Rests | Doing::Breaks { .. } => unreachable!(),
+    }
+}
+
+impl Line {
+    /// A submission that is over.
+    pub fn rests() -> Line
+        ensures { result ≡ rests }
+    {
+        Line {
+            doing: Doing::Rests,
+            lists: TaskLists::new(),
+        }
+    }
+
+    /// The bio is submitted, and none waits.
+    pub fn begin(routes: &Routes, bio: BioElement) -> Line
+        requires within { IsWithin routes.now.stack (item_of bio).bio }
+        requires alone { IsAlone bio }
+        ensures { result ≡ settled (setup routes.now) (item_of bio ∷ []) }
+    {
+        serve(routes, bio, TaskLists::new())
+    }
+
+    /// The task of a submission that is over cannot go on.
+    pub(crate) fn breaks(self, breach: Breach, kept: Kept) -> Line
+        requires { self.doing ≡ Rests }
+        ensures { result ≡ record self { doing = Breaks' breach } }
+    {
+        match self.doing {
+            Doing::Rests => broken(breach, kept, self.lists),
+            Doing::Drives { .. } | Doing::Copies { .. } | Doing::Breaks { .. } => unreachable!(),
+        }
+    }
+
+    /// It was refused the node of a write.
+    pub(crate) fn refused(self, breach: Breach, kept: Kept) -> Line
+        ensures { result ≡ record rests { doing = Breaks' breach } }
+    {
+        let none = TaskLists::new();
+        broken_at(breach, kept, self.lists, Snapshot::of(&none))
+    }
+
+    /// Whether it has something to ask for: it is not over, and has not broken off.
+    pub fn asks(&self) -> bool
+        ensures { result ≡ is_asking self.now.doing }
+    {
+        match self.doing {
+            Doing::Rests | Doing::Breaks { .. } => false,
+            Doing::Drives { .. } | Doing::Copies { .. } => true,
+        }
+    }
+
+    /// Why it cannot go on, if it can't.
+    pub fn breach(&self) -> Option<Breach>
+        ensures { result ≡ doing_breach self.now.doing }
+    {
+        match self.doing {
+            Doing::Breaks { breach, .. } => Some(breach),
+            Doing::Rests | Doing::Drives { .. } | Doing::Copies { .. } => None,
+        }
+    }
+
+    /// The next step of a submission that has something to ask for, as this task: it asks one object once, and goes on with the reply
+    /// (`submit_bio_noacct`, `block/blk-core.c`, as far as the next place where it takes, links or submits).
+    pub fn step<O: Objects>(&mut self, objects: &mut O, routes: &Routes, task: TaskId) -> Step
+        requires holds { O.holds objects.old }
+        requires routing { (O.stage objects.old).routing ≡ routes.now }
+        requires line { IsLineOf (O.stage objects.old) self.old }
+        requires asks { is_asking self.old.doing ≡ true }
+        ensures step { Answers O.serves (Owes (O.stage objects.old)) (setup routes.now) task self.old.doing self.old.lists objects.old self.new objects.new result }
+        ensures kept { O.holds objects.new × (O.stage objects.new ≡ O.stage objects.old) }
+    {
+        routes.known();
+        lines_stay_home();
+        let doing = mem::replace(&mut self.doing, Doing::Rests);
+        let lists = mem::replace(&mut self.lists, TaskLists::new());
+        let (line, step) = turn(objects, routes, task, doing, lists);
+        *self = line;
+        step
+    }
+}

@@ -1,0 +1,207 @@
+//! The objects of one thread.
+ghost use Rattle.std.specs.Prelude.{◌≡◌, ◌^◌, ◌<◌, ◌≤◌};
+ghost use Rattle.stack_base.specs.PoolId.{pool_number};
+ghost use Rattle.bioset_pools.specs.Sets.{bios_of};
+
+use crate::objects::{Ask, Chooser, Objects, Unmade};
+use crate::one::{dev_of, link_in, resize_home};
+use crate::place::{Seats, place};
+use crate::routes::Routes;
+use crate::tally::Tally;
+use bio_books::{Book, Dropped, Link};
+use bio_records::{
+    BioBody, BioElement, BioList, Pad, RescueList, Slip, SlipElement, VecElement, Vector,
+};
+use mempool_core::{Pool, Taken};
+use model_disks::{Disk, Done};
+use stack_base::{DevId, PoolId, SetId, Status};
+use std::snapshot::Snapshot;
+
+/// The objects of a run, where one thread has them all. They always answer, and tell what they are.
+#[derive(Drop)]
+pub struct Plain {
+    /// The pools of bios, of the writers' set first and then of devices.
+    pub bios: Vec<(SetId, Pool<BioBody<Pad>>)>,
+    /// The pool of the writers' vectors.
+    pub vecs: Pool<Vector>,
+    /// The pools of the records of mirrors.
+    pub records: Vec<(DevId, Pool<Slip>)>,
+    /// The lists of the bios that wait for rescuers.
+    pub lists: Vec<(DevId, RescueList)>,
+    /// The disks, in the order of devices.
+    pub disks: Vec<Disk>,
+    /// The books of writers.
+    pub books: Vec<(u32, Book)>,
+    /// The rounds, and the writes that are done.
+    pub tally: Tally,
+    pub(crate) seats: Seats,
+    // The stack that they are of, and the places of books. It has no bytes here.
+    pub(crate) stage: Snapshot<Routes>,
+}
+
+// The number of the pool of a set's bios.
+fn bios_number(set: SetId) -> u32
+    requires { pool_number (bios_of set) < 2 ^ 32 }
+    ensures { result ≡ pool_number (bios_of set) }
+{
+    match set {
+        SetId::Fs => PoolId::FsBios.no(),
+        SetId::Of(dev) => PoolId::Bios(dev).no(),
+    }
+}
+
+impl Plain {
+    ghost use Rattle.stack_base.specs.declared.ids.PoolId.TheVariants.{FsVecs, Records};
+    ghost use Rattle.task_core.specs.Plains.{stage_of, Holds, Tells};
+    ghost use Rattle.task_core.specs.Requests.{Resize, OutIs};
+    ghost use Rattle.task_core.specs.Stage.{Fits};
+
+    // Sets the reserve of a set's pool of bios, where nothing of it is out. It answers how much is.
+    fn resize_bios(&mut self, set: SetId, min: u32) -> u64
+        requires holds { Holds self.old }
+        requires fits { Fits (stage_of self.old) (Resize (bios_of set) min) }
+        ensures serves { Tells self.old (Resize (bios_of set) min) (OutIs result) self.new }
+        ensures kept { Holds self.new × (stage_of self.new ≡ stage_of self.old) }
+    {
+        let at = place(&self.seats.bios, bios_number(set));
+        resize_home(&mut self.bios[at].1, min)
+    }
+
+    // The same of the pool of vectors.
+    fn resize_vecs(&mut self, min: u32) -> u64
+        requires holds { Holds self.old }
+        requires fits { Fits (stage_of self.old) (Resize FsVecs min) }
+        ensures serves { Tells self.old (Resize FsVecs min) (OutIs result) self.new }
+        ensures kept { Holds self.new × (stage_of self.new ≡ stage_of self.old) }
+    {
+        resize_home(&mut self.vecs, min)
+    }
+
+    // The same of the pool of a mirror's records.
+    fn resize_records(&mut self, dev: DevId, min: u32) -> u64
+        requires holds { Holds self.old }
+        requires fits { Fits (stage_of self.old) (Resize (Records dev) min) }
+        ensures serves { Tells self.old (Resize (Records dev) min) (OutIs result) self.new }
+        ensures kept { Holds self.new × (stage_of self.new ≡ stage_of self.old) }
+    {
+        let at = place(&self.seats.records, PoolId::Records(dev).no());
+        resize_home(&mut self.records[at].1, min)
+    }
+}
+
+impl Objects for Plain {
+    ghost use Rattle.task_core.specs.Plains.{stage_of, Holds, Tells, Picks};
+
+    ghost stage = { stage_of };
+
+    ghost holds = { Holds };
+
+    ghost serves = { Tells };
+
+    ghost picks = { Picks };
+
+    fn take_bio(&mut self, set: SetId, waits: bool) -> Result<Taken<BioBody<Pad>>, Unmade> {
+        let at = place(&self.seats.bios, bios_number(set));
+        Ok(self.bios[at].1.take())
+    }
+
+    fn take_vec(&mut self) -> Result<Taken<Vector>, Unmade> {
+        Ok(self.vecs.take())
+    }
+
+    fn take_slip(&mut self, dev: DevId) -> Result<Taken<Slip>, Unmade> {
+        let at = place(&self.seats.records, PoolId::Records(dev).no());
+        Ok(self.records[at].1.take())
+    }
+
+    fn give_bio(&mut self, el: BioElement) -> Result<(), Unmade> {
+        let at = place(&self.seats.bios, el.no());
+        self.bios[at].1.give(el);
+        Ok(())
+    }
+
+    fn give_vec(&mut self, el: VecElement) -> Result<(), Unmade> {
+        self.vecs.give(el);
+        Ok(())
+    }
+
+    fn give_slip(&mut self, el: SlipElement) -> Result<(), Unmade> {
+        let at = place(&self.seats.records, el.no());
+        self.records[at].1.give(el);
+        Ok(())
+    }
+
+    fn punt(&mut self, dev: DevId, moved: BioList) -> Result<(), Unmade> {
+        let at = place(&self.seats.lists, dev.0);
+        self.lists[at].1.add(moved);
+        Ok(())
+    }
+
+    fn pop(&mut self, dev: DevId) -> Result<Option<BioElement>, Unmade> {
+        let at = place(&self.seats.lists, dev.0);
+        Ok(self.lists[at].1.pop())
+    }
+
+    fn push(&mut self, el: BioElement) -> Result<(), Unmade> {
+        let at = place(&self.seats.disks, dev_of(&el).0);
+        self.disks[at].push(el);
+        Ok(())
+    }
+
+    fn complete<C: Chooser>(
+        &mut self,
+        disk: DevId,
+        chooser: &mut C,
+    ) -> Result<Option<(u64, Done)>, Unmade> {
+        let at = place(&self.seats.disks, disk.0);
+        let pending = self.disks[at].pending();
+        if pending == 0 {
+            return Ok(None);
+        }
+        let index = chooser.choose(pending);
+        Ok(Some((index, self.disks[at].complete(index))))
+    }
+
+    fn link(&mut self, writer: u32, ask: Ask) -> Result<Link, Unmade> {
+        let at = place(&self.seats.books, writer);
+        Ok(link_in(&mut self.books[at].1, ask))
+    }
+
+    fn drop_one(
+        &mut self,
+        writer: u32,
+        node: u32,
+        status: Status,
+        part: Option<BioElement>,
+    ) -> Result<Dropped, Unmade> {
+        let at = place(&self.seats.books, writer);
+        Ok(self.books[at].1.drop_one(node, status, part))
+    }
+
+    fn done(&mut self, write: u32, status: Status) -> Result<(), Unmade> {
+        self.tally.done(write, status);
+        Ok(())
+    }
+
+    fn resize(&mut self, pool: PoolId, min: u32) -> Result<u64, Unmade> {
+        match pool {
+            PoolId::FsBios => Ok(self.resize_bios(SetId::Fs, min)),
+            PoolId::FsVecs => Ok(self.resize_vecs(min)),
+            PoolId::Bios(dev) => Ok(self.resize_bios(SetId::Of(dev), min)),
+            PoolId::Records(dev) => Ok(self.resize_records(dev, min)),
+        }
+    }
+
+    fn next_round(&mut self) -> Result<(), Unmade> {
+        self.tally.next_round();
+        Ok(())
+    }
+
+    fn left(&mut self) -> u32 {
+        self.tally.left()
+    }
+
+    fn round(&mut self) -> u32 {
+        self.tally.round
+    }
+}

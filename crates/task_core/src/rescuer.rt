@@ -1,0 +1,97 @@
+//! Rescuers: each submits the bios of a device's set that were punted (`bio_alloc_rescue`, `block/bio.c`).
+ghost use Rattle.std.specs.Prelude.{◌≡◌, true};
+ghost use Rattle.task_core.specs.Requests.{Pop};
+ghost use Rattle.task_core.specs.Lines.{Rests, rests};
+ghost use Rattle.task_core.specs.Routed.{setup};
+ghost use Rattle.task_core.specs.Stage.{Fits, Owes};
+ghost use Rattle.task_core.specs.Homes.{IsTaskOf};
+ghost use Rattle.task_core.specs.Turns.{Turns};
+ghost use Rattle.task_core.specs.RescuerViews.{rescuer_task, PopAnswers};
+
+use crate::calls::idle;
+use crate::event::{Breach, Event, TaskId, What};
+use crate::line::{Kept, Line};
+use crate::objects::Objects;
+use crate::routes::Routes;
+use crate::step::Step;
+use stack_base::DevId;
+use std::marker::Model;
+use std::mem;
+
+/// The rescuer of a device's set.
+#[derive(Drop)]
+pub struct Rescuer {
+    dev: DevId,
+    line: Line,
+}
+
+impl Model for Rescuer {
+    ghost use Rattle.task_core.specs.RescuerViews.{RescuerState};
+
+    ghost Value = { RescuerState };
+
+    ghost view = { λ r. record { dev = r.dev; line = r.line } };
+}
+
+// Submits the first bio that waits for the rescuer. Where none does, it has ended if no write is unfinished.
+fn pop<O: Objects>(objects: &mut O, routes: &Routes, dev: DevId, line: Line) -> (Line, Step)
+    requires holds { O.holds objects.old }
+    requires routing { (O.stage objects.old).routing ≡ routes.now }
+    requires rests { line.doing ≡ Rests }
+    requires fits { Fits (O.stage objects.old) (Pop dev) }
+    ensures step { PopAnswers O.serves (Owes (O.stage objects.old)) (setup routes.now) dev line objects.old result.0 objects.new result.1 }
+    ensures kept { O.holds objects.new × (O.stage objects.new ≡ O.stage objects.old) }
+{
+    match objects.pop(dev) {
+        Ok(Some(bio)) => {
+            let task = TaskId::Rescuer(dev);
+            let what = What::Pop { dev };
+            (
+                Line::begin(routes, bio),
+                Step::Stepped(Event { task, what }),
+            )
+        }
+        Ok(None) => (line, idle(objects.left())),
+        Err(back) => {
+            let kept = Kept::unmade(None, back);
+            (
+                line.breaks(Breach::Spent, kept),
+                Step::Broken(Breach::Spent),
+            )
+        }
+    }
+}
+
+impl Rescuer {
+    /// The rescuer of this device's set.
+    pub fn new(dev: DevId) -> Rescuer
+        ensures { result ≡ record { dev = dev; line = rests } }
+    {
+        Rescuer {
+            dev,
+            line: Line::rests(),
+        }
+    }
+
+    /// Its next step: it asks one object once, for what its submission needs or for the next bio that waits for it, and goes on with the
+    /// reply. Where none waits, it also looks at how many writes are unfinished.
+    pub fn step<O: Objects>(&mut self, objects: &mut O, routes: &Routes) -> Step
+        requires holds { O.holds objects.old }
+        requires routing { (O.stage objects.old).routing ≡ routes.now }
+        requires task { IsTaskOf (O.stage objects.old) (rescuer_task self.old) }
+        ensures turn { Turns O.serves (Owes (O.stage objects.old)) (setup routes.now) (rescuer_task self.old) objects.old (rescuer_task self.new) objects.new result }
+        ensures kept { O.holds objects.new × (O.stage objects.new ≡ O.stage objects.old) }
+    {
+        if self.line.asks() {
+            let task = TaskId::Rescuer(self.dev);
+            return self.line.step(objects, routes, task);
+        }
+        if let Some(breach) = self.line.breach() {
+            return Step::Broken(breach);
+        }
+        let line = mem::replace(&mut self.line, Line::rests());
+        let (line, step) = pop(objects, routes, self.dev, line);
+        self.line = line;
+        step
+    }
+}

@@ -1,0 +1,360 @@
+//! What a writer does for its next write: it takes a bio, and a vector where the write needs one, links the write, and submits the bio.
+ghost use Rattle.std.specs.Prelude.{◌≡◌, ◌≤◌, ◌∷◌, List, length, [], true, false, IsTrue, Some, None};
+ghost use Rattle.stack_base.specs.declared.ids.SetId.TheVariants.{Fs};
+ghost use Rattle.layout_model.specs.Writes.{IsWrite};
+ghost use Rattle.bio_records.specs.Items.{item_of, IsAlone};
+ghost use Rattle.bio_records.specs.Segments.{segment_count, segments_of};
+ghost use Rattle.bio_books.specs.Views.{vector_of};
+ghost use Rattle.task_core.specs.Scene.{Setup};
+ghost use Rattle.task_core.specs.Requests.{TakeBio, TakeVec, Link as LinkOf, Write as WriteOf};
+ghost use Rattle.task_core.specs.declared.event.TaskId.TheVariants as id;
+ghost use Rattle.task_core.specs.declared.event.How.TheVariants as how;
+ghost use Rattle.task_core.specs.declared.event.What.TheVariants as what;
+ghost use Rattle.task_core.specs.Lines.{Rests, Breaks, rests};
+ghost use Rattle.task_core.specs.Tasks.{Todo as TodoState, NoBio, HasBio, HasBoth, Writer as WriterTask, needs_vector, first_bio, filled, filled_short, filled_vector, write_request};
+ghost use Rattle.task_core.specs.Within.{IsWithin};
+ghost use Rattle.task_core.specs.Routed.{setup};
+ghost use Rattle.task_core.specs.Stage.{Fits, Owes, has_book, is_vecs, IsHome};
+ghost use Rattle.task_core.specs.Homes.{TodoFits, TakenIsHome};
+ghost use Rattle.task_core.specs.Views.{vec_item};
+ghost use Rattle.task_core.specs.WriterViews.{taken_of, IsTakenAlone, TakenSuits, next_of, IsNextAlone, WriteAnswers, WriteOpened};
+
+use crate::calls::{had, missed};
+use crate::event::{Breach, Event, Got, How, TaskId, What};
+use crate::line::{HandedBack, Kept, Line};
+use crate::objects::{Ask, Objects};
+use crate::routes::Routes;
+use crate::step::Step;
+use crate::todo::Todo;
+use arrayvec::ArrayVec;
+use bio_books::{Back, Link};
+use bio_records::{Bio, BioElement, Iter, Pad, Segment, VecElement, fill, segments};
+use bioset_pools::fill_bio;
+use layout_model::Write;
+use mempool_core::Taken as Took;
+use stack_base::{PoolId, Range, SetId};
+use std::snapshot::Snapshot;
+
+/// What a writer has taken for its next write.
+#[derive(Drop)]
+pub enum Taken {
+    NoBio,
+    HasBio(BioElement),
+    /// Also a vector, which has no segments yet.
+    HasBoth(BioElement, VecElement),
+    /// Its bio, and what the vector was that it handed over with a link that was refused, which has no bytes here.
+    Refused(BioElement, Snapshot<VecElement>),
+}
+
+// What becomes of a write that is to begin.
+#[derive(Drop)]
+pub(crate) enum Next {
+    // Its bio is submitted.
+    Begins(Line),
+    // It waits for more, or can't begin.
+    Waits(Taken, Line),
+}
+
+// How many segments a bio keeps itself (`BIO_INLINE_VECS`, `block/bio.c`).
+const INLINE: u32 = 4;
+
+// Whether a write has more segments than its bio keeps itself.
+fn needs_vector(write: &Write) -> bool
+    requires some { 1 ≤ write.now.count }
+    requires few { write.now.count ≤ 2048 }
+    ensures { result ≡ needs_vector write.now }
+{
+    segments(write.count) > INLINE
+}
+
+// Fills in the segments of a write.
+fn fill_segments<const N: usize>(into: &mut ArrayVec<Segment, N>, write: &Write)
+    requires some { 1 ≤ write.now.count }
+    requires few { write.now.count ≤ 2048 }
+    requires room { segment_count write.now.count ≤ N }
+    ensures { into.new.items ≡ segments_of write.now.tag write.now.count }
+{
+    into.clear();
+    'making: for _ in 0..segments(write.count) {
+        into.push(Segment::default());
+    }
+    fill(write.tag, write.count, into.as_mut_slice());
+}
+
+// The bio of a write, at its device, with the node at this place.
+fn first_bio(number: u32, todo: &Todo, node: u32) -> Bio
+    ensures { result ≡ first_bio number todo.now node }
+{
+    let write = &todo.write;
+    Bio {
+        write: todo.number,
+        writer: number,
+        node,
+        dev: write.dev,
+        range: Range {
+            start: write.start,
+            len: write.count,
+        },
+        word: write.tag,
+        at: Iter {
+            segment: 0,
+            done: 0,
+        },
+        set: SetId::Fs,
+    }
+}
+
+// A bio that was taken, as the bio of a write with a vector.
+fn filled(number: u32, todo: &Todo, node: u32, mut bio: BioElement) -> BioElement
+    requires { IsAlone bio }
+    ensures filled { item_of result ≡ filled number todo.now node (item_of bio) }
+    ensures alone { IsAlone result }
+{
+    fill_bio(&mut bio, first_bio(number, todo, node), Pad { leg: 0 });
+    bio
+}
+
+// The same for a write whose segments the bio keeps itself.
+fn filled_short(number: u32, todo: &Todo, node: u32, mut bio: BioElement) -> BioElement
+    requires alone { IsAlone bio }
+    requires some { 1 ≤ todo.now.write.count }
+    requires few { todo.now.write.count ≤ 2048 }
+    requires short { needs_vector todo.now.write ≡ false }
+    ensures filled { item_of result ≡ filled_short number todo.now node (item_of bio) }
+    ensures alone { IsAlone result }
+{
+    fill_segments(&mut bio.body.short, &todo.write);
+    filled(number, todo, node, bio)
+}
+
+// A vector that was taken, with the segments of a write.
+fn filled_vector(todo: &Todo, mut vector: VecElement) -> VecElement
+    requires some { 1 ≤ todo.now.write.count }
+    requires few { todo.now.write.count ≤ 2048 }
+    ensures { vec_item result ≡ filled_vector todo.now (vec_item vector) }
+{
+    fill_segments(&mut vector.body.segments, &todo.write);
+    vector
+}
+
+// Takes the bio of a write, and waits for it (`bio_alloc_bioset`, `block/bio.c`).
+fn take_bio<O: Objects>(objects: &mut O, number: u32, line: Line) -> (Taken, Line, Step)
+    requires holds { O.holds objects.old }
+    requires rests { line.doing ≡ Rests }
+    ensures step { (setup : Setup) (todo : TodoState) (later : List TodoState) → WriteAnswers O.serves (Owes (O.stage objects.old)) setup number (TakeBio Fs true) (todo ∷ later) NoBio line objects.old (WriterTask number (todo ∷ later) (taken_of result.0) result.1) objects.new result.2 }
+    ensures alone { IsTakenAlone result.0 × TakenSuits result.0 result.1.doing }
+    ensures kept { O.holds objects.new × (O.stage objects.new ≡ O.stage objects.old) }
+{
+    let task = TaskId::Writer(number);
+    let pool = PoolId::FsBios;
+    match objects.take_bio(SetId::Fs, true) {
+        Ok(Took::Ordinary(bio)) => (
+            Taken::HasBio(bio),
+            line,
+            had(task, true, pool, Got::Ordinary),
+        ),
+        Ok(Took::Spare(bio)) => (Taken::HasBio(bio), line, had(task, true, pool, Got::Spare)),
+        Ok(Took::Miss { used }) => (Taken::NoBio, line, missed(task, true, used, pool)),
+        Err(back) => {
+            let kept = Kept::unmade(None, back);
+            (
+                Taken::NoBio,
+                line.breaks(Breach::Spent, kept),
+                Step::Broken(Breach::Spent),
+            )
+        }
+    }
+}
+
+// Takes the vector of a write that has more segments than its bio keeps, and waits for it (`bvec_alloc`, `block/bio.c`).
+fn take_vector<O: Objects>(
+    objects: &mut O,
+    number: u32,
+    bio: BioElement,
+    line: Line,
+) -> (Taken, Line, Step)
+    requires holds { O.holds objects.old }
+    requires alone { IsAlone bio }
+    requires rests { line.doing ≡ Rests }
+    ensures step { (setup : Setup) (todo : TodoState) (later : List TodoState) → WriteAnswers O.serves (Owes (O.stage objects.old)) setup number TakeVec (todo ∷ later) (HasBio (item_of bio)) line objects.old (WriterTask number (todo ∷ later) (taken_of result.0) result.1) objects.new result.2 }
+    ensures alone { IsTakenAlone result.0 × TakenSuits result.0 result.1.doing }
+    ensures kept { O.holds objects.new × (O.stage objects.new ≡ O.stage objects.old) }
+{
+    let task = TaskId::Writer(number);
+    let pool = PoolId::FsVecs;
+    match objects.take_vec() {
+        Ok(Took::Ordinary(vector)) => (
+            Taken::HasBoth(bio, vector),
+            line,
+            had(task, true, pool, Got::Ordinary),
+        ),
+        Ok(Took::Spare(vector)) => (
+            Taken::HasBoth(bio, vector),
+            line,
+            had(task, true, pool, Got::Spare),
+        ),
+        Ok(Took::Miss { used }) => (Taken::HasBio(bio), line, missed(task, true, used, pool)),
+        Err(back) => {
+            let kept = Kept::unmade(None, back);
+            (
+                Taken::HasBio(bio),
+                line.breaks(Breach::Spent, kept),
+                Step::Broken(Breach::Spent),
+            )
+        }
+    }
+}
+
+// What a writer has left that was refused the node of a write.
+fn unlinked(line: Line, breach: Breach, back: Back) -> (Line, Step)
+    ensures line { result.0 ≡ record rests { doing = Breaks breach } }
+    ensures step { result.1 ≡ Step.Broken breach }
+{
+    let kept = Kept {
+        bio: None,
+        hand: None,
+        back: HandedBack::Unlinked(back),
+    };
+    (line.refused(breach, kept), Step::Broken(breach))
+}
+
+// Opens the node of a write, and answers its place, or what is left of a writer that can't go on.
+fn open_write<O: Objects>(
+    objects: &mut O,
+    routes: &Routes,
+    writer: u32,
+    write: u32,
+    vector: Option<VecElement>,
+    line: Line,
+) -> Result<u32, (Line, Step)>
+    requires holds { O.holds objects.old }
+    requires rests { line.doing ≡ Rests }
+    requires fits { Fits (O.stage objects.old) (LinkOf writer (WriteOf write (vector_of vector))) }
+    ensures opens { WriteOpened O.serves (Owes (O.stage objects.old)) (setup routes.now) writer (WriteOf write (vector_of vector)) line objects.old objects.new result }
+    ensures kept { O.holds objects.new × (O.stage objects.new ≡ O.stage objects.old) }
+{
+    match objects.link(writer, Ask::Write { write, vector }) {
+        Ok(Link::Made(node)) => Ok(node),
+        Ok(Link::NoRoom(back)) => {
+            let places = routes.places(writer);
+            Err(unlinked(line, Breach::NoRoom { writer, places }, back))
+        }
+        Ok(Link::Stray(back)) => Err(unlinked(line, Breach::Stray { writer, node: 0 }, back)),
+        Err(back) => {
+            let kept = Kept::unmade(None, back);
+            let line = line.breaks(Breach::Spent, kept);
+            Err((line, Step::Broken(Breach::Spent)))
+        }
+    }
+}
+
+// The step of a write whose node was opened at this place.
+fn opened(number: u32, node: u32) -> Step
+    ensures { result ≡ Step.Stepped (record { task = id.Writer number; what = what.Link number how.Write node }) }
+{
+    let how = How::Write;
+    let writer = number;
+    Step::Stepped(Event {
+        task: TaskId::Writer(number),
+        what: What::Link { writer, how, node },
+    })
+}
+
+// Links a write whose bio keeps its segments itself, and submits the bio.
+fn link_short<O: Objects>(
+    objects: &mut O,
+    routes: &Routes,
+    number: u32,
+    todo: &Todo,
+    bio: BioElement,
+    line: Line,
+) -> (Next, Step)
+    requires holds { O.holds objects.old }
+    requires routing { (O.stage objects.old).routing ≡ routes.now }
+    requires alone { IsAlone bio }
+    requires rests { line.doing ≡ Rests }
+    requires short { needs_vector todo.now.write ≡ false }
+    requires todo { TodoFits (O.stage objects.old) todo.now }
+    requires book { IsTrue (has_book (O.stage objects.old) number) }
+    ensures step { (later : List TodoState) → WriteAnswers O.serves (Owes (O.stage objects.old)) (setup routes.now) number (LinkOf number (WriteOf todo.now.number None)) (todo.now ∷ later) (HasBio (item_of bio)) line objects.old (next_of result.0 number todo.now later) objects.new result.1 }
+    ensures alone { IsNextAlone result.0 }
+    ensures kept { O.holds objects.new × (O.stage objects.new ≡ O.stage objects.old) }
+{
+    match open_write(objects, routes, number, todo.number, None, line) {
+        Ok(node) => {
+            let bio = filled_short(number, todo, node, bio);
+            (Next::Begins(Line::begin(routes, bio)), opened(number, node))
+        }
+        Err((line, step)) => (Next::Waits(Taken::HasBio(bio), line), step),
+    }
+}
+
+// Links a write whose segments are in a vector, which its node keeps, and submits its bio.
+fn link_long<O: Objects>(
+    objects: &mut O,
+    routes: &Routes,
+    number: u32,
+    todo: &Todo,
+    bio: BioElement,
+    vector: VecElement,
+    line: Line,
+) -> (Next, Step)
+    requires holds { O.holds objects.old }
+    requires routing { (O.stage objects.old).routing ≡ routes.now }
+    requires alone { IsAlone bio }
+    requires rests { line.doing ≡ Rests }
+    requires todo { TodoFits (O.stage objects.old) todo.now }
+    requires book { IsTrue (has_book (O.stage objects.old) number) }
+    requires home { IsHome (O.stage objects.old) is_vecs vector.share }
+    ensures step { (later : List TodoState) → WriteAnswers O.serves (Owes (O.stage objects.old)) (setup routes.now) number (LinkOf number (WriteOf todo.now.number (Some (filled_vector todo.now (vec_item vector))))) (todo.now ∷ later) (HasBoth (item_of bio) (vec_item vector)) line objects.old (next_of result.0 number todo.now later) objects.new result.1 }
+    ensures alone { IsNextAlone result.0 }
+    ensures kept { O.holds objects.new × (O.stage objects.new ≡ O.stage objects.old) }
+{
+    let was = Snapshot::of(&vector);
+    let vector = Some(filled_vector(todo, vector));
+    match open_write(objects, routes, number, todo.number, vector, line) {
+        Ok(node) => {
+            let bio = filled(number, todo, node, bio);
+            (Next::Begins(Line::begin(routes, bio)), opened(number, node))
+        }
+        Err((line, step)) => (Next::Waits(Taken::Refused(bio, was), line), step),
+    }
+}
+
+/// The next step of a writer that is to begin a write.
+pub(crate) fn go_on<O: Objects>(
+    objects: &mut O,
+    routes: &Routes,
+    number: u32,
+    todo: &Todo,
+    taken: Taken,
+    line: Line,
+) -> (Next, Step)
+    requires holds { O.holds objects.old }
+    requires routing { (O.stage objects.old).routing ≡ routes.now }
+    requires alone { IsTakenAlone taken }
+    requires suits { TakenSuits taken line.doing }
+    requires rests { line.doing ≡ Rests }
+    requires todo { TodoFits (O.stage objects.old) todo.now }
+    requires book { IsTrue (has_book (O.stage objects.old) number) }
+    requires home { TakenIsHome (O.stage objects.old) (taken_of taken) }
+    ensures step { (later : List TodoState) → WriteAnswers O.serves (Owes (O.stage objects.old)) (setup routes.now) number (write_request number (todo.now ∷ later) (taken_of taken)) (todo.now ∷ later) (taken_of taken) line objects.old (next_of result.0 number todo.now later) objects.new result.1 }
+    ensures alone { IsNextAlone result.0 }
+    ensures kept { O.holds objects.new × (O.stage objects.new ≡ O.stage objects.old) }
+{
+    match taken {
+        Taken::NoBio => {
+            let (taken, line, step) = take_bio(objects, number, line);
+            (Next::Waits(taken, line), step)
+        }
+        Taken::HasBio(bio) => {
+            if !needs_vector(&todo.write) {
+                return link_short(objects, routes, number, todo, bio, line);
+            }
+            let (taken, line, step) = take_vector(objects, number, bio, line);
+            (Next::Waits(taken, line), step)
+        }
+        Taken::HasBoth(bio, vector) => link_long(objects, routes, number, todo, bio, vector, line),
+        Taken::Refused(..) => unreachable!(),
+    }
+}
