@@ -1,0 +1,6 @@
+-- Digits are text.
+use Rattle.trace_text.proofs.NumberLemmas.{digits_are_text, text_is_read}
+use Rattle.trace_text.proofs.word.digits_text.Goals as goal
+
+pub unwrap-requires : goal.unwrap-requires
+unwrap-requires c = text_is_read c.args.word.now _ _ _ (digits_are_text c.args.word.now c.requires) c.from_utf8.ensures.cases

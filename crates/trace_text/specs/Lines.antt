@@ -1,0 +1,145 @@
+-- The line of an event.
+use Rattle.std.specs.Prelude.{◌<◌, ◌^◌, ◌++◌, ℕ, List, [], ◌∷◌, codes, decimal, slice_get}
+use Rattle.std.specs.List.{join_with_byte}
+use Rattle.std.specs.Option.{option_map_or}
+use Rattle.stack_base.specs.declared.ids.DevId.{DevId}
+use Rattle.stack_base.specs.declared.ids.PoolId.{PoolId}
+use Rattle.stack_base.specs.declared.ids.PoolId.TheVariants.{FsBios, FsVecs, Bios, Records}
+use Rattle.stack_base.specs.declared.ids.Status.{Status}
+use Rattle.stack_base.specs.declared.ids.Status.TheVariants as status
+use Rattle.stack_base.specs.declared.stack.Device.{Device}
+use Rattle.stack_base.specs.declared.stack.Stack.{Stack}
+use Rattle.task_core.specs.declared.event.TaskId.{TaskId}
+use Rattle.task_core.specs.declared.event.TaskId.TheVariants as task
+use Rattle.task_core.specs.declared.event.Got.{Got}
+use Rattle.task_core.specs.declared.event.Got.TheVariants as got
+use Rattle.task_core.specs.declared.event.How.{How}
+use Rattle.task_core.specs.declared.event.How.TheVariants as how
+use Rattle.task_core.specs.declared.event.End.{End}
+use Rattle.task_core.specs.declared.event.End.TheVariants as end
+use Rattle.task_core.specs.declared.event.What.{What}
+use Rattle.task_core.specs.declared.event.What.TheVariants as what
+use Rattle.task_core.specs.declared.event.Event.{Event}
+use Rattle.trace_text.specs.Names.{HasDevice, HasPool, is_any, is_disk}
+
+abbrev pub status_word : Status → List ℕ
+status_word status.Ok = codes "ok"
+status_word status.Io = codes "io"
+status_word status.Medium = codes "medium"
+status_word status.NoSpace = codes "nospace"
+
+abbrev pub got_word : Got → List ℕ
+got_word got.Ordinary = codes "ordinary"
+got_word got.Spare = codes "spare"
+got_word got.Missed = codes "missed"
+
+abbrev pub how_word : How → List ℕ
+how_word how.Write = codes "write"
+how_word how.Chain = codes "chain"
+how_word how.Master = codes "master"
+how_word how.Leg = codes "leg"
+
+abbrev pub end_word : End → List ℕ
+end_word end.Left = codes "left"
+end_word end.Up = codes "up"
+end_word end.Top = codes "top"
+
+-- the name of a device
+abbrev pub name_of : Stack → DevId → List ℕ
+name_of stack dev = option_map_or (λ (device : Device). device.name.bytes) (slice_get stack.devices.items dev.0) []
+
+abbrev pub pool_word : Stack → PoolId → List ℕ
+pool_word stack FsBios = codes "fs.bios"
+pool_word stack FsVecs = codes "fs.vecs"
+pool_word stack (Bios dev) = name_of stack dev ++ codes ".bios"
+pool_word stack (Records dev) = name_of stack dev ++ codes ".records"
+
+abbrev pub task_word : Stack → TaskId → List ℕ
+task_word stack (task.Writer number) = codes "w" ++ decimal number
+task_word stack (task.Rescuer dev) = codes "r:" ++ name_of stack dev
+task_word stack (task.Completer disk) = codes "c:" ++ name_of stack disk
+task_word stack task.Keeper = codes "k"
+
+-- what a task did, in words
+abbrev pub what_words : Stack → What → List (List ℕ)
+what_words stack (what.Take pool got) = codes "take" ∷ pool_word stack pool ∷ got_word got ∷ []
+what_words stack (what.Try pool got) = codes "try" ∷ pool_word stack pool ∷ got_word got ∷ []
+what_words stack (what.Give pool) = codes "give" ∷ pool_word stack pool ∷ []
+what_words stack (what.Punt dev moved) = codes "punt" ∷ name_of stack dev ∷ decimal moved ∷ []
+what_words stack (what.Pop dev) = codes "pop" ∷ name_of stack dev ∷ []
+what_words stack (what.Push disk at len leg) =
+    codes "push" ∷ name_of stack disk ∷ decimal at ∷ decimal len ∷ codes "leg" ∷ decimal leg ∷ []
+what_words stack (what.Complete disk index status) = codes "complete" ∷ name_of stack disk ∷ decimal index ∷ status_word status ∷ []
+what_words stack (what.Link writer how node) = codes "link" ∷ decimal writer ∷ how_word how ∷ decimal node ∷ []
+what_words stack (what.Drop writer node status end) =
+    codes "drop" ∷ decimal writer ∷ decimal node ∷ status_word status ∷ end_word end ∷ []
+what_words stack (what.Done write status) = codes "done" ∷ decimal write ∷ status_word status ∷ []
+what_words stack (what.Resize pool min) = codes "resize" ∷ pool_word stack pool ∷ decimal min ∷ []
+what_words stack (what.Round round) = codes "round" ∷ decimal round ∷ []
+
+abbrev pub words_of : Stack → Event → List (List ℕ)
+words_of stack event = codes "event" ∷ task_word stack event.task ∷ what_words stack event.what
+
+-- the words, with one blank between any two
+abbrev pub line_of : Stack → Event → List ℕ
+line_of stack event = join_with_byte 32 (words_of stack event)
+
+-- a task of a stack: a rescuer of a device, a completer of a disk
+abbrev pub HasTask : Stack → TaskId → Type 0
+HasTask stack (task.Writer number) = Unit {0}
+HasTask stack (task.Rescuer dev) = HasDevice is_any stack dev
+HasTask stack (task.Completer disk) = HasDevice is_disk stack disk
+HasTask stack task.Keeper = Unit {0}
+
+-- what is done at devices, disks and pools of a stack
+abbrev pub HasWhat : Stack → What → Type 0
+HasWhat stack (what.Take pool got) = HasPool stack pool
+HasWhat stack (what.Try pool got) = HasPool stack pool
+HasWhat stack (what.Give pool) = HasPool stack pool
+HasWhat stack (what.Punt dev moved) = HasDevice is_any stack dev
+HasWhat stack (what.Pop dev) = HasDevice is_any stack dev
+HasWhat stack (what.Push disk at len leg) = HasDevice is_disk stack disk
+HasWhat stack (what.Complete disk index status) = HasDevice is_disk stack disk
+HasWhat stack (what.Link writer how node) = Unit {0}
+HasWhat stack (what.Drop writer node status end) = Unit {0}
+HasWhat stack (what.Done write status) = Unit {0}
+HasWhat stack (what.Resize pool min) = HasPool stack pool
+HasWhat stack (what.Round round) = Unit {0}
+
+-- an event that names what the stack has
+pub record IsEventOf (stack : Stack) (event : Event) : Type 0 where
+  pub task : HasTask stack event.task
+  pub what : HasWhat stack event.what
+
+-- a number that 32 bits have
+abbrev pub IsShort : ℕ → Type 0
+IsShort number = number < 2 ^ 32
+
+-- a number that 64 bits have
+abbrev pub IsLong : ℕ → Type 0
+IsLong number = number < 2 ^ 64
+
+abbrev pub FitsTask : TaskId → Type 0
+FitsTask (task.Writer number) = IsShort number
+FitsTask (task.Rescuer dev) = Unit {0}
+FitsTask (task.Completer disk) = Unit {0}
+FitsTask task.Keeper = Unit {0}
+
+abbrev pub FitsWhat : What → Type 0
+FitsWhat (what.Take pool got) = Unit {0}
+FitsWhat (what.Try pool got) = Unit {0}
+FitsWhat (what.Give pool) = Unit {0}
+FitsWhat (what.Punt dev moved) = IsLong moved
+FitsWhat (what.Pop dev) = Unit {0}
+FitsWhat (what.Push disk at len leg) = IsLong at × IsLong len × IsShort leg
+FitsWhat (what.Complete disk index status) = IsLong index
+FitsWhat (what.Link writer how node) = IsShort writer × IsShort node
+FitsWhat (what.Drop writer node status end) = IsShort writer × IsShort node
+FitsWhat (what.Done write status) = IsShort write
+FitsWhat (what.Resize pool min) = IsShort min
+FitsWhat (what.Round round) = IsShort round
+
+-- an event whose numbers are such as its fields have
+pub record Fits (event : Event) : Type 0 where
+  pub task : FitsTask event.task
+  pub what : FitsWhat event.what

@@ -1,0 +1,275 @@
+//! Writes events.
+ghost use Rattle.std.specs.Prelude.{◌≡◌, ◌+◌, ◌≤◌, ◌++◌, ◌∷◌, [], codes, decimal, length};
+ghost use Rattle.trace_text.specs.Lines.{HasTask, HasWhat, IsEventOf, end_word, how_word, line_of, status_word, name_of, pool_word, task_word, what_words};
+ghost use Rattle.trace_text.specs.Names.{HasDevice, HasPool, is_any, is_disk};
+ghost use Rattle.trace_text.specs.Writing.{spaced};
+ghost use Rattle.task_core.specs.declared.event.What.TheVariants as what;
+
+use crate::verb::{end_word, got_word, how_word, status_word};
+use arrayvec::ArrayVec;
+use itoa::Buffer;
+use stack_base::{DevId, PoolId, Stack, Status};
+use task_core::{End, Event, Got, How, TaskId, What};
+
+// A line as it is written. The longest one has 103 bytes.
+type Line = ArrayVec<u8, 128>;
+
+// A blank and a word.
+fn put(into: &mut Line, word: &[u8])
+    requires { length into.old.items + 1 + length word.now ≤ 128 }
+    ensures items { into.new.items ≡ into.old.items ++ 32 ∷ word.now }
+    ensures len { length into.new.items ≡ length into.old.items + 1 + length word.now }
+{
+    into.push(b' ');
+    into.try_extend_from_slice(word).unwrap();
+}
+
+// A blank and a word of two parts.
+fn put_joined(into: &mut Line, front: &[u8], back: &[u8])
+    requires { length into.old.items + 1 + length front.now + length back.now ≤ 128 }
+    ensures items { into.new.items ≡ into.old.items ++ 32 ∷ (front.now ++ back.now) }
+    ensures len { length into.new.items ≡ length into.old.items + 1 + length front.now + length back.now }
+{
+    put(into, front);
+    into.try_extend_from_slice(back).unwrap();
+}
+
+// A blank and a number.
+fn put_number(into: &mut Line, number: u64)
+    requires { length into.old.items ≤ 107 }
+    ensures items { into.new.items ≡ into.old.items ++ 32 ∷ decimal number }
+    ensures len { length into.new.items ≤ length into.old.items + 21 }
+{
+    let mut digits = Buffer::new();
+    put(into, digits.format(number).as_bytes());
+}
+
+// The name of a device.
+fn name_of(stack: &Stack, dev: DevId) -> &[u8]
+    requires { HasDevice is_any stack.now dev }
+    ensures name { result.now ≡ name_of stack.now dev }
+    ensures short { length result.now ≤ 16 }
+{
+    stack.devices[dev.0 as usize].name.as_str().as_bytes()
+}
+
+// A blank and the name of a device.
+fn put_device(into: &mut Line, stack: &Stack, dev: DevId)
+    requires device { HasDevice is_any stack.now dev }
+    requires room { length into.old.items ≤ 111 }
+    ensures items { into.new.items ≡ into.old.items ++ 32 ∷ name_of stack.now dev }
+    ensures len { length into.new.items ≤ length into.old.items + 17 }
+{
+    put(into, name_of(stack, dev));
+}
+
+// A blank and the name of a disk.
+#[tactic(auto, using(crate::proofs::NameLemmas::any_of))]
+fn put_disk(into: &mut Line, stack: &Stack, disk: DevId)
+    requires disk { HasDevice is_disk stack.now disk }
+    requires room { length into.old.items ≤ 111 }
+    ensures items { into.new.items ≡ into.old.items ++ 32 ∷ name_of stack.now disk }
+    ensures len { length into.new.items ≤ length into.old.items + 17 }
+{
+    put_device(into, stack, disk);
+}
+
+// A blank and the name of a pool.
+#[tactic(auto, using(crate::proofs::NameLemmas::any_of))]
+fn put_pool(into: &mut Line, stack: &Stack, pool: PoolId)
+    requires pool { HasPool stack.now pool }
+    requires room { length into.old.items ≤ 103 }
+    ensures items { into.new.items ≡ into.old.items ++ 32 ∷ pool_word stack.now pool }
+    ensures len { length into.new.items ≤ length into.old.items + 25 }
+{
+    match pool {
+        PoolId::FsBios => put(into, b"fs.bios"),
+        PoolId::FsVecs => put(into, b"fs.vecs"),
+        PoolId::Bios(dev) => put_joined(into, name_of(stack, dev), b".bios"),
+        PoolId::Records(dev) => put_joined(into, name_of(stack, dev), b".records"),
+    }
+}
+
+// A blank and the word of a task.
+#[tactic(auto, using(crate::proofs::NameLemmas::any_of))]
+fn put_task(into: &mut Line, stack: &Stack, task: TaskId)
+    requires task { HasTask stack.now task }
+    requires room { length into.old.items ≤ 100 }
+    ensures items { into.new.items ≡ into.old.items ++ 32 ∷ task_word stack.now task }
+    ensures len { length into.new.items ≤ length into.old.items + 22 }
+{
+    match task {
+        TaskId::Writer(number) => {
+            let mut digits = Buffer::new();
+            put_joined(into, b"w", digits.format(number).as_bytes());
+        }
+        TaskId::Rescuer(dev) => put_joined(into, b"r:", name_of(stack, dev)),
+        TaskId::Completer(disk) => put_joined(into, b"c:", name_of(stack, disk)),
+        TaskId::Keeper => put(into, b"k"),
+    }
+}
+
+// Each of the following puts what a task did.
+
+fn take(into: &mut Line, stack: &Stack, pool: PoolId, got: Got)
+    requires pool { HasPool stack.now pool }
+    requires room { length into.old.items ≤ 27 }
+    ensures { into.new.items ≡ into.old.items ++ spaced (what_words stack.now (what.Take pool got)) }
+{
+    put(into, b"take");
+    put_pool(into, stack, pool);
+    put(into, got_word(got));
+}
+
+fn try_take(into: &mut Line, stack: &Stack, pool: PoolId, got: Got)
+    requires pool { HasPool stack.now pool }
+    requires room { length into.old.items ≤ 27 }
+    ensures { into.new.items ≡ into.old.items ++ spaced (what_words stack.now (what.Try pool got)) }
+{
+    put(into, b"try");
+    put_pool(into, stack, pool);
+    put(into, got_word(got));
+}
+
+fn give(into: &mut Line, stack: &Stack, pool: PoolId)
+    requires pool { HasPool stack.now pool }
+    requires room { length into.old.items ≤ 27 }
+    ensures { into.new.items ≡ into.old.items ++ spaced (what_words stack.now (what.Give pool)) }
+{
+    put(into, b"give");
+    put_pool(into, stack, pool);
+}
+
+fn punt(into: &mut Line, stack: &Stack, dev: DevId, moved: u64)
+    requires device { HasDevice is_any stack.now dev }
+    requires room { length into.old.items ≤ 27 }
+    ensures { into.new.items ≡ into.old.items ++ spaced (what_words stack.now (what.Punt dev moved)) }
+{
+    put(into, b"punt");
+    put_device(into, stack, dev);
+    put_number(into, moved);
+}
+
+fn pop(into: &mut Line, stack: &Stack, dev: DevId)
+    requires device { HasDevice is_any stack.now dev }
+    requires room { length into.old.items ≤ 27 }
+    ensures { into.new.items ≡ into.old.items ++ spaced (what_words stack.now (what.Pop dev)) }
+{
+    put(into, b"pop");
+    put_device(into, stack, dev);
+}
+
+fn push(into: &mut Line, stack: &Stack, disk: DevId, at: u64, len: u64, leg: u32)
+    requires disk { HasDevice is_disk stack.now disk }
+    requires room { length into.old.items ≤ 27 }
+    ensures { into.new.items ≡ into.old.items ++ spaced (what_words stack.now (what.Push disk at len leg)) }
+{
+    put(into, b"push");
+    put_disk(into, stack, disk);
+    put_number(into, at);
+    put_number(into, len);
+    put(into, b"leg");
+    put_number(into, u64::from(leg));
+}
+
+fn complete(into: &mut Line, stack: &Stack, disk: DevId, index: u64, status: Status)
+    requires disk { HasDevice is_disk stack.now disk }
+    requires room { length into.old.items ≤ 27 }
+    ensures { into.new.items ≡ into.old.items ++ spaced (what_words stack.now (what.Complete disk index status)) }
+{
+    put(into, b"complete");
+    put_disk(into, stack, disk);
+    put_number(into, index);
+    put(into, status_word(status));
+}
+
+fn link(into: &mut Line, writer: u32, how: How, node: u32)
+    requires { length into.old.items ≤ 27 }
+    ensures { into.new.items ≡ into.old.items ++ spaced (codes "link" ∷ decimal writer ∷ how_word how ∷ decimal node ∷ []) }
+{
+    put(into, b"link");
+    put_number(into, u64::from(writer));
+    put(into, how_word(how));
+    put_number(into, u64::from(node));
+}
+
+fn drop_node(into: &mut Line, writer: u32, node: u32, status: Status, end: End)
+    requires { length into.old.items ≤ 27 }
+    ensures { into.new.items ≡ into.old.items ++ spaced (codes "drop" ∷ decimal writer ∷ decimal node ∷ status_word status ∷ end_word end ∷ []) }
+{
+    put(into, b"drop");
+    put_number(into, u64::from(writer));
+    put_number(into, u64::from(node));
+    put(into, status_word(status));
+    put(into, end_word(end));
+}
+
+fn done(into: &mut Line, write: u32, status: Status)
+    requires { length into.old.items ≤ 27 }
+    ensures { into.new.items ≡ into.old.items ++ spaced (codes "done" ∷ decimal write ∷ status_word status ∷ []) }
+{
+    put(into, b"done");
+    put_number(into, u64::from(write));
+    put(into, status_word(status));
+}
+
+fn resize(into: &mut Line, stack: &Stack, pool: PoolId, min: u32)
+    requires pool { HasPool stack.now pool }
+    requires room { length into.old.items ≤ 27 }
+    ensures { into.new.items ≡ into.old.items ++ spaced (what_words stack.now (what.Resize pool min)) }
+{
+    put(into, b"resize");
+    put_pool(into, stack, pool);
+    put_number(into, u64::from(min));
+}
+
+fn round_starts(into: &mut Line, round: u32)
+    requires { length into.old.items ≤ 27 }
+    ensures { into.new.items ≡ into.old.items ++ spaced (codes "round" ∷ decimal round ∷ []) }
+{
+    put(into, b"round");
+    put_number(into, u64::from(round));
+}
+
+// What a task did.
+fn put_what(into: &mut Line, stack: &Stack, what: What)
+    requires what { HasWhat stack.now what }
+    requires room { length into.old.items ≤ 27 }
+    ensures { into.new.items ≡ into.old.items ++ spaced (what_words stack.now what) }
+{
+    match what {
+        What::Take { pool, got } => take(into, stack, pool, got),
+        What::Try { pool, got } => try_take(into, stack, pool, got),
+        What::Give { pool } => give(into, stack, pool),
+        What::Punt { dev, moved } => punt(into, stack, dev, moved),
+        What::Pop { dev } => pop(into, stack, dev),
+        What::Push { disk, at, len, leg } => push(into, stack, disk, at, len, leg),
+        What::Complete {
+            disk,
+            index,
+            status,
+        } => complete(into, stack, disk, index, status),
+        What::Link { writer, how, node } => link(into, writer, how, node),
+        What::Drop {
+            writer,
+            node,
+            status,
+            end,
+        } => drop_node(into, writer, node, status, end),
+        What::Done { write, status } => done(into, write, status),
+        What::Resize { pool, min } => resize(into, stack, pool, min),
+        What::Round { round } => round_starts(into, round),
+    }
+}
+
+/// Makes `into` the event's line, without the byte 10 that would end it. The stack is one that has what the event names; where its devices
+/// have different names, `read_event` reads the event again.
+pub fn write_event(e: &Event, stack: &Stack, into: &mut ArrayVec<u8, 128>)
+    requires { IsEventOf stack.now e.now }
+    ensures { into.new.items ≡ line_of stack.now e.now }
+{
+    into.clear();
+    into.try_extend_from_slice(b"event").unwrap();
+    put_task(into, stack, e.task);
+    put_what(into, stack, e.what);
+}
