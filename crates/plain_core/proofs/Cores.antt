@@ -1,0 +1,204 @@
+-- A plain core keeps what it stands on, and applies events as the machine's steps.
+use Rattle.std.proofs.Common.{◌≡◌, ◌≢◌, ◌<◌, inl, inr, ℕ, zero, suc, List, [], ◌∷◌, length, map, refl, sym, ap, ◌∙◌, subst, arith, Option, None, Some, Result, Ok, Err}
+use Rattle.std.specs.Prelude.{slice_get, slice_set, slice_index_or}
+use Rattle.std.proofs.Math.ListN.{length-set}
+use Rattle.std.proofs.lemmas.List.{get_or-set_other}
+use Rattle.stack_base.specs.declared.ids.DevId.{DevId}
+use Rattle.stack_base.specs.declared.stack.Stack.{Stack}
+use Rattle.stack_base.specs.Stack.{IsStack}
+use Rattle.bio_records.specs.declared.bio.Pad.{Pad}
+use Rattle.bio_records.specs.Items.{Item}
+use Rattle.bio_books.specs.Links.{Linked, Made, NoRoom, Stray}
+use Rattle.task_core.specs.declared.event.Event.{Event}
+use Rattle.task_core.specs.declared.event.What.{What}
+use Rattle.task_core.specs.Maps.{upd}
+use Rattle.task_core.specs.Scene.{Setup}
+use Rattle.task_core.specs.Requests.{Request, Reply, HadBio, HadVec, HadSlip, Missed, Did, Popped, Completed, LinkedTo, DroppedTo, OutIs, Present, LeftOver, Nothing, Spent, Pop}
+use Rattle.task_core.specs.Lines as line
+use Rattle.task_core.specs.Tasks as task
+use Rattle.task_core.specs.Objects.{Objects, Serves}
+use Rattle.task_core.specs.Events.{id_of, what_of}
+use Rattle.task_core.specs.Runs.{IsLet}
+use Rattle.task_core.specs.Opened.{no_task}
+use Rattle.task_core.specs.Routed.{Routing, setup, places_at}
+use Rattle.task_core.specs.Within.{AreWithin, TaskFits, ReplyFits, TasksStayWithin}
+use Rattle.plain_core.specs.Ledgers.{ledger_of}
+use Rattle.plain_core.specs.declared.task.Task.{Task}
+use Rattle.plain_core.specs.declared.fault.CoreFault.{CoreFault}
+use Rattle.plain_core.specs.declared.fault.CoreFault.TheVariants as fault
+use Rattle.plain_core.specs.Plain.{Plain, HasPlaces, rescue_at, objects_of}
+use Rattle.plain_core.specs.Views.{task_of}
+use Rattle.plain_core.specs.Steps.{TaskMoves}
+use Rattle.plain_core.specs.Cores.{CoreState, task_at, slot_of, IsCore, IsPlace, HasNone, Applies, StepsFrom, StepsAt}
+use Rattle.plain_core.proofs.Places.{at_set, head_within}
+use Rattle.plain_core.proofs.Updated.{upd_is}
+
+-- a task stays the one that it is
+begun_id : (s : Setup) (n : ℕ) (later : List task.Todo) (bio : ℕ → Item Pad) (taken : task.Taken) (todo : task.Todo) (answer : Linked)
+    → id_of (task.begins s n later bio taken todo answer) ≡ id_of (task.Writer n [] task.NoBio line.rests)
+begun_id s n later bio taken todo (Made node) = refl
+begun_id s n later bio taken todo (NoRoom back) = refl
+begun_id s n later bio taken todo (Stray back) = refl
+
+write_id : (s : Setup) (n : ℕ) (todo : List task.Todo) (taken : task.Taken) (l : line.Line) (reply : Reply)
+    → id_of (task.write_answered s n todo taken l reply) ≡ id_of (task.Writer n [] task.NoBio line.rests)
+write_id s n todo taken l Spent = refl
+write_id s n (t ∷ later) task.NoBio l (HadBio got bio) = refl
+write_id s n (t ∷ later) (task.HasBio bio) l (HadVec got vector) = refl
+write_id s n (t ∷ later) (task.HasBio bio) l (LinkedTo answer) = begun_id s n later (λ node. task.filled_short n t node bio) (task.HasBio bio) t answer
+write_id s n (t ∷ later) (task.HasBoth bio vector) l (LinkedTo answer) = begun_id s n later (λ node. task.filled n t node bio) (task.HasBoth bio vector) t answer
+write_id s n todo taken l reply = refl
+
+writer_id : (s : Setup) (n : ℕ) (todo : List task.Todo) (taken : task.Taken) (doing : line.Doing) (l : line.Line) (reply : Reply)
+    → id_of (task.writer_answered s n todo taken doing l reply) ≡ id_of (task.Writer n [] task.NoBio line.rests)
+writer_id s n todo taken line.Rests l reply = write_id s n todo taken l reply
+writer_id s n todo taken (line.Drives bio ask) l reply = refl
+writer_id s n todo taken (line.Copies bio master leg want) l reply = refl
+writer_id s n todo taken (line.Breaks breach) l reply = refl
+
+rescuer_id : (s : Setup) (dev : DevId) (doing : line.Doing) (l : line.Line) (reply : Reply) → id_of (task.rescuer_answered s dev doing l reply) ≡ id_of (task.Rescuer dev line.rests)
+rescuer_id s dev line.Rests l (Popped bio) = refl
+rescuer_id s dev line.Rests l Spent = refl
+rescuer_id s dev line.Rests l reply = refl
+rescuer_id s dev (line.Drives bio ask) l reply = refl
+rescuer_id s dev (line.Copies bio master leg want) l reply = refl
+rescuer_id s dev (line.Breaks breach) l reply = refl
+
+pub id_stays : (s : Setup) (t : task.TaskState) (reply : Reply) → id_of (task.answered s t reply) ≡ id_of t
+id_stays s (task.Writer n todo taken l) reply = writer_id s n todo taken l.doing l reply
+id_stays s (task.Rescuer dev l) reply = rescuer_id s dev l.doing l reply
+id_stays s (task.Completer disk carried) reply = refl
+id_stays s (task.Keeper keeping) reply = refl
+
+-- what a rescuer takes is within
+reply_fits : (stack : Stack) (old : Plain) (request : Request) (reply : Reply) (new : Objects) → ((dev : ℕ) → AreWithin stack (rescue_at old dev))
+    → Serves ledger_of (objects_of old) request reply new → ReplyFits stack reply
+reply_fits stack old (Pop dev) (Popped bio) new within serves = head_within stack (rescue_at old dev.0) (new.rescue dev.0) bio (within dev.0) serves.0
+reply_fits stack old request (Popped bio) new within serves = absurd serves
+reply_fits stack old request (HadBio got bio) new within serves = tt
+reply_fits stack old request (HadVec got vector) new within serves = tt
+reply_fits stack old request (HadSlip got slip) new within serves = tt
+reply_fits stack old request (Missed used) new within serves = tt
+reply_fits stack old request Did new within serves = tt
+reply_fits stack old request (Completed index bio status) new within serves = tt
+reply_fits stack old request (LinkedTo answer) new within serves = tt
+reply_fits stack old request (DroppedTo ended) new within serves = tt
+reply_fits stack old request (OutIs out) new within serves = tt
+reply_fits stack old request (Present round) new within serves = tt
+reply_fits stack old request (LeftOver count) new within serves = tt
+reply_fits stack old request Nothing new within serves = tt
+reply_fits stack old request Spent new within serves = tt
+
+-- lists of tasks
+at_mapped : {X Y : Type 0} (f : X → Y) (xs : List X) (i : ℕ) (x : X) (d : Y) → slice_get xs i ≡ Some x → slice_index_or (map f xs) i d ≡ f x
+at_mapped f [] i x d is = absurd cc
+at_mapped f (y ∷ xs) zero x d is = ap f cc
+at_mapped f (y ∷ xs) (suc i) x d is = at_mapped f xs i x d is
+
+map_set : {X Y : Type 0} (f : X → Y) (xs : List X) (i : ℕ) (x : X) → map f (slice_set xs i x) ≡ slice_set (map f xs) i (f x)
+map_set f [] i x = refl
+map_set f (y ∷ xs) zero x = refl
+map_set f (y ∷ xs) (suc i) x = ap (λ s. f y ∷ s) (map_set f xs i x)
+
+set_same : {X : Type 0} (xs : List X) (i : ℕ) (x d : X) → x ≡ slice_index_or xs i d → slice_set xs i x ≡ xs
+set_same [] i x d is = refl
+set_same (y ∷ xs) zero x d is = ap (λ z. z ∷ xs) is
+set_same (y ∷ xs) (suc i) x d is = ap (λ s. y ∷ s) (set_same xs i x d is)
+
+-- a step at a place, of tasks as the machine's
+pub record Stepped (r : Routing) (old : Plain) (tasks : List task.TaskState) (place : ℕ) (what : What) (result : Result (Unit {0}) CoreFault) (new : Plain) (rest : List task.TaskState) : Type 0 where
+  pub moves : TaskMoves r old (task_at tasks place) what result new (task_at rest place)
+  pub others : rest ≡ slice_set tasks place (task_at rest place)
+
+pub stepped : (r : Routing) (old new : Plain) (tasks rest : List Task) (place : ℕ) (what : What) (result : Result (Unit {0}) CoreFault)
+    → StepsAt r old tasks place what result new rest → Stepped r old (map task_of tasks) place what result new (map task_of rest)
+stepped r old new tasks rest place what result s = by (slice_get tasks place) (slice_get rest place) refl refl s
+  where
+    by : (before after : Option Task) → slice_get tasks place ≡ before → slice_get rest place ≡ after → StepsFrom r old tasks place before what result new after rest
+        → Stepped r old (map task_of tasks) place what result new (map task_of rest)
+    by (Some before) (Some after) was is s =
+        let a = at_mapped task_of tasks place before no_task was in
+        let b = at_mapped task_of rest place after no_task is in
+        record {
+          moves = subst (λ t. TaskMoves r old t what result new (task_at (map task_of rest) place)) (sym a) (subst (λ t. TaskMoves r old (task_of before) what result new t) (sym b) s.0);
+          others = ap (map task_of) s.1 ∙ map_set task_of tasks place after ∙ ap (slice_set (map task_of tasks) place) (sym b);
+        }
+    by None after was is s = absurd s
+    by (Some before) None was is s = absurd s
+
+-- whatever is answered, the task is what it was, and within its stack
+after_id : (r : Routing) (old new : Plain) (before after : task.TaskState) (what : What) (result : Result (Unit {0}) CoreFault) → TaskMoves r old before what result new after → id_of after ≡ id_of before
+after_id r old new before after what (Ok d) m = ap id_of m.3 ∙ id_stays (setup r) before m.0
+after_id r old new before after what (Err fault.NotEnabled) m = ap id_of m.1
+after_id r old new before after what (Err fault.Memory) m = ap id_of m.1
+
+after_fits : (r : Routing) (old new : Plain) (before after : task.TaskState) (what : What) (result : Result (Unit {0}) CoreFault) → TasksStayWithin → IsStack r.stack
+    → ((dev : ℕ) → AreWithin r.stack (rescue_at old dev)) → TaskFits r.stack before → TaskMoves r old before what result new after → TaskFits r.stack after
+after_fits r old new before after what (Ok d) law stack within fits m =
+    subst (TaskFits r.stack) (sym m.3)
+    (law.goes_on r.stack (places_at r.places) before m.0 stack fits (reply_fits r.stack old (task.request (setup r) before) m.0 (objects_of new) within m.2.serves))
+after_fits r old new before after what (Err fault.NotEnabled) law stack within fits m = subst (TaskFits r.stack) (sym m.1) fits
+after_fits r old new before after what (Err fault.Memory) law stack within fits m = subst (TaskFits r.stack) (sym m.1) fits
+
+after_stack : (r : Routing) (old new : Plain) (before after : task.TaskState) (what : What) (result : Result (Unit {0}) CoreFault) → TaskMoves r old before what result new after → new.stack ≡ old.stack
+after_stack r old new before after what (Ok d) m = m.2.stack
+after_stack r old new before after what (Err fault.NotEnabled) m = ap (λ (o : Plain). o.stack) m.0
+after_stack r old new before after what (Err fault.Memory) m = ap (λ (o : Plain). o.stack) m.0
+
+pub core_kept : (r : Routing) (old new : Plain) (tasks rest : List task.TaskState) (places : List ℕ) (place : ℕ) (what : What) (result : Result (Unit {0}) CoreFault)
+    → TasksStayWithin → IsStack r.stack → HasPlaces old.stack old.pools old.rescues old.disks → IsCore r old tasks places → place < length tasks
+    → Stepped r old tasks place what result new rest → IsCore r new rest places
+core_kept r old new tasks rest places place what result law stack kept core here s =
+    let one = task_at rest place in
+    let within = subst (λ (k : Stack). (dev : ℕ) → AreWithin k (rescue_at old dev)) core.stack kept.within in
+    let fits : TaskFits r.stack one = after_fits r old new (task_at tasks place) one what result law stack within (core.fits place no_task here) s.moves in
+    let same : id_of one ≡ id_of (task_at tasks place) = after_id r old new (task_at tasks place) one what result s.moves in
+    let long : length rest ≡ length tasks = ap length s.others ∙ length-set tasks place one in
+    record {
+      stack = after_stack r old new (task_at tasks place) one what result s.moves ∙ core.stack;
+      fits = λ k d lt. subst (λ l. TaskFits r.stack (slice_index_or l k d)) (sym s.others) (elim (at_set tasks place k one d) [
+        | inl at ↦ subst (TaskFits r.stack) (sym at.1) fits
+        | inr other ↦ subst (TaskFits r.stack) (sym other) (core.fits k d (omega (arith, lt, long)))
+      ]);
+      found = λ k lt. subst (λ l. slice_get places (slot_of (id_of (task_at l k))) ≡ Some k) (sym s.others) (elim (at_set tasks place k one no_task) [
+        | inl at ↦ ap (λ t. slice_get places (slot_of (id_of t))) at.1 ∙ ap (λ i. slice_get places (slot_of i)) same ∙ core.found place here ∙ ap Some (sym at.0)
+        | inr other ↦ ap (λ t. slice_get places (slot_of (id_of t))) other ∙ core.found k (omega (arith, lt, long))
+      ]);
+    }
+
+-- the event is a step of this task, or of none
+pub applies_at : (old : CoreState) (new : Plain) (rest : List task.TaskState) (event : Event) (place : ℕ) (result : Result (Unit {0}) CoreFault)
+    → IsPlace old.tasks event.task place → Stepped old.routing old.objects old.tasks place event.what result new rest
+    → Applies old event result (record { routing = old.routing; objects = new; tasks = rest })
+applies_at old new rest event place (Ok d) is s =
+    let m = s.moves in
+    let others : (k : ℕ) → k ≢ place → task_at rest k ≡ task_at old.tasks k =
+    λ k ne. ap (λ l. task_at l k) s.others ∙ get_or-set_other old.tasks place k (task_at rest place) no_task ne in (
+      (
+        place,
+        record {
+          here = is.within;
+          by = is.named;
+          is_let = m.1;
+          reply = m.0;
+          told = m.2.told;
+          serves = m.2.serves;
+          goes_on = upd_is (task_at old.tasks) (task_at rest) place others ∙ ap (upd (task_at old.tasks) place) m.3;
+        },
+      ),
+      refl,
+    )
+applies_at old new rest event place (Err fault.NotEnabled) is s = (
+  λ k. record { routing = old.routing; objects = s.moves.0 k; tasks = (s.others ∙ set_same old.tasks place (task_at rest place) no_task s.moves.1) k },
+  λ next happens.
+      let at : happens.0 ≡ place = is.only happens.0 happens.1.here happens.1.by in
+      let let_it = subst (λ p. IsLet ledger_of (objects_of old.objects) (task_at old.tasks p) (task.look_of (task_at old.tasks p))) at happens.1.is_let in
+      s.moves.2 let_it happens.1.reply next.objects
+      (subst (λ p. what_of (task.request (setup old.routing) (task_at old.tasks p)) happens.1.reply ≡ Some event.what) at happens.1.told)
+      (subst (λ p. Serves ledger_of (objects_of old.objects) (task.request (setup old.routing) (task_at old.tasks p)) happens.1.reply next.objects) at happens.1.serves),
+)
+applies_at old new rest event place (Err fault.Memory) is s =
+    λ k. record { routing = old.routing; objects = s.moves.0 k; tasks = (s.others ∙ set_same old.tasks place (task_at rest place) no_task s.moves.1) k }
+
+pub applies_none : (old : CoreState) (event : Event) → HasNone old.tasks event.task → Applies old event (Err fault.NotEnabled) old
+applies_none old event none = (refl, λ next happens. none happens.0 happens.1.here happens.1.by)

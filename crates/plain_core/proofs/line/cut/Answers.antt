@@ -1,0 +1,26 @@
+use Rattle.std.proofs.Common.{ap, ◌∙◌}
+use Rattle.bio_records.specs.declared.bio.Bio.{Bio}
+use Rattle.bio_records.specs.declared.bio.Pad.{Pad}
+use Rattle.bio_records.specs.Items.{Item}
+use Rattle.task_core.specs.Within.{IsWithin}
+use Rattle.plain_core.specs.Lists.{lists_of}
+use Rattle.plain_core.proofs.Places.{both_within, same_place}
+use Rattle.plain_core.proofs.line.cut.Goals as goal
+
+pub submit-requires-2 : goal.submit-requires-2
+submit-requires-2 c = c.submit.ensures.room 1 c.requires.room
+
+pub go_on-requires-clause-room : goal.go_on-requires-clause-room
+go_on-requires-clause-room c = c.submit-2.ensures.room 0 (c.submit.ensures.room 1 c.requires.room)
+
+pub go_on-requires-clause-within : goal.go_on-requires-clause-within
+go_on-requires-clause-within c =
+    let stack = c.args.routes.now.stack in
+    let front : IsWithin stack c.with.result.bio =
+    same_place stack _ c.with.result.bio c.cut-first.ensures.within (ap (λ (i : Item Pad). i.bio.dev) c.with.ensures) (ap (λ (i : Item Pad). i.bio.range) c.with.ensures) in
+    let rest : IsWithin stack c.with-2.result.bio =
+    same_place stack _ c.with-2.result.bio c.cut-first.ensures.rest
+    (ap (λ (i : Item Pad). i.bio.dev) c.with-2.ensures ∙ ap (λ (b : Bio). b.dev) c.advance.ensures)
+    (ap (λ (i : Item Pad). i.bio.range) c.with-2.ensures ∙ ap (λ (b : Bio). b.range) c.advance.ensures) in
+    both_within stack (lists_of c.args.lists.now) (lists_of c.submit.new.self) (lists_of c.submit-2.new.self) c.with.result c.with-2.result
+    c.requires.lists c.submit.ensures.submitted c.submit-2.ensures.submitted front rest

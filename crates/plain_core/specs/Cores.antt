@@ -1,0 +1,83 @@
+-- A plain core: what tasks know of a stack, the objects, and the tasks in their order; and the state of the machine that it is.
+use Rattle.std.specs.Prelude.{◌≡◌, ◌+◌, ◌*◌, ◌<◌, ℕ, List, length, slice_get, slice_set, slice_index_or, All, Option, Some, Result, Ok, Err}
+use Rattle.task_core.specs.declared.event.TaskId.{TaskId}
+use Rattle.task_core.specs.declared.event.TaskId.TheVariants as id
+use Rattle.task_core.specs.declared.event.Event.{Event}
+use Rattle.task_core.specs.Scene.{Scene}
+use Rattle.task_core.specs.Tasks.{TaskState}
+use Rattle.task_core.specs.Events.{id_of}
+use Rattle.task_core.specs.Runs.{State, Happens}
+use Rattle.task_core.specs.Opened.{most_writers, no_task}
+use Rattle.task_core.specs.Routed.{Routing, setup}
+use Rattle.task_core.specs.Within.{TaskFits}
+use Rattle.task_core.specs.declared.event.What.{What}
+use Rattle.plain_core.specs.declared.task.Task.{Task}
+use Rattle.plain_core.specs.Views.{task_of}
+use Rattle.plain_core.specs.Steps.{TaskMoves}
+use Rattle.plain_core.specs.Ledgers.{ledger_of}
+use Rattle.plain_core.specs.Plain.{Plain, objects_of}
+use Rattle.plain_core.specs.declared.fault.CoreFault.{CoreFault}
+use Rattle.plain_core.specs.declared.fault.CoreFault.TheVariants as fault
+
+pub record CoreState : Type 0 where
+  pub routing : Routing
+  pub objects : Plain
+  pub tasks : List TaskState
+
+abbrev pub task_at : List TaskState → ℕ → TaskState
+task_at tasks place = slice_index_or tasks place no_task
+
+abbrev pub state_of : CoreState → State
+state_of c = record { objects = objects_of c.objects; task = task_at c.tasks }
+
+-- no event names a ledger, so any names serve that tell the pools
+abbrev pub scene_of : CoreState → Scene
+scene_of c = record {
+  setup = setup c.routing;
+  tasks = length c.tasks;
+  books = most_writers;
+  writes = length c.objects.tally.statuses;
+  ledger = ledger_of;
+}
+
+-- where the place of a task is kept
+abbrev pub slot_of : TaskId → ℕ
+slot_of (id.Writer number) = 4 * number
+slot_of (id.Rescuer dev) = 4 * dev.0 + 1
+slot_of (id.Completer disk) = 4 * disk.0 + 2
+slot_of id.Keeper = 3
+
+-- each task is found by its name
+abbrev pub AreFound : List ℕ → List TaskState → Type 0
+AreFound places tasks = (place : ℕ) → place < length tasks → slice_get places (slot_of (id_of (task_at tasks place))) ≡ Some place
+
+-- the tasks are those of the objects' stack, each within it, and each is found
+pub record IsCore (routing : Routing) (objects : Plain) (tasks : List TaskState) (places : List ℕ) : Type 0 where
+  pub stack : objects.stack ≡ routing.stack
+  pub fits : All (TaskFits routing.stack) tasks
+  pub found : AreFound places tasks
+
+-- the one task of this name
+pub record IsPlace (tasks : List TaskState) (name : TaskId) (place : ℕ) : Type 0 where
+  pub within : place < length tasks
+  pub named : name ≡ id_of (task_at tasks place)
+  pub only : (other : ℕ) → other < length tasks → name ≡ id_of (task_at tasks other) → other ≡ place
+
+-- no task has it
+abbrev pub HasNone : List TaskState → TaskId → Type 0
+HasNone tasks name = (place : ℕ) → place < length tasks → name ≡ id_of (task_at tasks place) → ⊥
+
+-- An event was applied: it is a step of the machine to the state afterwards. Where it is none, or where there is no memory, nothing is changed.
+abbrev pub Applies : CoreState → Event → Result (Unit {0}) CoreFault → CoreState → Type 0
+Applies old event (Ok done) new = Happens (scene_of old) (state_of old) event (state_of new) × (new.routing ≡ old.routing)
+Applies old event (Err fault.NotEnabled) new = (new ≡ old) × ((next : State) → Happens (scene_of old) (state_of old) event next → ⊥)
+Applies old event (Err fault.Memory) new = new ≡ old
+
+-- the task at this place goes on, and all others stay
+abbrev pub StepsFrom : Routing → Plain → List Task → ℕ → Option Task → What → Result (Unit {0}) CoreFault → Plain → Option Task → List Task → Type 0
+StepsFrom r old tasks place (Some before) what result new (Some after) rest =
+    TaskMoves r old (task_of before) what result new (task_of after) × (rest ≡ slice_set tasks place after)
+StepsFrom r old tasks place before what result new after rest = ⊥
+
+abbrev pub StepsAt : Routing → Plain → List Task → ℕ → What → Result (Unit {0}) CoreFault → Plain → List Task → Type 0
+StepsAt r old tasks place what result new rest = StepsFrom r old tasks place (slice_get tasks place) what result new (slice_get rest place) rest

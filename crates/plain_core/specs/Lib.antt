@@ -1,0 +1,11 @@
+pub mod Ledgers
+pub mod Pools
+pub mod Disks
+pub mod Books
+pub mod Lists
+pub mod Duties
+pub mod Views
+pub mod Plain
+pub mod Told
+pub mod Steps
+pub mod Cores

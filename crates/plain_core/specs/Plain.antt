@@ -1,0 +1,91 @@
+-- The objects as lists: pools by their numbers, the bios that wait for rescuers and the disks by devices, books by their writers.
+use Rattle.std.specs.Prelude.{◌≡◌, ◌<◌, ◌≤◌, ℕ, true, List, [], length, slice_index_or, slice_set, Option, None, Some, Result, Ok, Err}
+use Rattle.fail_script.specs.Script.{only_tail}
+use Rattle.stack_base.specs.declared.stack.Stack.{Stack}
+use Rattle.stack_base.specs.Tree.{size, tree}
+use Rattle.layout_model.specs.May.{bads_of}
+use Rattle.mempool_core.specs.Move.{PoolState, opened}
+use Rattle.bio_records.specs.declared.bio.Pad.{Pad}
+use Rattle.bio_records.specs.Items.{Item}
+use Rattle.bio_books.specs.Books.{BookState}
+use Rattle.model_disks.specs.Disks.{DiskState}
+use Rattle.model_disks.specs.Moves as disk
+use Rattle.task_core.specs.Scene.{keeps_data}
+use Rattle.task_core.specs.Within.{AreWithin}
+use Rattle.task_core.specs.Objects.{TallyState, Objects}
+use Rattle.task_core.specs.Opened.{at}
+use Rattle.plain_core.specs.declared.fault.CoreFault.{CoreFault}
+use Rattle.plain_core.specs.declared.fault.CoreFault.TheVariants as fault
+
+pub record Plain : Type 0 where
+  -- whose objects they are
+  pub stack : Stack
+  pub pools : List PoolState
+  pub rescues : List (List (Item Pad))
+  -- of the devices that are disks
+  pub disks : List (Option DiskState)
+  pub books : List BookState
+  pub tally : TallyState
+
+-- a pool that no stack has
+abbrev pub no_pool : PoolState
+no_pool = opened 0 (only_tail true)
+
+abbrev pub pool_at : Plain → ℕ → PoolState
+pool_at o number = slice_index_or o.pools number no_pool
+
+abbrev pub with_pool : Plain → ℕ → PoolState → Plain
+with_pool o number pool = record o { pools = slice_set o.pools number pool }
+
+abbrev pub rescue_at : Plain → ℕ → List (Item Pad)
+rescue_at o dev = slice_index_or o.rescues dev []
+
+abbrev pub with_rescue : Plain → ℕ → List (Item Pad) → Plain
+with_rescue o dev bios = record o { rescues = slice_set o.rescues dev bios }
+
+abbrev pub kept_disk : Plain → ℕ → Option DiskState
+kept_disk o dev = slice_index_or o.disks dev None
+
+abbrev pub with_disk : Plain → ℕ → Option DiskState → Plain
+with_disk o dev disk = record o { disks = slice_set o.disks dev disk }
+
+abbrev pub book_at : Plain → ℕ → BookState
+book_at o writer = slice_index_or o.books writer (record { writer = writer; nodes = [] })
+
+abbrev pub with_book : Plain → ℕ → BookState → Plain
+with_book o writer book = record o { books = slice_set o.books writer book }
+
+-- what is not kept of a device that is no disk
+abbrev pub disk_or : Option DiskState → DiskState → DiskState
+disk_or None other = other
+disk_or (Some disk) other = disk
+
+abbrev pub opened_disk : Stack → ℕ → DiskState
+opened_disk stack dev = disk.opened (at dev) (size (tree stack dev)) (bads_of stack dev)
+
+abbrev pub disk_at : Plain → ℕ → DiskState
+disk_at o dev = disk_or (kept_disk o dev) (opened_disk o.stack dev)
+
+-- the objects of the machine that these are
+abbrev pub objects_of : Plain → Objects
+objects_of o = record { pool = pool_at o; rescue = rescue_at o; disk = disk_at o; book = book_at o; tally = o.tally }
+
+-- a disk of so many sectors
+abbrev pub HasSize : ℕ → Option DiskState → Type 0
+HasSize sectors None = ⊥
+HasSize sectors (Some disk) = length disk.image ≡ sectors
+
+-- There is a place for each pool and each device of the stack. Each disk has the size that the stack gives it, and the bios that wait for
+-- rescuers are within their devices.
+pub record HasPlaces (stack : Stack) (pools : List PoolState) (rescues : List (List (Item Pad))) (disks : List (Option DiskState)) : Type 0 where
+  pub pool : 66 ≤ length pools
+  pub rescue : length stack.devices.items ≤ length rescues
+  pub disk : (dev : ℕ) → dev < length stack.devices.items → keeps_data (tree stack dev) ≡ true
+      → HasSize (size (tree stack dev)) (slice_index_or disks dev None)
+  pub within : (dev : ℕ) → AreWithin stack (slice_index_or rescues dev [])
+
+-- A call answers so, and makes this of the objects. Where it can't, or where there is no memory, they are as they were.
+abbrev pub Gives : {X : Type 0} → Plain → (X → Plain → Type 0) → Type 0 → Result X CoreFault → Plain → Type 0
+Gives old Does Cannot (Ok x) new = Does x new
+Gives old Does Cannot (Err fault.NotEnabled) new = (new ≡ old) × Cannot
+Gives old Does Cannot (Err fault.Memory) new = new ≡ old

@@ -1,0 +1,158 @@
+-- What a step of a task makes of plain objects, and where there is none.
+use Rattle.std.specs.Prelude.{◌≡◌, ℕ, Bool, Option, Some, None, Result, Ok, Err}
+use Rattle.stack_base.specs.declared.ids.SetId.{SetId}
+use Rattle.stack_base.specs.declared.ids.SetId.TheVariants.{Of}
+use Rattle.stack_base.specs.declared.ids.DevId.{DevId}
+use Rattle.bio_records.specs.declared.bio.Pad.{Pad}
+use Rattle.bio_records.specs.declared.tasks.TaskLists.{TaskLists}
+use Rattle.bio_records.specs.Items.{Item}
+use Rattle.bio_books.specs.Books.{VectorItem, SlipItem}
+use Rattle.bio_books.specs.Drops.{Closed}
+use Rattle.task_core.specs.declared.event.Got.{Got}
+use Rattle.task_core.specs.declared.event.What.{What}
+use Rattle.task_core.specs.Requests.{Request, Reply, TakeBio, TakeVec, TakeSlip, HadBio, HadVec, HadSlip, Missed, Did, DroppedTo, OutIs}
+use Rattle.task_core.specs.Events.{what_of}
+use Rattle.task_core.specs.Objects.{Objects, Serves}
+use Rattle.task_core.specs.Lines as line
+use Rattle.task_core.specs.Tasks as task
+use Rattle.task_core.specs.Tasks.{TaskState, request, answered, look_of}
+use Rattle.task_core.specs.Runs.{IsLet}
+use Rattle.task_core.specs.Routed.{Routing, setup}
+use Rattle.plain_core.specs.declared.task.Doing.{Doing}
+use Rattle.plain_core.specs.declared.task.Want.{Want}
+use Rattle.plain_core.specs.declared.task.Carried.{Carried}
+use Rattle.plain_core.specs.declared.task.Copying.{Copying}
+use Rattle.plain_core.specs.Ledgers.{ledger_of}
+use Rattle.plain_core.specs.Plain.{Plain, objects_of}
+use Rattle.plain_core.specs.Views.{doing_of, want_of, carried_of}
+use Rattle.plain_core.specs.declared.fault.CoreFault.{CoreFault}
+use Rattle.plain_core.specs.declared.fault.CoreFault.TheVariants as fault
+
+-- the reply answers the request, and the event tells so
+pub record IsAnswer (old : Plain) (request : Request) (what : What) (reply : Reply) (new : Plain) : Type 0 where
+  pub stack : new.stack ≡ old.stack
+  pub told : what_of request reply ≡ Some what
+  pub serves : Serves ledger_of (objects_of old) request reply (objects_of new)
+
+-- no reply does
+abbrev pub Refuses : Plain → Request → What → Type 0
+Refuses old request what = (reply : Reply) (new : Objects) → what_of request reply ≡ Some what → Serves ledger_of (objects_of old) request reply new → ⊥
+
+-- a request is answered, or it can't be so that the event tells it
+abbrev pub Answers : {X : Type 0} → Plain → Request → What → (X → Reply) → Result X CoreFault → Plain → Type 0
+Answers old request what replied (Ok x) new = IsAnswer old request what (replied x) new
+Answers old request what replied (Err fault.NotEnabled) new = (new ≡ old) × Refuses old request what
+Answers old request what replied (Err fault.Memory) new = new ≡ old
+
+-- a submission goes on with an answer to what it asks for
+abbrev pub LineSteps : Routing → Plain → line.Doing → TaskLists → What → Result Doing CoreFault → Plain → TaskLists → Type 0
+LineSteps r old doing lists what (Ok after) new rest =
+    (reply : Reply)
+    × IsAnswer old (line.line_request (setup r) doing lists) what reply new
+    × (line.line_answered (setup r) doing lists reply ≡ record { doing = doing_of after; lists = rest })
+LineSteps r old doing lists what (Err fault.NotEnabled) new rest =
+    (new ≡ old) × (rest ≡ lists) × Refuses old (line.line_request (setup r) doing lists) what
+LineSteps r old doing lists what (Err fault.Memory) new rest = (new ≡ old) × (rest ≡ lists)
+
+-- an attempt at a bio of a set had one, or missed
+abbrev pub TakesPart : Plain → SetId → Bool → What → Result (Option (Item Pad)) CoreFault → Plain → Type 0
+TakesPart old set waits what (Ok (Some part)) new = (got : Got) × IsAnswer old (TakeBio set waits) what (HadBio got part) new
+TakesPart old set waits what (Ok None) new = (used : Bool) × IsAnswer old (TakeBio set waits) what (Missed used) new
+TakesPart old set waits what (Err fault.NotEnabled) new = (new ≡ old) × Refuses old (TakeBio set waits) what
+TakesPart old set waits what (Err fault.Memory) new = new ≡ old
+
+-- an attempt at a record of a mirror
+abbrev pub TakesSlip : Plain → DevId → What → Result (Option SlipItem) CoreFault → Plain → Type 0
+TakesSlip old dev what (Ok (Some slip)) new = (got : Got) × IsAnswer old (TakeSlip dev) what (HadSlip got slip) new
+TakesSlip old dev what (Ok None) new = (used : Bool) × IsAnswer old (TakeSlip dev) what (Missed used) new
+TakesSlip old dev what (Err fault.NotEnabled) new = (new ≡ old) × Refuses old (TakeSlip dev) what
+TakesSlip old dev what (Err fault.Memory) new = new ≡ old
+
+-- what a driver wants behind its attempt at a bio
+abbrev pub IsWanted : Bool → Reply → line.Want → Type 0
+IsWanted waits (HadBio got hand) want = want ≡ line.Links hand
+IsWanted waits (Missed used) want = want ≡ line.after_miss waits
+IsWanted waits reply want = ⊥
+
+abbrev pub TakesWant : Plain → DevId → Bool → What → Result Want CoreFault → Plain → Type 0
+TakesWant old dev waits what (Ok want) new =
+    (reply : Reply) × IsAnswer old (TakeBio (Of dev) waits) what reply new × IsWanted waits reply (want_of want)
+TakesWant old dev waits what (Err fault.NotEnabled) new = (new ≡ old) × Refuses old (TakeBio (Of dev) waits) what
+TakesWant old dev waits what (Err fault.Memory) new = new ≡ old
+
+-- a driver that has a bio, one that cuts it, and a mirror that copies it
+abbrev pub drives_for : Item Pad → line.Ask → line.Doing
+drives_for part ask = line.Drives part ask
+
+abbrev pub cuts_for : Item Pad → line.Want → line.Doing
+cuts_for part want = line.Drives part (line.ToCut want)
+
+abbrev pub copies_for : Copying → line.Want → line.Doing
+copies_for copying want = line.Copies copying.bio copying.master copying.leg want
+
+-- the same for a submission as a whole
+abbrev pub LineMoves : Routing → Plain → line.Line → What → Result (Unit {0}) CoreFault → Plain → line.Line → Type 0
+LineMoves r old before what (Ok done) new after =
+    (reply : Reply)
+    × IsAnswer old (line.line_request (setup r) before.doing before.lists) what reply new
+    × (after ≡ line.line_answered (setup r) before.doing before.lists reply)
+LineMoves r old before what (Err fault.NotEnabled) new after =
+    (new ≡ old) × (after ≡ before) × Refuses old (line.line_request (setup r) before.doing before.lists) what
+LineMoves r old before what (Err fault.Memory) new after = (new ≡ old) × (after ≡ before)
+
+-- a task goes on with an answer to what it asks for, where what it looks at lets it ask
+abbrev pub TaskMoves : Routing → Plain → TaskState → What → Result (Unit {0}) CoreFault → Plain → TaskState → Type 0
+TaskMoves r old before what (Ok done) new after =
+    (reply : Reply)
+    × IsLet ledger_of (objects_of old) before (look_of before)
+    × IsAnswer old (request (setup r) before) what reply new
+    × (after ≡ answered (setup r) before reply)
+TaskMoves r old before what (Err fault.NotEnabled) new after =
+    (new ≡ old) × (after ≡ before) × (IsLet ledger_of (objects_of old) before (look_of before) → Refuses old (request (setup r) before) what)
+TaskMoves r old before what (Err fault.Memory) new after = (new ≡ old) × (after ≡ before)
+
+-- what the keeper's duty is answered with
+abbrev pub duty_reply : task.Duty → Reply
+duty_reply (task.Resizes pool min later) = OutIs 0
+duty_reply (task.Starts round later) = Did
+
+-- a completer goes on
+abbrev pub IsCarried : Plain → DevId → task.Carried → What → Result Carried CoreFault → Plain → Type 0
+IsCarried old disk before what (Ok after) new =
+    (reply : Reply)
+    × IsAnswer old (task.carried_request disk before) what reply new
+    × (carried_of after ≡ task.carried_answered before reply)
+IsCarried old disk before what (Err fault.NotEnabled) new = (new ≡ old) × Refuses old (task.carried_request disk before) what
+IsCarried old disk before what (Err fault.Memory) new = new ≡ old
+
+-- it does so with a closed node that holds these elements
+abbrev pub close_answered : ℕ → Closed → Option VectorItem → Option (Item Pad) → Option SlipItem → Reply → task.Carried
+close_answered writer closed vector bio slip Did = task.given writer closed vector bio slip
+close_answered writer closed vector bio slip (DroppedTo ended) = task.after_drop writer (task.parent_or closed.parent) ended
+close_answered writer closed vector bio slip reply = task.Carries writer closed
+
+abbrev pub Closes : Plain → ℕ → Closed → Option VectorItem → Option (Item Pad) → Option SlipItem → What → Result Carried CoreFault → Plain → Type 0
+Closes old writer closed vector bio slip what (Ok after) new =
+    (reply : Reply)
+    × IsAnswer old (task.closed_request writer closed vector bio slip closed.parent) what reply new
+    × (carried_of after ≡ close_answered writer closed vector bio slip reply)
+Closes old writer closed vector bio slip what (Err fault.NotEnabled) new =
+    (new ≡ old) × Refuses old (task.closed_request writer closed vector bio slip closed.parent) what
+Closes old writer closed vector bio slip what (Err fault.Memory) new = new ≡ old
+
+-- an attempt at a vector
+abbrev pub TakesVector : Plain → What → Result (Option VectorItem) CoreFault → Plain → Type 0
+TakesVector old what (Ok (Some vector)) new = (got : Got) × IsAnswer old TakeVec what (HadVec got vector) new
+TakesVector old what (Ok None) new = (used : Bool) × IsAnswer old TakeVec what (Missed used) new
+TakesVector old what (Err fault.NotEnabled) new = (new ≡ old) × Refuses old TakeVec what
+TakesVector old what (Err fault.Memory) new = new ≡ old
+
+-- a submission is under way
+abbrev pub IsBusy : line.Doing → Type 0
+IsBusy line.Rests = ⊥
+IsBusy doing = Unit {0}
+
+-- a request that was not answered
+abbrev pub Fails : Plain → Request → What → CoreFault → Plain → Type 0
+Fails old request what fault.NotEnabled new = (new ≡ old) × Refuses old request what
+Fails old request what fault.Memory new = new ≡ old

@@ -1,0 +1,417 @@
+//! Books of nodes that hold plain elements.
+ghost use Rattle.std.specs.Prelude.{◌≡◌, ◌^◌, ◌-◌, ◌<◌, IfOk, MatchBool, MatchOption, None, Some, replicate};
+ghost use Rattle.bio_books.specs.Books.{BookState, parent_of, first_failing, any_well, by_mark, kept_with, closing, told, lowered, raised, keeping, child_node, leg_node, top_node, master_node, node_at};
+ghost use Rattle.bio_books.specs.Links.{Made, IsVacant, Opens, Chains, Masters, Legs};
+ghost use Rattle.bio_books.specs.Drops.{Drops, closed_of};
+ghost use Rattle.plain_core.specs.Books.{IsTold};
+
+use crate::part::{Part, Slip, Vector};
+use bio_books::Role;
+use stack_base::Status;
+use std::alloc::{AllocError, Global};
+use std::marker::Model;
+use task_core::End;
+
+/// What a node holds until it closes.
+#[derive(Drop)]
+pub struct Holding {
+    pub bio: Option<Part>,
+    pub vector: Option<Vector>,
+    pub slip: Option<Slip>,
+}
+
+impl Model for Holding {
+    ghost use Rattle.bio_books.specs.Books.{Holding as Held};
+
+    ghost Value = { Held };
+
+    ghost view = { λ h. record { bio = h.bio; vector = h.vector; slip = h.slip } };
+}
+
+/// A part of a write that has not ended.
+#[derive(Drop)]
+pub struct Node {
+    role: Role,
+    write: u32,
+    count: u64,
+    status: Status,
+    held: Holding,
+}
+
+impl Model for Node {
+    ghost use Rattle.bio_books.specs.Books.{Node as Open};
+
+    ghost Value = { Open };
+
+    ghost view = { λ n. record { role = n.role; write = n.write; count = n.count; status = n.status; held = n.held } };
+}
+
+/// What is left of a node that has closed.
+#[derive(Drop)]
+pub struct Closed {
+    pub held: Holding,
+    pub parent: Option<u32>,
+    pub write: u32,
+    pub status: Status,
+}
+
+impl Model for Closed {
+    ghost use Rattle.bio_books.specs.Drops.{Closed as Left};
+
+    ghost Value = { Left };
+
+    ghost view = { λ c. record { held = c.held; parent = c.parent; write = c.write; status = c.status } };
+}
+
+/// What an end made of an open node.
+#[derive(Drop)]
+pub enum Ended {
+    /// It waits for others.
+    Left,
+    /// It closed, and is to be told to its parent.
+    Up(Closed),
+    /// It closed, and its write with it.
+    Top(Closed),
+}
+
+// Of two ends, the first that failed.
+fn first_failing(old: Status, new: Status) -> Status
+    ensures { result ≡ first_failing old new }
+{
+    match old {
+        Status::Ok => new,
+        _ => old,
+    }
+}
+
+// How a node of a role has ended, with one more end.
+fn kept_with(role: Role, old: Status, new: Status) -> Status
+    ensures { result ≡ kept_with role old new }
+{
+    match role {
+        Role::Top | Role::Chain { .. } | Role::Leg { .. } => first_failing(old, new),
+        Role::Master { .. } => any_well(old, new),
+    }
+}
+
+// Of two ends, one that was well, if one was.
+fn any_well(old: Status, new: Status) -> Status
+    ensures { result ≡ any_well old new }
+{
+    if matches!(new, Status::Ok) { new } else { old }
+}
+
+// Well where the mark of a master is set.
+fn by_mark(mark: Status) -> Status
+    ensures { result ≡ by_mark mark }
+{
+    if matches!(mark, Status::Ok) {
+        mark
+    } else {
+        Status::Io
+    }
+}
+
+// How a node of a role ends as it closes.
+fn closing(role: Role, status: Status) -> Status
+    ensures { result ≡ closing role status }
+{
+    match role {
+        Role::Top | Role::Chain { .. } | Role::Leg { .. } => status,
+        Role::Master { .. } => by_mark(status),
+    }
+}
+
+// The place of the node that a node of a role is a child of, if it is one.
+fn parent_of(role: Role) -> Option<u32>
+    ensures { result ≡ parent_of role }
+{
+    match role {
+        Role::Top => None,
+        Role::Chain { parent } | Role::Master { parent } | Role::Leg { parent } => Some(parent),
+    }
+}
+
+impl Holding {
+    // No element but perhaps a vector.
+    fn of(vector: Option<Vector>) -> Holding
+        ensures { result ≡ record { bio = None; vector = vector; slip = None } }
+    {
+        Holding {
+            bio: None,
+            vector,
+            slip: None,
+        }
+    }
+
+    /// The same once more.
+    pub fn again(&self) -> Holding
+        ensures { result ≡ self.now }
+    {
+        Holding {
+            bio: self.bio.as_ref().map(|part| part.again()),
+            vector: self.vector.as_ref().map(|vector| vector.again()),
+            slip: self.slip.as_ref().map(|slip| slip.again()),
+        }
+    }
+}
+
+impl Node {
+    // A new node of one end.
+    fn new(role: Role, write: u32, vector: Option<Vector>) -> Node
+        ensures { result ≡ record (top_node write vector) { role = role } }
+    {
+        Node {
+            role,
+            write,
+            count: 1,
+            status: Status::Ok,
+            held: Holding::of(vector),
+        }
+    }
+
+    // A new master, of as many ends as there are legs.
+    fn master(parent: u32, write: u32, slip: &Slip, legs: u32) -> Node
+        ensures { result ≡ master_node write parent slip.now legs }
+    {
+        Node {
+            role: Role::Master { parent },
+            write,
+            count: u64::from(legs),
+            status: Status::Io,
+            held: Holding {
+                bio: None,
+                vector: None,
+                slip: Some(slip.of(legs)),
+            },
+        }
+    }
+
+    // The same node with another count.
+    fn counting(&self, count: u64) -> Node
+        ensures { result ≡ record self.now { count = count } }
+    {
+        Node {
+            role: self.role,
+            write: self.write,
+            count,
+            status: self.status,
+            held: self.held.again(),
+        }
+    }
+
+    // The same node once more.
+    fn again(&self) -> Node
+        ensures { result ≡ self.now }
+    {
+        self.counting(self.count)
+    }
+
+    // The node keeps this part.
+    fn keeping(self, part: &Part) -> Node
+        ensures { result ≡ keeping part.now self }
+    {
+        let Node {
+            role,
+            write,
+            count,
+            status,
+            held,
+        } = self;
+        Node {
+            role,
+            write,
+            count,
+            status,
+            held: Holding {
+                bio: Some(part.again()),
+                ..held
+            },
+        }
+    }
+
+    // The node with one of its ends told (`__bio_chain_endio`, `block/bio.c`).
+    fn told(self, status: Status, part: Option<Part>) -> Node
+        ensures { result ≡ told self status part }
+    {
+        let mut node = self;
+        node.status = kept_with(node.role, node.status, status);
+        match part {
+            None => node,
+            Some(part) => node.keeping(&part),
+        }
+    }
+
+    // What is left of it as it closes.
+    fn close(self) -> Closed
+        ensures { result ≡ closed_of self }
+    {
+        let Node {
+            role,
+            write,
+            status,
+            held,
+            ..
+        } = self;
+        Closed {
+            held,
+            parent: parent_of(role),
+            write,
+            status: closing(role, status),
+        }
+    }
+}
+
+/// The nodes of a writer's writes, each at a place.
+#[derive(Drop)]
+pub struct Book {
+    writer: u32,
+    nodes: Vec<Option<Node>>,
+}
+
+impl Model for Book {
+    ghost use Rattle.bio_books.specs.Books.{BookState};
+
+    ghost Value = { BookState };
+
+    ghost view = { λ b. record { writer = b.writer; nodes = b.nodes.items } };
+}
+
+impl Book {
+    /// A book of so many places, in which no node is open.
+    ///
+    /// # Errors
+    /// Where there is no memory.
+    pub fn open(alloc: Global, writer: u32, places: u32) -> Result<Book, AllocError>
+        ensures { IfOk result (λ book. book ≡ record { writer = writer; nodes = replicate places None }) }
+    {
+        let mut nodes = Vec::with_capacity(alloc, places as usize)?;
+        for _ in 0..places {
+            nodes.push(None)?;
+        }
+        Ok(Book { writer, nodes })
+    }
+
+    // The node at a place, if one is open there.
+    fn node(&self, place: u32) -> Option<Node>
+        ensures { result ≡ node_at self.now place }
+    {
+        match self.nodes.get(place as usize) {
+            Some(Some(node)) => Some(node.again()),
+            _ => None,
+        }
+    }
+
+    // Whether no node is open at a place of the book.
+    fn is_vacant(&self, place: u32) -> bool
+        ensures { MatchBool result (IsVacant self.now place) (IsVacant self.now place → ⊥) }
+    {
+        matches!(self.nodes.get(place as usize), Some(None))
+    }
+
+    /// Opens the node of a write at this place, where it is vacant.
+    pub fn open_write(&mut self, write: u32, vector: Option<Vector>, place: u32) -> bool
+        ensures { MatchBool result (Opens self.old write vector (Made place) self.new)
+            ((self.new ≡ self.old) × (IsVacant self.old place → ⊥)) }
+    {
+        if !self.is_vacant(place) {
+            return false;
+        }
+        self.nodes[place as usize] = Some(Node::new(Role::Top, write, vector));
+        true
+    }
+
+    /// Opens a child of an open node, which waits for it (`bio_chain`, `block/bio.c`).
+    pub fn open_chain(&mut self, parent: u32, place: u32) -> bool
+        ensures { MatchBool result (Chains self.old parent (Made place) self.new)
+            ((self.new ≡ self.old) × ((new : BookState) → Chains self.old parent (Made place) new → ⊥)) }
+    {
+        let Some(node) = self.node(parent) else {
+            return false;
+        };
+        if node.count == u64::MAX || !self.is_vacant(place) {
+            return false;
+        }
+        self.nodes[place as usize] = Some(Node::new(Role::Chain { parent }, node.write, None));
+        self.nodes[parent as usize] = Some(node.counting(node.count + 1));
+        true
+    }
+
+    /// Opens a master, which stands for the own part of an open node, and which keeps that part (`raid1_write_request`,
+    /// `drivers/md/raid1.c`).
+    pub fn open_master(
+        &mut self,
+        parent: u32,
+        part: &Part,
+        slip: &Slip,
+        legs: u32,
+        place: u32,
+    ) -> bool
+        ensures { MatchBool result (Masters self.old parent part.now slip.now legs (Made place) self.new)
+            ((self.new ≡ self.old) × ((new : BookState) → Masters self.old parent part.now slip.now legs (Made place) new → ⊥)) }
+    {
+        let Some(node) = self.node(parent) else {
+            return false;
+        };
+        if !self.is_vacant(place) {
+            return false;
+        }
+        self.nodes[place as usize] = Some(Node::master(parent, node.write, slip, legs));
+        self.nodes[parent as usize] = Some(node.keeping(part));
+        true
+    }
+
+    /// Opens a leg of an open node, which has counted it already.
+    pub fn open_leg(&mut self, master: u32, place: u32) -> bool
+        ensures { MatchBool result (Legs self.old master (Made place) self.new)
+            ((self.new ≡ self.old) × ((new : BookState) → Legs self.old master (Made place) new → ⊥)) }
+    {
+        let Some(node) = self.node(master) else {
+            return false;
+        };
+        if !self.is_vacant(place) {
+            return false;
+        }
+        let leg = Role::Leg { parent: master };
+        self.nodes[place as usize] = Some(Node::new(leg, node.write, None));
+        true
+    }
+
+    /// Tells an open node of an end, where that leaves this of it (`bio_endio`, `block/bio.c`).
+    pub fn tell(
+        &mut self,
+        place: u32,
+        status: Status,
+        part: Option<Part>,
+        end: End,
+    ) -> Option<Ended>
+        ensures { IsTold self.old place status part end result self.new }
+    {
+        let node = self.node(place)?;
+        let count = node.count;
+        let told = node.told(status, part);
+        match end {
+            End::Left => {
+                if count < 2 {
+                    return None;
+                }
+                self.nodes[place as usize] = Some(told.counting(count - 1));
+                Some(Ended::Left)
+            }
+            End::Up => {
+                if count != 1 || parent_of(told.role).is_none() {
+                    return None;
+                }
+                self.nodes[place as usize] = None;
+                Some(Ended::Up(told.close()))
+            }
+            End::Top => {
+                if count != 1 || parent_of(told.role).is_some() {
+                    return None;
+                }
+                self.nodes[place as usize] = None;
+                Some(Ended::Top(told.close()))
+            }
+        }
+    }
+}

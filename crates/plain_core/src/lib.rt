@@ -1,0 +1,31 @@
+//! A state of the machine of a run as plain numbers, lists and places, to which events are applied.
+//!
+//! No element stands behind it: a bio, a vector or a record that is out of a pool is told by the pool's number.
+#![tactic(auto)]
+
+mod asks;
+mod book;
+mod disk;
+mod fault;
+mod line;
+mod lists;
+mod objects;
+mod part;
+mod pool;
+mod state;
+mod step;
+mod task;
+mod told;
+
+pub use book::{Book, Closed, Ended, Holding, Node};
+pub use disk::Disk;
+pub use fault::CoreFault;
+pub use lists::{Lists, Rescue};
+pub use objects::{Objects, Tally};
+pub use part::{Data, Part, Slip, Vector};
+pub use pool::Pool;
+pub use state::Core;
+pub use task::{
+    Ask, Carried, Completer, Copying, Doing, Duty, Keeper, Line, Rescuer, Taken, Task, Todo, Want,
+    Writer,
+};

@@ -1,0 +1,428 @@
+//! The objects of a run as plain data.
+ghost use Rattle.std.specs.Prelude.{◌≡◌, ℕ, ◌+◌, ◌-◌, ◌^◌, ◌<◌, ◌≤◌, ◌==◌, true, length, sum, Option, Some, IsSomeAnd, MatchBool, MatchOption, OnOk, OnErr};
+ghost use Rattle.stack_base.specs.PoolId.{pool_number};
+ghost use Rattle.stack_base.specs.Tree.{tree};
+ghost use Rattle.bio_records.specs.declared.bio.Pad.{Pad};
+ghost use Rattle.bio_records.specs.Items.{Item};
+ghost use Rattle.mempool_core.specs.Move.{gives, resizes};
+ghost use Rattle.model_disks.specs.Disks.{DiskState};
+ghost use Rattle.task_core.specs.declared.event.What.TheVariants as told;
+ghost use Rattle.task_core.specs.Events.{pool_of};
+ghost use Rattle.task_core.specs.Requests.{Write, Chain, Master, Leg};
+ghost use Rattle.task_core.specs.Objects.{done_one};
+ghost use Rattle.task_core.specs.Scene.{keeps_data};
+ghost use Rattle.task_core.specs.Within.{IsWithin, ListsAreWithin};
+ghost use Rattle.plain_core.specs.Lists.{lists_of};
+ghost use Rattle.plain_core.specs.Plain.{Gives, HasSize, HasPlaces};
+ghost use Rattle.plain_core.specs.Told.{Takes, MovesAs, Punts, Pops, Pushes, PushesIn, IsComplete, CompletesIn, Links, IsDrop};
+
+use crate::book::{Book, Ended};
+use crate::disk::Disk;
+use crate::fault::CoreFault;
+use crate::lists::{Lists, Rescue};
+use crate::part::{Part, Slip, Vector};
+use crate::pool::Pool;
+use crate::told;
+use stack_base::{DevId, PoolId, Stack, Status};
+use std::alloc::AllocError;
+use std::marker::Model;
+use std::snapshot::Snapshot;
+use task_core::{Got, How, What};
+
+/// What is counted of writes.
+#[derive(Drop)]
+pub struct Tally {
+    round: u32,
+    // How many writes of each round are unfinished.
+    left: Vec<u64>,
+    statuses: Vec<Status>,
+}
+
+impl Model for Tally {
+    ghost use Rattle.std.specs.Prelude.{◌<◌, ◌^◌, length};
+    ghost use Rattle.task_core.specs.Objects.{TallyState};
+
+    ghost Value = { TallyState };
+
+    ghost view = { λ t. record { round = t.round; left = t.left.items; statuses = t.statuses.items } };
+
+    ghost invariant = { λ t. length t.left.items < 2 ^ 32 };
+}
+
+impl Tally {
+    /// A tally of so many unfinished writes of each round.
+    pub fn new(left: Vec<u64>, statuses: Vec<Status>) -> Tally
+        requires { length left.items < 2 ^ 32 }
+        ensures { result ≡ record { round = 0; left = left.items; statuses = statuses.items } }
+    {
+        Tally {
+            round: 0,
+            left,
+            statuses,
+        }
+    }
+
+    /// The present round.
+    pub fn round(&self) -> u32
+        ensures { result ≡ self.now.round }
+    {
+        self.round
+    }
+
+    // A write of the present round is done.
+    fn done(&mut self, write: u32, status: Status)
+        ensures { self.new ≡ done_one write status self.old }
+    {
+        if let Some(left) = self.left.get_mut(self.round as usize) {
+            *left = left.saturating_sub(1);
+        }
+        if let Some(known) = self.statuses.get_mut(write as usize) {
+            *known = status;
+        }
+    }
+
+    /// Whether so many writes are unfinished.
+    pub fn leaves(&self, count: u64) -> bool
+        ensures { result ≡ (sum self.now.left == count) }
+    {
+        let mut rest = count;
+        for left in &self.left {
+            if *left > rest {
+                return false;
+            }
+            rest -= *left;
+        }
+        rest == 0
+    }
+
+    // Whether a round is behind the present one.
+    fn has_next(&self) -> bool
+        ensures { MatchBool result (self.now.round + 1 < length self.now.left) (self.now.round + 1 < length self.now.left → ⊥) }
+    {
+        (self.round as usize) + 1 < self.left.len()
+    }
+
+    // The next round is the present one.
+    fn start(&mut self)
+        requires { self.old.round + 1 < length self.old.left }
+        ensures { self.new ≡ record self.old { round = self.old.round + 1 } }
+    {
+        self.round += 1;
+    }
+}
+
+// A bio comes to a disk.
+fn push_to(slot: &mut Option<Disk>, part: Part) -> Result<(), AllocError>
+    requires { IsSomeAnd slot.old (λ d. part.bio.range.start + part.bio.range.len ≤ length d.image) }
+    ensures ok { OnOk result (PushesIn slot.old part slot.new) }
+    ensures err { OnErr result (slot.new ≡ slot.old) }
+{
+    match slot {
+        None => unreachable!(),
+        Some(disk) => disk.push(part),
+    }
+}
+
+// A disk, if it is one, ends a bio that waits in it.
+fn complete_in(slot: &mut Option<Disk>, index: u64, status: Status) -> Option<Part>
+    ensures completes { MatchOption result
+        ((slot.new ≡ slot.old) × ((part : Item Pad) (new : Option DiskState) → CompletesIn slot.old index part status new → ⊥))
+        (λ part. CompletesIn slot.old index part status slot.new) }
+    ensures size { (sectors : ℕ) → HasSize sectors slot.old → HasSize sectors slot.new }
+{
+    match slot {
+        None => None,
+        Some(disk) => disk.complete(index, status),
+    }
+}
+
+/// The objects of a run: the pools by their numbers, the bios that wait for rescuers and the disks by devices, the books by writers, and
+/// the tally.
+#[derive(Drop)]
+pub struct Objects {
+    // Whose objects they are, which has no bytes here.
+    stack: Snapshot<Stack>,
+    pools: Vec<Pool>,
+    rescues: Vec<Rescue>,
+    disks: Vec<Option<Disk>>,
+    books: Vec<Book>,
+    tally: Tally,
+}
+
+impl Model for Objects {
+    ghost use Rattle.plain_core.specs.Plain.{Plain, HasPlaces};
+
+    ghost Value = { Plain };
+
+    ghost view = { λ o. record {
+      stack = o.stack.value;
+      pools = o.pools.items;
+      rescues = o.rescues.items;
+      disks = o.disks.items;
+      books = o.books.items;
+      tally = o.tally;
+    } };
+
+    ghost invariant = { λ o. HasPlaces o.stack.value o.pools.items o.rescues.items o.disks.items };
+}
+
+impl Objects {
+    /// There is a place for all that the stack has.
+    pub fn known(&self)
+        ensures { HasPlaces self.now.stack self.now.pools self.now.rescues self.now.disks }
+    {
+        let _ = &self.pools;
+    }
+
+    /// The present round.
+    pub fn round(&self) -> u32
+        ensures { result ≡ self.now.tally.round }
+    {
+        self.tally.round()
+    }
+
+    /// Whether so many writes are unfinished.
+    pub fn leaves(&self, count: u64) -> bool
+        ensures { result ≡ (sum self.now.tally.left == count) }
+    {
+        self.tally.leaves(count)
+    }
+
+    /// A take of this pool, which waits or does not: what it had, as the event tells it (`mempool_alloc`, `mm/mempool.c`).
+    pub fn take(&mut self, pool: PoolId, waits: bool, what: &What) -> Result<Got, CoreFault>
+        requires { pool_number pool < 66 }
+        ensures { Takes self.old (pool_number pool) pool waits what.now result self.new }
+    {
+        let number = pool.no() as usize;
+        let Some(got) = told::got_of(what, pool, waits) else {
+            return Err(CoreFault::NotEnabled);
+        };
+        if !self.pools[number].can_take(waits, got) {
+            return Err(CoreFault::NotEnabled);
+        }
+        self.pools[number].take(got);
+        Ok(got)
+    }
+
+    /// An element goes back to the pool of this number (`mempool_free`, `mm/mempool.c`).
+    pub fn give(&mut self, number: u32, what: &What) -> Result<(), CoreFault>
+        requires { number < 66 }
+        ensures { MovesAs self.old number gives (told.Give (pool_of number)) what.now result self.new }
+    {
+        if !told::gives(what, told::pool_of(number)) || self.pools[number as usize].out() == 0 {
+            return Err(CoreFault::NotEnabled);
+        }
+        self.pools[number as usize].give();
+        Ok(())
+    }
+
+    /// A pool with nothing out gets another reserve (`mempool_resize`, `mm/mempool.c`).
+    pub fn resize(&mut self, pool: PoolId, min: u32, what: &What) -> Result<(), CoreFault>
+        requires { pool_number pool < 66 }
+        ensures { MovesAs self.old (pool_number pool) (resizes min) (told.Resize pool min) what.now result self.new }
+    {
+        let number = pool.no() as usize;
+        if !told::resizes(what, pool, min) || self.pools[number].out() != 0 {
+            return Err(CoreFault::NotEnabled);
+        }
+        self.pools[number].resize(min);
+        Ok(())
+    }
+
+    /// The bios of a device's set in a task's lists go to its rescuer (`punt_bios_to_rescuer`, `block/bio.c`).
+    pub fn punt(&mut self, dev: DevId, lists: &mut Lists, what: &What) -> Result<(), CoreFault>
+        requires device { dev.0 < length self.old.stack.devices.items }
+        requires within { ListsAreWithin self.old.stack (lists_of lists.old) }
+        ensures { Punts self.old (lists_of lists.old) dev what.now result self.new (lists_of lists.new) }
+    {
+        if !told::punts(what, dev, lists.count_of(dev)) {
+            return Err(CoreFault::NotEnabled);
+        }
+        self.known();
+        let Some(rescue) = self.rescues.get_mut(dev.0 as usize) else {
+            unreachable!()
+        };
+        rescue.punt(dev, lists)?;
+        Ok(())
+    }
+
+    /// The first bio that waits for a rescuer (`bio_alloc_rescue`, `block/bio.c`).
+    pub fn pop(&mut self, dev: DevId, what: &What) -> Result<Part, CoreFault>
+        ensures { Pops self.old dev what.now result self.new }
+    {
+        if !told::pops(what, dev) {
+            return Err(CoreFault::NotEnabled);
+        }
+        let Some(rescue) = self.rescues.get_mut(dev.0 as usize) else {
+            return Err(CoreFault::NotEnabled);
+        };
+        let Some(part) = rescue.pop() else {
+            return Err(CoreFault::NotEnabled);
+        };
+        Ok(part)
+    }
+
+    /// A bio comes to the disk that it is at.
+    pub fn push(&mut self, part: &Part, what: &What) -> Result<(), CoreFault>
+        requires within { IsWithin self.old.stack part.now.bio }
+        requires disk { keeps_data (tree self.old.stack part.now.bio.dev.0) ≡ true }
+        ensures { Pushes self.old part.now what.now result self.new }
+    {
+        let bio = part.bio();
+        if !told::pushes(
+            what,
+            bio.dev,
+            bio.range.start,
+            bio.range.len,
+            part.pad().leg,
+        ) {
+            return Err(CoreFault::NotEnabled);
+        }
+        let Some(slot) = self.disks.get_mut(bio.dev.0 as usize) else {
+            unreachable!()
+        };
+        push_to(slot, part.again())?;
+        Ok(())
+    }
+
+    /// A disk ends a bio that waits in it: its place among them, the bio, and how it ended (`bio_endio`, `block/bio.c`).
+    pub fn complete(&mut self, disk: DevId, what: &What) -> Result<(u64, Part, Status), CoreFault>
+        ensures { IsComplete self.old disk what.now result self.new }
+    {
+        let Some((index, status)) = told::completed_of(what, disk) else {
+            return Err(CoreFault::NotEnabled);
+        };
+        let Some(slot) = self.disks.get_mut(disk.0 as usize) else {
+            return Err(CoreFault::NotEnabled);
+        };
+        match complete_in(slot, index, status) {
+            None => Err(CoreFault::NotEnabled),
+            Some(part) => Ok((index, part, status)),
+        }
+    }
+
+    /// A write's node is opened.
+    pub fn open_write(
+        &mut self,
+        writer: u32,
+        write: u32,
+        vector: Option<Vector>,
+        what: &What,
+    ) -> Result<u32, CoreFault>
+        ensures { Links self.old writer (Write write vector) what.now result self.new }
+    {
+        let Some(place) = told::linked_of(what, writer, How::Write) else {
+            return Err(CoreFault::NotEnabled);
+        };
+        let Some(book) = self.books.get_mut(writer as usize) else {
+            return Err(CoreFault::NotEnabled);
+        };
+        if !book.open_write(write, vector, place) {
+            return Err(CoreFault::NotEnabled);
+        }
+        Ok(place)
+    }
+
+    /// The node of the front of a bio that is split is opened (`bio_chain`, `block/bio.c`).
+    pub fn open_chain(&mut self, writer: u32, parent: u32, what: &What) -> Result<u32, CoreFault>
+        ensures { Links self.old writer (Chain parent) what.now result self.new }
+    {
+        let Some(place) = told::linked_of(what, writer, How::Chain) else {
+            return Err(CoreFault::NotEnabled);
+        };
+        let Some(book) = self.books.get_mut(writer as usize) else {
+            return Err(CoreFault::NotEnabled);
+        };
+        if !book.open_chain(parent, place) {
+            return Err(CoreFault::NotEnabled);
+        }
+        Ok(place)
+    }
+
+    /// A mirror's master is opened for a bio (`alloc_r1bio`, `drivers/md/raid1.c`).
+    pub fn open_master(
+        &mut self,
+        part: &Part,
+        slip: &Slip,
+        legs: u32,
+        what: &What,
+    ) -> Result<u32, CoreFault>
+        ensures { Links self.old part.now.bio.writer (Master part.now.bio.node part.now slip.now legs) what.now result self.new }
+    {
+        let bio = part.bio();
+        let Some(place) = told::linked_of(what, bio.writer, How::Master) else {
+            return Err(CoreFault::NotEnabled);
+        };
+        let Some(book) = self.books.get_mut(bio.writer as usize) else {
+            return Err(CoreFault::NotEnabled);
+        };
+        if !book.open_master(bio.node, part, slip, legs, place) {
+            return Err(CoreFault::NotEnabled);
+        }
+        Ok(place)
+    }
+
+    /// The node of a leg is opened.
+    pub fn open_leg(&mut self, writer: u32, master: u32, what: &What) -> Result<u32, CoreFault>
+        ensures { Links self.old writer (Leg master) what.now result self.new }
+    {
+        let Some(place) = told::linked_of(what, writer, How::Leg) else {
+            return Err(CoreFault::NotEnabled);
+        };
+        let Some(book) = self.books.get_mut(writer as usize) else {
+            return Err(CoreFault::NotEnabled);
+        };
+        if !book.open_leg(master, place) {
+            return Err(CoreFault::NotEnabled);
+        }
+        Ok(place)
+    }
+
+    /// The node at this place is told of an end (`bio_endio`, `block/bio.c`).
+    pub fn tell(
+        &mut self,
+        writer: u32,
+        place: u32,
+        status: Status,
+        part: Option<Part>,
+        what: &What,
+    ) -> Result<Ended, CoreFault>
+        ensures { IsDrop self.old writer place status part what.now result self.new }
+    {
+        let Some(end) = told::dropped_of(what, writer, place, status) else {
+            return Err(CoreFault::NotEnabled);
+        };
+        match self.books.get_mut(writer as usize) {
+            None => Err(CoreFault::NotEnabled),
+            Some(book) => match book.tell(place, status, part, end) {
+                None => Err(CoreFault::NotEnabled),
+                Some(ended) => Ok(ended),
+            },
+        }
+    }
+
+    /// A write is done.
+    pub fn done(&mut self, write: u32, status: Status, what: &What) -> Result<(), CoreFault>
+        ensures { Gives self.old (λ done new. (what.now ≡ told.Done write status)
+            × (new ≡ record self.old { tally = done_one write status self.old.tally })) (what.now ≡ told.Done write status → ⊥) result self.new }
+    {
+        if !told::is_done(what, write, status) {
+            return Err(CoreFault::NotEnabled);
+        }
+        self.tally.done(write, status);
+        Ok(())
+    }
+
+    /// The round behind the present one starts, which has this number.
+    pub fn next_round(&mut self, round: u32, what: &What) -> Result<(), CoreFault>
+        ensures { Gives self.old (λ done new. (what.now ≡ told.Round round) × (self.old.tally.round + 1 < length self.old.tally.left)
+            × (new ≡ record self.old { tally = record self.old.tally { round = self.old.tally.round + 1 } }))
+            (what.now ≡ told.Round round → self.old.tally.round + 1 < length self.old.tally.left → ⊥) result self.new }
+    {
+        if !told::starts(what, round) || !self.tally.has_next() {
+            return Err(CoreFault::NotEnabled);
+        }
+        self.tally.start();
+        Ok(())
+    }
+}

@@ -1,0 +1,115 @@
+//! A state of the machine of a run as a running value.
+ghost use Rattle.std.specs.Prelude.{◌≡◌, ◌<◌, map, length, slice_get, MatchBool, MatchOption};
+ghost use Rattle.task_core.specs.Routed.{setup};
+ghost use Rattle.task_core.specs.Within.{TaskFits};
+ghost use Rattle.plain_core.specs.Views.{task_of};
+ghost use Rattle.plain_core.specs.Cores.{slot_of, task_at, AreFound, IsPlace, HasNone, StepsAt, Applies};
+
+use crate::fault::CoreFault;
+use crate::objects::Objects;
+use crate::step::task_step;
+use crate::task::Task;
+use std::marker::Model;
+use task_core::within::tasks_stay_within;
+use task_core::{Event, Routes, TaskId, What};
+
+/// A state of the machine of a run, without elements and ledgers.
+#[derive(Drop)]
+pub struct Core {
+    routes: Routes,
+    objects: Objects,
+    tasks: Vec<Task>,
+    // Where each task stands, by its name.
+    places: Vec<u32>,
+}
+
+impl Model for Core {
+    ghost use Rattle.std.specs.Prelude.{map};
+    ghost use Rattle.plain_core.specs.Views.{task_of};
+    ghost use Rattle.plain_core.specs.Cores.{CoreState, IsCore};
+
+    ghost Value = { CoreState };
+
+    ghost view = { λ c. record { routing = c.routes; objects = c.objects; tasks = map task_of c.tasks.items } };
+
+    ghost invariant = { λ c. IsCore c.routes c.objects (map task_of c.tasks.items) c.places.items };
+}
+
+// Where the place of a task is kept.
+fn slot_of(task: TaskId) -> u64
+    ensures { result ≡ slot_of task }
+{
+    match task {
+        TaskId::Writer(number) => 4 * u64::from(number),
+        TaskId::Rescuer(dev) => 4 * u64::from(dev.0) + 1,
+        TaskId::Completer(disk) => 4 * u64::from(disk.0) + 2,
+        TaskId::Keeper => 3,
+    }
+}
+
+// Whether two names are of one task.
+fn is_same(one: TaskId, other: TaskId) -> bool
+    ensures { MatchBool result (one ≡ other) (one ≡ other → ⊥) }
+{
+    match one {
+        TaskId::Writer(number) => matches!(other, TaskId::Writer(named) if named == number),
+        TaskId::Rescuer(dev) => matches!(other, TaskId::Rescuer(named) if named == dev),
+        TaskId::Completer(disk) => matches!(other, TaskId::Completer(named) if named == disk),
+        TaskId::Keeper => matches!(other, TaskId::Keeper),
+    }
+}
+
+// The place of a task, if there is one of this name.
+fn find(tasks: &[Task], places: &[u32], name: TaskId) -> Option<usize>
+    requires { AreFound places.now (map task_of tasks.now) }
+    ensures { MatchOption result (HasNone (map task_of tasks.now) name) (IsPlace (map task_of tasks.now) name) }
+{
+    let place = *places.get(slot_of(name) as usize)? as usize;
+    if !is_same(name, tasks.get(place)?.id()) {
+        return None;
+    }
+    Some(place)
+}
+
+// The task at this place goes on.
+fn step_at(
+    routes: &Routes,
+    objects: &mut Objects,
+    tasks: &mut Vec<Task>,
+    place: usize,
+    what: &What,
+) -> Result<(), CoreFault>
+    requires stack { objects.old.stack ≡ routes.now.stack }
+    requires place { place < length tasks.old.items }
+    requires fits { TaskFits routes.now.stack (task_at (map task_of tasks.old.items) place) }
+    ensures { StepsAt routes.now objects.old tasks.old.items place what.now result objects.new tasks.new.items }
+{
+    let Some(task) = tasks.get_mut(place) else {
+        unreachable!()
+    };
+    task_step(routes, objects, task, what)
+}
+
+impl Core {
+    /// Applies an event: the state is that after the step of the machine then, which is the only one that the event tells.
+    ///
+    /// # Errors
+    /// `NotEnabled` exactly where the event is no step of the machine from this state, and `Memory` where there was none. Nothing is changed then.
+    pub fn apply(&mut self, event: &Event) -> Result<(), CoreFault>
+        ensures { Applies self.old event.now result self.new }
+    {
+        tasks_stay_within();
+        self.routes.known();
+        self.objects.known();
+        let Some(place) = find(&self.tasks, &self.places, event.task) else {
+            return Err(CoreFault::NotEnabled);
+        };
+        step_at(
+            &self.routes,
+            &mut self.objects,
+            &mut self.tasks,
+            place,
+            &event.what,
+        )
+    }
+}
