@@ -116,7 +116,7 @@ module _ (s : Scenario) (good : IsScenario s) (ledger : ℕ → LedgerId) where
       let tasks : sum_at (task_weight w) (length (opened_tasks s)) (start s).task ≡ sum_at (λ place x. G x) (length (opened_tasks s)) (start s).task = ap (λ h. sum_at h (length (opened_tasks s)) (start s).task) unplaced in
       let each = sum_same (λ v. G (writer v)) by (writers s) (λ v. omega (arith, todo_is v (todos_of s v))) in
       let passing = passing_sum by (λ v. list_any (is_by v) (todos s)) (range_with_len 0 8) (λ v none. ap (sum_by of) (none_passes (is_by v) (todos s) none)) in
-      let all = grouped_all (λ (todo : Todo). todo.write.task) of 8 (todos s) (todos_all s good ledger (λ (write : Write). write.task < 8) good.writers) in
+      let all = grouped_all (λ (todo : Todo). todo.write.task) of 8 (todos s) (todos_all s (λ (write : Write). write.task < 8) good.writers) in
       omega (
         arith,
         tasks,
@@ -144,7 +144,7 @@ module _ (s : Scenario) (good : IsScenario s) (ledger : ℕ → LedgerId) where
   pub start_counted : total (scene s ledger) (misfits over) (start s) ≡ 0
   start_counted =
       opened_total (misfits over) (λ todo. over (first_bio 0 todo 0)) (λ n ts. refl) refl
-      ∙ (all_sum (λ (todo : Todo). IsWrite s.stack todo.write) (λ todo. over (first_bio 0 todo 0)) (λ todo. 0) (todos s) (λ todo is. small todo is) (todos_all s good ledger (IsWrite s.stack) good.writes)
+      ∙ (all_sum (λ (todo : Todo). IsWrite s.stack todo.write) (λ todo. over (first_bio 0 todo 0)) (λ todo. 0) (todos s) (λ todo is. small todo is) (todos_all s (IsWrite s.stack) good.writes)
       ∙ sum_of_zero (todos s))
 
   start_comes : (value : Fragment → ℕ) → total (scene s ledger) (to_come (setup_in s) value) (start s) ≡ sum_by value (planned s)

@@ -209,7 +209,7 @@ abbrev pub top_parent : Option ℕ → ℕ
 top_parent None = 1
 top_parent (Some parent) = 0
 
-same_top : (r : Role) → top_parent (parent_of r) ≡ top_role r
+pub same_top : (r : Role) → top_parent (parent_of r) ≡ top_role r
 same_top role.Top = refl
 same_top (role.Chain parent) = refl
 same_top (role.Master parent) = refl

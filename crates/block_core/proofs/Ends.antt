@@ -14,7 +14,7 @@ use Rattle.block_core.proofs.Places.{sum_at-ge}
 use Rattle.block_core.proofs.Wholes.{every_run_is_sound}
 use Rattle.block_core.proofs.Homes.{nothing_comes_where_all_is_home}
 
-zero_at : (xs : List ℕ) (r : ℕ) → sum xs ≡ 0 → slice_index_or xs r 0 ≡ 0
+pub zero_at : (xs : List ℕ) (r : ℕ) → sum xs ≡ 0 → slice_index_or xs r 0 ≡ 0
 zero_at [] r none = refl
 zero_at (x ∷ xs) zero none = let next = sum_by-cons (λ (n : ℕ). n) x xs in let here : x ≡ 0 = omega (arith, none, next) in here
 zero_at (x ∷ xs) (suc r) none = let next = sum_by-cons (λ (n : ℕ). n) x xs in zero_at xs r (omega (arith, none, next))

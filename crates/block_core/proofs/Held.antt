@@ -79,7 +79,7 @@ same_sector word tag o j is =
     λ k. map (λ i. each i k) (range_with_len 0 64)
 
 module _ (s : Scenario) where
-  abbrev IsWaiting : ℕ → Item Pad → Type 0
+  abbrev pub IsWaiting : ℕ → Item Pad → Type 0
   IsWaiting disk item = IsThere (setup_in s) item.bio × (item.bio.dev.0 ≡ disk)
 
   -- a disk with its bad ranges and its sectors, whose bios are all within it
@@ -101,17 +101,30 @@ module _ (s : Scenario) where
         sized = size_after old index bio ending new c (omega arith) ∙ own.sized;
       }
 
+  -- a completed bio was one of its disk's,
+  completed_waits : (number : ℕ) (old : DiskState) (index : ℕ) (bio : Item Pad) (ending : Status) (new : DiskState) → IsOwn number old → Completes old index bio ending new
+      → IsWaiting number bio
+  completed_waits number old index bio ending new own c =
+      subst (IsWaiting number) (get_or_from_slice_get old.pending index bio bio c.taken)
+      (All-get_or (IsWaiting number) old.pending index bio (slice_get_within old.pending index bio c.taken) own.waiting)
+
+  -- and ends as its fragment ends
+  pub completed_ends : (number : ℕ) (old : DiskState) (index : ℕ) (bio : Item Pad) (ending : Status) (new : DiskState) → IsOwn number old → Completes old index bio ending new
+      → ending ≡ fault_of s.stack (fragment_of bio.bio)
+  completed_ends number old index bio ending new own c =
+      let fits = completed_waits number old index bio ending new own c in
+      c.status ∙ ap (λ bads. fault bads bio.bio.range) own.bads ∙ ap (λ k. fault (bads_of s.stack k) bio.bio.range) (sym fits.1)
+
   -- what a completion makes of a sector of its disk
   completed_sector : (number x : ℕ) (old : DiskState) (index : ℕ) (bio : Item Pad) (ending : Status) (new : DiskState) → IsOwn number old → Completes old index bio ending new
       → IsTied s bio.bio → slice_index_or new.image x [] ≡ put s number x (fragment_of bio.bio) (slice_index_or old.image x [])
   completed_sector number x old index bio ending new own c fits_data =
-      let lt = slice_get_within old.pending index bio c.taken in
-      let fits : IsWaiting number bio = subst (IsWaiting number) (get_or_from_slice_get old.pending index bio bio c.taken) (All-get_or (IsWaiting number) old.pending index bio lt own.waiting) in
+      let fits = completed_waits number old index bio ending new own c in
       let within = fits.0.within in
       let wide : size (tree s.stack bio.bio.dev.0) ≡ size (tree s.stack number) = ap (λ k. size (tree s.stack k)) fits.1 in
       let sized = own.sized in
       let f = fragment_of bio.bio in
-      let ends : ending ≡ fault_of s.stack f = c.status ∙ ap (λ bads. fault bads bio.bio.range) own.bads ∙ ap (λ k. fault (bads_of s.stack k) bio.bio.range) (sym fits.1) in
+      let ends : ending ≡ fault_of s.stack f = completed_ends number old index bio ending new own c in
       let image : new.image ≡ (if status_eq (fault_of s.stack f) status.Ok then written bio.bio old.image else old.image) =
       ap (λ (d : DiskState). d.image) c.after ∙ ap (λ e. if status_eq e status.Ok then written bio.bio old.image else old.image) ends in
       ap (λ i. slice_index_or i x []) image
@@ -241,6 +254,17 @@ held_joined s number x [] second held = refl
 held_joined s number x (f ∷ first) second held = held_joined s number x first second (put s number x f held)
 
 module _ (s : Scenario) (ledger : ℕ → LedgerId) (f : Fair (scene s ledger)) (g : Ground (setup_in s)) where
+  pub runs_own : (st : State) (events : List Event) (new : State) → Whole (scene s ledger) st → ((number : ℕ) → IsOwn s number (st.objects.disk number))
+      → IsRun (scene s ledger) st events new → (number : ℕ) → IsOwn s number (new.objects.disk number)
+  runs_own st [] new i own run number = subst (λ (t : State). IsOwn s number (t.objects.disk number)) (sym run) (own number)
+  runs_own st (event ∷ events) new i own (next, (place, steps), run) number =
+      let here = scene s ledger in
+      let moved = step_is_move here st f i.kept place event next steps in
+      let j = runs_whole here f g st (event ∷ []) next i (next, (place, steps), refl) in
+      let owned : (k : ℕ) → IsOwn s k (next.objects.disk k) =
+      λ k. subst (λ (t : State). IsOwn s k (t.objects.disk k)) (sym moved.is) (own_stays s ledger st i.placed own moved.move moved.can k) in
+      runs_own next events new j owned run number
+
   pub runs_hold : (st : State) (events : List Event) (new : State) → Whole (scene s ledger) st → total (scene s ledger) (misfits (unfit s)) st ≡ 0
       → ((number : ℕ) → IsOwn s number (st.objects.disk number)) → (run : IsRun (scene s ledger) st events new) (number x : ℕ)
       → slice_index_or (new.objects.disk number).image x [] ≡ held_after s number x (completed (scene s ledger) st events new run) (slice_index_or (st.objects.disk number).image x [])
@@ -262,7 +286,7 @@ module _ (s : Scenario) (ledger : ℕ → LedgerId) (f : Fair (scene s ledger)) 
       ∙ sym (held_joined s number x (completed_by steps.reply) (completed here next events new run) old)
 
 module _ (s : Scenario) (ledger : ℕ → LedgerId) (good : IsScenario s) where
-  start_own : (number : ℕ) → IsOwn s number ((start s).objects.disk number)
+  pub start_own : (number : ℕ) → IsOwn s number ((start s).objects.disk number)
   start_own number = record { waiting = All-nil (IsWaiting s number); bads = refl; sized = length-replicate (size (tree s.stack number)) zero_sector }
 
   start_fits : total (scene s ledger) (misfits (unfit s)) (start s) ≡ 0
@@ -273,7 +297,7 @@ module _ (s : Scenario) (ledger : ℕ → LedgerId) (good : IsScenario s) where
         arith,
         opened_total s good ledger (misfits (unfit s)) (λ todo. over_first todo + loose_first todo) (λ n ts. refl) refl,
         sum_of_two over_first loose_first (todos s),
-        all_sum (λ (todo : Todo). IsWrite s.stack todo.write) over_first (λ todo. 0) (todos s) (λ todo is. small s good ledger todo is) (todos_all s good ledger (IsWrite s.stack) good.writes),
+        all_sum (λ (todo : Todo). IsWrite s.stack todo.write) over_first (λ todo. 0) (todos s) (λ todo is. small s good ledger todo is) (todos_all s (IsWrite s.stack) good.writes),
         all_sum (λ (todo : Todo). tag_of s todo.number ≡ todo.write.tag) loose_first (λ todo. 0) (todos s) (λ todo is. not_loose s (first_bio 0 todo 0) (first_tied s todo is)) (own_tags s),
         sum_of_zero (todos s),
       )

@@ -5,28 +5,30 @@ use Rattle.std.specs.List.{AllPairs, range_with_len}
 use Rattle.std.specs.Option.{option_map_or}
 use Rattle.std.proofs.lemmas.Bool.{eq-eqb}
 use Rattle.std.proofs.lemmas.Bool.Decides.{nat_tests}
-use Rattle.std.proofs.lemmas.List.Elements.{All-head, All-tail, All-from_get_or, All-contains, All-contains_itself, Contains-append_right, Contains-get_or}
+use Rattle.std.proofs.lemmas.List.Elements.{All-head, All-tail, All-from_get_or, All-contains, All-contains_itself, Contains-append_right}
 use Rattle.std.proofs.lemmas.Option.{slice_get_within}
 use Rattle.elem_ledger.specs.Ledger.{LedgerId}
 use Rattle.stack_base.specs.declared.ids.Status.{Status}
 use Rattle.stack_base.specs.declared.ids.Status.TheVariants as status
 use Rattle.stack_base.specs.Fault.{status_eq}
-use Rattle.stack_base.specs.Tree.{tree}
+use Rattle.stack_base.specs.Tree.{tree, size}
 use Rattle.stack_base.specs.Words.{sector_data, zero_sector}
 use Rattle.layout_model.specs.declared.fragment.Fragment.{Fragment}
 use Rattle.layout_model.specs.declared.write.Write.{Write}
 use Rattle.layout_model.specs.Fragments.{IsFragmentOf}
-use Rattle.layout_model.specs.Laid.{Lands, round_of}
+use Rattle.layout_model.specs.Laid.{Lands, round_of, IsLaid}
 use Rattle.layout_model.specs.May.{fault_of}
 use Rattle.layout_model.specs.Way.{Place, place}
 use Rattle.layout_model.specs.Writes.{IsWrite}
 use Rattle.layout_model.proofs.Followed.{fragments_follow}
 use Rattle.layout_model.proofs.PlanLaws.{trees_are_sound}
 use Rattle.task_core.specs.Tasks.{Todo}
+use Rattle.task_core.specs.declared.event.Event.{Event}
 use Rattle.task_core.specs.Opened.{Scenario, scene, start, todos}
-use Rattle.block_core.specs.Sound.{IsScenario}
-use Rattle.block_core.specs.Fragments.{completed, times, IsOfScenario}
-use Rattle.block_core.specs.Images.{tag_of, writes_at, put, held_after, round_at, ImagesAreLaidByRounds, ImagesAreLaidWhereNoneOverlap}
+use Rattle.task_core.specs.Runs.{State, IsRun}
+use Rattle.block_core.specs.Sound.{IsScenario, IsNaming}
+use Rattle.block_core.specs.Fragments.{completed, times, IsOfScenario, NothingComes}
+use Rattle.block_core.specs.Images.{tag_of, writes_at, put, held_after, round_at, OneARound, ComeInRounds}
 use Rattle.block_core.proofs.Sums.{same_or_not}
 use Rattle.block_core.proofs.Opening.{todos_all, all_map}
 use Rattle.block_core.proofs.PlannedOnce.{some_times, times_some, no_other_is_completed, each_is_completed_once}
@@ -121,20 +123,23 @@ in_todos a (suc n) (r ∷ rs) (w ∷ ws) (suc i) write is lt same =
     subst (λ k. Contains (map todo_at (zip (range_with_len (a + 1) n) (zip rs ws))) (record { number = k; round = rest.0; write = write })) on rest.1 in
     (rest.0, Contains-append_right (todo_at (a, (r, w)) ∷ []) (map todo_at (zip (range_with_len (a + 1) n) (zip rs ws))) (record { number = a + suc i; round = rest.0; write = write }) there)
 
-module _ (s : Scenario) (good : IsScenario s) (ledger : ℕ → LedgerId) (disk at : ℕ) where
+-- each of them is served
+pub served : (s : Scenario) → IsScenario s → (todo : Todo) → Contains (todos s) todo → IsWrite s.stack todo.write
+served s good todo c = All-contains (λ (todo : Todo). IsWrite s.stack todo.write) (todos s) todo (todos_all s (IsWrite s.stack) good.writes) c
+
+module _ (s : Scenario) (good : IsScenario s) (disk at : ℕ) where
   -- a fragment that writes a sector lands there
-  lands_there : (f : Fragment) (todo : Todo) → Contains (todos s) todo → IsFragmentOf (tree s.stack todo.write.dev.0) todo.number 0 todo.write.start todo.write.count f
-      → writes_at s f disk at ≡ true → Lands s.stack todo.write todo.number disk at
-  lands_there f todo c is w =
-      let known = (All-contains (λ (todo : Todo). IsWrite s.stack todo.write) (todos s) todo (todos_all s good ledger (IsWrite s.stack) good.writes) c).known in
-      let sound = trees_are_sound s.stack todo.write.dev.0 good.stack known in
+  pub lands_there : (f : Fragment) (number : ℕ) (write : Write) → IsWrite s.stack write → IsFragmentOf (tree s.stack write.dev.0) number 0 write.start write.count f
+      → writes_at s f disk at ≡ true → Lands s.stack write number disk at
+  lands_there f number write served is w =
+      let sound = trees_are_sound s.stack write.dev.0 good.stack served.known in
       let p = parts w in
       let j : ℕ = at - f.at in
       let lt : j < f.len = omega (arith, p.1, p.2) in
       let within = is.within in
-      let inside : is.from + j < todo.write.count = omega (arith, lt, within) in
+      let inside : is.from + j < write.count = omega (arith, lt, within) in
       let together = (is.whole (is.from + j) inside).1 (omega arith, omega (arith, lt)) in
-      let follow = fragments_follow (tree s.stack todo.write.dev.0) todo.number 0 todo.write.start todo.write.count f sound is j lt in
+      let follow = fragments_follow (tree s.stack write.dev.0) number 0 write.start write.count f sound is j lt in
       let ends : ◌≡◌ {A = Place} (record { disk = f.disk.0; at = f.at + j }) (record { disk = disk; at = at }) = place_same f.disk.0 disk (f.at + j) at p.0 (omega (arith, p.1)) in
       record {
         way = record {
@@ -155,8 +160,14 @@ module _ (s : Scenario) (good : IsScenario s) (ledger : ℕ → LedgerId) (disk 
       parts : writes_at s f disk at ≡ true → (f.disk.0 ≡ disk) × (f.at ≤ at) × (at < f.at + f.len) × (status_eq (fault_of s.stack f) status.Ok ≡ true)
       parts w = (grind (arith, nat_tests, w), grind (arith, nat_tests, w), grind (arith, nat_tests, w), grind (arith, nat_tests, w))
 
+  -- in itself
+  pub lands_itself : (f : Fragment) (number : ℕ) (write : Write) → IsWrite s.stack write → IsFragmentOf (tree s.stack write.dev.0) number 0 write.start write.count f
+      → writes_at s f disk at ≡ true → (there : Lands s.stack write number disk at) × (there.way.fragment ≡ f)
+  unfolding lands_there
+  lands_itself f number write served is w = (lands_there f number write served is w, refl)
+
   -- and a way ends in its own fragment
-  way_writes : (number : ℕ) (write : Write) → slice_get s.writes number ≡ Some write → IsWrite s.stack write → (there : Lands s.stack write number disk at)
+  pub way_writes : (number : ℕ) (write : Write) → slice_get s.writes number ≡ Some write → IsWrite s.stack write → (there : Lands s.stack write number disk at)
       → (writes_at s there.way.fragment disk at ≡ true) × (data_of s disk at there.way.fragment ≡ sector_data write.tag there.way.offset)
   way_writes number write found is_write there =
       let way = there.way in
@@ -187,19 +198,23 @@ module _ (s : Scenario) (good : IsScenario s) (ledger : ℕ → LedgerId) (disk 
           let d : status_eq (fault_of s.stack f) status.Ok ≡ true = ap (λ e. status_eq e status.Ok) well in
           rw (a, b, c, d) refl
 
-pub images_are_laid_by_rounds : ImagesAreLaidByRounds
-images_are_laid_by_rounds s ledger events state good naming lengths run none disk at lt one rise = record {
+-- where nothing is left to come, one fragment a round at most writes the sector, and rounds were completed one after the other, it holds what is
+-- laid out there
+pub laid_by_rounds : (s : Scenario) (ledger : ℕ → LedgerId) (events : List Event) (state : State) → IsScenario s → IsNaming ledger → (run : IsRun (scene s ledger) (start s) events state)
+    → NothingComes (scene s ledger) state → (disk at : ℕ) → at < size (tree s.stack disk) → OneARound s disk at → ComeInRounds s disk at (completed (scene s ledger) (start s) events state run)
+    → IsLaid s.stack s.writes s.rounds disk at (slice_index_or (state.objects.disk disk).image at [])
+laid_by_rounds s ledger events state good naming run none disk at lt one rise = record {
   written = λ number write found there latest.
       let f = there.way.fragment in
       let inside = there.way.inside in
       let is = inside.fragment in
-      let w = way_writes s good ledger disk at number write found (is_write number write found) there in
+      let w = way_writes s good disk at number write found (is_write number write found) there in
       let mine = of_write number write found f is in
       held
       ∙ last_held s disk at f cs zero_sector (some_times f cs (omega (arith, each_is_completed_once s ledger events state good naming run none f mine))) w.0
       (λ g c writes_it.
       let other = of_completed g c in
-      let le = latest other.0.number other.0.write (own other.0 other.1) (lands_there s good ledger disk at g other.0 other.1 other.2 writes_it) in
+      let le = latest other.0.number other.0.write (own other.0 other.1) (lands_there s good disk at g other.0.number other.0.write (served s good other.0 other.1) other.2 writes_it) in
       let round_g : round_at s g ≡ round_of s.rounds other.0.number = ap (round_of s.rounds) other.2.of_write in
       let round_f : round_at s f ≡ round_of s.rounds number = ap (round_of s.rounds) is.of_write in
       elim (same_or_not (round_at s g) (round_at s f)) [
@@ -212,7 +227,7 @@ images_are_laid_by_rounds s ledger events state good naming lengths run none dis
       (all_map (Contains cs) (λ g. writes_at s g disk at ≡ false)
       (λ g c. not_true s disk at (writes_at s g disk at) (λ writes_it.
       let other = of_completed g c in
-      nobody other.0.number other.0.write (own other.0 other.1) (lands_there s good ledger disk at g other.0 other.1 other.2 writes_it)))
+      nobody other.0.number other.0.write (own other.0 other.1) (lands_there s good disk at g other.0.number other.0.write (served s good other.0 other.1) other.2 writes_it)))
       cs (All-contains_itself cs));
 }
   where
@@ -227,33 +242,17 @@ images_are_laid_by_rounds s ledger events state good naming lengths run none dis
 
     begun : (number : ℕ) (write : Write) → slice_get s.writes number ≡ Some write → (round : ℕ) × Contains (todos s) (record { number = number; round = round; write = write })
     begun number write found =
-        let c = in_todos 0 (length s.writes) s.rounds s.writes number write found (slice_get_within s.writes number write found) lengths in
+        let c = in_todos 0 (length s.writes) s.rounds s.writes number write found (slice_get_within s.writes number write found) good.rounds in
         let same : 0 + number ≡ number = omega arith in
         (c.0, subst (λ k. Contains (todos s) (record { number = k; round = c.0; write = write })) same c.1)
 
     is_write : (number : ℕ) (write : Write) → slice_get s.writes number ≡ Some write → IsWrite s.stack write
     is_write number write found =
         let c = begun number write found in
-        All-contains (λ (todo : Todo). IsWrite s.stack todo.write) (todos s) (record { number = number; round = c.0; write = write }) (todos_all s good ledger (IsWrite s.stack) good.writes) c.1
+        All-contains (λ (todo : Todo). IsWrite s.stack todo.write) (todos s) (record { number = number; round = c.0; write = write }) (todos_all s (IsWrite s.stack) good.writes) c.1
 
     of_write : (number : ℕ) (write : Write) → slice_get s.writes number ≡ Some write → (f : Fragment) → IsFragmentOf (tree s.stack write.dev.0) number 0 write.start write.count f → IsOfScenario s f
     of_write number write found f is = let c = begun number write found in (record { number = number; round = c.0; write = write }, c.1, is)
-
-    of_completed : (g : Fragment) → Contains cs g → IsOfScenario s g
-    of_completed g c = no_other_is_completed s ledger events state good naming run g (omega (arith, times_some g cs c))
-
-pub images_are_laid_where_none_overlap : ImagesAreLaidWhereNoneOverlap
-images_are_laid_where_none_overlap s ledger events state good naming lengths apart run none disk at lt =
-    images_are_laid_by_rounds s ledger events state good naming lengths run none disk at lt (λ f g of_f of_g w v same. apart disk at f g of_f of_g w v)
-    (λ i j d below within w v.
-    let f_in = Contains-get_or cs i d (omega (arith, below, within)) in
-    let g_in = Contains-get_or cs j d within in
-    let same = apart disk at (slice_index_or cs i d) (slice_index_or cs j d) (of_completed (slice_index_or cs i d) f_in) (of_completed (slice_index_or cs j d) g_in) w v in
-    let round : round_at s (slice_index_or cs i d) ≡ round_at s (slice_index_or cs j d) = ap (round_at s) same in
-    omega (arith, round))
-  where
-    cs : List Fragment
-    cs = completed (scene s ledger) (start s) events state run
 
     of_completed : (g : Fragment) → Contains cs g → IsOfScenario s g
     of_completed g c = no_other_is_completed s ledger events state good naming run g (omega (arith, times_some g cs c))

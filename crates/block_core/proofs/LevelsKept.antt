@@ -26,7 +26,8 @@ use Rattle.block_core.proofs.Deltas.{vacant_at, delta}
 use Rattle.block_core.proofs.Places.{sum_at-ge, copies_weight, unless, unless_none, cut_weight, line_part}
 use Rattle.block_core.proofs.Listed.{IsBlind, landed_same, first_weight, goes_weight}
 use Rattle.block_core.specs.Levels.{apart, bio_off, held_off, off_levels, HasLevels}
-use Rattle.block_core.proofs.Levels.{with_level, level_here, level_other, total_null}
+use Rattle.block_core.proofs.Marked.{with_mark, mark_here, mark_other}
+use Rattle.block_core.proofs.Levels.{total_null}
 
 blind_levels : (level : ℕ → ℕ → ℕ) → IsBlind (off_levels level)
 blind_levels level limit item t = landed_same (λ (bio : Bio). apart (level bio.writer bio.node) (min item.share.no 64)) (λ to members bio. refl) t item.bio
@@ -76,9 +77,9 @@ module _ (scene : Scene) (s : State) (g : Ground scene.setup) (i : Kept scene s)
 
   -- a vacant place gets one
   one_more : (m : Move) → Can scene s m → (writer key n : ℕ) → IsVacant (s.objects.book writer) key
-      → gained scene (off_levels (with_level level writer key n)) s m ≤ lost scene (off_levels (with_level level writer key n)) s m → HasLevels scene (after scene s m)
+      → gained scene (off_levels (with_mark level writer key n)) s m ≤ lost scene (off_levels (with_mark level writer key n)) s m → HasLevels scene (after scene s m)
   one_more m c writer key n v le =
-      (with_level level writer key n, omega (arith, total_null scene s i level writer key n v off, delta scene (off_levels (with_level level writer key n)) s m c, le))
+      (with_mark level writer key n, omega (arith, total_null level writer key n scene s i v off, delta scene (off_levels (with_mark level writer key n)) s m c, le))
 
   at : (place : ℕ) (x : TaskState) (doing : Doing) (lists : TaskLists) → s.task place ≡ x → HasLine x doing lists → DoingPlaced scene.setup (limit_of x) doing lists
   at place x doing lists is h = line_placed scene.setup x doing lists (subst (TaskPlaced scene.setup) is (p.tasks place)) h
@@ -104,8 +105,8 @@ module _ (scene : Scene) (s : State) (g : Ground scene.setup) (i : Kept scene s)
       same (moves.Pushes place x bio lists) c (omega (arith, goes_weight (off_levels level) (blind_levels level) (limit_of x) scene.setup bio.bio.dev lists))
   stays_leveled (moves.Completed place disk index bio status new) c = same (moves.Completed place disk index bio status new) c (omega arith)
   stays_leveled (moves.Begins place writer todo later item vector key) c =
-      let new = with_level level writer key 64 in
-      let here = level_here level writer key 64 in
+      let new = with_mark level writer key 64 in
+      let here = mark_here level writer key 64 in
       let t = subst (TaskPlaced scene.setup) c.1 (p.tasks place) in
       one_more (moves.Begins place writer todo later item vector key) c writer key 64 c.3
       (omega (
@@ -118,15 +119,15 @@ module _ (scene : Scene) (s : State) (g : Ground scene.setup) (i : Kept scene s)
   stays_leveled (moves.Chained place x bio lists hand number kind sizes members key node) c =
       let n = first_length kind sizes bio.bio.range in
       let dev = bio.bio.dev.0 in
-      let new = with_level level bio.bio.writer key (2 * dev) in
-      let here = level_here level bio.bio.writer key (2 * dev) in
+      let new = with_mark level bio.bio.writer key (2 * dev) in
+      let here = mark_here level bio.bio.writer key (2 * dev) in
       let d = at place x (Drives bio (ToCut (Links hand))) lists c.1 c.2 in
       let known = d.1.0.0.device in
       let few = g.few in
       let suits : AskFits (Split number kind sizes members) bio.bio.range dev (ToCut (Links hand)) = subst (λ t. AskFits t bio.bio.range dev (ToCut (Links hand))) c.3 d.3 in
       let part = line_part scene (off_levels level) s place x (Drives bio (ToCut (Links hand))) lists c.0 c.1 c.2 in
       let parent : new bio.bio.writer bio.bio.node ≡ level bio.bio.writer bio.bio.node =
-      level_other level bio.bio.writer key (2 * dev) bio.bio.writer bio.bio.node (inr (other_place bio.bio.writer key bio.bio.node node c.6 c.5)) in
+      mark_other level bio.bio.writer key (2 * dev) bio.bio.writer bio.bio.node (inr (other_place bio.bio.writer key bio.bio.node node c.6 c.5)) in
       let up = d.1.0.1 in
       let above : 2 * dev + 1 ≤ level bio.bio.writer bio.bio.node = omega (arith, part, off, up, known, few) in
       let fits : bio_off new (piece bio hand n key kind sizes members) ≡ 0 = at_level new (piece bio hand n key kind sizes members) (2 * dev) suits.1 (omega (arith, known, few)) here in
@@ -141,8 +142,8 @@ module _ (scene : Scene) (s : State) (g : Ground scene.setup) (i : Kept scene s)
       ))
   stays_leveled (moves.Mastered place x bio lists slip key node) c =
       let dev = bio.bio.dev.0 in
-      let new = with_level level bio.bio.writer key (2 * dev + 1) in
-      let here = level_here level bio.bio.writer key (2 * dev + 1) in
+      let new = with_mark level bio.bio.writer key (2 * dev + 1) in
+      let here = mark_here level bio.bio.writer key (2 * dev + 1) in
       let legs = legs_of (tree_at scene.setup bio.bio.dev) in
       let d = at place x (Drives bio (ToMaster slip)) lists c.1 c.2 in
       let known = d.1.0.0.device in
@@ -150,7 +151,7 @@ module _ (scene : Scene) (s : State) (g : Ground scene.setup) (i : Kept scene s)
       let own : slip.share.no ≡ 2 * dev + 1 = by_tree (tree_at scene.setup bio.bio.dev) d.3 in
       let part = line_part scene (off_levels level) s place x (Drives bio (ToMaster slip)) lists c.0 c.1 c.2 in
       let parent : new bio.bio.writer bio.bio.node ≡ level bio.bio.writer bio.bio.node =
-      level_other level bio.bio.writer key (2 * dev + 1) bio.bio.writer bio.bio.node (inr (other_place bio.bio.writer key bio.bio.node node c.5 c.4)) in
+      mark_other level bio.bio.writer key (2 * dev + 1) bio.bio.writer bio.bio.node (inr (other_place bio.bio.writer key bio.bio.node node c.5 c.4)) in
       let up = d.1.0.1 in
       let above : 2 * dev + 2 ≤ level bio.bio.writer bio.bio.node = omega (arith, part, off, up, known, few) in
       let below : level bio.bio.writer bio.bio.node ≤ bio.share.no = omega (arith, part, off) in
@@ -175,8 +176,8 @@ module _ (scene : Scene) (s : State) (g : Ground scene.setup) (i : Kept scene s)
       by_tree (Mirrored number sizes members) a = a
   stays_leveled (moves.Legged place x bio lists master leg hand key node) c =
       let dev = bio.dev.0 in
-      let new = with_level level bio.writer key (2 * dev) in
-      let here = level_here level bio.writer key (2 * dev) in
+      let new = with_mark level bio.writer key (2 * dev) in
+      let here = mark_here level bio.writer key (2 * dev) in
       let legs = legs_of (tree_at scene.setup bio.dev) in
       let item = leg_at bio hand leg key (tree_at scene.setup bio.dev) in
       let d = at place x (Copies bio master leg (Links hand)) lists c.1 c.2 in
@@ -185,7 +186,7 @@ module _ (scene : Scene) (s : State) (g : Ground scene.setup) (i : Kept scene s)
       let lt = line_fits scene x (Copies bio master leg (Links hand)) lists (subst (TaskFits scene) c.1 (i.tasks place)) c.2 in
       let part = line_part scene (off_levels level) s place x (Copies bio master leg (Links hand)) lists c.0 c.1 c.2 in
       let parent : new bio.writer master ≡ level bio.writer master =
-      level_other level bio.writer key (2 * dev) bio.writer master (inr (other_place bio.writer key master node c.5 c.4)) in
+      mark_other level bio.writer key (2 * dev) bio.writer master (inr (other_place bio.writer key master node c.5 c.4)) in
       let above : level bio.writer master ≡ 2 * dev + 1 = omega (arith, part, off) in
       let fits : bio_off new item ≡ 0 = leg_on new bio hand leg key (2 * dev) (tree_at scene.setup bio.dev) lt d.6 (omega (arith, known, few)) here in
       let child : (new bio.writer key + 1) - new bio.writer master ≡ 0 = omega (arith, here, parent, above) in

@@ -135,18 +135,18 @@ writes_all P [] xs all = All-nil (λ (x : ℕ × Write). P x.1)
 writes_all P (n ∷ ns) [] all = All-nil (λ (x : ℕ × Write). P x.1)
 writes_all P (n ∷ ns) (x ∷ xs) all = All-cons (λ (x : ℕ × Write). P x.1) (n, x) (zip ns xs) (All-head P x xs all) (writes_all P ns xs (All-tail P x xs all))
 
-module _ (s : Scenario) (good : IsScenario s) (ledger : ℕ → LedgerId) where
-  -- what holds of each write holds of each that is still to begin
-  pub todos_all : (P : Write → Type 0) → All P s.writes → All (λ (todo : Todo). P todo.write) (todos s)
-  todos_all P all =
-      All-map (λ (todo : Todo). P todo.write) (λ x. record { number = x.0; round = x.1.0; write = x.1.1 }) (zip (range_with_len 0 (length s.writes)) (zip s.rounds s.writes))
-      (seconds_all (λ (x : ℕ × Write). P x.1) (range_with_len 0 (length s.writes)) (zip s.rounds s.writes) (writes_all P s.rounds s.writes all))
+-- what holds of each write holds of each that is still to begin
+pub todos_all : (s : Scenario) (P : Write → Type 0) → All P s.writes → All (λ (todo : Todo). P todo.write) (todos s)
+todos_all s P all =
+    All-map (λ (todo : Todo). P todo.write) (λ x. record { number = x.0; round = x.1.0; write = x.1.1 }) (zip (range_with_len 0 (length s.writes)) (zip s.rounds s.writes))
+    (seconds_all (λ (x : ℕ × Write). P x.1) (range_with_len 0 (length s.writes)) (zip s.rounds s.writes) (writes_all P s.rounds s.writes all))
 
+module _ (s : Scenario) (good : IsScenario s) (ledger : ℕ → LedgerId) where
   -- a writer of a number that no write has needs no place
   no_places : (w : ℕ) → 8 ≤ w → places_of s w ≡ 0
   no_places w ge =
       ap (sum_by (λ (todo : Todo). nodes s.stack todo.write))
-      (passed_none (is_by w) (todos s) (all_map (λ (todo : Todo). todo.write.task < 8) (λ (todo : Todo). is_by w todo ≡ false) (λ todo lt. grind (arith, nat_tests, lt, ge)) (todos s) (todos_all (λ (write : Write). write.task < 8) good.writers)))
+      (passed_none (is_by w) (todos s) (all_map (λ (todo : Todo). todo.write.task < 8) (λ (todo : Todo). is_by w todo ≡ false) (λ todo lt. grind (arith, nat_tests, lt, ge)) (todos s) (todos_all s (λ (write : Write). write.task < 8) good.writers)))
 
   tasks_begin : All (Begins (scene s ledger)) (opened_tasks s)
   tasks_begin =

@@ -33,7 +33,7 @@ same_fragment f g is = grind (arith, is)
 same_itself : (f : Fragment) → is_same f f ≡ true
 same_itself f = rw (eq-eqb f.write f.write refl, eq-eqb f.offset f.offset refl, eq-eqb f.len f.len refl, eq-eqb f.disk.0 f.disk.0 refl, eq-eqb f.at f.at refl) refl
 
-abbrev if_so : Bool → ℕ
+abbrev pub if_so : Bool → ℕ
 if_so b = if b then 1 else 0
 
 -- where none of a list is the fragment
@@ -47,7 +47,7 @@ none_times f (g ∷ gs) none =
       none_times f gs (All-tail (λ g. is_same f g ≡ false) g gs none),
     )
 
-not_same : (f g : Fragment) → (f ≢ g) → is_same f g ≡ false
+pub not_same : (f g : Fragment) → (f ≢ g) → is_same f g ≡ false
 not_same f g ne = by_test (is_same f g) refl
   where
     by_test : (v : Bool) → is_same f g ≡ v → v ≡ false
@@ -97,7 +97,7 @@ some_times f (g ∷ gs) lt = by_test (is_same f g) refl (some_times f gs)
         let here : is_it f g ≡ 0 = ap if_so is in
         Contains-append_right (g ∷ []) gs f (rest (omega (arith, lt, sum_by-cons (is_it f) g gs, here)))
 
-term_in : {X : Type 0} (h : X → ℕ) (xs : List X) (x : X) → Contains xs x → h x ≤ sum_by h xs
+pub term_in : {X : Type 0} (h : X → ℕ) (xs : List X) (x : X) → Contains xs x → h x ≤ sum_by h xs
 term_in h xs x (k, within, is) = subst (λ y. h y ≤ sum_by h xs) is (get_or-le-sum_by h xs k x within)
 
 pub times_some : (f : Fragment) (gs : List Fragment) → Contains gs f → 1 ≤ times f gs
@@ -115,7 +115,7 @@ all_le P f g [] le all = omega arith
 all_le P f g (x ∷ xs) le all =
     omega (arith, sum_by-cons f x xs, sum_by-cons g x xs, le x (All-head P x xs all), all_le P f g xs le (All-tail P x xs all))
 
-begins_sum : (w : ℕ) (ts : List Todo) → sum_by (λ (todo : Todo). one todo.number w) ts ≡ to_begin w ts
+pub begins_sum : (w : ℕ) (ts : List Todo) → sum_by (λ (todo : Todo). one todo.number w) ts ≡ to_begin w ts
 begins_sum w [] = refl
 begins_sum w (todo ∷ ts) = omega (arith, sum_by-cons (λ (todo : Todo). one todo.number w) todo ts, begins_sum w ts)
 
@@ -142,13 +142,13 @@ module _ (s : Scenario) (good : IsScenario s) (ledger : ℕ → LedgerId) where
         arith,
         flat_sum (is_it f) (todo_fragments (setup_in s)) (todos s),
         all_le (λ (todo : Todo). IsWrite s.stack todo.write) (λ todo. times f (todo_fragments (setup_in s) todo)) (λ todo. one todo.number f.write) (todos s) (todo_once f)
-            (todos_all s good ledger (IsWrite s.stack) good.writes),
+            (todos_all s (IsWrite s.stack) good.writes),
         begins_sum f.write (todos s),
         once f.write 0 (length s.writes) (zip s.rounds s.writes),
       )
 
   is_write : (todo : Todo) → Contains (todos s) todo → IsWrite s.stack todo.write
-  is_write todo c = All-contains (λ (todo : Todo). IsWrite s.stack todo.write) (todos s) todo (todos_all s good ledger (IsWrite s.stack) good.writes) c
+  is_write todo c = All-contains (λ (todo : Todo). IsWrite s.stack todo.write) (todos s) todo (todos_all s (IsWrite s.stack) good.writes) c
 
   pub planned_is : (f : Fragment) → 0 < times f (planned s) → IsOfScenario s f
   planned_is f lt =

@@ -51,7 +51,7 @@ abbrev IsTold : Request → Reply → Type 0
 IsTold request reply = (what : What) × (what_of request reply ≡ Some what)
 
 -- a miss that used up no entry leaves the pool as it is
-same_pool : (objects new : Objects) (number : ℕ) → false ≡ uses_entry (objects.pool number).script (objects.pool number).facts.pos
+pub same_pool : (objects new : Objects) (number : ℕ) → false ≡ uses_entry (objects.pool number).script (objects.pool number).facts.pos
     → new ≡ record objects { pool = upd objects.pool number (after_move (objects.pool number) (misses false)) } → new ≡ objects
 same_pool objects new number none is = is ∙ ap (λ (pools : ℕ → PoolState). record objects { pool = pools }) (λ j k. stays k j)
   where
@@ -183,7 +183,7 @@ module _ (setup : Setup) where
   held_moves writer closed None None None (Some parent) reply idle = idle
   held_moves writer closed None None None None reply idle = idle
 
-  task_stays : (x : TaskState) (reply : Reply) → IsIdle (request setup x) reply → answered setup x reply ≡ x
+  pub task_stays : (x : TaskState) (reply : Reply) → IsIdle (request setup x) reply → answered setup x reply ≡ x
   task_stays (Writer number todos taken line) reply idle = writer_stays number todos taken line.doing line.lists reply idle
   task_stays (Rescuer dev line) reply idle = rescuer_stays dev line.doing line.lists reply idle
   task_stays (Completer disk Empty) requests.Nothing idle = refl
@@ -239,7 +239,7 @@ module _ (setup : Setup) where
   fair_held objects writer closed None None None (Some parent) = tt
   fair_held objects writer closed None None None None = tt
 
-  fair_task : (objects : Objects) (x : TaskState) → ((pool : PoolId) (min later : ℕ) (duties : List Duty) → x ≡ Keeper (Keeps (Resizes pool min later ∷ duties))
+  pub fair_task : (objects : Objects) (x : TaskState) → ((pool : PoolId) (min later : ℕ) (duties : List Duty) → x ≡ Keeper (Keeps (Resizes pool min later ∷ duties))
       → (objects.pool (pool_number pool)).facts.out ≡ 0) → IsFair objects (request setup x)
   fair_task objects (Writer number todos taken line) home = fair_writer objects number todos taken line.doing line.lists
   fair_task objects (Rescuer dev line) home = fair_rescuer objects dev line.doing line.lists

@@ -1,5 +1,5 @@
--- Where what waits in disks is of the present round, fragments are completed round by round.
-use Rattle.std.proofs.Common.{◌≡◌, ◌≤◌, ℕ, List, [], ◌∷◌, refl, sym, subst, arith}
+-- Fragments are completed round by round, since what waits in disks is of the present round.
+use Rattle.std.proofs.Common.{◌≡◌, ◌<◌, ◌≤◌, ℕ, List, [], ◌∷◌, refl, sym, subst, arith}
 use Rattle.std.specs.Prelude.{All}
 use Rattle.std.specs.List.{AllPairs}
 use Rattle.std.proofs.lemmas.List.Elements.{All-nil, All-cons, All-append, All-contains, All-get_or}
@@ -15,7 +15,8 @@ use Rattle.task_core.specs.Scene.{Scene}
 use Rattle.task_core.specs.Opened.{Scenario, scene, start, setup as setup_in}
 use Rattle.task_core.specs.Runs.{State, IsRun}
 use Rattle.block_core.specs.Fragments.{fragment_of, completed_by, completed}
-use Rattle.block_core.specs.Images.{round_at, PendingIsPresent, RoundsComeInOrder}
+use Rattle.block_core.specs.Images.{round_at, RoundsComeInOrder}
+use Rattle.block_core.specs.Present.{AreSuch, IsOfPresent}
 use Rattle.block_core.proofs.Moves.{Move, Can, after}
 use Rattle.block_core.proofs.Moves as moves
 use Rattle.block_core.proofs.Kept.{Fair}
@@ -26,6 +27,7 @@ use Rattle.block_core.proofs.StepMoves.{step_is_move}
 use Rattle.block_core.proofs.Wholes.{Whole, runs_whole, start_whole}
 use Rattle.block_core.proofs.Coming.{ended}
 use Rattle.block_core.proofs.Brought.{step_completes}
+use Rattle.block_core.proofs.Present.{work_is_present}
 
 -- no event goes back to an earlier round
 round_on : (scene : Scene) (s : State) (m : Move) → s.objects.tally.round ≤ (after scene s m).objects.tally.round
@@ -60,11 +62,15 @@ module _ (s : Scenario) (ledger : ℕ → LedgerId) (f : Fair (scene s ledger)) 
   abbrev here : Scene
   here = scene s ledger
 
+  -- what waits in disks is of the present round
+  abbrev IsPresent : State → Type 0
+  IsPresent st = (dev : ℕ) → dev < here.setup.count → AreSuch (IsOfPresent s st) (st.objects.disk dev).pending
+
   abbrev Below : Fragment → Fragment → Type 0
   Below a b = round_at s a ≤ round_at s b
 
   -- what an event completes is of the present round
-  ended_present : (st : State) (m : Move) → Can here st m → PendingIsPresent s st → All (λ a. round_at s a ≡ st.objects.tally.round) (ended m) × AllPairs Below (ended m)
+  ended_present : (st : State) (m : Move) → Can here st m → IsPresent st → All (λ a. round_at s a ≡ st.objects.tally.round) (ended m) × AllPairs Below (ended m)
   ended_present st (moves.Completed place disk index bio status new) c present =
       let P : Item Pad → Type 0 = λ item. round_of s.rounds item.bio.write ≡ st.objects.tally.round in
       let xs = (st.objects.disk disk.0).pending in
@@ -74,7 +80,7 @@ module _ (s : Scenario) (ledger : ℕ → LedgerId) (f : Fair (scene s ledger)) 
   ended_present st _ c present = (All-nil (λ a. round_at s a ≡ st.objects.tally.round), no_pairs Below)
 
   runs_rise : (st : State) (events : List Event) (new : State) → Whole here st → (run : IsRun here st events new)
-      → ((before : List Event) (between : State) → IsRun here st before between → PendingIsPresent s between)
+      → ((before : List Event) (between : State) → IsRun here st before between → IsPresent between)
       → All (λ a. st.objects.tally.round ≤ round_at s a) (completed here st events new run) × AllPairs Below (completed here st events new run)
   runs_rise st [] new i run present = (All-nil (λ a. st.objects.tally.round ≤ round_at s a), no_pairs Below)
   runs_rise st (event ∷ events) new i (next, (place, steps), run) present =
@@ -98,8 +104,9 @@ module _ (s : Scenario) (ledger : ℕ → LedgerId) (f : Fair (scene s ledger)) 
       )
 
 pub rounds_come_in_order : RoundsComeInOrder
-rounds_come_in_order s ledger events state good naming run present disk at =
+rounds_come_in_order s ledger events state good naming run disk at =
     let f : Fair (scene s ledger) = record { named = naming } in
     let g = ground s.stack good.stack (setup_in s).places in
-    let rise = runs_rise s ledger f g (start s) events state (start_whole s ledger good naming) run present in
+    let rise = runs_rise s ledger f g (start s) events state (start_whole s ledger good naming) run
+    (λ before between r. (work_is_present s ledger before between good naming r).pending) in
     λ i j d lt within w v. rise.1 i j d lt within

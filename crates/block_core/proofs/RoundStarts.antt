@@ -245,7 +245,7 @@ module _ (s : Scenario) (good : IsScenario s) (ledger : ℕ → LedgerId) where
       let a = map_sum g (λ writer. Writer writer (todos_of s writer) NoBio rests) (writers s) in
       let b = same_sum (λ writer. g (Writer writer (todos_of s writer) NoBio rests)) (worth_by f (todos s)) (writers s) (λ writer. omega arith) in
       let c = passed_sum (worth_by f (todos s)) (λ writer. list_any (is_by writer) (todos s)) (range_with_len 0 8) (λ writer none. ap (all_worth f) (unpassed (is_by writer) (todos s) none)) in
-      let d = by_writers f 8 (todos s) (todos_all s good ledger (λ (write : Write). write.task < 8) good.writers) in
+      let d = by_writers f 8 (todos s) (todos_all s (λ (write : Write). write.task < 8) good.writers) in
       let e = todos_worth s.rounds r 0 (length s.writes) s.rounds s.writes (sym good.rounds) good.rounds own_rounds in
       omega (
         arith,

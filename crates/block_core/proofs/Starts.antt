@@ -31,7 +31,7 @@ module _ (s : Scenario) (good : IsScenario s) (ledger : ℕ → LedgerId) where
       each_of (TodoThere (setup_in s) writer) (todos_of s writer)
       (All-filter (is_by writer) (TodoThere (setup_in s) writer) (todos s)
       (all_map (λ (todo : Todo). IsWrite s.stack todo.write) (TodoThere (setup_in s) writer) (λ todo is. todo_there writer todo is) (todos s)
-      (todos_all s good ledger (IsWrite s.stack) good.writes)))
+      (todos_all s (IsWrite s.stack) good.writes)))
 
   every : {X : Type 0} (P : X → Type 0) → ((x : X) → P x) → (xs : List X) → All P xs
   every P all [] = All-nil P

@@ -167,7 +167,7 @@ module _ (s : Scenario) (ledger : ℕ → LedgerId) (good : IsScenario s) (namin
       record { kept = opened_kept (scene s ledger) (start s) o; placed = start_placed s good ledger; alive = λ w k. subst IsAlive (sym (o.books w k)) tt }
 
   -- at the start each write is in stage in its writer alone
-  stage_once : (w : ℕ) → total (scene s ledger) (stage w) (start s) ≤ 1
+  pub stage_once : (w : ℕ) → total (scene s ledger) (stage w) (start s) ≤ 1
   stage_once w =
       let o = start_opened s good ledger in
       let g = λ (x : TaskState). task_weight (stage w) 0 x in

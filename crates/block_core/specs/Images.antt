@@ -1,5 +1,5 @@
 -- What disks hold after the fragments that a run has completed.
-use Rattle.std.specs.Prelude.{◌≡◌, ◌+◌, ◌-◌, ◌<◌, ◌≤◌, ◌==◌, ◌&&◌, if◌then◌else◌, nat_le, nat_lt, ℕ, Bool, true, List, [], ◌∷◌, length, slice_get, slice_index_or, All}
+use Rattle.std.specs.Prelude.{◌≡◌, ◌+◌, ◌-◌, ◌<◌, ◌≤◌, ◌==◌, ◌&&◌, if◌then◌else◌, nat_le, nat_lt, ℕ, Bool, true, List, [], ◌∷◌, length, slice_get, slice_index_or}
 use Rattle.std.specs.List.{AllPairs}
 use Rattle.std.specs.Option.{option_map_or}
 use Rattle.elem_ledger.specs.Ledger.{LedgerId}
@@ -11,13 +11,12 @@ use Rattle.layout_model.specs.declared.fragment.Fragment.{Fragment}
 use Rattle.layout_model.specs.declared.write.Write.{Write}
 use Rattle.layout_model.specs.Laid.{round_of, IsLaid}
 use Rattle.layout_model.specs.May.{fault_of}
-use Rattle.bio_records.specs.declared.bio.Pad.{Pad}
-use Rattle.bio_records.specs.Items.{Item}
+use Rattle.layout_model.specs.OneWay.{AreApartByRounds}
 use Rattle.task_core.specs.declared.event.Event.{Event}
-use Rattle.task_core.specs.Opened.{Scenario, scene, start, setup}
-use Rattle.task_core.specs.Runs.{State, IsRun}
+use Rattle.task_core.specs.Opened.{Scenario, scene, start}
+use Rattle.task_core.specs.Runs.{State, IsRun, HasEnded}
 use Rattle.block_core.specs.Sound.{IsScenario, IsNaming}
-use Rattle.block_core.specs.Fragments.{completed, IsOfScenario, NothingComes}
+use Rattle.block_core.specs.Fragments.{completed, IsOfScenario}
 
 -- the tag of a write
 abbrev pub tag_of : Scenario → ℕ → ℕ
@@ -61,33 +60,32 @@ abbrev pub ComeInRounds : Scenario → ℕ → ℕ → List Fragment → Type 0
 ComeInRounds s disk at fragments =
     AllPairs (λ f g. writes_at s f disk at ≡ true → writes_at s g disk at ≡ true → round_at s f ≤ round_at s g) fragments
 
--- So where nothing is left to come, a sector holds what is laid out there, if one fragment a round at most writes it and rounds were completed
--- one after the other.
-abbrev pub ImagesAreLaidByRounds : Type 0
-ImagesAreLaidByRounds = (s : Scenario) (ledger : ℕ → LedgerId) (events : List Event) (state : State) → IsScenario s → IsNaming ledger
-    → length s.rounds ≡ length s.writes → (run : IsRun (scene s ledger) (start s) events state) → NothingComes (scene s ledger) state
-    → (disk at : ℕ) → at < size (tree s.stack disk) → OneARound s disk at → ComeInRounds s disk at (completed (scene s ledger) (start s) events state run)
-    → IsLaid s.stack s.writes s.rounds disk at (slice_index_or (state.objects.disk disk).image at [])
-
--- what waits in disks is of the present round
-abbrev pub PendingIsPresent : Scenario → State → Type 0
-PendingIsPresent s state = (disk : ℕ) → disk < (setup s).count
-    → All (λ (item : Item Pad). round_of s.rounds item.bio.write ≡ state.objects.tally.round) (state.objects.disk disk).pending
-
--- where that is so in all states of a run, its fragments come round by round
+-- In every run they come round by round, since nothing of an earlier round is left when a round starts.
 abbrev pub RoundsComeInOrder : Type 0
 RoundsComeInOrder = (s : Scenario) (ledger : ℕ → LedgerId) (events : List Event) (state : State) → IsScenario s → IsNaming ledger
-    → (run : IsRun (scene s ledger) (start s) events state)
-    → ((before : List Event) (between : State) → IsRun (scene s ledger) (start s) before between → PendingIsPresent s between)
-    → (disk at : ℕ) → ComeInRounds s disk at (completed (scene s ledger) (start s) events state run)
+    → (run : IsRun (scene s ledger) (start s) events state) (disk at : ℕ) → ComeInRounds s disk at (completed (scene s ledger) (start s) events state run)
 
--- no two fragments write one sector of a disk
-abbrev pub NoneOverlap : Scenario → Type 0
-NoneOverlap s = (disk at : ℕ) (f g : Fragment) → IsOfScenario s f → IsOfScenario s g → writes_at s f disk at ≡ true → writes_at s g disk at ≡ true
-    → f ≡ g
+-- and where no two writes of a round have a sector in common, one fragment a round at most writes a sector
+abbrev pub OneFragmentARound : Type 0
+OneFragmentARound = (s : Scenario) → IsScenario s → AreApartByRounds s.stack s.writes s.rounds → (disk at : ℕ) → OneARound s disk at
 
--- and so it does, whatever the order, if no fragments overlap
-abbrev pub ImagesAreLaidWhereNoneOverlap : Type 0
-ImagesAreLaidWhereNoneOverlap = (s : Scenario) (ledger : ℕ → LedgerId) (events : List Event) (state : State) → IsScenario s → IsNaming ledger
-    → length s.rounds ≡ length s.writes → NoneOverlap s → IsRun (scene s ledger) (start s) events state → NothingComes (scene s ledger) state
-    → (disk at : ℕ) → at < size (tree s.stack disk) → IsLaid s.stack s.writes s.rounds disk at (slice_index_or (state.objects.disk disk).image at [])
+-- each disk has as many sectors as it was opened with, and each of them holds what is laid out there
+pub record HasLaidImages (s : Scenario) (state : State) : Type 0 where
+  pub sized : (disk : ℕ) → length (state.objects.disk disk).image ≡ size (tree s.stack disk)
+  pub laid : (disk at : ℕ) → at < size (tree s.stack disk) → IsLaid s.stack s.writes s.rounds disk at (slice_index_or (state.objects.disk disk).image at [])
+
+-- So it is where a run has ended, in whatever order its events came.
+abbrev pub ImagesAreLaidOut : Type 0
+ImagesAreLaidOut = (s : Scenario) (ledger : ℕ → LedgerId) (events : List Event) (state : State) → IsScenario s → AreApartByRounds s.stack s.writes s.rounds
+    → IsNaming ledger → IsRun (scene s ledger) (start s) events state → HasEnded state → HasLaidImages s state
+
+-- What is laid out in a sector is one thing.
+abbrev pub LaidIsOne : Type 0
+LaidIsOne = (s : Scenario) → IsScenario s → (disk at : ℕ) (one other : List ℕ) → IsLaid s.stack s.writes s.rounds disk at one → IsLaid s.stack s.writes s.rounds disk at other
+    → one ≡ other
+
+-- So all runs of a scenario that have ended leave the same images, whatever came first and whichever attempts at memory succeeded.
+abbrev pub EndedRunsLeaveTheSame : Type 0
+EndedRunsLeaveTheSame = (s : Scenario) (ledger other : ℕ → LedgerId) (events others : List Event) (state end : State) → IsScenario s → AreApartByRounds s.stack s.writes s.rounds
+    → IsNaming ledger → IsNaming other → IsRun (scene s ledger) (start s) events state → IsRun (scene s other) (start s) others end → HasEnded state → HasEnded end
+    → (disk : ℕ) → (state.objects.disk disk).image ≡ (end.objects.disk disk).image

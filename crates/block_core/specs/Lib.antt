@@ -4,6 +4,8 @@ pub mod Places
 pub mod Rounds
 pub mod Waits
 pub mod Sound
+pub mod OfOneWrite
+pub mod Present
 pub mod Charges
 pub mod Bounded
 pub mod Rooms
@@ -13,3 +15,7 @@ pub mod Stuck
 pub mod Fragments
 pub mod Images
 pub mod Replies
+pub mod Runnable
+pub mod Claim
+pub mod Values
+pub mod DoneWrites

@@ -2,13 +2,19 @@
 ghost use Rattle.block_core.specs.Bounded.{OpenedRankIsBounded, OutsAreBounded, RunsAreBounded};
 ghost use Rattle.block_core.specs.Breaks.{NoTaskBreaks};
 ghost use Rattle.block_core.specs.Charges.{EventsLowerRank};
+ghost use Rattle.block_core.specs.Claim.{AcceptedTextsRunAsClaimed, EveryRunIsAsClaimed};
+ghost use Rattle.block_core.specs.DoneWrites.{DoneIsCompleted, EndedStatusesAreGiven, StatusesAreGiven};
 ghost use Rattle.block_core.specs.Few.{EndsAreFew, NoCounterIsFull, OutsAreFew};
 ghost use Rattle.block_core.specs.Fragments.{EachIsCompletedOnce, FragmentsAddUp, NoOtherIsCompleted, NoneIsCompletedTwice, NothingComesWhereAllIsHome, NothingComesWhereEnded};
-ghost use Rattle.block_core.specs.Images.{ImagesAreLaidByRounds, ImagesAreLaidWhereNoneOverlap, ImagesAreOfCompleted, RoundsComeInOrder};
+ghost use Rattle.block_core.specs.Images.{EndedRunsLeaveTheSame, ImagesAreLaidOut, ImagesAreOfCompleted, LaidIsOne, OneFragmentARound, RoundsComeInOrder};
+ghost use Rattle.block_core.specs.Present.{WorkIsPresent};
+ghost use Rattle.block_core.specs.OfOneWrite.{AllAreOfOneWrite};
 ghost use Rattle.block_core.specs.Replies.{RepliesAreEvents};
 ghost use Rattle.block_core.specs.Rooms.{BooksHaveRoom};
+ghost use Rattle.block_core.specs.Runnable.{AcceptedTextsAreRunnable, StepsAreFew};
 ghost use Rattle.block_core.specs.Sound.{EachIsDoneOnce, EveryRunIsSound, NoStateIsStuck, NoTaskWaitsForItself};
 ghost use Rattle.block_core.specs.Stuck.{EachRunGoesOnOrHasEnded, NoAllowedStateIsStuck};
+ghost use Rattle.block_core.specs.Values.{NodesAreValued};
 
 /// After every event of every run of every scenario each pool adds up and has as many elements out as there are in hands, lists and nodes, and
 /// each node waits for as many ends as refer to it, and for at least one. The tally has the number of unfinished writes of each round, none
@@ -17,6 +23,12 @@ ghost use Rattle.block_core.specs.Stuck.{EachRunGoesOnOrHasEnded, NoAllowedState
 /// or of one above it. Each book has a place for every node that its writer's writes still open.
 pub fn every_run_is_sound()
     ensures { EveryRunIsSound }
+{}
+
+/// After every event of every run of every scenario the bios that name a node, and the nodes under it, are parts of the node's own write: there
+/// is a write for each place of each book such that all that stands at the place or refers to it is of that write.
+pub fn nodes_are_of_one_write()
+    ensures { AllAreOfOneWrite }
 {}
 
 /// No run of any scenario tells a write done twice.
@@ -86,6 +98,22 @@ pub fn fragments_are_completed_once()
     ensures ended { EachIsCompletedOnce }
 {}
 
+/// When a write of any run of any scenario is told done, nothing of it is left to come: each of its fragments was completed before, exactly once,
+/// and no other with its number.
+pub fn writes_are_completed_before_they_are_done()
+    ensures { DoneIsCompleted }
+{}
+
+/// Whenever a write of any run of any scenario is told done, its status is one that its fragments give, each of which ends as the bad ranges of
+/// its disk say: at a device that cuts well where every piece may end well, and else as some piece may; at a mirror well where some leg may end
+/// well, and else with an error of no kind. So where a run has ended, the tally has such a status for each write. For after every event each open
+/// node keeps only what its run may end with, and what decides whether its run ends well was kept or is still to come.
+pub fn statuses_are_given()
+    ensures kept { NodesAreValued }
+    ensures done { StatusesAreGiven }
+    ensures ended { EndedStatusesAreGiven }
+{}
+
 /// Nothing is left to come where no element is out of any pool and each write was begun: then no bio waits for a rescuer or in a disk, and no
 /// task submits one. So it is where a run has ended.
 pub fn nothing_comes_where_all_is_home()
@@ -99,18 +127,47 @@ pub fn images_are_of_completed()
     ensures { ImagesAreOfCompleted }
 {}
 
-/// So where nothing is left to come, a sector holds what is laid out there, if of each round one fragment at most writes it and the rounds
-/// were completed one after the other.
-pub fn images_are_laid_by_rounds()
-    ensures { ImagesAreLaidByRounds }
+/// After every event of every run of every scenario all that is at work is of writes of the present round, each open node and each bio that a task
+/// has or that waits for a rescuer or in a disk: nothing of an earlier round is left when a round starts.
+pub fn work_is_of_the_present_round()
+    ensures { WorkIsPresent }
 {}
 
-/// Where no two fragments write one sector, images are laid out in whatever order the fragments were completed.
-pub fn images_are_laid_where_none_overlap()
-    ensures { ImagesAreLaidWhereNoneOverlap }
-{}
-
-/// Where in all states of a run what waits in disks is of the present round, its fragments are completed round by round.
+/// So every run of every scenario completes its fragments round by round.
 pub fn rounds_come_in_order()
     ensures { RoundsComeInOrder }
+{}
+
+/// Where no two writes of a round have a sector in common, and each goes to a device that is no member, at most one fragment of a round writes a
+/// sector.
+pub fn one_fragment_a_round()
+    ensures { OneFragmentARound }
+{}
+
+/// So every run of such a scenario that has ended leaves exactly the laid-out images: each disk has its sectors, and each of them holds what is
+/// laid out there, in whatever order events came and bios were completed.
+pub fn images_are_laid_out()
+    ensures { ImagesAreLaidOut }
+{}
+
+/// What is laid out in a sector is one thing. So all runs of such a scenario that have ended leave the same images.
+pub fn ended_runs_leave_the_same()
+    ensures laid { LaidIsOne }
+    ensures same { EndedRunsLeaveTheSame }
+{}
+
+/// What a text means of which no line is refused is a scenario that can be run: all that the laws ask of one holds, but that mirrors have
+/// rescuers, which the check of declarations says by itself. Its bound is 8 E + 2 G + Z of the scenario, and no such scenario has 2^24 steps.
+pub fn accepted_texts_are_runnable()
+    ensures runnable { AcceptedTextsAreRunnable }
+    ensures few { StepsAreFew }
+{}
+
+/// So of every scenario that can be run, whose mirrors of two members or more have rescuers, in every interleaving: each pool adds up, each write
+/// is told done at most once, after exactly its fragments and with a status that they give, an ended run leaves exactly the laid-out images, while a
+/// write is unfinished an event can come next that needs no ordinary memory, and no run has more than 8 E + 2 G + Z events. So it is with every text
+/// of which no line is refused, by the bound that is told of it.
+pub fn every_run_is_as_claimed()
+    ensures all { EveryRunIsAsClaimed }
+    ensures accepted { AcceptedTextsRunAsClaimed }
 {}

@@ -1,0 +1,34 @@
+-- Every run of a scenario that can be run is as claimed: the laws together.
+use Rattle.std.proofs.Common.{arith}
+use Rattle.task_core.specs.Scenario.{scenario_of}
+use Rattle.block_core.specs.Claim.{EveryRunIsAsClaimed, AcceptedTextsRunAsClaimed}
+use Rattle.block_core.proofs.Bounded.{runs_are_bounded}
+use Rattle.block_core.proofs.DoneWrites.{done_is_completed}
+use Rattle.block_core.proofs.Statuses.{statuses_are_given, ended_statuses_are_given}
+use Rattle.block_core.proofs.ImagesLaid.{images_are_laid_out}
+use Rattle.block_core.proofs.NeverStuck.{no_allowed_state_is_stuck}
+use Rattle.block_core.proofs.Runnable.{accepted_texts_are_runnable, steps_are_few}
+use Rattle.block_core.proofs.Wholes.{each_is_done_once, every_run_is_sound}
+
+pub every_run_is_as_claimed : EveryRunIsAsClaimed
+every_run_is_as_claimed s ledger events state runnable rescuers naming run =
+    let good = runnable.scenario in
+    let few = runs_are_bounded s ledger events state good naming run in
+    let most = steps_are_few s runnable in
+    record {
+      pools = (every_run_is_sound s ledger events state good naming run).pools;
+      once = λ write. each_is_done_once s ledger events state good naming run write;
+      done = done_is_completed s ledger events state good naming run;
+      given = statuses_are_given s ledger events state good naming run;
+      statuses = ended_statuses_are_given s ledger events state good naming run;
+      images = λ ended. images_are_laid_out s ledger events state good runnable.apart naming run ended;
+      free = λ some. no_allowed_state_is_stuck s ledger events state good runnable.allowed rescuers runnable.reserves runnable.ordered naming run some;
+      bounded = few;
+      tickets = omega (arith, few, most);
+    }
+
+pub accepted_texts_run_as_claimed : AcceptedTextsRunAsClaimed
+accepted_texts_run_as_claimed text accepted work begins reads served rescuers ledger events state naming run =
+    let runnable = accepted_texts_are_runnable text accepted work begins reads served in
+    let all = every_run_is_as_claimed (scenario_of accepted work) ledger events state runnable.0 rescuers naming run in
+    (all, omega (arith, all.bounded, runnable.1))

@@ -1,0 +1,58 @@
+-- The claim, of every run of every scenario that can be run.
+use Rattle.std.specs.Prelude.{◌≡◌, ◌+◌, ◌*◌, ◌^◌, ◌-◌, ◌<◌, ◌≤◌, ℕ, List, [], length, Contains, Ok}
+use Rattle.elem_ledger.specs.Ledger.{LedgerId}
+use Rattle.stack_base.specs.Stack.{HasRescuers}
+use Rattle.stack_base.specs.declared.ids.Status.{Status}
+use Rattle.mempool_core.specs.Facts.{AddsUp}
+use Rattle.layout_model.specs.declared.write.Write.{Write}
+use Rattle.layout_model.specs.Writes.{IsWrite}
+use Rattle.decl_text.specs.Reading.{declarations}
+use Rattle.decl_text.specs.declared.accepted.Accepted.{Accepted}
+use Rattle.work_text.specs.Reading.{ReadsWork, work_lines}
+use Rattle.work_text.specs.declared.Work.{Work}
+use Rattle.task_core.specs.declared.event.Event.{Event}
+use Rattle.task_core.specs.declared.event.What.TheVariants as what
+use Rattle.task_core.specs.Opened.{Scenario, scene, start}
+use Rattle.task_core.specs.Scenario.{scenario_of}
+use Rattle.task_core.specs.Runs.{State, Happens, IsRun, unfinished, HasFree, HasEnded}
+use Rattle.block_core.specs.Bounded.{most_steps}
+use Rattle.block_core.specs.DoneWrites.{IsCompleted, IsGiven, HasGivenStatuses}
+use Rattle.block_core.specs.Fragments.{completed}
+use Rattle.block_core.specs.Images.{HasLaidImages}
+use Rattle.block_core.specs.Runnable.{IsRunnable}
+use Rattle.block_core.specs.Sound.{IsNaming, times_done}
+
+pub record IsAsClaimed (s : Scenario) (ledger : ℕ → LedgerId) (events : List Event) (state : State) (run : IsRun (scene s ledger) (start s) events state) : Type 0 where
+  -- each pool adds up: what it has spare and what is out are its reserve and what ordinary memory gave
+  pub pools : (number : ℕ) → AddsUp (state.objects.pool number).facts
+  -- each write is told done once at most
+  pub once : (write : ℕ) → times_done write events ≤ 1
+  -- where an event that comes next tells it done, each of its fragments was completed, exactly once and no other, and its status is one that they
+  -- give
+  pub done : (event : Event) (new : State) → Happens (scene s ledger) state event new → (write : ℕ) (status : Status) → event.what ≡ what.Done write status
+      → IsCompleted s write (completed (scene s ledger) (start s) events state run)
+  pub given : (event : Event) (new : State) → Happens (scene s ledger) state event new → (write : ℕ) (status : Status) → event.what ≡ what.Done write status
+      → IsGiven s write status
+  -- where the run has ended, each write has such a status, and the images are the laid-out ones
+  pub statuses : HasEnded state → HasGivenStatuses s state.objects.tally.statuses
+  pub images : HasEnded state → HasLaidImages s state
+  -- while a write is unfinished, an event can come next that needs no ordinary memory
+  pub free : 1 ≤ unfinished state → HasFree (scene s ledger) state
+  -- and there are no more events than eight an element, two a fragment, and one an entry, a round behind the first and a change of a reserve
+  pub bounded : length events ≤ most_steps s
+  -- so a ticket is left for each
+  pub tickets : length events < 2 ^ 64 - 1
+
+-- for every scenario that can be run and whose mirrors of two members or more have rescuers, in every interleaving
+abbrev pub EveryRunIsAsClaimed : Type 0
+EveryRunIsAsClaimed = (s : Scenario) (ledger : ℕ → LedgerId) (events : List Event) (state : State) → IsRunnable s → HasRescuers s.stack → IsNaming ledger
+    → (run : IsRun (scene s ledger) (start s) events state) → IsAsClaimed s ledger events state run
+
+-- so in every run of what a text means of which no line is refused, where its declarations were accepted and its mirrors have rescuers; and it has
+-- no more events than the bound says that was told of the text
+abbrev pub AcceptedTextsRunAsClaimed : Type 0
+AcceptedTextsRunAsClaimed = (text : List ℕ) (accepted : Accepted) (work : Work) → declarations (work_lines text accepted) ≡ [] → ReadsWork text accepted (Ok work)
+    → ((write : Write) → Contains work.writes.items write → IsWrite accepted.stack write) → HasRescuers accepted.stack
+    → (ledger : ℕ → LedgerId) (events : List Event) (state : State) → IsNaming ledger
+    → (run : IsRun (scene (scenario_of accepted work) ledger) (start (scenario_of accepted work)) events state)
+    → IsAsClaimed (scenario_of accepted work) ledger events state run × (length events ≤ 8 * work.bound.e + 2 * work.bound.g + work.bound.z)

@@ -1,0 +1,43 @@
+-- What is so when a write is told done: its fragments were completed, and its status is one that they give.
+use Rattle.std.specs.Prelude.{◌≡◌, ◌<◌, ℕ, List, length, slice_get, Some}
+use Rattle.elem_ledger.specs.Ledger.{LedgerId}
+use Rattle.stack_base.specs.declared.ids.Status.{Status}
+use Rattle.layout_model.specs.declared.fragment.Fragment.{Fragment}
+use Rattle.layout_model.specs.declared.write.Write.{Write}
+use Rattle.layout_model.specs.May.{MayEnd}
+use Rattle.task_core.specs.declared.event.Event.{Event}
+use Rattle.task_core.specs.declared.event.What.TheVariants as what
+use Rattle.task_core.specs.Opened.{Scenario, scene, start}
+use Rattle.task_core.specs.Runs.{State, Happens, IsRun, HasEnded}
+use Rattle.block_core.specs.Sound.{IsScenario, IsNaming}
+use Rattle.block_core.specs.Fragments.{completed, times, IsOfScenario}
+
+-- each fragment of the write with this number is among these, exactly once, and no other with its number
+pub record IsCompleted (s : Scenario) (write : ℕ) (fragments : List Fragment) : Type 0 where
+  pub each : (f : Fragment) → f.write ≡ write → IsOfScenario s f → times f fragments ≡ 1
+  pub only : (f : Fragment) → f.write ≡ write → 0 < times f fragments → IsOfScenario s f
+
+-- where an event that comes next tells a write done, all of the write was completed
+abbrev pub DoneIsCompleted : Type 0
+DoneIsCompleted = (s : Scenario) (ledger : ℕ → LedgerId) (events : List Event) (state : State) → IsScenario s → IsNaming ledger
+    → (run : IsRun (scene s ledger) (start s) events state) (event : Event) (new : State) → Happens (scene s ledger) state event new
+    → (write : ℕ) (status : Status) → event.what ≡ what.Done write status → IsCompleted s write (completed (scene s ledger) (start s) events state run)
+
+-- the write with this number may end so, as its fragments end on their disks
+abbrev pub IsGiven : Scenario → ℕ → Status → Type 0
+IsGiven s number status = (write : Write) × (slice_get s.writes number ≡ Some write) × MayEnd s.stack write number status
+
+-- and the status that the event tells is one with which the write may end
+abbrev pub StatusesAreGiven : Type 0
+StatusesAreGiven = (s : Scenario) (ledger : ℕ → LedgerId) (events : List Event) (state : State) → IsScenario s → IsNaming ledger
+    → IsRun (scene s ledger) (start s) events state → (event : Event) (new : State) → Happens (scene s ledger) state event new
+    → (write : ℕ) (status : Status) → event.what ≡ what.Done write status → IsGiven s write status
+
+-- so where a run has ended, the tally has such a status for each write, and no other
+pub record HasGivenStatuses (s : Scenario) (statuses : List Status) : Type 0 where
+  pub all : length statuses ≡ length s.writes
+  pub each : (number : ℕ) → number < length s.writes → (status : Status) × (slice_get statuses number ≡ Some status) × IsGiven s number status
+
+abbrev pub EndedStatusesAreGiven : Type 0
+EndedStatusesAreGiven = (s : Scenario) (ledger : ℕ → LedgerId) (events : List Event) (state : State) → IsScenario s → IsNaming ledger
+    → IsRun (scene s ledger) (start s) events state → HasEnded state → HasGivenStatuses s state.objects.tally.statuses

@@ -1,0 +1,43 @@
+-- Scenarios that can be run: what all laws ask of one, but that mirrors have rescuers.
+use Rattle.std.specs.Prelude.{◌≡◌, ◌+◌, ◌*◌, ◌^◌, ◌<◌, ◌≤◌, ℕ, List, [], Contains, Ok}
+use Rattle.layout_model.specs.declared.write.Write.{Write}
+use Rattle.layout_model.specs.OneWay.{AreApartByRounds}
+use Rattle.layout_model.specs.Writes.{IsWrite}
+use Rattle.decl_text.specs.Reading.{declarations}
+use Rattle.decl_text.specs.declared.accepted.Accepted.{Accepted}
+use Rattle.work_text.specs.Reading.{ReadsWork, work_lines}
+use Rattle.work_text.specs.declared.Work.{Work}
+use Rattle.task_core.specs.Opened.{Scenario}
+use Rattle.task_core.specs.Scenario.{scenario_of}
+use Rattle.block_core.specs.Bounded.{waits, most_steps}
+use Rattle.block_core.specs.Breaks.{IsAllowed}
+use Rattle.block_core.specs.Sound.{IsScenario, HasReserves, AreInOrder}
+
+-- 65,536 entries in each of 66 scripts, 1,024 rounds behind the first and 4,096 changes of reserves
+abbrev pub most_waits : ℕ
+most_waits = 4330496
+
+pub record IsRunnable (s : Scenario) : Type 0 where
+  -- a stack, and writes that it serves, by writers of numbers below 8, each with its round
+  pub scenario : IsScenario s
+  -- the writes need no more elements than a scenario may
+  pub allowed : IsAllowed s
+  -- each pool keeps an element, at the start and behind each change
+  pub reserves : HasReserves s
+  -- the rounds of the writes do not fall
+  pub ordered : AreInOrder s.rounds
+  -- no two writes of a round have a sector in common, and each goes to a device that is no member
+  pub apart : AreApartByRounds s.stack s.writes s.rounds
+  -- and there are not too many entries, rounds and changes
+  pub few : waits s ≤ most_waits
+
+-- then no run has many events
+abbrev pub StepsAreFew : Type 0
+StepsAreFew = (s : Scenario) → IsRunnable s → most_steps s < 2 ^ 24
+
+-- What a text means of which no line is refused can be run, and the steps of its bound are those of its scenario: for declarations that were
+-- accepted, and for work that was read behind them.
+abbrev pub AcceptedTextsAreRunnable : Type 0
+AcceptedTextsAreRunnable = (text : List ℕ) (accepted : Accepted) (work : Work) → declarations (work_lines text accepted) ≡ [] → ReadsWork text accepted (Ok work)
+    → ((write : Write) → Contains work.writes.items write → IsWrite accepted.stack write)
+    → IsRunnable (scenario_of accepted work) × (most_steps (scenario_of accepted work) ≡ 8 * work.bound.e + 2 * work.bound.g + work.bound.z)
