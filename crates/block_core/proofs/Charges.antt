@@ -25,6 +25,7 @@ use Rattle.task_core.specs.Lines.{Want, ToPush, ToCut, ToMaster, first_length, l
 use Rattle.block_core.specs.Charges.{run_charge, run_at, leg_charge}
 use Rattle.block_core.proofs.Moves.{piece}
 use Rattle.block_core.proofs.Geometry.{IsThere, IsWhole, is_cut, falls, goes, number_of_tree, members_at, sizes_at}
+use Rattle.block_core.proofs.LegTrees.{GoesDown, legs_go_down}
 use Rattle.block_core.proofs.Orders.{AskFits}
 use Rattle.std.proofs.lemmas.List.{length-map}
 use Rattle.std.proofs.lemmas.Option.{slice_get-get_or, slice_get_cases}
@@ -88,34 +89,14 @@ module _ (stack : Stack) (good : IsStack stack) (places : ℕ → ℕ) where
   abbrev setup : Setup
   setup = setup_of stack places
 
-  LegOf : Bio → Item Pad → ℕ → ℕ → Tree → Type 0
-  LegOf bio hand leg key t = leg < legs_of t → 8 + run_at setup (leg_at bio hand leg key t).bio ≡ leg_charge t bio.range leg
-
-  leg_of : (bio : Bio) (hand : Item Pad) (leg key : ℕ) → IsThere setup bio → LegOf bio hand leg key (tree stack bio.dev.0)
-  unfolding LegOf
-  leg_of bio hand leg key is = elim ((slice_get_cases stack.devices.items bio.dev.0).1) [
-    | inl x ↦ by_shape x.0 x.2 (shape_of x.0.kind) refl
-    | inr past ↦ absurd (let h = past.0 in let known = is.device in omega arith)
-  ]
+  leg_of : (bio : Bio) (hand : Item Pad) (leg key : ℕ) → IsThere setup bio → leg < legs_of (tree stack bio.dev.0)
+      → 8 + run_at setup (leg_at bio hand leg key (tree stack bio.dev.0)).bio ≡ leg_charge (tree stack bio.dev.0) bio.range leg
+  leg_of bio hand leg key is lt = by_tree (tree stack bio.dev.0) (legs_go_down stack good bio.dev.0 leg is.device) lt
     where
-      none : (t other : Tree) → t ≡ other → legs_of other ≡ 0 → LegOf bio hand leg key t
-      none t other same zero_legs lt = absurd (let q : legs_of t ≡ 0 = ap legs_of same ∙ zero_legs in omega (arith, lt, q))
-
-      by_shape : (device : Device) → slice_get stack.devices.items bio.dev.0 ≡ Some device → (shape : Shape) → shape_of device.kind ≡ shape → LegOf bio hand leg key (tree stack bio.dev.0)
-      by_shape device found (Keeping_ sectors) e = none (tree stack bio.dev.0) _ (keeps_is stack good bio.dev.0 device found sectors e) refl
-      by_shape device found Cuts e = none (tree stack bio.dev.0) _ (cuts_is stack good bio.dev.0 device found e) refl
-      by_shape device found Copying_ e = subst (LegOf bio hand leg key) (sym (copies_is stack good bio.dev.0 device found e)) here
-        where
-          here : LegOf bio hand leg key (Mirrored bio.dev.0 (sizes_at stack device) (members_at stack bio.dev.0 device))
-          here lt =
-              let items = device.members.items in
-              let few : leg < length items = omega (arith, lt, length-map items (λ (m : DevId). size (tree stack m.0))) in
-              let m : DevId = get_or items leg (record { 0 = 0 }) in
-              let at : slice_get items leg ≡ Some m = slice_get-get_or items leg (record { 0 = 0 }) few in
-              let member : members_at stack bio.dev.0 device leg ≡ tree stack m.0 = member_is stack good bio.dev.0 device found leg m at in
-              let dev : number_of (members_at stack bio.dev.0 device leg) ≡ m.0 = ap number_of member ∙ number_of_tree stack m.0 in
-              let same : tree stack (number_of (members_at stack bio.dev.0 device leg)) ≡ members_at stack bio.dev.0 device leg = ap (tree stack) dev ∙ sym member in
-              ap (λ t. 8 + run_charge t bio.range.start bio.range.len) same
+      by_tree : (t : Tree) → GoesDown stack t leg → leg < legs_of t → 8 + run_at setup (leg_at bio hand leg key t).bio ≡ leg_charge t bio.range leg
+      by_tree (Mirrored number sizes members) goes lt = ap (λ t. 8 + run_charge t bio.range.start bio.range.len) (goes lt)
+      by_tree (Leaf number sectors) goes lt = absurd (omega arith)
+      by_tree (Split number kind sizes members) goes lt = absurd (omega arith)
 
   -- the heads of a device that cuts
   is_cut_of : (number : ℕ) (device : Device) → slice_get stack.devices.items number ≡ Some device → shape_of device.kind ≡ Cuts
@@ -168,7 +149,7 @@ module _ (stack : Stack) (good : IsStack stack) (places : ℕ → ℕ) where
           omega (arith, child, both))
 
   pub priced : Priced setup
-  unfolding LegOf CutOf
+  unfolding CutOf
   priced = record {
     lands = λ bio is. (falls stack good places (run_at setup) whole_run (bio.dev.0 + 1) bio (omega arith) is).same;
     cut = λ bio hand key number kind sizes members is at many.

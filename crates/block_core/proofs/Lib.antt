@@ -35,6 +35,7 @@ pub mod Waits
 pub mod Grounds
 pub mod Starts
 pub mod RunCharges
+pub mod LegTrees
 pub mod Charges
 pub mod Charged
 pub mod StartCharges
@@ -90,3 +91,4 @@ pub mod DoneWrites
 pub mod Valued
 pub mod Statuses
 pub mod ValueCases
+pub mod Ending

@@ -29,6 +29,7 @@ use Rattle.task_core.specs.Lines.{ToPush, ToMaster, first_length, landed, legs_o
 use Rattle.block_core.specs.Fragments.{offset_of, fragment_of, fragments_of, leg_fragments}
 use Rattle.block_core.proofs.Moves.{piece}
 use Rattle.block_core.proofs.Geometry.{IsThere, IsWhole, is_cut, falls, goes, number_of_tree, members_at, sizes_at}
+use Rattle.block_core.proofs.LegTrees.{GoesDown, legs_go_down}
 use Rattle.block_core.proofs.Orders.{AskFits}
 
 abbrev pub worth : Setup → (Fragment → ℕ) → Bio → ℕ
@@ -130,34 +131,14 @@ module _ (stack : Stack) (good : IsStack stack) (places : ℕ → ℕ) (value : 
       let d = ap (sum_by value) same_len in
       omega (arith, worth_is next, worth_is bio, a, b, c, d)
 
-  LegOf : Bio → Item Pad → ℕ → ℕ → Tree → Type 0
-  LegOf bio hand leg key t = leg < legs_of t → worth setup value (leg_at bio hand leg key t).bio ≡ sum_by value (leg_fragments t bio leg)
-
-  leg_of : (bio : Bio) (hand : Item Pad) (leg key : ℕ) → IsThere setup bio → LegOf bio hand leg key (tree stack bio.dev.0)
-  unfolding LegOf
-  leg_of bio hand leg key is = elim ((slice_get_cases stack.devices.items bio.dev.0).1) [
-    | inl x ↦ by_shape x.0 x.2 (shape_of x.0.kind) refl
-    | inr past ↦ absurd (let h = past.0 in let known = is.device in omega arith)
-  ]
+  leg_of : (bio : Bio) (hand : Item Pad) (leg key : ℕ) → IsThere setup bio → leg < legs_of (tree stack bio.dev.0)
+      → worth setup value (leg_at bio hand leg key (tree stack bio.dev.0)).bio ≡ sum_by value (leg_fragments (tree stack bio.dev.0) bio leg)
+  leg_of bio hand leg key is lt = by_tree (tree stack bio.dev.0) (legs_go_down stack good bio.dev.0 leg is.device) lt
     where
-      none : (t other : Tree) → t ≡ other → legs_of other ≡ 0 → LegOf bio hand leg key t
-      none t other same zero_legs lt = absurd (let q : legs_of t ≡ 0 = ap legs_of same ∙ zero_legs in omega (arith, lt, q))
-
-      by_shape : (device : Device) → slice_get stack.devices.items bio.dev.0 ≡ Some device → (shape : Shape) → shape_of device.kind ≡ shape → LegOf bio hand leg key (tree stack bio.dev.0)
-      by_shape device found (Keeping_ sectors) e = none (tree stack bio.dev.0) _ (keeps_is stack good bio.dev.0 device found sectors e) refl
-      by_shape device found Cuts e = none (tree stack bio.dev.0) _ (cuts_is stack good bio.dev.0 device found e) refl
-      by_shape device found Copying_ e = subst (LegOf bio hand leg key) (sym (copies_is stack good bio.dev.0 device found e)) here
-        where
-          here : LegOf bio hand leg key (Mirrored bio.dev.0 (sizes_at stack device) (members_at stack bio.dev.0 device))
-          here lt =
-              let items = device.members.items in
-              let few : leg < length items = omega (arith, lt, length-map items (λ (m : DevId). size (tree stack m.0))) in
-              let m : DevId = get_or items leg (record { 0 = 0 }) in
-              let at : slice_get items leg ≡ Some m = slice_get-get_or items leg (record { 0 = 0 }) few in
-              let member : members_at stack bio.dev.0 device leg ≡ tree stack m.0 = member_is stack good bio.dev.0 device found leg m at in
-              let dev : number_of (members_at stack bio.dev.0 device leg) ≡ m.0 = ap number_of member ∙ number_of_tree stack m.0 in
-              let same : tree stack (number_of (members_at stack bio.dev.0 device leg)) ≡ members_at stack bio.dev.0 device leg = ap (tree stack) dev ∙ sym member in
-              ap (λ t. sum_by value (leaves (plan t bio.write (offset_of bio) bio.range.start bio.range.len))) same
+      by_tree : (t : Tree) → GoesDown stack t leg → leg < legs_of t → worth setup value (leg_at bio hand leg key t).bio ≡ sum_by value (leg_fragments t bio leg)
+      by_tree (Mirrored number sizes members) goes lt = ap (λ t. sum_by value (leaves (plan t bio.write (offset_of bio) bio.range.start bio.range.len))) (goes lt)
+      by_tree (Leaf number sectors) goes lt = absurd (omega arith)
+      by_tree (Split number kind sizes members) goes lt = absurd (omega arith)
 
   CutOf : Item Pad → Item Pad → ℕ → Tree → Type 0
   CutOf bio hand key (Split number kind sizes members) = IsTrue (is_cut (Split number kind sizes members) bio.bio.range)
@@ -224,7 +205,7 @@ module _ (stack : Stack) (good : IsStack stack) (places : ℕ → ℕ) (value : 
       by_shape device found Copying_ e = subst (DiskOf bio) (sym (copies_is stack good bio.dev.0 device found e)) (λ fits. absurd fits)
 
   pub divided : Divided setup value
-  unfolding LegOf CutOf DiskOf
+  unfolding CutOf DiskOf
   divided = record {
     lands = λ bio is. (falls stack good places (worth setup value) whole_run (bio.dev.0 + 1) bio (omega arith) is).same;
     cut = λ bio hand key number kind sizes members is counted at many.

@@ -19,3 +19,4 @@ pub mod Runnable
 pub mod Claim
 pub mod Values
 pub mod DoneWrites
+pub mod Ending

@@ -4,6 +4,7 @@ ghost use Rattle.block_core.specs.Breaks.{NoTaskBreaks};
 ghost use Rattle.block_core.specs.Charges.{EventsLowerRank};
 ghost use Rattle.block_core.specs.Claim.{AcceptedTextsRunAsClaimed, EveryRunIsAsClaimed};
 ghost use Rattle.block_core.specs.DoneWrites.{DoneIsCompleted, EndedStatusesAreGiven, StatusesAreGiven};
+ghost use Rattle.block_core.specs.Ending.{RunsEndWithTheirWrites, StartedRoundsAreThere};
 ghost use Rattle.block_core.specs.Few.{EndsAreFew, NoCounterIsFull, OutsAreFew};
 ghost use Rattle.block_core.specs.Fragments.{EachIsCompletedOnce, FragmentsAddUp, NoOtherIsCompleted, NoneIsCompletedTwice, NothingComesWhereAllIsHome, NothingComesWhereEnded};
 ghost use Rattle.block_core.specs.Images.{EndedRunsLeaveTheSame, ImagesAreLaidOut, ImagesAreOfCompleted, LaidIsOne, OneFragmentARound, RoundsComeInOrder};
@@ -86,6 +87,17 @@ pub fn no_counter_is_full()
 /// each element is at home.
 pub fn each_run_goes_on_or_has_ended()
     ensures { EachRunGoesOnOrHasEnded }
+{}
+
+/// Every run of every scenario has ended as soon as no write of it is unfinished: then each element is at home.
+pub fn runs_end_with_their_writes()
+    ensures { RunsEndWithTheirWrites }
+{}
+
+/// Where the keeper of a run is to start a round next, there is one behind the present one: where each pool keeps an element and the rounds of writes
+/// go up.
+pub fn started_rounds_are_there()
+    ensures { StartedRoundsAreThere }
 {}
 
 /// Every run of every scenario completes each fragment of each write at most once, and no other. However fragments are counted, those that a

@@ -8,54 +8,18 @@ use Rattle.stack_base.specs.declared.stack.Kind.{Kind}
 use Rattle.stack_base.specs.declared.stack.Kind.TheVariants.{Disk, Linear, Stripe, Zoned, Limit, Mirror}
 use Rattle.stack_base.specs.declared.stack.Device.{Device}
 use Rattle.stack_base.specs.declared.stack.Stack.{Stack}
-
-abbrev pub at : ℕ → DevId
-at number = record { 0 = number }
-
--- the disk that a device is, if it is one
-abbrev pub disk_at : ℕ → Kind → List DevId
-disk_at number (Disk sectors bad) = at number ∷ []
-disk_at number Linear = []
-disk_at number (Stripe chunk) = []
-disk_at number (Zoned chunk) = []
-disk_at number (Limit longest chunk) = []
-disk_at number (Mirror records) = []
-
--- the pools of a device, records before bios
-abbrev pub pools_at : ℕ → Kind → List PoolId
-pools_at number (Disk sectors bad) = []
-pools_at number Linear = Bios (at number) ∷ []
-pools_at number (Stripe chunk) = Bios (at number) ∷ []
-pools_at number (Zoned chunk) = Bios (at number) ∷ []
-pools_at number (Limit longest chunk) = Bios (at number) ∷ []
-pools_at number (Mirror records) = Records (at number) ∷ Bios (at number) ∷ []
-
--- the disks among these devices, the first of which has this number
-unfoldable pub disks_from : ℕ → List Device → List DevId
-disks_from number [] = []
-disks_from number (device ∷ more) = disk_at number device.kind ++ disks_from (number + 1) more
+pub use Rattle.task_core.specs.Opened.{at}
+pub use Rattle.task_core.specs.Leaving.{disk_at, pools_at, disks_of, falling_pools}
+unfoldable pub use Rattle.task_core.specs.Leaving.{disks_from, falling_from}
 
 -- the pools of these devices, from the first device to the last
 unfoldable pub rising_from : ℕ → List Device → List PoolId
 rising_from number [] = []
 rising_from number (device ∷ more) = pools_at number device.kind ++ rising_from (number + 1) more
 
--- the pools of these devices by falling number, from the last device to the first
-unfoldable pub falling_from : ℕ → List Device → List PoolId
-falling_from number [] = []
-falling_from number (device ∷ more) = falling_from (number + 1) more ++ pools_at number device.kind
-
--- the disks of a stack in the order of its devices
-abbrev pub disks_of : Stack → List DevId
-disks_of stack = disks_from 0 stack.devices.items
-
 -- the pools of a stack as a report has them: the writers' first, and then those of each device in their order
 abbrev pub told_pools : Stack → List PoolId
 told_pools stack = FsBios ∷ FsVecs ∷ rising_from 0 stack.devices.items
-
--- all pools of a stack by falling number
-abbrev pub falling_pools : Stack → List PoolId
-falling_pools stack = FsBios ∷ FsVecs ∷ falling_from 0 stack.devices.items
 
 abbrev pub same_pool : PoolId → PoolId → Bool
 same_pool FsBios FsBios = true

@@ -1,9 +1,11 @@
 -- Objects of one kind are opened one behind the other.
-use Rattle.std.proofs.Common.{◌≡◌, ◌≢◌, ◌⊎◌, inl, inr, ◌+◌, ◌<◌, ◌≤◌, ◌==◌, ◌++◌, ℕ, Bool, true, false, List, [], ◌∷◌, length, get_or, set, Some, None, refl, sym, ap, subst, ◌∙◌, arith, length-append, find}
-use Rattle.std.specs.List.{position_or_len}
+use Rattle.std.proofs.Common.{◌≡◌, ◌≢◌, ◌⊎◌, inl, inr, ◌+◌, ◌<◌, ◌≤◌, ◌==◌, ◌++◌, ℕ, Bool, true, false, List, [], ◌∷◌, length, map, filter, get_or, set, Some, None, refl, sym, ap, subst, ◌∙◌, arith, length-append, find}
+use Rattle.std.specs.List.{position_or_len, range_with_len}
 use Rattle.std.specs.Option.{option_or}
 use Rattle.std.proofs.lemmas.Bool.Decides.{nat_tests}
-use Rattle.std.proofs.lemmas.List.{get_or-set_same, get_or-set_other, length-set}
+use Rattle.std.proofs.lemmas.List.{append-nil, get_or-set_same, get_or-set_other, length-set, map-append, map-id}
+use Rattle.std.proofs.lemmas.List.Elements.{filter-append}
+use Rattle.std.proofs.lemmas.List.FromFn.{map-range_with_len_more}
 use Rattle.std.proofs.lemmas.List.Folds.{find_at, find-append, position_or_len_push}
 use Rattle.std.proofs.lemmas.Option.{slice_get-get_or}
 use Rattle.task_core.specs.Tables.{has_number, IsAt}
@@ -15,7 +17,10 @@ is_itself a b e = grind (arith, nat_tests)
 is_apart : (a b : ℕ) → a ≢ b → (a == b) ≡ false
 is_apart a b e = grind (arith, nat_tests)
 
-below_or_last : (i n : ℕ) → i < n + 1 → (i < n) ⊎ (i ≡ n)
+pub clash : (b : Bool) → b ≡ true → b ≡ false → ⊥
+clash b p q = cc
+
+pub below_or_last : (i n : ℕ) → i < n + 1 → (i < n) ⊎ (i ≡ n)
 below_or_last i n lt = search (lt, arith)
 
 -- what is found is found with one more, and what is not found is the last where this passes
@@ -63,8 +68,22 @@ place_last p xs x none passes =
     let none_is = no_place p xs none in
     let same : (position_or_len p xs == length xs) ≡ true = is_itself _ _ none_is in position_or_len_push p xs x ∙ rw (same, passes) (omega arith)
 
+-- one more index
+range_more : (n : ℕ) → range_with_len 0 (n + 1) ≡ range_with_len 0 n ++ n ∷ []
+range_more n =
+    sym (map-id (range_with_len 0 (n + 1))) ∙ map-range_with_len_more (λ i. i) 0 n n (omega arith) ∙ ap (λ xs. xs ++ n ∷ []) (map-id (range_with_len 0 n))
+
+pub filter_more : (p : ℕ → Bool) (n : ℕ) → filter p (range_with_len 0 (n + 1)) ≡ filter p (range_with_len 0 n) ++ filter p (n ∷ [])
+filter_more p n = ap (filter p) (range_more n) ∙ filter-append p (range_with_len 0 n) (n ∷ [])
+
 module _ {E : Type 0} (key : E → ℕ) (number : ℕ → ℕ) (is_used : ℕ → Bool) (IsMade : ℕ → E → Type 0) (n : ℕ) (entries : List E) (table : List ℕ)
     (all : AreMade key number is_used IsMade n entries table) where
+  ordered_more : (more : List E) → map key more ≡ map key entries ++ map number (filter is_used (n ∷ []))
+      → map key more ≡ map number (filter is_used (range_with_len 0 (n + 1)))
+  ordered_more more is =
+      is ∙ ap (λ keys. keys ++ map number (filter is_used (n ∷ []))) all.order
+      ∙ sym (ap (map number) (filter_more is_used n) ∙ map-append number (filter is_used (range_with_len 0 n)) (filter is_used (n ∷ [])))
+
   -- the next one is not used
   passed : is_used n ≡ false → AreMade key number is_used IsMade (n + 1) entries table
   passed not_used =
@@ -80,6 +99,7 @@ module _ {E : Type 0} (key : E → ℕ) (number : ℕ → ℕ) (is_used : ℕ �
           | inr last ↦ absurd (clash i last used)
         ];
         no_other = λ k none. all.no_other k (λ i lt used. none i (omega (arith, lt)) used);
+        order = ordered_more entries (rw (not_used) (sym (append-nil (map key entries))));
       }
     where
       clash : (i : ℕ) → i ≡ n → is_used i ≡ true → ⊥
@@ -139,6 +159,7 @@ module _ {E : Type 0} (key : E → ℕ) (number : ℕ → ℕ) (is_used : ℕ �
           no_other = λ k none.
               not_found (has_number key k) entries entry (all.no_other k (λ i lt is. none i (omega (arith, lt)) is))
               (is_apart (key entry) k (λ e. none n (omega arith) used (sym keyed ∙ e)));
+          order = ordered_more (entries ++ entry ∷ []) (rw (used) (map-append key entries (entry ∷ []) ∙ ap (λ k. map key entries ++ k ∷ []) keyed));
         }
 
   pub one_more : (more : List E) (after : List ℕ) → ((i : ℕ) → i < n → number i ≢ number n) → number n < length table
@@ -163,6 +184,7 @@ none_made key number is_used IsMade table = record {
   made = λ index lt used. absurd (omega (arith, lt));
   seated = λ index lt used. absurd (omega (arith, lt));
   no_other = λ other none. refl;
+  order = refl;
 }
 
 pub not_itself : (i n : ℕ) → i < n → i ≢ n

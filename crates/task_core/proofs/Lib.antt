@@ -33,3 +33,14 @@ pub mod Turned
 pub mod TurnLemmas
 pub mod Filling
 pub mod NewPools
+pub mod Idle
+pub mod Seen
+pub mod Named
+pub mod Begins
+pub mod NewObjects
+pub mod Behind
+pub mod Sharing
+pub mod Rounding
+pub mod Opens
+pub mod Rooms
+pub mod PlainFacts

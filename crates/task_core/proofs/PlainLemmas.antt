@@ -27,7 +27,7 @@ use Rattle.task_core.specs.ObjectsOf.{AreObjectsOf, AreNumbered}
 use Rattle.task_core.specs.Plains.{set_number, records_number, list_number, disk_number, book_number, no_pool, no_disk, no_book, is_of_set, by_kind, bios_at, records_at, pool_at, objects_of, stage_of, AreSeated, Holds}
 use Rattle.task_core.proofs.Frames.{upd_same}
 use Rattle.task_core.proofs.Keeping.{objects_stay, objects_owe}
-use Rattle.task_core.proofs.TableLemmas.{looked, changed, places_stay}
+use Rattle.task_core.proofs.TableLemmas.{looked, changed, places_stay, numbers_stay}
 use Rattle.task_core.proofs.PoolLemmas.{stands_for_bios, stands_for_records, bios_change, records_change, vecs_change, moves_pool, stage_kept}
 
 -- with one object in the place of another
@@ -140,6 +140,7 @@ module _ (plain : Plain) (holds : Holds plain) (n i : ℕ) (is : IsTrue (is_bios
       lists = holds.seated.lists;
       disks = holds.seated.disks;
       books = holds.seated.books;
+      order = holds.seated.order;
     }
 
     module _ (move : Move) (moves : pool.PoolMoves entry.1 move x) where
@@ -179,6 +180,7 @@ module _ (plain : Plain) (holds : Holds plain) (n i : ℕ) (is : IsTrue (is_slip
       lists = holds.seated.lists;
       disks = holds.seated.disks;
       books = holds.seated.books;
+      order = holds.seated.order;
     }
 
     module _ (move : Move) (moves : pool.PoolMoves entry.1 move x) where
@@ -212,6 +214,7 @@ module _ (plain : Plain) (x : LedgerPool) (move : Move) (moves : pool.PoolMoves 
     lists = holds.seated.lists;
     disks = holds.seated.disks;
     books = holds.seated.books;
+    order = holds.seated.order;
   }
 
 -- one list of a rescuer
@@ -237,6 +240,7 @@ module _ (plain : Plain) (holds : Holds plain) (d i : ℕ) (is : IsTrue (has_res
           (λ m. has_rescuer (stage_of plain) (at m)) holds.seated.lists;
       disks = holds.seated.disks;
       books = holds.seated.books;
+      order = holds.seated.order;
     }
 
 -- one disk
@@ -264,6 +268,8 @@ module _ (plain : Plain) (holds : Holds plain) (d i : ℕ) (is : IsTrue (has_dis
       disks = places_stay disk_number plain.seats.disks plain.disks.items d i (holds.seated.disks d is) place entry value x (ap (λ (dev : DevId). dev.0) same)
           (λ m. has_disk (stage_of plain) (at m)) holds.seated.disks;
       books = holds.seated.books;
+      order = numbers_stay disk_number plain.seats.disks plain.disks.items d i (holds.seated.disks d is) place entry value x (ap (λ (dev : DevId). dev.0) same)
+          ∙ holds.seated.order;
     }
 
 -- one book
@@ -289,4 +295,5 @@ module _ (plain : Plain) (holds : Holds plain) (w i : ℕ) (is : IsTrue (has_boo
       disks = holds.seated.disks;
       books = places_stay book_number plain.seats.books plain.books.items w i (holds.seated.books w is) place entry value (entry.0, x) refl
           (has_book (stage_of plain)) holds.seated.books;
+      order = holds.seated.order;
     }

@@ -1,8 +1,8 @@
 -- An entry at its place is changed: what is looked up changes at its number alone, and all places stay.
-use Rattle.std.proofs.Common.{◌≡◌, ◌≢◌, ◌<◌, ◌==◌, ℕ, Bool, true, false, List, length, get_or, set, Some, refl, sym, ap, subst, ◌∙◌, arith, find, slice_get, slice_index_or}
+use Rattle.std.proofs.Common.{◌≡◌, ◌≢◌, ◌<◌, ◌==◌, ℕ, Bool, true, false, List, length, map, get_or, set, Some, refl, sym, ap, subst, ◌∙◌, arith, find, slice_get, slice_index_or}
 use Rattle.std.specs.List.{position_or_len}
 use Rattle.std.specs.Option.{option_map_or}
-use Rattle.std.proofs.lemmas.List.{length-set}
+use Rattle.std.proofs.lemmas.List.{length-set, map-set, set-get_or}
 use Rattle.std.proofs.lemmas.List.Folds.{find_at, find-set, find_past, position_or_len-set}
 use Rattle.std.proofs.lemmas.List.Sums.{passes_at_first}
 use Rattle.std.proofs.lemmas.Option.{slice_get-get_or}
@@ -75,3 +75,8 @@ module _ {E : Type 0} (key : E → ℕ) (table : List ℕ) (entries : List E) (n
           there = subst (λ k. slice_index_or table m 0 < k) (sym long) old.there;
           first = old.first ∙ sym (position_or_len-set (has_number key m) entries i new entry tests);
         }
+
+    pub numbers_stay : map key (set entries i new) ≡ map key entries
+    numbers_stay =
+        map-set key entries i new ∙ ap (set (map key entries) i) (keyed ∙ ap key is) ∙ sym (map-set key entries i (get_or entries i entry))
+        ∙ ap (map key) (set-get_or entries i entry)

@@ -1,9 +1,10 @@
 -- How objects of one kind are opened: one behind the other, each with its place in a table.
-use Rattle.std.specs.Prelude.{◌≡◌, ◌≢◌, ◌⊎◌, ◌<◌, ◌≤◌, ◌++◌, ℕ, Bool, true, false, List, [], ◌∷◌, length, find, slice_set, Some, None}
+use Rattle.std.specs.Prelude.{◌≡◌, ◌≢◌, ◌⊎◌, ◌<◌, ◌≤◌, ◌++◌, ℕ, Bool, true, false, List, [], ◌∷◌, length, map, filter, find, slice_set, Some, None}
+use Rattle.std.specs.List.{range_with_len}
 use Rattle.task_core.specs.Tables.{has_number, IsAt}
 
--- Of the first indices up to a bound, each that is used has its entry, which is as it should be and stands where the table says; and no other
--- number has one.
+-- Of the first indices up to a bound, each that is used has its entry, which is as it should be and stands where the table says; no other number
+-- has one, and entries stand in the order of indices.
 pub record AreMade {E : Type 0} (key : E → ℕ) (number : ℕ → ℕ) (is_used : ℕ → Bool) (IsMade : ℕ → E → Type 0) (bound : ℕ) (entries : List E)
     (table : List ℕ) : Type 0 where
   pub few : length entries ≤ bound
@@ -12,6 +13,7 @@ pub record AreMade {E : Type 0} (key : E → ℕ) (number : ℕ → ℕ) (is_use
   pub seated : (index : ℕ) → index < bound → is_used index ≡ true → IsAt key table entries (number index)
   pub no_other : (other : ℕ) → ((index : ℕ) → index < bound → is_used index ≡ true → number index ≢ other)
       → find (has_number key other) entries ≡ None
+  pub order : map key entries ≡ map number (filter is_used (range_with_len 0 bound))
 
 -- the next index has its entry, where it is used
 abbrev pub IsNext : {E : Type 0} → (E → ℕ) → (ℕ → ℕ) → (ℕ → Bool) → (ℕ → E → Type 0) → ℕ → List E → List ℕ → List E → List ℕ → Type 0

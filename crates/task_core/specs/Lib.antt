@@ -28,3 +28,9 @@ pub mod RescuerViews
 pub mod TaskViews
 pub mod Filled
 pub mod Openings
+pub mod PlainSteps
+pub mod Leaving
+pub mod OfOne
+pub mod Named
+pub mod NewTasks
+pub mod Begins

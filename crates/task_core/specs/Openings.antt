@@ -1,5 +1,5 @@
 -- The objects of a stack as they are opened, kind by kind, the first of each up to a bound.
-use Rattle.std.specs.Prelude.{◌≡◌, ◌==◌, ◌&&◌, if◌then◌else◌, ℕ, zero, suc, Bool, true, nat_lt, List, [], ◌∷◌, max, replicate, None}
+use Rattle.std.specs.Prelude.{◌≡◌, ◌==◌, ◌&&◌, ◌||◌, ◌/◌, ◌%◌, if◌then◌else◌, ℕ, zero, suc, Bool, true, nat_lt, List, [], ◌∷◌, max, replicate, None}
 use Rattle.fail_script.specs.Script.{Answers}
 use Rattle.stack_base.specs.declared.ids.DevId.{DevId}
 use Rattle.stack_base.specs.declared.ids.PoolId.{PoolId}
@@ -14,9 +14,12 @@ use Rattle.bioset_pools.specs.Sets.{bios_of}
 use Rattle.bio_records.specs.Rescue.{Rescue}
 use Rattle.bio_books.specs.Books.{BookState}
 use Rattle.model_disks.specs.Disks.{DiskState}
+use Rattle.task_core.specs.declared.plain.Plain.{Plain}
+use Rattle.task_core.specs.Events.{pool_of}
 use Rattle.task_core.specs.Filled.{AreMade, IsNext}
+use Rattle.task_core.specs.Objects.{TallyState, Objects}
 use Rattle.task_core.specs.Opened.{at, reserve_of, script_at}
-use Rattle.task_core.specs.Plains.{set_number, records_number, list_number, disk_number, book_number, no_disk}
+use Rattle.task_core.specs.Plains.{set_number, records_number, list_number, disk_number, book_number, no_disk, objects_of, stage_of, Holds}
 use Rattle.task_core.specs.Routed.{Routing, places_at, setup}
 use Rattle.task_core.specs.Scene.{is_device, is_disk, is_mirror, has_set}
 
@@ -117,3 +120,27 @@ abbrev pub NextRecords : Routing → List (PoolId × Answers) → List (PoolId �
     → List ℕ → Type 0
 NextRecords routing scripts reserves dev records table more after =
     IsNext records_number slip_index (uses_slips routing) (IsNewRecords routing scripts reserves) dev records table more after
+
+-- whether a number is that of a pool of the stack
+abbrev pub has_pool : Routing → ℕ → Bool
+has_pool routing number =
+    number == 64 || (number == 65 || number % 2 == 0 && has_set (setup routing) (number / 2)) || number % 2 == 1 && uses_slips routing (number / 2)
+
+-- all objects as they are opened, with this tally
+abbrev pub opened_objects : Routing → List (PoolId × Answers) → TallyState → Objects
+opened_objects routing scripts tally = record {
+  pool = λ number. opened (reserve_of routing.stack (pool_of number)) (script_at scripts number);
+  rescue = λ dev. [];
+  disk = no_disk routing.stack;
+  book = λ writer. record { writer = writer; nodes = replicate (places_at routing.places writer) None };
+  tally = tally;
+}
+
+-- These are the objects, which hold together, and each pool is as wide as the largest reserve that it gets.
+pub record AreOpened (routing : Routing) (scripts : List (PoolId × Answers)) (reserves : List (PoolId × ℕ)) (tally : TallyState) (plain : Plain)
+    : Type 0 where
+  pub objects : objects_of plain ≡ opened_objects routing scripts tally
+  pub holds : Holds plain
+  pub routing_is : (stage_of plain).routing ≡ routing
+  pub most : (number : ℕ) → has_pool routing number ≡ true
+      → (stage_of plain).most number ≡ widest reserves number (reserve_of routing.stack (pool_of number))

@@ -1,5 +1,6 @@
 -- The objects of one thread: what they are as the objects of a run, and what holds of them between calls.
-use Rattle.std.specs.Prelude.{◌≡◌, ◌⊎◌, ◌+◌, ◌-◌, ◌^◌, ◌%◌, ◌<◌, ◌≤◌, ◌==◌, ◌||◌, if◌then◌else◌, ℕ, Bool, true, List, [], length, min}
+use Rattle.std.specs.Prelude.{◌≡◌, ◌⊎◌, ◌+◌, ◌-◌, ◌^◌, ◌%◌, ◌<◌, ◌≤◌, ◌==◌, ◌||◌, if◌then◌else◌, ℕ, Bool, true, [], length, map, filter, min}
+use Rattle.std.specs.List.{range_with_len}
 use Rattle.elem_ledger.specs.Ledger.{LedgerId}
 use Rattle.fail_script.specs.Script.{only_tail}
 use Rattle.stack_base.specs.declared.ids.DevId.{DevId}
@@ -13,8 +14,6 @@ use Rattle.layout_model.specs.May.{bads_of}
 use Rattle.mempool_core.specs.Move.{opened}
 use Rattle.mempool_core.specs.Pool.{LedgerPool}
 use Rattle.bioset_pools.specs.Sets.{bios_of}
-use Rattle.bio_records.specs.declared.bio.Pad.{Pad}
-use Rattle.bio_records.specs.Items.{Item}
 use Rattle.bio_records.specs.Rescue.{Rescue}
 use Rattle.bio_books.specs.Books.{BookState}
 use Rattle.model_disks.specs.Disks.{DiskState}
@@ -97,13 +96,14 @@ stage_of plain = record {
   most = λ number. (pool_at plain number).most;
 }
 
--- Each object that a stack has stands where the tables say.
+-- Each object that a stack has stands where the tables say, and the disks stand in the order of the devices.
 pub record AreSeated (plain : Plain) : Type 0 where
   pub bios : AreAt set_number (is_bios (stage_of plain)) plain.seats.bios plain.bios.items
   pub records : AreAt records_number (is_slips (stage_of plain)) plain.seats.records plain.records.items
   pub lists : AreAt list_number (λ dev. has_rescuer (stage_of plain) (at dev)) plain.seats.lists plain.lists.items
   pub disks : AreAt disk_number (λ dev. has_disk (stage_of plain) (at dev)) plain.seats.disks plain.disks.items
   pub books : AreAt book_number (has_book (stage_of plain)) plain.seats.books plain.books.items
+  pub order : map disk_number plain.disks.items ≡ filter (λ dev. has_disk (stage_of plain) (at dev)) (range_with_len 0 (length plain.stage.value.stack.devices.items))
 
 -- What holds of these objects between calls.
 pub record Holds (plain : Plain) : Type 0 where

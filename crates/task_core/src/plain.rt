@@ -12,7 +12,7 @@ use bio_books::{Book, Dropped, Link};
 use bio_records::{
     BioBody, BioElement, BioList, Pad, RescueList, Slip, SlipElement, VecElement, Vector,
 };
-use mempool_core::{Pool, Taken};
+use mempool_core::{Facts, Pool, Taken};
 use model_disks::{Disk, Done};
 use stack_base::{DevId, PoolId, SetId, Status};
 use std::snapshot::Snapshot;
@@ -51,10 +51,11 @@ fn bios_number(set: SetId) -> u32
 }
 
 impl Plain {
+    ghost use Rattle.std.specs.Prelude.{IsTrue};
     ghost use Rattle.stack_base.specs.declared.ids.PoolId.TheVariants.{FsVecs, Records};
-    ghost use Rattle.task_core.specs.Plains.{stage_of, Holds, Tells};
+    ghost use Rattle.task_core.specs.Plains.{objects_of, stage_of, Holds, Tells};
     ghost use Rattle.task_core.specs.Requests.{Resize, OutIs};
-    ghost use Rattle.task_core.specs.Stage.{Fits};
+    ghost use Rattle.task_core.specs.Stage.{is_pool, Fits};
 
     // Sets the reserve of a set's pool of bios, where nothing of it is out. It answers how much is.
     fn resize_bios(&mut self, set: SetId, min: u32) -> u64
@@ -86,6 +87,40 @@ impl Plain {
     {
         let at = place(&self.seats.records, PoolId::Records(dev).no());
         resize_home(&mut self.records[at].1, min)
+    }
+
+    // The numbers of a set's pool of bios.
+    fn bios_facts(&self, set: SetId) -> Facts
+        requires holds { Holds self.now }
+        requires pool { IsTrue (is_pool (stage_of self.now) (bios_of set)) }
+        ensures { result ≡ ((objects_of self.now).pool (pool_number (bios_of set))).facts }
+    {
+        let at = place(&self.seats.bios, bios_number(set));
+        self.bios[at].1.facts()
+    }
+
+    // The numbers of the pool of a mirror's records.
+    fn records_facts(&self, dev: DevId) -> Facts
+        requires holds { Holds self.now }
+        requires pool { IsTrue (is_pool (stage_of self.now) (Records dev)) }
+        ensures { result ≡ ((objects_of self.now).pool (pool_number (Records dev))).facts }
+    {
+        let at = place(&self.seats.records, PoolId::Records(dev).no());
+        self.records[at].1.facts()
+    }
+
+    /// The numbers of a pool of the stack.
+    pub fn facts(&self, pool: PoolId) -> Facts
+        requires holds { Holds self.now }
+        requires pool { IsTrue (is_pool (stage_of self.now) pool) }
+        ensures { result ≡ ((objects_of self.now).pool (pool_number pool)).facts }
+    {
+        match pool {
+            PoolId::FsBios => self.bios_facts(SetId::Fs),
+            PoolId::FsVecs => self.vecs.facts(),
+            PoolId::Bios(dev) => self.bios_facts(SetId::Of(dev)),
+            PoolId::Records(dev) => self.records_facts(dev),
+        }
     }
 }
 

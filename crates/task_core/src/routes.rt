@@ -223,6 +223,13 @@ impl Routes {
         let _ = &self.routes;
     }
 
+    /// How many devices there are.
+    pub fn count(&self) -> u32
+        ensures { result ≡ (setup self.now).count }
+    {
+        self.routes.len() as u32
+    }
+
     // What is kept of a device.
     fn route(&self, dev: DevId) -> &Route
         requires { dev.0 < length self.now.stack.devices.items }

@@ -56,6 +56,13 @@ impl Tally {
         self.all
     }
 
+    /// The numbers of unfinished writes of all rounds add up to one of 32 bits.
+    pub fn known(&self)
+        ensures { sum self.now.left.items < 2 ^ 32 }
+    {
+        let _ = self.left();
+    }
+
     /// A write of the present round is done, and ended so. The number of the present round falls by one, or stays at 0.
     pub fn done(&mut self, write: u32, status: Status)
         requires { write < length self.old.statuses.items }

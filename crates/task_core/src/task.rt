@@ -58,6 +58,13 @@ impl Task {
         Task { routes, kind }
     }
 
+    /// What the task knows of devices.
+    pub fn routes(&self) -> &Routes
+        ensures { result.now ≡ self.now.routing }
+    {
+        &self.routes
+    }
+
     /// The next step of the task. It looks where it has to, asks one object once for what it needs next, and goes on with the reply; no memory is
     /// taken but for an ordinary element. The objects are those of the task's scenario, and all of its elements are at home in them.
     ///

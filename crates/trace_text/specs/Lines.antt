@@ -20,7 +20,7 @@ use Rattle.task_core.specs.declared.event.End.TheVariants as end
 use Rattle.task_core.specs.declared.event.What.{What}
 use Rattle.task_core.specs.declared.event.What.TheVariants as what
 use Rattle.task_core.specs.declared.event.Event.{Event}
-use Rattle.trace_text.specs.Names.{HasDevice, HasPool, is_any, is_disk}
+pub use Rattle.task_core.specs.Named.{HasTask, HasWhat, IsEventOf}
 
 abbrev pub status_word : Status → List ℕ
 status_word status.Ok = codes "ok"
@@ -83,33 +83,6 @@ words_of stack event = codes "event" ∷ task_word stack event.task ∷ what_wor
 -- the words, with one blank between any two
 abbrev pub line_of : Stack → Event → List ℕ
 line_of stack event = join_with_byte 32 (words_of stack event)
-
--- a task of a stack: a rescuer of a device, a completer of a disk
-abbrev pub HasTask : Stack → TaskId → Type 0
-HasTask stack (task.Writer number) = Unit {0}
-HasTask stack (task.Rescuer dev) = HasDevice is_any stack dev
-HasTask stack (task.Completer disk) = HasDevice is_disk stack disk
-HasTask stack task.Keeper = Unit {0}
-
--- what is done at devices, disks and pools of a stack
-abbrev pub HasWhat : Stack → What → Type 0
-HasWhat stack (what.Take pool got) = HasPool stack pool
-HasWhat stack (what.Try pool got) = HasPool stack pool
-HasWhat stack (what.Give pool) = HasPool stack pool
-HasWhat stack (what.Punt dev moved) = HasDevice is_any stack dev
-HasWhat stack (what.Pop dev) = HasDevice is_any stack dev
-HasWhat stack (what.Push disk at len leg) = HasDevice is_disk stack disk
-HasWhat stack (what.Complete disk index status) = HasDevice is_disk stack disk
-HasWhat stack (what.Link writer how node) = Unit {0}
-HasWhat stack (what.Drop writer node status end) = Unit {0}
-HasWhat stack (what.Done write status) = Unit {0}
-HasWhat stack (what.Resize pool min) = HasPool stack pool
-HasWhat stack (what.Round round) = Unit {0}
-
--- an event that names what the stack has
-pub record IsEventOf (stack : Stack) (event : Event) : Type 0 where
-  pub task : HasTask stack event.task
-  pub what : HasWhat stack event.what
 
 -- a number that 32 bits have
 abbrev pub IsShort : ℕ → Type 0

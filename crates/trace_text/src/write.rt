@@ -1,7 +1,6 @@
 //! Writes events.
 ghost use Rattle.std.specs.Prelude.{◌≡◌, ◌+◌, ◌≤◌, ◌++◌, ◌∷◌, [], codes, decimal, length};
-ghost use Rattle.trace_text.specs.Lines.{HasTask, HasWhat, IsEventOf, end_word, how_word, line_of, status_word, name_of, pool_word, task_word, what_words};
-ghost use Rattle.trace_text.specs.Names.{HasDevice, HasPool, is_any, is_disk};
+ghost use Rattle.trace_text.specs.Lines.{end_word, how_word, line_of, status_word, name_of, pool_word, task_word, what_words};
 ghost use Rattle.trace_text.specs.Writing.{spaced};
 ghost use Rattle.task_core.specs.declared.event.What.TheVariants as what;
 
@@ -44,41 +43,29 @@ fn put_number(into: &mut Line, number: u64)
     put(into, digits.format(number).as_bytes());
 }
 
-// The name of a device.
+// The name of a device, and nothing where there is no such device.
 fn name_of(stack: &Stack, dev: DevId) -> &[u8]
-    requires { HasDevice is_any stack.now dev }
     ensures name { result.now ≡ name_of stack.now dev }
     ensures short { length result.now ≤ 16 }
 {
-    stack.devices[dev.0 as usize].name.as_str().as_bytes()
+    match stack.devices.get(dev.0 as usize) {
+        Some(device) => device.name.as_str().as_bytes(),
+        None => b"",
+    }
 }
 
 // A blank and the name of a device.
 fn put_device(into: &mut Line, stack: &Stack, dev: DevId)
-    requires device { HasDevice is_any stack.now dev }
-    requires room { length into.old.items ≤ 111 }
+    requires { length into.old.items ≤ 111 }
     ensures items { into.new.items ≡ into.old.items ++ 32 ∷ name_of stack.now dev }
     ensures len { length into.new.items ≤ length into.old.items + 17 }
 {
     put(into, name_of(stack, dev));
 }
 
-// A blank and the name of a disk.
-#[tactic(auto, using(crate::proofs::NameLemmas::any_of))]
-fn put_disk(into: &mut Line, stack: &Stack, disk: DevId)
-    requires disk { HasDevice is_disk stack.now disk }
-    requires room { length into.old.items ≤ 111 }
-    ensures items { into.new.items ≡ into.old.items ++ 32 ∷ name_of stack.now disk }
-    ensures len { length into.new.items ≤ length into.old.items + 17 }
-{
-    put_device(into, stack, disk);
-}
-
 // A blank and the name of a pool.
-#[tactic(auto, using(crate::proofs::NameLemmas::any_of))]
 fn put_pool(into: &mut Line, stack: &Stack, pool: PoolId)
-    requires pool { HasPool stack.now pool }
-    requires room { length into.old.items ≤ 103 }
+    requires { length into.old.items ≤ 103 }
     ensures items { into.new.items ≡ into.old.items ++ 32 ∷ pool_word stack.now pool }
     ensures len { length into.new.items ≤ length into.old.items + 25 }
 {
@@ -91,10 +78,8 @@ fn put_pool(into: &mut Line, stack: &Stack, pool: PoolId)
 }
 
 // A blank and the word of a task.
-#[tactic(auto, using(crate::proofs::NameLemmas::any_of))]
 fn put_task(into: &mut Line, stack: &Stack, task: TaskId)
-    requires task { HasTask stack.now task }
-    requires room { length into.old.items ≤ 100 }
+    requires { length into.old.items ≤ 100 }
     ensures items { into.new.items ≡ into.old.items ++ 32 ∷ task_word stack.now task }
     ensures len { length into.new.items ≤ length into.old.items + 22 }
 {
@@ -112,8 +97,7 @@ fn put_task(into: &mut Line, stack: &Stack, task: TaskId)
 // Each of the following puts what a task did.
 
 fn take(into: &mut Line, stack: &Stack, pool: PoolId, got: Got)
-    requires pool { HasPool stack.now pool }
-    requires room { length into.old.items ≤ 27 }
+    requires { length into.old.items ≤ 27 }
     ensures { into.new.items ≡ into.old.items ++ spaced (what_words stack.now (what.Take pool got)) }
 {
     put(into, b"take");
@@ -122,8 +106,7 @@ fn take(into: &mut Line, stack: &Stack, pool: PoolId, got: Got)
 }
 
 fn try_take(into: &mut Line, stack: &Stack, pool: PoolId, got: Got)
-    requires pool { HasPool stack.now pool }
-    requires room { length into.old.items ≤ 27 }
+    requires { length into.old.items ≤ 27 }
     ensures { into.new.items ≡ into.old.items ++ spaced (what_words stack.now (what.Try pool got)) }
 {
     put(into, b"try");
@@ -132,8 +115,7 @@ fn try_take(into: &mut Line, stack: &Stack, pool: PoolId, got: Got)
 }
 
 fn give(into: &mut Line, stack: &Stack, pool: PoolId)
-    requires pool { HasPool stack.now pool }
-    requires room { length into.old.items ≤ 27 }
+    requires { length into.old.items ≤ 27 }
     ensures { into.new.items ≡ into.old.items ++ spaced (what_words stack.now (what.Give pool)) }
 {
     put(into, b"give");
@@ -141,8 +123,7 @@ fn give(into: &mut Line, stack: &Stack, pool: PoolId)
 }
 
 fn punt(into: &mut Line, stack: &Stack, dev: DevId, moved: u64)
-    requires device { HasDevice is_any stack.now dev }
-    requires room { length into.old.items ≤ 27 }
+    requires { length into.old.items ≤ 27 }
     ensures { into.new.items ≡ into.old.items ++ spaced (what_words stack.now (what.Punt dev moved)) }
 {
     put(into, b"punt");
@@ -151,8 +132,7 @@ fn punt(into: &mut Line, stack: &Stack, dev: DevId, moved: u64)
 }
 
 fn pop(into: &mut Line, stack: &Stack, dev: DevId)
-    requires device { HasDevice is_any stack.now dev }
-    requires room { length into.old.items ≤ 27 }
+    requires { length into.old.items ≤ 27 }
     ensures { into.new.items ≡ into.old.items ++ spaced (what_words stack.now (what.Pop dev)) }
 {
     put(into, b"pop");
@@ -160,12 +140,11 @@ fn pop(into: &mut Line, stack: &Stack, dev: DevId)
 }
 
 fn push(into: &mut Line, stack: &Stack, disk: DevId, at: u64, len: u64, leg: u32)
-    requires disk { HasDevice is_disk stack.now disk }
-    requires room { length into.old.items ≤ 27 }
+    requires { length into.old.items ≤ 27 }
     ensures { into.new.items ≡ into.old.items ++ spaced (what_words stack.now (what.Push disk at len leg)) }
 {
     put(into, b"push");
-    put_disk(into, stack, disk);
+    put_device(into, stack, disk);
     put_number(into, at);
     put_number(into, len);
     put(into, b"leg");
@@ -173,12 +152,11 @@ fn push(into: &mut Line, stack: &Stack, disk: DevId, at: u64, len: u64, leg: u32
 }
 
 fn complete(into: &mut Line, stack: &Stack, disk: DevId, index: u64, status: Status)
-    requires disk { HasDevice is_disk stack.now disk }
-    requires room { length into.old.items ≤ 27 }
+    requires { length into.old.items ≤ 27 }
     ensures { into.new.items ≡ into.old.items ++ spaced (what_words stack.now (what.Complete disk index status)) }
 {
     put(into, b"complete");
-    put_disk(into, stack, disk);
+    put_device(into, stack, disk);
     put_number(into, index);
     put(into, status_word(status));
 }
@@ -214,8 +192,7 @@ fn done(into: &mut Line, write: u32, status: Status)
 }
 
 fn resize(into: &mut Line, stack: &Stack, pool: PoolId, min: u32)
-    requires pool { HasPool stack.now pool }
-    requires room { length into.old.items ≤ 27 }
+    requires { length into.old.items ≤ 27 }
     ensures { into.new.items ≡ into.old.items ++ spaced (what_words stack.now (what.Resize pool min)) }
 {
     put(into, b"resize");
@@ -233,8 +210,7 @@ fn round_starts(into: &mut Line, round: u32)
 
 // What a task did.
 fn put_what(into: &mut Line, stack: &Stack, what: What)
-    requires what { HasWhat stack.now what }
-    requires room { length into.old.items ≤ 27 }
+    requires { length into.old.items ≤ 27 }
     ensures { into.new.items ≡ into.old.items ++ spaced (what_words stack.now what) }
 {
     match what {
@@ -262,10 +238,9 @@ fn put_what(into: &mut Line, stack: &Stack, what: What)
     }
 }
 
-/// Makes `into` the event's line, without the byte 10 that would end it. The stack is one that has what the event names; where its devices
-/// have different names, `read_event` reads the event again.
+/// Makes `into` the event's line, without the byte 10 that would end it. Where the stack has what the event names, and its devices have different
+/// names, `read_event` reads the event again. A device that the stack does not have is told by no name.
 pub fn write_event(e: &Event, stack: &Stack, into: &mut ArrayVec<u8, 128>)
-    requires { IsEventOf stack.now e.now }
     ensures { into.new.items ≡ line_of stack.now e.now }
 {
     into.clear();

@@ -2,13 +2,17 @@
 use Rattle.std.proofs.Common.{◌≡◌, ◌⊎◌, ℕ, zero, suc, ◌+◌, ◌<◌, ◌≤◌, ◌==◌, Bool, true, false, nat_lt, nat_le, cond, List, [], ◌∷◌, ◌++◌, length, map, get_or, Option, None, Some, inl, inr, refl, sym, ap, ◌∙◌, subst, arith}
 use Rattle.std.specs.Prelude.{All, slice_get}
 use Rattle.std.specs.List.{AllPairs, list_any}
-use Rattle.std.specs.Option.{option_map, option_to_list}
+use Rattle.std.specs.Prelude.{codes}
+use Rattle.std.specs.Option.{option_and_then, option_map, option_or, option_to_list}
+use Rattle.std.specs.Str.{bytes_eq}
 use Rattle.std.proofs.lemmas.Bool.{both_ways, eq-eqb, eqb-false, ltb-false, leb-false, or_parts}
 use Rattle.std.proofs.lemmas.List.{append-nil, length-map, length_push}
 use Rattle.std.proofs.lemmas.List.Elements.{All-cons, All-filter, All-head, All-nil, All-push, All-tail, All-weaker}
 use Rattle.std.proofs.lemmas.List.Quantifiers.{all_pairs_push}
-use Rattle.std.proofs.lemmas.Option.{same_Some, slice_get-map}
+use Rattle.std.proofs.lemmas.Option.{none-some, same_Some, slice_get-map}
 use Rattle.stack_base.specs.declared.ids.DevId.{DevId}
+use Rattle.stack_base.specs.declared.ids.PoolId.{PoolId}
+use Rattle.stack_base.specs.declared.ids.PoolId.TheVariants.{FsBios, FsVecs, Bios, Records}
 use Rattle.stack_base.specs.declared.stack.Device.{Device}
 use Rattle.stack_base.specs.declared.stack.Stack.{Stack}
 use Rattle.layout_model.specs.declared.write.Write.{Write}
@@ -16,18 +20,20 @@ use Rattle.layout_model.specs.OneWay.{IsTop, AreApart}
 use Rattle.decl_text.specs.Text.{words}
 use Rattle.decl_text.specs.Items.{said}
 use Rattle.decl_text.specs.Accepting.{shown_devices}
-use Rattle.decl_text.specs.Checks.{is_among, not_a_top, reserve_zero, shares, too_large}
+use Rattle.decl_text.specs.Checks.{is_among, not_a_top, reserve_zero, shares, too_large, too_many_segments}
 use Rattle.decl_text.specs.Fit.{IsReserve}
-use Rattle.decl_text.specs.Known.{Known, Declared, Resized, Written, after_line, all_members, number_in, pool_of}
+use Rattle.decl_text.specs.Known.{Known, Declared, Resized, Written, after_line, all_members, bios_of, device_before, number_in, pool_if, pool_of, records_of}
 use Rattle.decl_text.specs.Reading.{declarations}
 use Rattle.decl_text.specs.Refusals.{check, known_after, refusal, said_reason}
 use Rattle.decl_text.specs.Stands.{stand_of}
 use Rattle.decl_text.specs.declared.item.Item.{Item}
 use Rattle.decl_text.specs.declared.item.Item.TheVariants as item
+use Rattle.decl_text.specs.declared.item.What.{What}
+use Rattle.decl_text.specs.declared.item.What.TheVariants as what
 use Rattle.decl_text.specs.declared.reason.Reason.TheVariants as reason
 use Rattle.decl_text.specs.declared.stand.Stand.TheVariants.{Front}
 use Rattle.decl_text.proofs.Unrefused.{finds_nothing, line_passes, none_refused}
-use Rattle.work_text.specs.Fit.{WorkIsFit}
+use Rattle.work_text.specs.Fit.{IsPoolIn, WorkIsFit}
 use Rattle.work_text.specs.Reading.{work_lines}
 use Rattle.work_text.specs.Work.{all_checks, known_of, kept_resizes, last_round, resized, written}
 use Rattle.work_text.proofs.LoopLemmas.{first_works}
@@ -41,9 +47,11 @@ use Rattle.work_text.proofs.WorkLemmas.{last_few}
 record IsFitWrite (devices : List Declared) (write : Written) : Type 0 where
   task : write.task ≤ 7
   top : is_among (all_members devices) write.dev ≡ false
+  segments : write.count ≤ 2048
 
-abbrev IsFitResize : Resized → Type 0
-IsFitResize resize = IsReserve resize.min
+record IsFitResize (devices : List Declared) (resize : Resized) : Type 0 where
+  min : IsReserve resize.min
+  pool : IsPoolIn devices resize.pool
 
 record IsFit (known : Known) : Type 0 where
   paired : length known.rounds ≡ length known.writes
@@ -51,7 +59,7 @@ record IsFit (known : Known) : Type 0 where
   order : AllPairs (λ round later. round ≤ later) known.rounds
   past : All (λ round. round ≤ known.syncs) known.rounds
   syncs : known.syncs ≤ 1024
-  reserves : All IsFitResize known.resizes
+  reserves : All (IsFitResize known.devices) known.resizes
   few : length known.resizes ≤ 4096
 
 -- the checks by their places
@@ -64,16 +72,71 @@ some_kept known said none = finds_nothing all_checks known said 6 (check reason.
 is_top : (known : Known) (said : Item) → said_reason all_checks known (Some said) ≡ None → not_a_top known said ≡ false
 is_top known said none = finds_nothing all_checks known said 8 (check reason.NotATop not_a_top) none refl
 
+few_segments : (known : Known) (said : Item) → said_reason all_checks known (Some said) ≡ None → too_many_segments known said ≡ false
+few_segments known said none = finds_nothing all_checks known said 11 (check reason.TooManySegments too_many_segments) none refl
+
+-- a pool of a device is told by the device's number
+bios_by : (number : ℕ) (does : What) (pool : PoolId) → bios_of number does ≡ Some pool → Bios (record { 0 = number }) ≡ pool
+bios_by number (what.Disk sectors) pool found = absurd (none-some pool found)
+bios_by number _ pool found = same_Some (Bios (record { 0 = number })) pool found
+
+records_by : (number : ℕ) (does : What) (pool : PoolId) → records_of number does ≡ Some pool → Records (record { 0 = number }) ≡ pool
+records_by number (what.Mirror records) pool found = same_Some (Records (record { 0 = number })) pool found
+records_by number _ pool found = absurd (none-some pool found)
+
+told_by : (own : ℕ → What → Option PoolId) (of : ℕ → PoolId) → ((number : ℕ) (does : What) (pool : PoolId) → own number does ≡ Some pool → of number ≡ pool)
+    → (number : ℕ) (device : Option Declared) (pool : PoolId) → option_and_then (λ (d : Declared). own number d.what) device ≡ Some pool → of number ≡ pool
+told_by own of by number None pool found = absurd (none-some pool found)
+told_by own of by number (Some device) pool found = by number device.what pool found
+
+bios_in : (devices : List Declared) (number : ℕ) (pool : PoolId) → pool_if bios_of devices number ≡ Some pool → IsPoolIn devices pool
+bios_in devices number pool found =
+    let is = told_by bios_of (λ n. Bios (record { 0 = n })) bios_by number (slice_get devices number) pool found in
+    subst (IsPoolIn devices) is (found ∙ ap Some (sym is))
+
+records_in : (devices : List Declared) (number : ℕ) (pool : PoolId) → pool_if records_of devices number ≡ Some pool → IsPoolIn devices pool
+records_in devices number pool found =
+    let is = told_by records_of (λ n. Records (record { 0 = n })) records_by number (slice_get devices number) pool found in
+    subst (IsPoolIn devices) is (found ∙ ap Some (sym is))
+
+-- a pool with a name is one of those that there are
+some_of : {A : Type 0} (one other : Option A) (x : A) → option_or one other ≡ Some x → (one ≡ Some x) ⊎ (other ≡ Some x)
+some_of None other x found = inr found
+some_of (Some y) other x found = inl found
+
+in_device : (devices : List Declared) (own : ℕ → What → Option PoolId)
+    → ((number : ℕ) (pool : PoolId) → pool_if own devices number ≡ Some pool → IsPoolIn devices pool)
+    → (at : Option ℕ) (pool : PoolId) → option_and_then (pool_if own devices) at ≡ Some pool → IsPoolIn devices pool
+in_device devices own each None pool found = absurd (none-some pool found)
+in_device devices own each (Some number) pool found = each number pool found
+
+named_in : (devices : List Declared) (bios vecs : Bool) (of_set of_mirror : Option ℕ) (pool : PoolId)
+    → cond bios (Some FsBios) (cond vecs (Some FsVecs) (option_or (option_and_then (pool_if bios_of devices) of_set) (option_and_then (pool_if records_of devices) of_mirror))) ≡ Some pool
+    → IsPoolIn devices pool
+named_in devices true vecs of_set of_mirror pool found = subst (IsPoolIn devices) (same_Some FsBios pool found) tt
+named_in devices false true of_set of_mirror pool found = subst (IsPoolIn devices) (same_Some FsVecs pool found) tt
+named_in devices false false of_set of_mirror pool found =
+    elim (some_of (option_and_then (pool_if bios_of devices) of_set) (option_and_then (pool_if records_of devices) of_mirror) pool found) [
+      | inl set ↦ in_device devices bios_of (bios_in devices) of_set pool set
+      | inr mirror ↦ in_device devices records_of (records_in devices) of_mirror pool mirror
+    ]
+
+pool_in : (devices : List Declared) (word : List ℕ) (pool : PoolId) → pool_of devices word ≡ Some pool → IsPoolIn devices pool
+unfolding pool_of
+pool_in devices word pool found =
+    named_in devices (bytes_eq word (codes "fs.bios")) (bytes_eq word (codes "fs.vecs")) (device_before (codes ".bios") devices word)
+    (device_before (codes ".records") devices word) pool found
+
 -- one more reserve
 more_reserves : (known : Known) (pool : List ℕ) (min : ℕ) → IsFit known → IsReserve min → length known.resizes < 4096
-    → All IsFitResize (after_line known (Some (item.Resize pool min))).resizes × (length (after_line known (Some (item.Resize pool min))).resizes ≤ 4096)
-more_reserves known pool min fit one few = by_pool (pool_of known.devices pool)
+    → All (IsFitResize known.devices) (after_line known (Some (item.Resize pool min))).resizes × (length (after_line known (Some (item.Resize pool min))).resizes ≤ 4096)
+more_reserves known pool min fit one few = by_pool (pool_of known.devices pool) (pool_in known.devices pool)
   where
-    by_pool : (p : Option _) → All IsFitResize (known.resizes ++ option_to_list (option_map (λ p. record { round = known.syncs; pool = p; min = min }) p))
+    by_pool : (p : Option PoolId) → ((q : PoolId) → p ≡ Some q → IsPoolIn known.devices q) → All (IsFitResize known.devices) (known.resizes ++ option_to_list (option_map (λ p. record { round = known.syncs; pool = p; min = min }) p))
         × (length (known.resizes ++ option_to_list (option_map (λ p. record { round = known.syncs; pool = p; min = min }) p)) ≤ 4096)
-    by_pool None = rw (append-nil known.resizes) (fit.reserves, omega (arith, few))
-    by_pool (Some p) = (
-      All-push IsFitResize known.resizes (record { round = known.syncs; pool = p; min = min }) fit.reserves one,
+    by_pool None is = rw (append-nil known.resizes) (fit.reserves, omega (arith, few))
+    by_pool (Some p) is = (
+      All-push (IsFitResize known.devices) known.resizes (record { round = known.syncs; pool = p; min = min }) fit.reserves (record { min = one; pool = is p refl }),
       let r : Resized = record { round = known.syncs; pool = p; min = min } in omega (arith, few, length_push known.resizes r),
     )
 
@@ -85,7 +148,7 @@ after_fit known (Some (item.Write task dev range tag)) works none fit =
     let write : Written = record { task = task; dev = number_in known.devices dev; start = range.start; count = range.len; tag = tag } in
     record {
       paired = omega (arith, fit.paired, length_push known.rounds known.syncs, length_push known.writes write);
-      writes = All-push (IsFitWrite known.devices) known.writes write fit.writes (record { task = works.0; top = is_top known said none });
+      writes = All-push (IsFitWrite known.devices) known.writes write fit.writes (record { task = works.0; top = is_top known said none; segments = ltb-false 2048 range.len (few_segments known said none) });
       order = all_pairs_push (λ round later. round ≤ later) known.rounds known.syncs fit.order (λ k d lt. fit.past k d lt);
       past = All-push (λ round. round ≤ known.syncs) known.rounds known.syncs fit.past (omega arith);
       syncs = fit.syncs;
@@ -139,7 +202,7 @@ nothing_fits stack = record {
   order = λ i j d lt within. absurd (omega (arith, within));
   past = All-nil (λ round. round ≤ 0);
   syncs = omega arith;
-  reserves = All-nil IsFitResize;
+  reserves = All-nil (IsFitResize (known_of stack).devices);
   few = omega arith;
 }
 
@@ -203,6 +266,8 @@ work_is_fit text accepted work begins (none, is) =
     let known = known_after (known_of stack) lines in
     let fit = lines_fit (known_of stack) accepted.line lines (λ front. begins) none (nothing_fits stack) in
     let devices : known.devices ≡ shown_devices stack = lines_devices (known_of stack) accepted.line lines (λ front. begins) none refl in
+    let resizes : All (λ resize. IsFitResize known.devices (resized resize)) work.resizes.items = unmapped (IsFitResize known.devices) resized work.resizes.items
+    (subst (All (IsFitResize known.devices)) (sym is.resizes) (All-filter (λ (r : Resized). nat_le r.round (last_round known.rounds)) (IsFitResize known.devices) known.resizes fit.reserves)) in
     let writes : All (λ write. IsFitWrite known.devices (written write)) work.writes.items = unmapped (IsFitWrite known.devices) written work.writes.items (subst (All (IsFitWrite known.devices)) (sym is.writes) fit.writes) in
     record {
       writers = All-weaker (λ write. IsFitWrite known.devices (written write)) (λ write. write.task ≤ 7) (λ write one. one.task) work.writes.items writes;
@@ -216,11 +281,13 @@ work_is_fit text accepted work begins (none, is) =
             (shown_at is.writes i a found) (shown_at is.writes j b other)
             (ap (λ rs. get_or rs i 0) (sym is.rounds) ∙ round ∙ ap (λ rs. get_or rs j 0) is.rounds));
       };
-      reserves = unmapped IsFitResize resized work.resizes.items
-          (subst (All IsFitResize) (sym is.resizes) (All-filter (λ (r : Resized). nat_le r.round (last_round known.rounds)) IsFitResize known.resizes fit.reserves));
+      reserves = All-weaker (λ resize. IsFitResize known.devices (resized resize)) (λ resize. IsReserve resize.min) (λ resize one. one.min) work.resizes.items resizes;
       last = last_few work.rounds.items (subst (All (λ round. round ≤ 1024)) (sym is.rounds)
           (All-weaker (λ round. round ≤ known.syncs) (λ round. round ≤ 1024) (λ round le. omega (arith, le, fit.syncs)) known.rounds fit.past));
       few = omega (arith, length-map work.resizes.items resized, ap length is.resizes, kept_few (last_round known.rounds) known.resizes, fit.few);
+      segments = All-weaker (λ write. IsFitWrite known.devices (written write)) (λ write. write.count ≤ 2048) (λ write one. one.segments) work.writes.items writes;
+      pools = All-weaker (λ resize. IsFitResize known.devices (resized resize)) (λ resize. IsPoolIn (shown_devices stack) resize.pool)
+          (λ resize one. subst (λ ds. IsPoolIn ds resize.pool) devices one.pool) work.resizes.items resizes;
     }
   where
     shown_at : {known : List Written} → map written work.writes.items ≡ known → (i : ℕ) (write : Write) → slice_get work.writes.items i ≡ Some write → slice_get known i ≡ Some (written write)

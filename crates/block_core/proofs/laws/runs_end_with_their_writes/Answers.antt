@@ -1,0 +1,6 @@
+use Rattle.block_core.proofs.Ending.{runs_end_with_their_writes}
+use Rattle.block_core.proofs.laws.runs_end_with_their_writes.Goals as goal
+
+-- src/laws.rt
+pub returns : goal.returns
+returns c = runs_end_with_their_writes

@@ -1,0 +1,19 @@
+-- Where a run ends, and that the rounds are there which its keeper starts.
+use Rattle.std.specs.Prelude.{◌≡◌, ◌+◌, ◌<◌, ℕ, List, ◌∷◌, length}
+use Rattle.elem_ledger.specs.Ledger.{LedgerId}
+use Rattle.task_core.specs.declared.event.Event.{Event}
+use Rattle.task_core.specs.Opened.{Scenario, scene, start}
+use Rattle.task_core.specs.Runs.{State, IsRun, unfinished, HasEnded}
+use Rattle.task_core.specs.Tasks.{Keeper, Keeps, Starts, Duty}
+use Rattle.block_core.specs.Sound.{IsScenario, IsNaming, HasReserves, AreInOrder}
+
+-- once no write is unfinished, the run has ended: each element is at home
+abbrev pub RunsEndWithTheirWrites : Type 0
+RunsEndWithTheirWrites = (s : Scenario) (ledger : ℕ → LedgerId) (events : List Event) (state : State) → IsScenario s → IsNaming ledger
+    → IsRun (scene s ledger) (start s) events state → unfinished state ≡ 0 → HasEnded state
+
+-- where the keeper is to start a round next, there is one behind the present one: where each pool keeps an element and the rounds go up
+abbrev pub StartedRoundsAreThere : Type 0
+StartedRoundsAreThere = (s : Scenario) (ledger : ℕ → LedgerId) (events : List Event) (state : State) → IsScenario s → HasReserves s → AreInOrder s.rounds
+    → IsNaming ledger → IsRun (scene s ledger) (start s) events state → (place round later : ℕ) (duties : List Duty)
+    → state.task place ≡ Keeper (Keeps (Starts round later ∷ duties)) → state.objects.tally.round + 1 < length state.objects.tally.left

@@ -1,0 +1,411 @@
+-- Steps over the objects of one thread are events of the machine, or nothing.
+use Rattle.std.proofs.Common.{◌≡◌, ◌⊎◌, ◌<◌, ◌==◌, if◌then◌else◌, ℕ, Bool, true, false, true≢false, List, [], ◌∷◌, Option, None, Some, inl, inr, refl, sym, ap, ◌∙◌, subst, arith}
+use Rattle.std.specs.Prelude.{IsTrue, sum}
+use Rattle.elem_ledger.specs.Ledger.{LedgerId}
+use Rattle.fail_script.specs.Script.{only_tail}
+use Rattle.stack_base.specs.PoolId.{pool_number}
+use Rattle.stack_base.specs.declared.ids.PoolId.TheVariants.{FsVecs, Records}
+use Rattle.mempool_core.specs.Move.{opened}
+use Rattle.bioset_pools.specs.Sets.{bios_of}
+use Rattle.bio_books.specs.Drops as end
+use Rattle.bio_books.specs.Links.{NoRoom, Stray}
+use Rattle.task_core.specs.declared.event.Breach.{Breach}
+use Rattle.task_core.specs.declared.event.Event.{Event}
+use Rattle.task_core.specs.declared.event.TaskId.{TaskId}
+use Rattle.task_core.specs.declared.event.What.{What}
+use Rattle.task_core.specs.declared.plain.Plain.{Plain}
+use Rattle.task_core.specs.declared.step.Step.{Step}
+use Rattle.task_core.specs.declared.step.Step.TheVariants.{Stepped, Waiting, Ended}
+use Rattle.task_core.specs.Maps.{upd}
+use Rattle.task_core.specs.Scene.{Setup}
+use Rattle.task_core.specs.Lines.{Doing, Rests, Drives, Copies, Breaks}
+use Rattle.task_core.specs.Requests as requests
+use Rattle.task_core.specs.Requests.{Request, Reply}
+use Rattle.task_core.specs.Tasks.{TaskState, Writer, Rescuer, Completer, Keeper, Keeps, Stops, Todo, Taken, NoBio, HasBio, HasBoth, request, writer_look, look_of, lets, answered}
+use Rattle.task_core.specs.Objects.{Objects, Serves, clear_bio, clear_vector, clear_slip}
+use Rattle.task_core.specs.Events.{id_of, what_of}
+use Rattle.task_core.specs.Runs.{IsLet, Steps}
+use Rattle.task_core.specs.Plains.{objects_of, stage_of, Tells, StaysLast}
+use Rattle.task_core.specs.PlainSteps.{state_of, scene_of, HasRound, IsStill, IsPassedOver, StepsAreEvents}
+use Rattle.task_core.specs.Routed.{setup}
+use Rattle.task_core.specs.Stage.{Stage, Owes}
+use Rattle.task_core.specs.Turns.{silent_step, step_by, step_of, resting_step, breach_of, idle_step, Follows, Asks, Acts, ActsIf, TurnsBy}
+use Rattle.task_core.proofs.Idle.{IsFair, fair_task, task_stays, quiet, passed}
+use Rattle.task_core.proofs.Turned.{acts}
+
+-- what a task looks at
+abbrev IsLook : Request → Type 0
+IsLook requests.LookRound = Unit {0}
+IsLook requests.LookLeft = Unit {0}
+IsLook request = ⊥
+
+none_is : {A : Type 0} (x : A) → None ≡ Some x → ⊥
+none_is x e = cc
+
+look_at : (look : Request) (b : Request) → Some b ≡ Some look → IsLook b → IsLook look
+look_at look b e is = subst IsLook (same e) is
+  where
+    same : Some b ≡ Some look → b ≡ look
+    same e = cc
+
+writer_looks : (todos : List Todo) (taken : Taken) (doing : Doing) (look : Request) → writer_look todos taken doing ≡ Some look → IsLook look
+writer_looks (todo ∷ later) NoBio Rests look e = look_at look requests.LookRound e tt
+writer_looks (todo ∷ later) NoBio (Drives bio ask) look e = absurd (none_is look e)
+writer_looks (todo ∷ later) NoBio (Copies bio master leg want) look e = absurd (none_is look e)
+writer_looks (todo ∷ later) NoBio (Breaks breach) look e = absurd (none_is look e)
+writer_looks (todo ∷ later) (HasBio bio) doing look e = absurd (none_is look e)
+writer_looks (todo ∷ later) (HasBoth bio vector) doing look e = absurd (none_is look e)
+writer_looks [] taken doing look e = absurd (none_is look e)
+
+task_looks : (task : TaskState) (look : Request) → look_of task ≡ Some look → IsLook look
+task_looks (Writer number todos taken line) look e = writer_looks todos taken line.doing look e
+task_looks (Rescuer dev line) look e = absurd (none_is look e)
+task_looks (Completer disk carried) look e = absurd (none_is look e)
+task_looks (Keeper (Keeps (duty ∷ duties))) look e = look_at look requests.LookLeft e tt
+task_looks (Keeper (Keeps [])) look e = absurd (none_is look e)
+task_looks (Keeper (Stops breach)) look e = absurd (none_is look e)
+
+-- what it sees there, and that looks change nothing
+abbrev shown : Objects → Request → Reply
+shown objects requests.LookRound = requests.Present objects.tally.round
+shown objects requests.LookLeft = requests.LeftOver (sum objects.tally.left)
+shown objects request = requests.Nothing
+
+module _ (ledger : ℕ → LedgerId) (old new : Objects) where
+  looked_round : (seen : Reply) → Serves ledger old requests.LookRound seen new → (new ≡ old) × (seen ≡ shown old requests.LookRound)
+  looked_round (requests.Present round) serves = (serves.1, ap requests.Present serves.0)
+  looked_round _ serves = absurd serves
+
+  looked_left : (seen : Reply) → Serves ledger old requests.LookLeft seen new → (new ≡ old) × (seen ≡ shown old requests.LookLeft)
+  looked_left (requests.LeftOver count) serves = (serves.1, ap requests.LeftOver serves.0)
+  looked_left _ serves = absurd serves
+
+  looked : (look : Request) (seen : Reply) → IsLook look → Serves ledger old look seen new → (new ≡ old) × (seen ≡ shown old look)
+  looked requests.LookRound seen is serves = looked_round seen serves
+  looked requests.LookLeft seen is serves = looked_left seen serves
+  looked _ seen is serves = absurd is
+
+-- what these objects tell, the machine has, where a round that is asked for is there
+round_is_there : (old new : Objects) (request : Request) (reply : Reply) → HasRound old request → StaysLast old request reply new → ⊥
+round_is_there old new (requests.NextRound round) requests.Did there last = absurd (omega (arith, there, last.0))
+round_is_there old new (requests.NextRound round) _ there last = absurd last
+round_is_there old new _ reply there last = absurd last
+
+pub told_serves : (old new : Plain) (request : Request) (reply : Reply) → HasRound (objects_of old) request → Tells old request reply new
+    → Serves (stage_of old).ledger (objects_of old) request reply (objects_of new)
+told_serves old new request reply there (inl serves) = serves
+told_serves old new request reply there (inr last) = absurd (round_is_there (objects_of old) (objects_of new) request reply there last)
+
+-- and where the reply is not told of, there is no round
+untold_is : (old new : Objects) (request : Request) (reply : Reply) → what_of request reply ≡ None → StaysLast old request reply new → ⊥
+untold_is old new (requests.NextRound round) requests.Did untold last = none_is _ (sym untold)
+untold_is old new (requests.NextRound round) _ untold last = absurd last
+untold_is old new _ reply untold last = absurd last
+
+untold_serves : (old new : Plain) (request : Request) (reply : Reply) → what_of request reply ≡ None → Tells old request reply new
+    → Serves (stage_of old).ledger (objects_of old) request reply (objects_of new)
+untold_serves old new request reply untold (inl serves) = serves
+untold_serves old new request reply untold (inr last) = absurd (untold_is (objects_of old) (objects_of new) request reply untold last)
+
+left_stays : (middle new : Plain) (left : ℕ) → Tells middle requests.LookLeft (requests.LeftOver left) new → objects_of new ≡ objects_of middle
+left_stays middle new left told =
+    (looked (stage_of middle).ledger (objects_of middle) (objects_of new) requests.LookLeft (requests.LeftOver left) tt
+    (told_serves middle new requests.LookLeft (requests.LeftOver left) tt told)).0
+
+looks_any : (objects : Objects) (look : Request) → IsLook look → HasRound objects look
+looks_any objects requests.LookRound is = tt
+looks_any objects requests.LookLeft is = tt
+looks_any objects _ is = absurd is
+
+-- what is owed is of the ledgers that it is owed of
+module _ (stage : Stage) (ledger : ℕ → LedgerId) (old new : Objects) where
+  of_ledgers : (request : Request) (reply : Reply) → Owes stage request reply → Serves ledger old request reply new
+      → Serves stage.ledger old request reply new
+  of_ledgers (requests.TakeBio set waits) (requests.HadBio got bio) owed serves =
+      let n = pool_number (bios_of set) in
+      let same : ledger n ≡ stage.ledger n = sym (ap (λ b. b.share) serves.1) ∙ owed.home.ledger ∙ ap stage.ledger owed.numbered in
+      (serves.0, serves.1 ∙ ap clear_bio same)
+  of_ledgers (requests.TakeBio set waits) (requests.Missed used) owed serves = serves
+  of_ledgers (requests.TakeBio set waits) _ owed serves = absurd serves
+  of_ledgers requests.TakeVec (requests.HadVec got vector) owed serves =
+      let n = pool_number FsVecs in
+      let same : ledger n ≡ stage.ledger n = sym (ap (λ v. v.share) serves.1) ∙ owed.home.ledger ∙ ap stage.ledger owed.numbered in
+      (serves.0, serves.1 ∙ ap clear_vector same)
+  of_ledgers requests.TakeVec (requests.Missed used) owed serves = serves
+  of_ledgers requests.TakeVec _ owed serves = absurd serves
+  of_ledgers (requests.TakeSlip dev) (requests.HadSlip got slip) owed serves =
+      let n = pool_number (Records dev) in
+      let same : ledger n ≡ stage.ledger n = sym (ap (λ s. s.share) serves.1) ∙ owed.home.ledger ∙ ap stage.ledger owed.numbered in
+      (serves.0, serves.1 ∙ ap clear_slip same)
+  of_ledgers (requests.TakeSlip dev) (requests.Missed used) owed serves = serves
+  of_ledgers (requests.TakeSlip dev) _ owed serves = absurd serves
+  of_ledgers (requests.GiveBio bio) requests.Did owed serves = serves
+  of_ledgers (requests.GiveBio bio) _ owed serves = absurd serves
+  of_ledgers (requests.GiveVec vector) requests.Did owed serves = serves
+  of_ledgers (requests.GiveVec vector) _ owed serves = absurd serves
+  of_ledgers (requests.GiveSlip slip) requests.Did owed serves = serves
+  of_ledgers (requests.GiveSlip slip) _ owed serves = absurd serves
+  of_ledgers (requests.Punt dev moved) requests.Did owed serves = serves
+  of_ledgers (requests.Punt dev moved) _ owed serves = absurd serves
+  of_ledgers (requests.Pop dev) (requests.Popped bio) owed serves = serves
+  of_ledgers (requests.Pop dev) requests.Nothing owed serves = serves
+  of_ledgers (requests.Pop dev) _ owed serves = absurd serves
+  of_ledgers (requests.Push bio) requests.Did owed serves = serves
+  of_ledgers (requests.Push bio) _ owed serves = absurd serves
+  of_ledgers (requests.Complete disk) (requests.Completed index bio status) owed serves = serves
+  of_ledgers (requests.Complete disk) requests.Nothing owed serves = serves
+  of_ledgers (requests.Complete disk) _ owed serves = absurd serves
+  of_ledgers (requests.Link writer opening) (requests.LinkedTo answer) owed serves = serves
+  of_ledgers (requests.Link writer opening) _ owed serves = absurd serves
+  of_ledgers (requests.Drop writer node status part) (requests.DroppedTo ended) owed serves = serves
+  of_ledgers (requests.Drop writer node status part) _ owed serves = absurd serves
+  of_ledgers (requests.Done write status) requests.Did owed serves = serves
+  of_ledgers (requests.Done write status) _ owed serves = absurd serves
+  of_ledgers (requests.Resize pool min) (requests.OutIs out) owed serves = serves
+  of_ledgers (requests.Resize pool min) _ owed serves = absurd serves
+  of_ledgers (requests.NextRound round) requests.Did owed serves = serves
+  of_ledgers (requests.NextRound round) _ owed serves = absurd serves
+  of_ledgers requests.LookRound (requests.Present round) owed serves = serves
+  of_ledgers requests.LookRound _ owed serves = absurd serves
+  of_ledgers requests.LookLeft (requests.LeftOver count) owed serves = serves
+  of_ledgers requests.LookLeft _ owed serves = absurd serves
+  of_ledgers requests.Rest reply owed serves = absurd serves
+
+-- what follows a reply
+module _ {S : Type 0} (serves : S → Request → Reply → S → Type 0) (setup : Setup) (task : TaskId) (asked : Request) (middle new : S) (step : Step) where
+  abbrev FoundNothing : Reply → Type 0
+  FoundNothing reply = (reply ≡ requests.Nothing) × ((left : ℕ) × serves middle requests.LookLeft (requests.LeftOver left) new × (step ≡ idle_step left))
+
+  pub followed : (reply : Reply) → Follows serves setup task asked reply middle new step
+      → ((new ≡ middle) × (step ≡ step_of setup task asked reply)) ⊎ FoundNothing reply
+  followed requests.Nothing follows = inr (refl, follows)
+  followed (requests.HadBio got bio) follows = inl follows
+  followed (requests.HadVec got vector) follows = inl follows
+  followed (requests.HadSlip got slip) follows = inl follows
+  followed (requests.Missed used) follows = inl follows
+  followed requests.Did follows = inl follows
+  followed (requests.Popped bio) follows = inl follows
+  followed (requests.Completed index bio status) follows = inl follows
+  followed (requests.LinkedTo answer) follows = inl follows
+  followed (requests.DroppedTo ended) follows = inl follows
+  followed (requests.OutIs out) follows = inl follows
+  followed (requests.Present round) follows = inl follows
+  followed (requests.LeftOver count) follows = inl follows
+  followed requests.Spent follows = inl follows
+
+-- which steps are events
+abbrev is_event : Step → Bool
+is_event (Stepped event) = true
+is_event step = false
+
+silent_is_none : (setup : Setup) (request : Request) (reply : Reply) → is_event (silent_step setup request reply) ≡ false
+silent_is_none setup request requests.Spent = refl
+silent_is_none setup (requests.TakeBio set waits) (requests.Missed used) = refl
+silent_is_none setup requests.TakeVec (requests.Missed used) = refl
+silent_is_none setup (requests.TakeSlip dev) (requests.Missed used) = refl
+silent_is_none setup (requests.Link writer opening) (requests.LinkedTo (NoRoom back)) = refl
+silent_is_none setup (requests.Link writer opening) (requests.LinkedTo (Stray back)) = refl
+silent_is_none setup (requests.Drop writer node status part) (requests.DroppedTo (end.Stray back)) = refl
+silent_is_none setup (requests.Resize pool min) (requests.OutIs out) = refl
+silent_is_none setup request reply = refl
+
+rest_is_none : (breach : Option Breach) → is_event (resting_step breach) ≡ false
+rest_is_none None = refl
+rest_is_none (Some breach) = refl
+
+idle_is_none : (none : Bool) → is_event (if none then Ended else Waiting) ≡ false
+idle_is_none true = refl
+idle_is_none false = refl
+
+no_event : {X : Type 0} (event : Event) (step : Step) → Stepped event ≡ step → is_event step ≡ false → X
+no_event event step e none = absurd (true≢false (ap is_event e ∙ none))
+
+-- a step that is told is told of the reply
+record IsTold (task : TaskId) (told : Option What) (event : Event) : Type 0 where
+  by : event.task ≡ task
+  what : told ≡ Some event.what
+
+told_by : (task : TaskId) (told : Option What) (silent : Step) (event : Event) → is_event silent ≡ false → Stepped event ≡ step_by task told silent
+    → IsTold task told event
+told_by task (Some what) silent event none e =
+    let same : event ≡ record { task = task; what = what } = stepped_same event (record { task = task; what = what }) e in
+    record { by = ap (λ (e : Event). e.task) same; what = ap (λ (e : Event). Some e.what) (sym same) }
+  where
+    stepped_same : (one other : Event) → Stepped one ≡ Stepped other → one ≡ other
+    stepped_same one other e = cc
+told_by task None silent event none e = no_event event silent e none
+
+-- and one that is not told is of a reply that is not
+still_untold : (task : TaskId) (told : Option What) (silent step : Step) → IsStill step → step ≡ step_by task told silent → (told ≡ None) × IsStill silent
+still_untold task (Some what) silent step still e = absurd (subst IsStill e still)
+still_untold task None silent step still e = (refl, subst IsStill e still)
+
+rest_untold : (reply : Reply) (what : What) → what_of requests.Rest reply ≡ Some what → ⊥
+rest_untold reply what e = none_is what e
+
+nothing_untold : (asked : Request) → what_of asked requests.Nothing ≡ None
+nothing_untold (requests.TakeBio set waits) = refl
+nothing_untold _ = refl
+
+nothing_is_still : (setup : Setup) (asked : Request) → IsStill (silent_step setup asked requests.Nothing)
+nothing_is_still setup (requests.TakeBio set waits) = tt
+nothing_is_still setup _ = tt
+
+-- objects of which nothing is out
+abbrev calm : Objects → Objects
+calm objects = record objects { pool = λ number. opened 0 (only_tail true) }
+
+module _ (old new : Plain) (tasks : ℕ → TaskState) (count place : ℕ) (next : TaskState) where
+  abbrev stage : Stage
+  stage = stage_of old
+
+  abbrev task : TaskState
+  task = tasks place
+
+  abbrev asked : Request
+  asked = request (setup stage.routing) task
+
+  -- what was replied is what the machine has of the objects as they were
+  pub served : (between middle : Plain) → objects_of between ≡ objects_of old → (reply : Reply)
+      → Serves (stage_of between).ledger (objects_of between) asked reply (objects_of middle) → Owes stage asked reply
+      → Serves stage.ledger (objects_of old) asked reply (objects_of middle)
+  served between middle same reply serves owed =
+      subst (λ o. Serves stage.ledger o asked reply (objects_of middle)) same
+      (of_ledgers stage (stage_of between).ledger (objects_of between) (objects_of middle) asked reply owed serves)
+
+  -- a task that may ask, and is told of
+  asks_stepped : place < count → (event : Event) (between : Plain) → objects_of between ≡ objects_of old → HasRound (objects_of old) asked
+      → IsLet stage.ledger (objects_of old) task (look_of task) → Acts Tells (Owes stage) (setup stage.routing) task between next new (Stepped event)
+      → Steps (scene_of old count) (state_of old tasks) place event (state_of new (upd tasks place next))
+  asks_stepped here event between same there lets is =
+      elim (acts Tells (Owes stage) (setup stage.routing) asked task between next new (Stepped event) is) [
+        | inl rests ↦ no_event event (resting_step (breach_of task)) rests.1.2 (rest_is_none (breach_of task))
+        | inr asks ↦ by_reply asks
+      ]
+    where
+      by_reply : Asks Tells (Owes stage) (setup stage.routing) asked task between next new (Stepped event)
+          → Steps (scene_of old count) (state_of old tasks) place event (state_of new (upd tasks place next))
+      by_reply asks =
+          elim (followed Tells (setup stage.routing) (id_of task) asked asks.middle new (Stepped event) asks.reply asks.follows) [
+            | inl told ↦
+                let is_told = told_by (id_of task) (what_of asked asks.reply) (silent_step (setup stage.routing) asked asks.reply) event
+                (silent_is_none (setup stage.routing) asked asks.reply) told.1 in
+                record {
+                  here = here;
+                  by = is_told.by;
+                  is_let = lets;
+                  reply = asks.reply;
+                  told = is_told.what;
+                  serves = subst (λ (o : Plain). Serves stage.ledger (objects_of old) asked asks.reply (objects_of o)) (sym told.0)
+                      (served between asks.middle same asks.reply
+                      (told_serves between asks.middle asked asks.reply (subst (λ o. HasRound o asked) (sym same) there) asks.replied) asks.owed);
+                  goes_on = ap (upd tasks place) asks.goes_on;
+                }
+            | inr nothing ↦ no_event event (idle_step nothing.1.0) nothing.1.2 (idle_is_none (nothing.1.0 == 0))
+          ]
+
+  abbrev IsUnchanged : Type 0
+  IsUnchanged = (objects_of new ≡ objects_of old) × (next ≡ task) × IsPassedOver (scene_of old count) (state_of old tasks) place
+
+  -- a task that may ask, and nothing has happened
+  asks_still : (step : Step) → IsStill step → (between : Plain) → objects_of between ≡ objects_of old
+      → Acts Tells (Owes stage) (setup stage.routing) task between next new step → IsUnchanged
+  asks_still step still between same is =
+      elim (acts Tells (Owes stage) (setup stage.routing) asked task between next new step is) [
+        | inl rests ↦ (
+          ap objects_of rests.1.1 ∙ same,
+          rests.1.0,
+          λ event other steps. absurd (rest_untold steps.reply event.what (subst (λ r. what_of r steps.reply ≡ Some event.what) rests.0 steps.told)),
+        )
+        | inr asks ↦ by_reply asks
+      ]
+    where
+      fair : IsFair (calm (objects_of old)) asked
+      fair = fair_task (setup stage.routing) (calm (objects_of old)) task (λ pool min later duties e. refl)
+
+      -- a reply that is not told of
+      by_quiet : (middle : Plain) (reply : Reply) → Serves stage.ledger (objects_of old) asked reply (objects_of middle) → what_of asked reply ≡ None
+          → IsStill (silent_step (setup stage.routing) asked reply) → next ≡ answered (setup stage.routing) task reply → objects_of new ≡ objects_of middle
+          → IsUnchanged
+      by_quiet middle reply serves untold silent goes_on stays =
+          let found = quiet stage.ledger (setup stage.routing) (calm (objects_of old)) (objects_of old) (objects_of middle) asked reply fair serves untold silent in (
+            stays ∙ found.1,
+            goes_on ∙ task_stays (setup stage.routing) task reply found.0,
+            λ event other steps.
+                passed stage.ledger (objects_of old) (objects_of middle) other.objects asked reply steps.reply event.what found.0 untold serves steps.serves steps.told,
+          )
+
+      answers : (asks : Asks Tells (Owes stage) (setup stage.routing) asked task between next new step) → what_of asked asks.reply ≡ None
+          → Serves stage.ledger (objects_of old) asked asks.reply (objects_of asks.middle)
+      answers asks untold = served between asks.middle same asks.reply (untold_serves between asks.middle asked asks.reply untold asks.replied) asks.owed
+
+      by_reply : Asks Tells (Owes stage) (setup stage.routing) asked task between next new step → IsUnchanged
+      by_reply asks =
+          elim (followed Tells (setup stage.routing) (id_of task) asked asks.middle new step asks.reply asks.follows) [
+            | inl told ↦
+                let is = still_untold (id_of task) (what_of asked asks.reply) (silent_step (setup stage.routing) asked asks.reply) step still told.1 in
+                by_quiet asks.middle asks.reply (answers asks is.0) is.0 is.1 asks.goes_on (ap objects_of told.0)
+            | inr nothing ↦
+                let untold : what_of asked asks.reply ≡ None = subst (λ r. what_of asked r ≡ None) (sym nothing.0) (nothing_untold asked) in
+                by_quiet asks.middle asks.reply (answers asks untold) untold
+                (subst (λ r. IsStill (silent_step (setup stage.routing) asked r)) (sym nothing.0) (nothing_is_still (setup stage.routing) asked))
+                asks.goes_on (left_stays asks.middle new nothing.1.0 nothing.1.1)
+          ]
+
+  -- what a task saw
+  module _ (look : Request) (e : look_of task ≡ Some look) (seen : Reply) (between : Plain) (saw : Tells old look seen between) where
+    sees : Serves stage.ledger (objects_of old) look seen (objects_of between)
+    sees = told_serves old between look seen (looks_any (objects_of old) look (task_looks task look e)) saw
+
+    pub has_seen : (objects_of between ≡ objects_of old) × (seen ≡ shown (objects_of old) look)
+    has_seen = looked stage.ledger (objects_of old) (objects_of between) look seen (task_looks task look e) sees
+
+    pub lets_ask : lets task seen ≡ true → IsLet stage.ledger (objects_of old) task (look_of task)
+    lets_ask is =
+        subst (IsLet stage.ledger (objects_of old) task) (sym e)
+        (seen, subst (Serves stage.ledger (objects_of old) look seen) has_seen.0 sees, is)
+
+    let_once : lets task seen ≡ false → IsLet stage.ledger (objects_of old) task (look_of task) → ⊥
+    let_once not is = not_both (subst (IsLet stage.ledger (objects_of old) task) e is)
+      where
+        not_true : (b : Bool) → b ≡ false → IsTrue b → ⊥
+        not_true b none is = true≢false (sym is ∙ none)
+
+        not_both : IsLet stage.ledger (objects_of old) task (Some look) → ⊥
+        not_both (other, serves, asks) =
+            let again = looked stage.ledger (objects_of old) (objects_of old) look other (task_looks task look e) serves in
+            not_true (lets task other) (ap (lets task) (again.1 ∙ sym has_seen.1) ∙ not) asks
+
+    stepped_if : (b : Bool) → lets task seen ≡ b → place < count → HasRound (objects_of old) asked → (event : Event)
+        → ActsIf b Tells (Owes stage) (setup stage.routing) task between next new (Stepped event)
+        → Steps (scene_of old count) (state_of old tasks) place event (state_of new (upd tasks place next))
+    stepped_if true q here there event is = asks_stepped here event between has_seen.0 there (lets_ask q) is
+    stepped_if false q here there event is = no_event event Waiting is.2 refl
+
+    still_if : (b : Bool) → lets task seen ≡ b → (step : Step) → IsStill step → ActsIf b Tells (Owes stage) (setup stage.routing) task between next new step
+        → IsUnchanged
+    still_if true q step still is = asks_still step still between has_seen.0 is
+    still_if false q step still is = (
+      ap objects_of is.1 ∙ has_seen.0,
+      is.0,
+      λ event other steps. absurd (let_once q steps.is_let),
+    )
+
+  stepped_by : (o : Option Request) → look_of task ≡ o → place < count → HasRound (objects_of old) asked → (event : Event)
+      → TurnsBy o Tells (Owes stage) (setup stage.routing) task old next new (Stepped event)
+      → Steps (scene_of old count) (state_of old tasks) place event (state_of new (upd tasks place next))
+  stepped_by None e here there event is =
+      asks_stepped here event old refl there (subst (IsLet stage.ledger (objects_of old) task) (sym e) tt) is
+  stepped_by (Some look) e here there event (seen, between, saw, is) = stepped_if look e seen between saw (lets task seen) refl here there event is
+
+  still_by : (o : Option Request) → look_of task ≡ o → (step : Step) → IsStill step
+      → TurnsBy o Tells (Owes stage) (setup stage.routing) task old next new step → IsUnchanged
+  still_by None e step still is = asks_still step still old refl is
+  still_by (Some look) e step still (seen, between, saw, is) = still_if look e seen between saw (lets task seen) refl step still is
+
+pub steps_are_events : StepsAreEvents
+steps_are_events = record {
+  stepped = λ old new tasks count place next event here there is.
+      stepped_by old new tasks count place next (look_of (tasks place)) refl here there event is;
+  still = λ old new tasks count place next step still is. still_by old new tasks count place next (look_of (tasks place)) refl step still is;
+}

@@ -1,0 +1,5 @@
+use Rattle.task_core.proofs.Begins.{opened_begins}
+use Rattle.task_core.proofs.laws.opened_begins.Goals as goal
+
+pub returns : goal.returns
+returns c = opened_begins

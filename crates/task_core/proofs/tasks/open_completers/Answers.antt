@@ -1,0 +1,12 @@
+use Rattle.task_core.specs.NewTasks.{completers_of}
+use Rattle.task_core.specs.Opened.{at}
+use Rattle.task_core.specs.Routed.{setup}
+use Rattle.task_core.specs.Scene.{is_disk}
+use Rattle.task_core.specs.Tasks.{Completer, Empty}
+use Rattle.task_core.proofs.Sharing.{adds_more, kept_split}
+use Rattle.task_core.proofs.tasks.open_completers.Goals as goal
+
+pub opening-preserved : goal.opening-preserved
+opening-preserved c =
+    adds_more (completers_of (setup c.args.routes.now)) c.opening.number c.args.kinds.now.items c.opening.kinds.items c.add_completer.new.kinds.items
+    (kept_split (λ dev. Completer (at dev) Empty) (is_disk (setup c.args.routes.now)) c.opening.number) c.opening.invariant c.in_ok-add_completer.ensures

@@ -1,0 +1,122 @@
+-- What the writes and the `resize` lines of a text are to the tasks and the tally, as these are opened.
+use Rattle.std.specs.Prelude.{◌≡◌, ◌+◌, ◌-◌, ◌^◌, ◌<◌, ◌==◌, ◌++◌, ℕ, Bool, nat_le, List, [], ◌∷◌, All, length, map, filter, fold, max, replicate, zip, sum_by, slice_index_or}
+use Rattle.std.specs.List.{range_with_len, flat_map, list_any}
+use Rattle.stack_base.specs.declared.ids.PoolId.{PoolId}
+use Rattle.stack_base.specs.declared.ids.Status.TheVariants as status
+use Rattle.stack_base.specs.declared.stack.Stack.{Stack}
+use Rattle.layout_model.specs.declared.write.Write.{Write}
+use Rattle.layout_model.specs.Needs.{nodes}
+use Rattle.layout_model.specs.Writes.{IsWrite}
+use Rattle.work_text.specs.declared.Resize.{Resize}
+use Rattle.task_core.specs.declared.task.Kind.{Kind}
+use Rattle.task_core.specs.Scene.{Setup, is_disk}
+use Rattle.task_core.specs.Routed.{Routing}
+use Rattle.task_core.specs.TaskViews.{TaskOf, task_of}
+use Rattle.task_core.specs.Lines.{rests}
+use Rattle.task_core.specs.Tasks.{Todo, NoBio, Empty, Duty, Resizes, Starts, TaskState, Writer, Rescuer, Completer}
+use Rattle.task_core.specs.Objects.{TallyState}
+use Rattle.task_core.specs.Opened.{Change, is_by, at, keepers}
+use Rattle.task_core.specs.Scenario.{change_of}
+
+-- writes, each with its round and its number, the first of which is this
+abbrev pub numbered_from : ℕ → List ℕ → List Write → List Todo
+numbered_from first rounds writes =
+    map (λ x. record { number = x.0; round = x.1.0; write = x.1.1 }) (zip (range_with_len first (length writes)) (zip rounds writes))
+
+abbrev pub numbered : List ℕ → List Write → List Todo
+numbered rounds writes = numbered_from 0 rounds writes
+
+-- those of a writer, in their order
+abbrev pub share_of : List ℕ → List Write → ℕ → List Todo
+share_of rounds writes writer = filter (is_by writer) (numbered rounds writes)
+
+-- how many nodes the writes of such a list open
+abbrev pub nodes_of : Stack → List Todo → ℕ
+nodes_of stack todos = sum_by (λ (todo : Todo). nodes stack todo.write) todos
+
+-- Writes that a stack can serve, by writers of small numbers, each with its round, which open few nodes together.
+pub record AreShared (stack : Stack) (rounds : List ℕ) (writes : List Write) : Type 0 where
+  pub served : All (IsWrite stack) writes
+  pub writers : All (λ (write : Write). write.task < 8) writes
+  pub paired : length rounds ≡ length writes
+  pub few : sum_by (λ write. nodes stack write) writes < 2 ^ 32
+
+-- the books of the first writers have as many places
+pub record ArePlaced (stack : Stack) (rounds : List ℕ) (writes : List Write) (bound : ℕ) (places : List ℕ) : Type 0 where
+  pub eight : length places ≡ 8
+  pub each : (writer : ℕ) → writer < bound → slice_index_or places writer 0 ≡ nodes_of stack (share_of rounds writes writer)
+
+-- tasks that were added to others
+abbrev pub shown : List Kind → List TaskState
+shown kinds = map task_of kinds
+
+abbrev pub Adds : List Kind → List TaskState → List Kind → Type 0
+Adds old tasks new = shown new ≡ shown old ++ tasks
+
+-- the writer of these writes, if there is one
+abbrev pub writer_with : ℕ → List Todo → List TaskState
+writer_with writer [] = []
+writer_with writer (todo ∷ todos) = Writer writer (todo ∷ todos) NoBio rests ∷ []
+
+-- tasks of some writers and devices: a writer is there for each number that a write names
+abbrev pub is_writer : List ℕ → List Write → ℕ → Bool
+is_writer rounds writes writer = list_any (is_by writer) (numbered rounds writes)
+
+abbrev pub writers_of : List ℕ → List Write → List ℕ → List TaskState
+writers_of rounds writes numbers =
+    map (λ writer. Writer writer (share_of rounds writes writer) NoBio rests) (filter (is_writer rounds writes) numbers)
+
+abbrev pub rescuers_of : Setup → List ℕ → List TaskState
+rescuers_of setup numbers = map (λ dev. Rescuer (at dev) rests) (filter setup.rescuer numbers)
+
+abbrev pub completers_of : Setup → List ℕ → List TaskState
+completers_of setup numbers = map (λ dev. Completer (at dev) Empty) (filter (is_disk setup) numbers)
+
+-- tasks with what they know of devices
+abbrev pub with_routing : Routing → List TaskState → List TaskOf
+with_routing routing tasks = map (λ task. record { routing = routing; state = task }) tasks
+
+-- how many writes a round has, and how many it has with all behind it
+abbrev pub in_round : List ℕ → ℕ → ℕ
+in_round rounds round = length (filter (λ r. r == round) rounds)
+
+abbrev pub from_round : List ℕ → ℕ → ℕ
+from_round rounds round = length (filter (λ r. nat_le round r) rounds)
+
+-- how many rounds there are
+abbrev pub rounds_in : List ℕ → ℕ
+rounds_in rounds = 1 + fold max 0 rounds
+
+-- how many writes each of them has
+abbrev pub left_in : List ℕ → List ℕ
+left_in rounds = map (in_round rounds) (range_with_len 0 (rounds_in rounds))
+
+-- the changes of a round, where so many writes are left when it starts
+abbrev pub is_at : ℕ → Change → Bool
+is_at round change = change.round == round
+
+abbrev pub changes_at : ℕ → ℕ → List Change → List Duty
+changes_at round later changes = map (λ (change : Change). Resizes change.pool change.min later) (filter (is_at round) changes)
+
+-- and then its start
+abbrev pub starts_at : List ℕ → List Resize → ℕ → List Duty
+starts_at rounds resizes round =
+    changes_at round (from_round rounds round) (map change_of resizes) ++ Starts round (from_round rounds round) ∷ []
+
+-- all of the first rounds behind round 0
+abbrev pub duties_in : List ℕ → List Resize → ℕ → List Duty
+duties_in rounds resizes count = flat_map (starts_at rounds resizes) (range_with_len 1 count)
+
+-- the tasks behind the writers
+abbrev pub others_in : Setup → List ℕ → List Resize → List TaskState
+others_in setup rounds resizes =
+    rescuers_of setup (range_with_len 0 setup.count)
+    ++ (completers_of setup (range_with_len 0 setup.count) ++ keepers (duties_in rounds resizes (rounds_in rounds - 1)))
+
+-- the tally in which every write is unfinished
+abbrev pub tally_in : List ℕ → List Write → TallyState
+tally_in rounds writes = record { round = 0; left = left_in rounds; statuses = replicate (length writes) status.Ok }
+
+-- the reserves that pools get
+abbrev pub reserves_in : List Resize → List (PoolId × ℕ)
+reserves_in resizes = map (λ (resize : Resize). (resize.pool, resize.min)) resizes

@@ -1,0 +1,70 @@
+-- Steps of tasks over the objects of one thread, as events of the machine.
+use Rattle.std.specs.Prelude.{◌≡◌, ◌+◌, ◌<◌, ℕ, Bool, true, false, IsTrue, length}
+use Rattle.task_core.specs.declared.event.Event.{Event}
+use Rattle.task_core.specs.declared.event.Got.TheVariants.{Ordinary}
+use Rattle.task_core.specs.declared.event.What.{What}
+use Rattle.task_core.specs.declared.event.What.TheVariants.{Take}
+use Rattle.task_core.specs.declared.plain.Plain.{Plain}
+use Rattle.task_core.specs.declared.step.Step.{Step}
+use Rattle.task_core.specs.declared.step.Step.TheVariants.{Stepped, Blocked, Waiting, Ended, Broken}
+use Rattle.task_core.specs.Maps.{upd}
+use Rattle.task_core.specs.Scene.{Scene}
+use Rattle.task_core.specs.Requests.{Request, NextRound}
+use Rattle.task_core.specs.Tasks.{TaskState, request}
+use Rattle.task_core.specs.Objects.{Objects}
+use Rattle.task_core.specs.Opened.{most_writers}
+use Rattle.task_core.specs.Runs.{State, Steps}
+use Rattle.task_core.specs.Plains.{objects_of, stage_of, Tells}
+use Rattle.task_core.specs.Routed.{setup}
+use Rattle.task_core.specs.Stage.{Owes}
+use Rattle.task_core.specs.Turns.{Turns}
+
+-- the objects and these tasks, as a state of the machine
+abbrev pub state_of : Plain → (ℕ → TaskState) → State
+state_of plain task = record { objects = objects_of plain; task = task }
+
+abbrev pub scene_of : Plain → ℕ → Scene
+scene_of plain tasks = record {
+  setup = setup (stage_of plain).routing;
+  tasks = tasks;
+  books = most_writers;
+  writes = (stage_of plain).writes;
+  ledger = (stage_of plain).ledger;
+}
+
+-- a round that is asked for is there
+abbrev pub HasRound : Objects → Request → Type 0
+HasRound objects (NextRound round) = objects.tally.round + 1 < length objects.tally.left
+HasRound objects request = Unit {0}
+
+-- the task at a place makes a step
+abbrev pub TakesStep : Plain → (ℕ → TaskState) → ℕ → TaskState → Plain → Step → Type 0
+TakesStep old tasks place next new step =
+    Turns Tells (Owes (stage_of old)) (setup (stage_of old).routing) (tasks place) old next new step
+
+-- nothing happened, and the task did not break off
+abbrev pub IsStill : Step → Type 0
+IsStill (Stepped event) = ⊥
+IsStill (Blocked pool) = Unit {0}
+IsStill Waiting = Unit {0}
+IsStill Ended = Unit {0}
+IsStill (Broken breach) = ⊥
+
+-- a take that ordinary memory serves
+abbrev pub is_ordinary : What → Bool
+is_ordinary (Take pool Ordinary) = true
+is_ordinary what = false
+
+-- the task has no event there, but such as need ordinary memory
+abbrev pub IsPassedOver : Scene → State → ℕ → Type 0
+IsPassedOver scene state place = (event : Event) (new : State) → Steps scene state place event new → IsTrue (is_ordinary event.what)
+
+-- A step over the objects of one thread that is told as an event is this event, with both its halves. One that is told as none, where the task
+-- does not break off, changes neither the task nor an object, and the task had no event there but such as need ordinary memory.
+pub record StepsAreEvents : Type 0 where
+  pub stepped : (old new : Plain) (tasks : ℕ → TaskState) (count place : ℕ) (next : TaskState) (event : Event) → place < count
+      → HasRound (objects_of old) (request (setup (stage_of old).routing) (tasks place)) → TakesStep old tasks place next new (Stepped event)
+      → Steps (scene_of old count) (state_of old tasks) place event (state_of new (upd tasks place next))
+  pub still : (old new : Plain) (tasks : ℕ → TaskState) (count place : ℕ) (next : TaskState) (step : Step) → IsStill step
+      → TakesStep old tasks place next new step
+      → (objects_of new ≡ objects_of old) × (next ≡ tasks place) × IsPassedOver (scene_of old count) (state_of old tasks) place

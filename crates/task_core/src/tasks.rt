@@ -1,0 +1,88 @@
+//! The tasks of devices, and the list of all tasks.
+ghost use Rattle.std.specs.Prelude.{◌≡◌, ◌<◌, [], ◌∷◌, IfOk, OnOk, length};
+ghost use Rattle.std.specs.List.{range_with_len};
+ghost use Rattle.stack_base.specs.Stack.{IsStack};
+ghost use Rattle.task_core.specs.Routed.{setup};
+ghost use Rattle.task_core.specs.NewTasks.{rescuers_of, completers_of, shown, with_routing, Adds};
+
+use crate::carried::Carried;
+use crate::fresh::is_disk;
+use crate::rescuer::Rescuer;
+use crate::routes::Routes;
+use crate::task::{Kind, Task};
+use stack_base::{DevId, Stack};
+use std::alloc::{AllocError, Global};
+use std::sync::Arc;
+
+// Adds the rescuer of a device's set, if it has one.
+fn add_rescuer(routes: &Routes, dev: DevId, kinds: &mut Vec<Kind>) -> Result<(), AllocError>
+    requires { dev.0 < length routes.now.stack.devices.items }
+    ensures { OnOk result (Adds kinds.old.items (rescuers_of (setup routes.now) (dev.0 ∷ [])) kinds.new.items) }
+{
+    if routes.rescuer(dev) {
+        kinds.push(Kind::Rescuer(Rescuer::new(dev)))?;
+    }
+    Ok(())
+}
+
+// Adds the rescuers of a stack, in the order of its devices.
+pub(crate) fn open_rescuers(
+    stack: &Stack,
+    routes: &Routes,
+    kinds: &mut Vec<Kind>,
+) -> Result<(), AllocError>
+    requires same { routes.now.stack ≡ stack.now }
+    requires stack { IsStack stack.now }
+    ensures { OnOk result (Adds kinds.old.items (rescuers_of (setup routes.now) (range_with_len 0 (length stack.now.devices.items))) kinds.new.items) }
+{
+    'opening: for number in 0..stack.devices.len() {
+        add_rescuer(routes, DevId(number as u32), kinds)?;
+    }
+    Ok(())
+}
+
+// Adds the completer of a device, if it is a disk.
+fn add_completer(routes: &Routes, dev: DevId, kinds: &mut Vec<Kind>) -> Result<(), AllocError>
+    requires { dev.0 < length routes.now.stack.devices.items }
+    ensures { OnOk result (Adds kinds.old.items (completers_of (setup routes.now) (dev.0 ∷ [])) kinds.new.items) }
+{
+    if is_disk(routes, dev) {
+        kinds.push(Kind::Completer {
+            disk: dev,
+            carried: Carried::empty(),
+        })?;
+    }
+    Ok(())
+}
+
+// Adds the completers of a stack, in the order of its devices.
+pub(crate) fn open_completers(
+    stack: &Stack,
+    routes: &Routes,
+    kinds: &mut Vec<Kind>,
+) -> Result<(), AllocError>
+    requires same { routes.now.stack ≡ stack.now }
+    requires stack { IsStack stack.now }
+    ensures { OnOk result (Adds kinds.old.items (completers_of (setup routes.now) (range_with_len 0 (length stack.now.devices.items))) kinds.new.items) }
+{
+    'opening: for number in 0..stack.devices.len() {
+        add_completer(routes, DevId(number as u32), kinds)?;
+    }
+    Ok(())
+}
+
+// Tasks of these kinds, which share what they know of devices.
+pub(crate) fn tasks_of(
+    alloc: Global,
+    kinds: Vec<Kind>,
+    routes: Routes,
+) -> Result<Vec<Task>, AllocError>
+    ensures { IfOk result (λ tasks. tasks.items ≡ with_routing routes (shown kinds.items)) }
+{
+    let routes = Arc::new(alloc, routes)?;
+    let mut tasks = Vec::with_capacity(alloc, kinds.len())?;
+    'sharing: for kind in kinds {
+        tasks.push(Task::new(routes.clone()?, kind))?;
+    }
+    Ok(tasks)
+}
