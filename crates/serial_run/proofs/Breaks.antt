@@ -1,0 +1,173 @@
+-- No task breaks off whose object refuses nothing.
+use Rattle.std.proofs.Common.{◌≡◌, ◌≢◌, ◌<◌, ◌==◌, if◌then◌else◌, ℕ, Bool, true, false, true≢false, Option, None, Some, inl, inr, refl, sym, ap, subst, ◌∙◌}
+use Rattle.std.proofs.lemmas.Bool.{eq-eqb}
+use Rattle.elem_ledger.specs.Ledger.{LedgerId}
+use Rattle.stack_base.specs.declared.ids.PoolId.{PoolId}
+use Rattle.stack_base.specs.PoolId.{pool_number}
+use Rattle.bio_books.specs.Drops as end
+use Rattle.bio_books.specs.Links.{Made, NoRoom, Stray}
+use Rattle.task_core.specs.declared.event.Breach.{Breach}
+use Rattle.task_core.specs.declared.event.TaskId.{TaskId}
+use Rattle.task_core.specs.declared.plain.Plain.{Plain}
+use Rattle.task_core.specs.declared.step.Step.{Step}
+use Rattle.task_core.specs.declared.step.Step.TheVariants.{Ended, Waiting, Broken}
+use Rattle.task_core.specs.Events.{id_of, resize_of}
+use Rattle.task_core.specs.Lines.{Doing, Rests, Drives, Copies, Breaks}
+use Rattle.task_core.specs.Objects.{Objects, Serves}
+use Rattle.task_core.specs.Plains.{objects_of, stage_of, Tells}
+use Rattle.task_core.specs.PlainSteps.{HasRound, TakesStep, scene_of, state_of}
+use Rattle.task_core.specs.Requests.{Request, Reply}
+use Rattle.task_core.specs.Requests as requests
+use Rattle.task_core.specs.Runs.{IsLet}
+use Rattle.task_core.specs.Scene.{Setup}
+use Rattle.task_core.specs.Routed.{setup}
+use Rattle.task_core.specs.Stage.{Stage, Owes}
+use Rattle.task_core.specs.Tasks.{TaskState, Writer, Rescuer, Completer, Keeper, Empty, Brings, Carries, Fails, Keeps, Stops, request, look_of, lets}
+use Rattle.task_core.specs.Turns.{step_by, step_of, resting_step, idle_step, breach_of, doing_breach, Acts, ActsIf, TurnsBy, Asks}
+use Rattle.task_core.proofs.Turned.{acts}
+use Rattle.task_core.proofs.Idle.{IsFair, fair_task}
+use Rattle.task_core.proofs.Seen.{followed, has_seen, lets_ask, served, told_serves}
+use Rattle.block_core.specs.Breaks.{GoesUnrefused, is_refusal, is_broken, broke_in}
+
+no_end : {breach : Breach} → Broken breach ≢ Ended
+no_end e = cc
+
+never_idle : (left : ℕ) (breach : Breach) → Broken breach ≢ idle_step left
+never_idle left breach = by_test (left == 0)
+  where
+    by_test : (b : Bool) → Broken breach ≢ (if b then Ended else Waiting)
+    by_test true e = cc
+    by_test false e = cc
+
+-- a reserve is changed where nothing is out
+resizes_well : (task : TaskId) (pool : PoolId) (min out : ℕ) (silent : Step) (breach : Breach) → out ≡ 0 → Broken breach ≢ step_by task (resize_of (out == 0) pool min) silent
+resizes_well task pool min out silent breach none e = by_test (out == 0) (eq-eqb out 0 none) e
+  where
+    by_test : (b : Bool) → b ≡ true → Broken breach ≢ step_by task (resize_of b pool min) silent
+    by_test true is e = cc
+    by_test false is e = absurd (true≢false (sym is))
+
+module _ (setup : Setup) (task : TaskId) (old new : Objects) (ledger : ℕ → LedgerId) (breach : Breach) where
+  found_breaks : (asked : Request) (reply : Reply) → IsFair old asked → Serves ledger old asked reply new → is_refusal reply ≡ false
+      → Broken breach ≢ step_of setup task asked reply
+  found_breaks (requests.TakeBio set true) (requests.HadBio got bio) fair serves well e = cc
+  found_breaks (requests.TakeBio set false) (requests.HadBio got bio) fair serves well e = cc
+  found_breaks (requests.TakeBio set true) (requests.Missed true) fair serves well e = cc
+  found_breaks (requests.TakeBio set true) (requests.Missed false) fair serves well e = cc
+  found_breaks (requests.TakeBio set false) (requests.Missed used) fair serves well e = cc
+  found_breaks (requests.TakeBio set waits) _ fair serves well e = absurd serves
+  found_breaks requests.TakeVec (requests.HadVec got vector) fair serves well e = cc
+  found_breaks requests.TakeVec (requests.Missed true) fair serves well e = cc
+  found_breaks requests.TakeVec (requests.Missed false) fair serves well e = cc
+  found_breaks requests.TakeVec _ fair serves well e = absurd serves
+  found_breaks (requests.TakeSlip dev) (requests.HadSlip got slip) fair serves well e = cc
+  found_breaks (requests.TakeSlip dev) (requests.Missed true) fair serves well e = cc
+  found_breaks (requests.TakeSlip dev) (requests.Missed false) fair serves well e = cc
+  found_breaks (requests.TakeSlip dev) _ fair serves well e = absurd serves
+  found_breaks (requests.GiveBio bio) requests.Did fair serves well e = cc
+  found_breaks (requests.GiveBio bio) _ fair serves well e = absurd serves
+  found_breaks (requests.GiveVec vector) requests.Did fair serves well e = cc
+  found_breaks (requests.GiveVec vector) _ fair serves well e = absurd serves
+  found_breaks (requests.GiveSlip slip) requests.Did fair serves well e = cc
+  found_breaks (requests.GiveSlip slip) _ fair serves well e = absurd serves
+  found_breaks (requests.Punt dev moved) requests.Did fair serves well e = cc
+  found_breaks (requests.Punt dev moved) _ fair serves well e = absurd serves
+  found_breaks (requests.Pop dev) (requests.Popped bio) fair serves well e = cc
+  found_breaks (requests.Pop dev) requests.Nothing fair serves well e = cc
+  found_breaks (requests.Pop dev) _ fair serves well e = absurd serves
+  found_breaks (requests.Push bio) requests.Did fair serves well e = cc
+  found_breaks (requests.Push bio) _ fair serves well e = absurd serves
+  found_breaks (requests.Complete disk) (requests.Completed index bio status) fair serves well e = cc
+  found_breaks (requests.Complete disk) requests.Nothing fair serves well e = cc
+  found_breaks (requests.Complete disk) _ fair serves well e = absurd serves
+  found_breaks (requests.Link writer opening) (requests.LinkedTo (Made node)) fair serves well e = cc
+  found_breaks (requests.Link writer opening) (requests.LinkedTo (NoRoom back)) fair serves well e = true≢false well
+  found_breaks (requests.Link writer opening) (requests.LinkedTo (Stray back)) fair serves well e = true≢false well
+  found_breaks (requests.Link writer opening) _ fair serves well e = absurd serves
+  found_breaks (requests.Drop writer node status part) (requests.DroppedTo end.Left) fair serves well e = cc
+  found_breaks (requests.Drop writer node status part) (requests.DroppedTo (end.Up closed)) fair serves well e = cc
+  found_breaks (requests.Drop writer node status part) (requests.DroppedTo (end.Top closed)) fair serves well e = cc
+  found_breaks (requests.Drop writer node status part) (requests.DroppedTo (end.Stray back)) fair serves well e = true≢false well
+  found_breaks (requests.Drop writer node status part) _ fair serves well e = absurd serves
+  found_breaks (requests.Done write status) requests.Did fair serves well e = cc
+  found_breaks (requests.Done write status) _ fair serves well e = absurd serves
+  found_breaks (requests.Resize pool min) (requests.OutIs out) fair serves well e = resizes_well task pool min out _ breach (serves.0 ∙ fair) e
+  found_breaks (requests.Resize pool min) _ fair serves well e = absurd serves
+  found_breaks (requests.NextRound round) requests.Did fair serves well e = cc
+  found_breaks (requests.NextRound round) _ fair serves well e = absurd serves
+  found_breaks requests.LookRound reply fair serves well e = absurd fair
+  found_breaks requests.LookLeft reply fair serves well e = absurd fair
+  found_breaks requests.Rest reply fair serves well e = absurd serves
+
+-- a task that did not break off rests as one that has ended
+whole : (task : TaskState) → is_broken task ≡ false → breach_of task ≡ None
+whole (Writer number todo taken line) fine = by_doing line.doing fine
+  where
+    by_doing : (doing : Doing) → broke_in doing ≡ false → doing_breach doing ≡ None
+    by_doing Rests fine = refl
+    by_doing (Drives bio ask) fine = refl
+    by_doing (Copies bio master leg want) fine = refl
+    by_doing (Breaks breach) fine = absurd (true≢false fine)
+whole (Rescuer dev line) fine = by_doing line.doing fine
+  where
+    by_doing : (doing : Doing) → broke_in doing ≡ false → doing_breach doing ≡ None
+    by_doing Rests fine = refl
+    by_doing (Drives bio ask) fine = refl
+    by_doing (Copies bio master leg want) fine = refl
+    by_doing (Breaks breach) fine = absurd (true≢false fine)
+whole (Completer disk Empty) fine = refl
+whole (Completer disk (Brings bio status)) fine = refl
+whole (Completer disk (Carries writer closed)) fine = refl
+whole (Completer disk (Fails breach)) fine = absurd (true≢false fine)
+whole (Keeper (Keeps duties)) fine = refl
+whole (Keeper (Stops breach)) fine = absurd (true≢false fine)
+
+-- a step that is told as a breach
+module _ (old new : Plain) (tasks : ℕ → TaskState) (count place : ℕ) (next : TaskState) (here : place < count)
+    (well : GoesUnrefused (scene_of old count) (state_of old tasks)) (there : HasRound (objects_of old) (request (setup (stage_of old).routing) (tasks place)))
+    (breach : Breach) where
+  abbrev stage : Stage
+  stage = stage_of old
+
+  abbrev task : TaskState
+  task = tasks place
+
+  abbrev asked : Request
+  asked = request (setup stage.routing) task
+
+  asks_unbroken : (between : Plain) → objects_of between ≡ objects_of old → IsLet stage.ledger (objects_of old) task (look_of task)
+      → Acts Tells (Owes stage) (setup stage.routing) task between next new (Broken breach) → ⊥
+  asks_unbroken between same lets is =
+      elim (acts Tells (Owes stage) (setup stage.routing) asked task between next new (Broken breach) is) [
+        | inl rests ↦ no_end (rests.1.2 ∙ ap resting_step (whole task (well.tasks place)))
+        | inr asks ↦ by_reply asks
+      ]
+    where
+      fair : IsFair (objects_of old) asked
+      fair = fair_task (setup stage.routing) (objects_of old) task (λ pool min later duties e. well.resizes place pool min later duties e lets (pool_number pool))
+
+      by_reply : Asks Tells (Owes stage) (setup stage.routing) asked task between next new (Broken breach) → ⊥
+      by_reply asks =
+          elim (followed Tells (setup stage.routing) (id_of task) asked asks.middle new (Broken breach) asks.reply asks.follows) [
+            | inl told ↦
+                let serves = served old new tasks count place next between asks.middle same asks.reply
+                (told_serves between asks.middle asked asks.reply (subst (λ o. HasRound o asked) (sym same) there) asks.replied) asks.owed in
+                found_breaks (setup stage.routing) (id_of task) (objects_of old) (objects_of asks.middle) stage.ledger breach asked asks.reply fair serves
+                (well.answers place here asks.reply (objects_of asks.middle) serves) told.1
+            | inr nothing ↦ never_idle nothing.1.0 breach nothing.1.2
+          ]
+
+  no_breach : Waiting ≢ Broken breach
+  no_breach e = cc
+
+  pub unbroken : TakesStep old tasks place next new (Broken breach) → ⊥
+  unbroken is = by_look (look_of task) refl is
+    where
+      by_look : (o : Option Request) → look_of task ≡ o → TurnsBy o Tells (Owes stage) (setup stage.routing) task old next new (Broken breach) → ⊥
+      by_look None e is = asks_unbroken old refl (subst (IsLet stage.ledger (objects_of old) task) (sym e) tt) is
+      by_look (Some look) e (seen, between, saw, is) = by_let (lets task seen) refl is
+        where
+          by_let : (b : Bool) → lets task seen ≡ b → ActsIf b Tells (Owes stage) (setup stage.routing) task between next new (Broken breach) → ⊥
+          by_let true q is =
+              asks_unbroken between (has_seen old new tasks count place next look e seen between saw).0 (lets_ask old new tasks count place next look e seen between saw q) is
+          by_let false q is = no_breach (sym is.2)

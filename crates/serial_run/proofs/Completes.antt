@@ -1,0 +1,201 @@
+-- Only completers complete bios, and the round that a keeper asks for is there.
+use Rattle.std.proofs.Common.{◌≡◌, ◌+◌, ◌<◌, ℕ, Bool, true, false, true≢false, List, [], ◌∷◌, length, Option, None, Some, refl, sym, ap, ◌∙◌}
+use Rattle.stack_base.specs.declared.ids.DevId.{DevId}
+use Rattle.stack_base.specs.declared.ids.PoolId.{PoolId}
+use Rattle.bio_books.specs.Drops as end
+use Rattle.bio_books.specs.Links.{Made, NoRoom, Stray}
+use Rattle.bio_records.specs.declared.tasks.TaskLists.{TaskLists}
+use Rattle.task_core.specs.declared.event.What.{What}
+use Rattle.task_core.specs.declared.event.What.TheVariants as what
+use Rattle.task_core.specs.Events.{what_of, resize_of}
+use Rattle.task_core.specs.Lines.{Doing, Rests, Drives, Copies, Breaks, Takes, Punts, Links, ToPush, ToCut, ToRecord, ToMaster, Line, line_request}
+use Rattle.task_core.specs.Objects.{Objects}
+use Rattle.task_core.specs.PlainSteps.{HasRound}
+use Rattle.task_core.specs.Requests.{Request, Reply}
+use Rattle.task_core.specs.Requests as requests
+use Rattle.task_core.specs.Scene.{Setup}
+use Rattle.task_core.specs.Tasks.{TaskState, Writer, Rescuer, Completer, Keeper, Keeps, Stops, Duty, Resizes, Starts, Todo, Taken, NoBio, HasBio, HasBoth, Empty, Brings, Carries, Fails, request, closed_request, needs_vector, with_bio, writer_request, rescuer_request}
+
+abbrev pub is_complete : What → Bool
+is_complete (what.Complete disk index status) = true
+is_complete what = false
+
+abbrev pub told_complete : Option What → Bool
+told_complete None = false
+told_complete (Some what) = is_complete what
+
+abbrev pub completes : Request → Bool
+completes (requests.Complete disk) = true
+completes request = false
+
+abbrev pub IsNoCompleter : TaskState → Type 0
+IsNoCompleter (Writer number todo taken line) = Unit {0}
+IsNoCompleter (Rescuer dev line) = Unit {0}
+IsNoCompleter (Completer disk carried) = ⊥
+IsNoCompleter (Keeper keeping) = Unit {0}
+
+-- what is told of any other request is no completion
+resized : (b : Bool) (pool : PoolId) (min : ℕ) → told_complete (resize_of b pool min) ≡ false
+resized true pool min = refl
+resized false pool min = refl
+
+told_other : (asked : Request) (reply : Reply) → completes asked ≡ false → told_complete (what_of asked reply) ≡ false
+told_other (requests.TakeBio set true) (requests.HadBio got bio) others = refl
+told_other (requests.TakeBio set false) (requests.HadBio got bio) others = refl
+told_other (requests.TakeBio set true) (requests.Missed true) others = refl
+told_other (requests.TakeBio set true) (requests.Missed false) others = refl
+told_other (requests.TakeBio set false) (requests.Missed used) others = refl
+told_other (requests.TakeBio set waits) _ others = refl
+told_other requests.TakeVec (requests.HadVec got vector) others = refl
+told_other requests.TakeVec (requests.Missed true) others = refl
+told_other requests.TakeVec (requests.Missed false) others = refl
+told_other requests.TakeVec _ others = refl
+told_other (requests.TakeSlip dev) (requests.HadSlip got slip) others = refl
+told_other (requests.TakeSlip dev) (requests.Missed true) others = refl
+told_other (requests.TakeSlip dev) (requests.Missed false) others = refl
+told_other (requests.TakeSlip dev) _ others = refl
+told_other (requests.GiveBio bio) requests.Did others = refl
+told_other (requests.GiveBio bio) _ others = refl
+told_other (requests.GiveVec vector) requests.Did others = refl
+told_other (requests.GiveVec vector) _ others = refl
+told_other (requests.GiveSlip slip) requests.Did others = refl
+told_other (requests.GiveSlip slip) _ others = refl
+told_other (requests.Punt dev moved) requests.Did others = refl
+told_other (requests.Punt dev moved) _ others = refl
+told_other (requests.Pop dev) (requests.Popped bio) others = refl
+told_other (requests.Pop dev) _ others = refl
+told_other (requests.Push bio) requests.Did others = refl
+told_other (requests.Push bio) _ others = refl
+told_other (requests.Complete disk) reply others = absurd (true≢false others)
+told_other (requests.Link writer opening) (requests.LinkedTo (Made node)) others = refl
+told_other (requests.Link writer opening) (requests.LinkedTo (NoRoom back)) others = refl
+told_other (requests.Link writer opening) (requests.LinkedTo (Stray back)) others = refl
+told_other (requests.Link writer opening) _ others = refl
+told_other (requests.Drop writer node status part) (requests.DroppedTo end.Left) others = refl
+told_other (requests.Drop writer node status part) (requests.DroppedTo (end.Up closed)) others = refl
+told_other (requests.Drop writer node status part) (requests.DroppedTo (end.Top closed)) others = refl
+told_other (requests.Drop writer node status part) (requests.DroppedTo (end.Stray back)) others = refl
+told_other (requests.Drop writer node status part) _ others = refl
+told_other (requests.Done write status) requests.Did others = refl
+told_other (requests.Done write status) _ others = refl
+told_other (requests.Resize pool min) (requests.OutIs out) others = resized _ pool min
+told_other (requests.Resize pool min) _ others = refl
+told_other (requests.NextRound round) requests.Did others = refl
+told_other (requests.NextRound round) _ others = refl
+told_other requests.LookRound reply others = refl
+told_other requests.LookLeft reply others = refl
+told_other requests.Rest reply others = refl
+
+module _ (setup : Setup) where
+  line_completes : (doing : Doing) (lists : TaskLists) → completes (line_request setup doing lists) ≡ false
+  line_completes Rests lists = refl
+  line_completes (Breaks breach) lists = refl
+  line_completes (Drives bio ToPush) lists = refl
+  line_completes (Drives bio (ToCut (Takes waits))) lists = refl
+  line_completes (Drives bio (ToCut Punts)) lists = refl
+  line_completes (Drives bio (ToCut (Links hand))) lists = refl
+  line_completes (Drives bio ToRecord) lists = refl
+  line_completes (Drives bio (ToMaster slip)) lists = refl
+  line_completes (Copies bio master leg (Takes waits)) lists = refl
+  line_completes (Copies bio master leg Punts) lists = refl
+  line_completes (Copies bio master leg (Links hand)) lists = refl
+
+  bio_completes : (b : Bool) (writer : ℕ) (todo : Todo) → completes (with_bio writer b todo) ≡ false
+  bio_completes true writer todo = refl
+  bio_completes false writer todo = refl
+
+  writer_completes : (writer : ℕ) (todos : List Todo) (taken : Taken) (doing : Doing) (line : Line)
+      → completes (writer_request setup writer todos taken doing line) ≡ false
+  writer_completes writer [] taken Rests line = refl
+  writer_completes writer (todo ∷ later) NoBio Rests line = refl
+  writer_completes writer (todo ∷ later) (HasBio bio) Rests line = bio_completes (needs_vector todo.write) writer todo
+  writer_completes writer (todo ∷ later) (HasBoth bio vector) Rests line = refl
+  writer_completes writer todos taken (Drives bio ask) line = line_completes (Drives bio ask) line.lists
+  writer_completes writer todos taken (Copies bio master leg want) line = line_completes (Copies bio master leg want) line.lists
+  writer_completes writer todos taken (Breaks breach) line = refl
+
+  rescuer_completes : (dev : DevId) (doing : Doing) (line : Line) → completes (rescuer_request setup dev doing line) ≡ false
+  rescuer_completes dev Rests line = refl
+  rescuer_completes dev (Drives bio ask) line = line_completes (Drives bio ask) line.lists
+  rescuer_completes dev (Copies bio master leg want) line = line_completes (Copies bio master leg want) line.lists
+  rescuer_completes dev (Breaks breach) line = refl
+
+  asks_other : (task : TaskState) → IsNoCompleter task → completes (request setup task) ≡ false
+  asks_other (Writer number todos taken line) none = writer_completes number todos taken line.doing line
+  asks_other (Rescuer dev line) none = rescuer_completes dev line.doing line
+  asks_other (Completer disk carried) none = absurd none
+  asks_other (Keeper (Keeps [])) none = refl
+  asks_other (Keeper (Keeps (Resizes pool min later ∷ duties))) none = refl
+  asks_other (Keeper (Keeps (Starts round later ∷ duties))) none = refl
+  asks_other (Keeper (Stops breach)) none = refl
+
+  -- so no other task tells of a completion
+  pub none_completed : (task : TaskState) (reply : Reply) (told : What) → IsNoCompleter task → what_of (request setup task) reply ≡ Some told → is_complete told ≡ false
+  none_completed task reply told none is = sym (ap told_complete is) ∙ told_other (request setup task) reply (asks_other task none)
+
+  -- a request for a round is that of a keeper
+  pub has_round : (objects : Objects) (task : TaskState)
+      → ((round later : ℕ) (duties : List Duty) → task ≡ Keeper (Keeps (Starts round later ∷ duties)) → objects.tally.round + 1 < length objects.tally.left)
+      → HasRound objects (request setup task)
+  has_round objects (Writer number todos taken line) ahead = by_writer todos taken line.doing
+    where
+      by_line : (doing : Doing) (lists : TaskLists) → HasRound objects (line_request setup doing lists)
+      by_line Rests lists = tt
+      by_line (Breaks breach) lists = tt
+      by_line (Drives bio ToPush) lists = tt
+      by_line (Drives bio (ToCut (Takes waits))) lists = tt
+      by_line (Drives bio (ToCut Punts)) lists = tt
+      by_line (Drives bio (ToCut (Links hand))) lists = tt
+      by_line (Drives bio ToRecord) lists = tt
+      by_line (Drives bio (ToMaster slip)) lists = tt
+      by_line (Copies bio master leg (Takes waits)) lists = tt
+      by_line (Copies bio master leg Punts) lists = tt
+      by_line (Copies bio master leg (Links hand)) lists = tt
+
+      by_vector : (b : Bool) (todo : Todo) → HasRound objects (with_bio number b todo)
+      by_vector true todo = tt
+      by_vector false todo = tt
+
+      by_writer : (todos : List Todo) (taken : Taken) (doing : Doing) → HasRound objects (writer_request setup number todos taken doing line)
+      by_writer [] taken Rests = tt
+      by_writer (todo ∷ later) NoBio Rests = tt
+      by_writer (todo ∷ later) (HasBio bio) Rests = by_vector (needs_vector todo.write) todo
+      by_writer (todo ∷ later) (HasBoth bio vector) Rests = tt
+      by_writer todos taken (Drives bio ask) = by_line (Drives bio ask) line.lists
+      by_writer todos taken (Copies bio master leg want) = by_line (Copies bio master leg want) line.lists
+      by_writer todos taken (Breaks breach) = tt
+  has_round objects (Rescuer dev line) ahead = by_rescuer line.doing
+    where
+      by_line : (doing : Doing) (lists : TaskLists) → HasRound objects (line_request setup doing lists)
+      by_line Rests lists = tt
+      by_line (Breaks breach) lists = tt
+      by_line (Drives bio ToPush) lists = tt
+      by_line (Drives bio (ToCut (Takes waits))) lists = tt
+      by_line (Drives bio (ToCut Punts)) lists = tt
+      by_line (Drives bio (ToCut (Links hand))) lists = tt
+      by_line (Drives bio ToRecord) lists = tt
+      by_line (Drives bio (ToMaster slip)) lists = tt
+      by_line (Copies bio master leg (Takes waits)) lists = tt
+      by_line (Copies bio master leg Punts) lists = tt
+      by_line (Copies bio master leg (Links hand)) lists = tt
+
+      by_rescuer : (doing : Doing) → HasRound objects (rescuer_request setup dev doing line)
+      by_rescuer Rests = tt
+      by_rescuer (Drives bio ask) = by_line (Drives bio ask) line.lists
+      by_rescuer (Copies bio master leg want) = by_line (Copies bio master leg want) line.lists
+      by_rescuer (Breaks breach) = tt
+  has_round objects (Completer disk Empty) ahead = tt
+  has_round objects (Completer disk (Brings bio status)) ahead = tt
+  has_round objects (Completer disk (Carries writer closed)) ahead = by_held closed.held.vector closed.held.bio closed.held.slip closed.parent
+    where
+      by_held : (vector : Option _) (bio : Option _) (slip : Option _) (parent : Option ℕ) → HasRound objects (closed_request writer closed vector bio slip parent)
+      by_held (Some vector) bio slip parent = tt
+      by_held None (Some bio) slip parent = tt
+      by_held None None (Some slip) parent = tt
+      by_held None None None (Some parent) = tt
+      by_held None None None None = tt
+  has_round objects (Completer disk (Fails breach)) ahead = tt
+  has_round objects (Keeper (Keeps [])) ahead = tt
+  has_round objects (Keeper (Keeps (Resizes pool min later ∷ duties))) ahead = tt
+  has_round objects (Keeper (Keeps (Starts round later ∷ duties))) ahead = ahead round later duties refl
+  has_round objects (Keeper (Stops breach)) ahead = tt

@@ -1,0 +1,9 @@
+pub mod Follows
+pub mod Completes
+pub mod Breaks
+pub mod Attempts
+pub mod Sweeps
+pub mod Pools
+pub mod Disks
+pub mod Opening
+pub mod UnderWay

@@ -1,0 +1,12 @@
+-- That what follows a stream of words is a run.
+use Rattle.std.specs.Prelude.{List}
+use Rattle.rand_pcg.specs.Lcg.{Lcg}
+use Rattle.task_core.specs.declared.event.Event.{Event}
+use Rattle.task_core.specs.Runs.{State, IsRun}
+use Rattle.task_core.specs.Scene.{Scene}
+use Rattle.serial_run.specs.Schedule.{Follows}
+
+-- whatever the stream, and from whatever state
+abbrev pub TurnsAreARun : Type 0
+TurnsAreARun = (scene : Scene) (old : State) (stream : Lcg) (events : List Event) (new : State) (after : Lcg)
+    → Follows scene old stream events new after → IsRun scene old events new

@@ -1,0 +1,5 @@
+pub mod Schedule
+pub mod Serial
+pub mod Turning
+pub mod Pools
+pub mod Laws

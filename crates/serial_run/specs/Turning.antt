@@ -1,0 +1,38 @@
+-- A turn over the objects and tasks of one thread.
+use Rattle.std.specs.Prelude.{◌≡◌, ◌+◌, ◌<◌, ℕ, Bool, true, false, List, ◌∷◌, length}
+use Rattle.rand_pcg.specs.Lcg.{Lcg}
+use Rattle.stack_base.specs.declared.stack.Stack.{Stack}
+use Rattle.task_core.specs.declared.event.Event.{Event}
+use Rattle.task_core.specs.declared.step.Step.{Step}
+use Rattle.task_core.specs.declared.step.Step.TheVariants.{Stepped}
+use Rattle.task_core.specs.Named.{IsEventOf}
+use Rattle.task_core.specs.PlainSteps.{IsPassedOver}
+use Rattle.task_core.specs.Runs.{State, Steps}
+use Rattle.task_core.specs.Scene.{Scene}
+use Rattle.task_core.specs.Tasks.{Keeper, Keeps, Starts, Duty}
+use Rattle.block_core.specs.Breaks.{GoesUnrefused}
+use Rattle.serial_run.specs.Schedule.{Picks, IsTurn}
+
+-- no object refuses what a task asks it for next, and the round is there that the keeper is to start next
+pub record GoesWell (scene : Scene) (state : State) : Type 0 where
+  pub unrefused : GoesUnrefused scene state
+  pub ahead : (place round later : ℕ) (duties : List Duty) → state.task place ≡ Keeper (Keeps (Starts round later ∷ duties))
+      → state.objects.tally.round + 1 < length state.objects.tally.left
+
+-- an event was handed on, or there was none
+abbrev pub Hands : {V : Type 0} → (V → Event → V → Type 0) → Step → V → Bool → V → Type 0
+Hands happens (Stepped event) before answer now = (answer ≡ true) × happens before event now
+Hands happens step before answer now = (answer ≡ false) × (now ≡ before)
+
+-- a task was tried: it had an event that names what the stack has, which was handed on, or none but such as need ordinary memory, and nothing has
+-- changed
+abbrev pub Tried : {V : Type 0} → (V → Event → V → Type 0) → Stack → Scene → ℕ → State → Lcg → V → Bool → State → Lcg → V → Type 0
+Tried happens stack scene place old stream before true new after now =
+    (event : Event) × Steps scene old place event new × Picks old event.what stream after × happens before event now × IsEventOf stack event
+Tried happens stack scene place old stream before false new after now =
+    (new ≡ old) × (after ≡ stream) × (now ≡ before) × IsPassedOver scene old place
+
+-- one task had an event in a turn, which was handed on
+abbrev pub Turned : {V : Type 0} → (V → Event → V → Type 0) → Stack → Scene → State → Lcg → V → State → Lcg → V → Type 0
+Turned happens stack scene old stream before new after now =
+    (event : Event) × IsTurn scene old stream event new after × happens before event now × IsEventOf stack event
