@@ -6,3 +6,11 @@ pub mod Served
 pub mod Steps
 pub mod Tasks
 pub mod Cores
+pub mod Listed
+pub mod Counted
+pub mod Seated
+pub mod Opened
+pub mod Freed
+pub mod FirstFree
+pub mod Needed
+pub mod ByKind

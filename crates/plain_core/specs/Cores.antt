@@ -1,5 +1,5 @@
 -- A plain core: what tasks know of a stack, the objects, and the tasks in their order; and the state of the machine that it is.
-use Rattle.std.specs.Prelude.{◌≡◌, ◌+◌, ◌*◌, ◌<◌, ℕ, List, length, slice_get, slice_set, slice_index_or, All, Option, Some, Result, Ok, Err}
+use Rattle.std.specs.Prelude.{◌≡◌, ◌+◌, ◌<◌, ℕ, List, length, slice_get, slice_set, slice_index_or, All, Option, Some, Result, Ok, Err}
 use Rattle.task_core.specs.declared.event.TaskId.{TaskId}
 use Rattle.task_core.specs.declared.event.TaskId.TheVariants as id
 use Rattle.task_core.specs.declared.event.Event.{Event}
@@ -40,12 +40,12 @@ scene_of c = record {
   ledger = ledger_of;
 }
 
--- where the place of a task is kept
+-- Where the place of a task is kept. Slots rise as the tasks of a core do: 8 writers, 32 rescuers, 32 completers and the keeper.
 abbrev pub slot_of : TaskId → ℕ
-slot_of (id.Writer number) = 4 * number
-slot_of (id.Rescuer dev) = 4 * dev.0 + 1
-slot_of (id.Completer disk) = 4 * disk.0 + 2
-slot_of id.Keeper = 3
+slot_of (id.Writer number) = number
+slot_of (id.Rescuer dev) = 8 + dev.0
+slot_of (id.Completer disk) = 40 + disk.0
+slot_of id.Keeper = 72
 
 -- each task is found by its name
 abbrev pub AreFound : List ℕ → List TaskState → Type 0

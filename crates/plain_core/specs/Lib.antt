@@ -9,3 +9,5 @@ pub mod Plain
 pub mod Told
 pub mod Steps
 pub mod Cores
+pub mod Free
+pub mod Opening

@@ -1,9 +1,10 @@
 //! Books of nodes that hold plain elements.
-ghost use Rattle.std.specs.Prelude.{◌≡◌, ◌^◌, ◌-◌, ◌<◌, IfOk, MatchBool, MatchOption, None, Some, replicate};
+ghost use Rattle.std.specs.Prelude.{◌≡◌, ℕ, ◌^◌, ◌-◌, ◌<◌, IfOk, MatchBool, MatchOption, None, Some, replicate};
 ghost use Rattle.bio_books.specs.Books.{BookState, parent_of, first_failing, any_well, by_mark, kept_with, closing, told, lowered, raised, keeping, child_node, leg_node, top_node, master_node, node_at};
 ghost use Rattle.bio_books.specs.Links.{Made, IsVacant, Opens, Chains, Masters, Legs};
 ghost use Rattle.bio_books.specs.Drops.{Drops, closed_of};
 ghost use Rattle.plain_core.specs.Books.{IsTold};
+ghost use Rattle.plain_core.specs.Free.{IsCountAt, Tells};
 
 use crate::part::{Part, Slip, Vector};
 use bio_books::Role;
@@ -300,6 +301,23 @@ impl Book {
             Some(Some(node)) => Some(node.again()),
             _ => None,
         }
+    }
+
+    /// How many ends the node at a place waits for, if one is open there.
+    pub fn count_at(&self, place: u32) -> Option<u64>
+        ensures { MatchOption result (node_at self.now place ≡ None) (IsCountAt (node_at self.now place)) }
+    {
+        match self.nodes.get(place as usize) {
+            Some(Some(node)) => Some(node.count),
+            _ => None,
+        }
+    }
+
+    /// Whether no node is open at some place.
+    pub fn has_place(&self) -> bool
+        ensures { Tells result ((place : ℕ) × IsVacant self.now place) }
+    {
+        self.nodes.iter().any(|node| node.is_none())
     }
 
     // Whether no node is open at a place of the book.

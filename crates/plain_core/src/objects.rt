@@ -1,10 +1,10 @@
 //! The objects of a run as plain data.
-ghost use Rattle.std.specs.Prelude.{◌≡◌, ℕ, ◌+◌, ◌-◌, ◌^◌, ◌<◌, ◌≤◌, ◌==◌, true, length, sum, Option, Some, IsSomeAnd, MatchBool, MatchOption, OnOk, OnErr};
+ghost use Rattle.std.specs.Prelude.{◌≡◌, ℕ, ◌+◌, ◌-◌, ◌^◌, ◌<◌, ◌≤◌, ◌==◌, true, length, sum, Option, None, Some, IsSomeAnd, MatchBool, MatchOption, OnOk, OnErr};
 ghost use Rattle.stack_base.specs.PoolId.{pool_number};
 ghost use Rattle.stack_base.specs.Tree.{tree};
 ghost use Rattle.bio_records.specs.declared.bio.Pad.{Pad};
 ghost use Rattle.bio_records.specs.Items.{Item};
-ghost use Rattle.mempool_core.specs.Move.{gives, resizes};
+ghost use Rattle.mempool_core.specs.Move.{gives, resizes, takes_spare, CanMove};
 ghost use Rattle.model_disks.specs.Disks.{DiskState};
 ghost use Rattle.task_core.specs.declared.event.What.TheVariants as told;
 ghost use Rattle.task_core.specs.Events.{pool_of};
@@ -12,8 +12,11 @@ ghost use Rattle.task_core.specs.Requests.{Write, Chain, Master, Leg};
 ghost use Rattle.task_core.specs.Objects.{done_one};
 ghost use Rattle.task_core.specs.Scene.{keeps_data};
 ghost use Rattle.task_core.specs.Within.{IsWithin, ListsAreWithin};
+ghost use Rattle.bio_books.specs.Books.{node_at};
+ghost use Rattle.bio_books.specs.Links.{IsVacant};
+ghost use Rattle.plain_core.specs.Free.{IsCountAt, IsShort, Tells};
 ghost use Rattle.plain_core.specs.Lists.{lists_of};
-ghost use Rattle.plain_core.specs.Plain.{Gives, HasSize, HasPlaces};
+ghost use Rattle.plain_core.specs.Plain.{Gives, HasSize, HasPlaces, book_at, disk_at, pool_at, rescue_at};
 ghost use Rattle.plain_core.specs.Told.{Takes, MovesAs, Punts, Pops, Pushes, PushesIn, IsComplete, CompletesIn, Links, IsDrop};
 
 use crate::book::{Book, Ended};
@@ -95,8 +98,8 @@ impl Tally {
         rest == 0
     }
 
-    // Whether a round is behind the present one.
-    fn has_next(&self) -> bool
+    /// Whether a round is behind the present one.
+    pub fn has_next(&self) -> bool
         ensures { MatchBool result (self.now.round + 1 < length self.now.left) (self.now.round + 1 < length self.now.left → ⊥) }
     {
         (self.round as usize) + 1 < self.left.len()
@@ -136,6 +139,18 @@ fn complete_in(slot: &mut Option<Disk>, index: u64, status: Status) -> Option<Pa
     }
 }
 
+/// The number of a pool.
+pub fn number_of(pool: PoolId) -> u64
+    ensures { result ≡ pool_number pool }
+{
+    match pool {
+        PoolId::FsBios => 65,
+        PoolId::FsVecs => 64,
+        PoolId::Bios(dev) => 2 * u64::from(dev.0),
+        PoolId::Records(dev) => 2 * u64::from(dev.0) + 1,
+    }
+}
+
 /// The objects of a run: the pools by their numbers, the bios that wait for rescuers and the disks by devices, the books by writers, and
 /// the tally.
 #[derive(Drop)]
@@ -167,6 +182,35 @@ impl Model for Objects {
 }
 
 impl Objects {
+    /// The objects of a stack, which have a place for all that it has.
+    pub fn new(
+        stack: &Stack,
+        pools: Vec<Pool>,
+        rescues: Vec<Rescue>,
+        disks: Vec<Option<Disk>>,
+        books: Vec<Book>,
+        tally: Tally,
+    ) -> Objects
+        requires { HasPlaces stack.now pools.items rescues.items disks.items }
+        ensures { result ≡ record {
+          stack = stack.now;
+          pools = pools.items;
+          rescues = rescues.items;
+          disks = disks.items;
+          books = books.items;
+          tally = tally;
+        } }
+    {
+        Objects {
+            stack: Snapshot::of(stack),
+            pools,
+            rescues,
+            disks,
+            books,
+            tally,
+        }
+    }
+
     /// There is a place for all that the stack has.
     pub fn known(&self)
         ensures { HasPlaces self.now.stack self.now.pools self.now.rescues self.now.disks }
@@ -186,6 +230,70 @@ impl Objects {
         ensures { result ≡ (sum self.now.tally.left == count) }
     {
         self.tally.leaves(count)
+    }
+
+    /// Whether a round is behind the present one.
+    pub fn has_next(&self) -> bool
+        ensures { Tells result (self.now.tally.round + 1 < length self.now.tally.left) }
+    {
+        self.tally.has_next()
+    }
+
+    /// Whether a take of this pool can have a spare.
+    pub fn has_spare(&self, pool: PoolId) -> bool
+        ensures { MatchBool result (CanMove (pool_at self.now (pool_number pool)) takes_spare) (IsShort (pool_at self.now (pool_number pool))) }
+    {
+        match self.pools.get(number_of(pool) as usize) {
+            None => false,
+            Some(pool) => pool.has_spare(),
+        }
+    }
+
+    /// How many elements of the pool of this number are out.
+    pub fn out(&self, number: u64) -> u64
+        ensures { result ≡ (pool_at self.now number).facts.out }
+    {
+        match self.pools.get(number as usize) {
+            None => 0,
+            Some(pool) => pool.out(),
+        }
+    }
+
+    /// Whether a bio waits for the rescuer of this device's set.
+    pub fn has_rescued(&self, dev: DevId) -> bool
+        ensures { Tells result (0 < length (rescue_at self.now dev.0)) }
+    {
+        match self.rescues.get(dev.0 as usize) {
+            None => false,
+            Some(rescue) => !rescue.is_empty(),
+        }
+    }
+
+    /// Whether a bio waits in this disk.
+    pub fn has_pending(&self, disk: DevId) -> bool
+        ensures { Tells result (0 < length (disk_at self.now disk.0).pending) }
+    {
+        match self.disks.get(disk.0 as usize) {
+            Some(Some(disk)) => disk.is_busy(),
+            _ => false,
+        }
+    }
+
+    /// Whether the writer's book has a vacant place.
+    pub fn has_place(&self, writer: u32) -> bool
+        ensures { Tells result ((place : ℕ) × IsVacant (book_at self.now writer) place) }
+    {
+        match self.books.get(writer as usize) {
+            None => false,
+            Some(book) => book.has_place(),
+        }
+    }
+
+    /// How many ends the node at a place of the writer's book waits for, if one is open there.
+    pub fn count_at(&self, writer: u32, place: u32) -> Option<u64>
+        ensures { MatchOption result (node_at (book_at self.now writer) place ≡ None) (IsCountAt (node_at (book_at self.now writer) place)) }
+    {
+        self.books.get(writer as usize)?.count_at(place)
     }
 
     /// A take of this pool, which waits or does not: what it had, as the event tells it (`mempool_alloc`, `mm/mempool.c`).

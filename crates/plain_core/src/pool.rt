@@ -1,6 +1,7 @@
 //! Pools as numbers.
 ghost use Rattle.std.specs.Prelude.{◌≡◌, ◌<◌, MatchBool};
-ghost use Rattle.mempool_core.specs.Move.{opened, gives, resizes, CanMove, after_move};
+ghost use Rattle.mempool_core.specs.Move.{opened, takes_spare, gives, resizes, CanMove, after_move};
+ghost use Rattle.plain_core.specs.Free.{IsShort};
 ghost use Rattle.plain_core.specs.Pools.{move_of, uses, CanTake};
 
 use fail_script::Script;
@@ -64,6 +65,13 @@ impl Pool {
                 (self.facts.spares == 0 || self.facts.out == u64::MAX) && (!waits || self.uses())
             }
         }
+    }
+
+    /// Whether a take can have a spare.
+    pub fn has_spare(&self) -> bool
+        ensures { MatchBool result (CanMove self.now takes_spare) (IsShort self.now) }
+    {
+        self.facts.spares > 0 && self.facts.out < u64::MAX
     }
 
     /// Takes an element (`mempool_alloc`, `mm/mempool.c`), or misses.

@@ -1,17 +1,29 @@
 //! A state of the machine of a run as a running value.
-ghost use Rattle.std.specs.Prelude.{◌≡◌, ◌<◌, map, length, slice_get, MatchBool, MatchOption};
+ghost use Rattle.std.specs.Prelude.{◌≡◌, ◌<◌, map, length, slice_get, MatchBool, MatchOption, IfOk};
 ghost use Rattle.task_core.specs.Routed.{setup};
 ghost use Rattle.task_core.specs.Within.{TaskFits};
 ghost use Rattle.plain_core.specs.Views.{task_of};
-ghost use Rattle.plain_core.specs.Cores.{slot_of, task_at, AreFound, IsPlace, HasNone, StepsAt, Applies};
+ghost use Rattle.plain_core.specs.Opening.{CanOpen, IsOpened, scenario_by};
+ghost use Rattle.task_core.specs.Runs.{HasFree};
+ghost use Rattle.plain_core.specs.Free.{IsFirstFree};
+ghost use Rattle.plain_core.specs.Cores.{scene_of, state_of, task_at, AreFound, IsPlace, HasNone, StepsAt, Applies};
 
 use crate::fault::CoreFault;
+use crate::free::task_is_free;
 use crate::objects::Objects;
+use crate::opening::open_objects;
+use crate::rounds::{counts_of, duties_of};
+use crate::seats::{seat_all, slot_of};
 use crate::step::task_step;
 use crate::task::Task;
+use crate::todos::places;
+use fail_script::Script;
+use stack_base::{PoolId, Stack};
+use std::alloc::{AllocError, Global};
 use std::marker::Model;
 use task_core::within::tasks_stay_within;
 use task_core::{Event, Routes, TaskId, What};
+use work_text::Work;
 
 /// A state of the machine of a run, without elements and ledgers.
 #[derive(Drop)]
@@ -33,18 +45,6 @@ impl Model for Core {
     ghost view = { λ c. record { routing = c.routes; objects = c.objects; tasks = map task_of c.tasks.items } };
 
     ghost invariant = { λ c. IsCore c.routes c.objects (map task_of c.tasks.items) c.places.items };
-}
-
-// Where the place of a task is kept.
-fn slot_of(task: TaskId) -> u64
-    ensures { result ≡ slot_of task }
-{
-    match task {
-        TaskId::Writer(number) => 4 * u64::from(number),
-        TaskId::Rescuer(dev) => 4 * u64::from(dev.0) + 1,
-        TaskId::Completer(disk) => 4 * u64::from(disk.0) + 2,
-        TaskId::Keeper => 3,
-    }
 }
 
 // Whether two names are of one task.
@@ -91,6 +91,47 @@ fn step_at(
 }
 
 impl Core {
+    /// The state in which the runs of a text begin, of which these are the stack, the scripts of its pools and the work over it. No object is
+    /// opened for it.
+    ///
+    /// # Errors
+    /// Where there is no memory.
+    pub fn plain(
+        alloc: Global,
+        stack: &Stack,
+        scripts: &[(PoolId, Script)],
+        work: &Work,
+    ) -> Result<Core, AllocError>
+        requires { CanOpen stack.now scripts.now work.now }
+        ensures { IfOk result (IsOpened (scenario_by stack.now scripts.now work.now)) }
+    {
+        let places = places(alloc, stack, work)?;
+        let counts = counts_of(alloc, &work.rounds)?;
+        let duties = duties_of(alloc, work, &counts)?;
+        let (tasks, slots) = seat_all(alloc, stack, work, duties)?;
+        let writes = work.writes.len();
+        let objects = open_objects(alloc, stack, scripts, &places, counts, writes)?;
+        Ok(Core {
+            routes: Routes::new(alloc, stack, places)?,
+            objects,
+            tasks,
+            places: slots,
+        })
+    }
+
+    /// The first task of all, in their order, that has an event which can come next and needs no ordinary memory: one with no ordinary element,
+    /// and no missed take that waited.
+    pub fn free(&self) -> Option<TaskId>
+        ensures { MatchOption result (HasFree (scene_of self.now) (state_of self.now) → ⊥) (IsFirstFree self.now) }
+    {
+        'asking: for place in 0..self.tasks.len() {
+            if task_is_free(&self.objects, &self.tasks[place]) {
+                return Some(self.tasks[place].id());
+            }
+        }
+        None
+    }
+
     /// Applies an event: the state is that after the step of the machine then, which is the only one that the event tells.
     ///
     /// # Errors

@@ -26,8 +26,8 @@ use layout_model::Write;
 use stack_base::{DevId, PoolId, Range, SetId};
 use task_core::{Got, Routes, What};
 
-// Whether a write needs a vector of segments.
-fn needs_vector(write: &Write) -> bool
+/// Whether a write needs a vector of segments.
+pub fn needs_vector(write: &Write) -> bool
     ensures { result ≡ needs_vector write.now }
 {
     write.count > 32
@@ -65,15 +65,15 @@ fn start(routes: &Routes, part: Part, line: &mut Line)
     line.doing = drive(routes, part, &line.lists);
 }
 
-// The next write, if one is still to begin.
-fn next_todo(todo: &[Todo], begun: usize) -> Option<&Todo>
+/// The next write, if one is still to begin.
+pub fn next_todo(todo: &[Todo], begun: usize) -> Option<&Todo>
     ensures { MatchOption result (drop begun todo.now ≡ []) (λ next. drop begun todo.now ≡ next.now ∷ drop (begun + 1) todo.now) }
 {
     todo.get(begun)
 }
 
-// The next duty, if one is left.
-fn next_duty(duties: &[Duty], done: usize) -> Option<&Duty>
+/// The next duty, if one is left.
+pub fn next_duty(duties: &[Duty], done: usize) -> Option<&Duty>
     ensures { MatchOption result (drop done duties.now ≡ []) (λ next. drop done duties.now ≡ next.now ∷ drop (done + 1) duties.now) }
 {
     duties.get(done)

@@ -1,0 +1,14 @@
+//! Tests of runs over the plain state, event by event: the worked run of a mirror, and runs of other stacks, each by the rules of the machine.
+#![tactic(auto)]
+
+#[cfg(test)]
+mod cases;
+#[cfg(test)]
+mod kinds;
+#[cfg(test)]
+mod mirrors;
+#[cfg(test)]
+mod rounds;
+#[cfg(test)]
+mod states;
+pub mod texts;

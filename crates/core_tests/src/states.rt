@@ -1,0 +1,99 @@
+//! Runs that a test makes: events as lines, applied one by one to a plain core.
+ghost use Rattle.std.specs.Prelude.{IfOk};
+ghost use Rattle.trace_text.specs.Names.{IsNamed};
+
+use crate::texts::{Opened, Scene, can_open, scene_of};
+use plain_core::{Core, CoreFault};
+use stack_base::Stack;
+use std::alloc::AllocGlobal;
+use std::process::Abort;
+use std::test::Fail;
+use task_core::{Event, TaskId};
+use trace_text::read_event;
+
+/// The state in which the runs of a text begin that is to be accepted.
+pub fn opened_of(rt: &(impl Abort + AllocGlobal), text: &str) -> Result<Opened, Fail>
+    ensures { IfOk result (λ opened. IsNamed opened.accepted.stack) }
+{
+    let Scene { accepted, work } = scene_of(rt.alloc(), text)?;
+    assert!(rt; can_open(&accepted.stack, &accepted.scripts, &work));
+    let core = Core::plain(rt.alloc(), &accepted.stack, &accepted.scripts, &work)?;
+    Ok(Opened { accepted, core })
+}
+
+/// The event of a line.
+pub fn event_of(rt: &impl Abort, stack: &Stack, line: &str) -> Event
+    requires { IsNamed stack.now }
+{
+    match read_event(line.as_bytes(), stack) {
+        Some(event) => event,
+        None => panic!(rt; "no event: {line}"),
+    }
+}
+
+/// Applies an event that is to be a step.
+pub fn step(rt: &impl Abort, stack: &Stack, core: &mut Core, line: &str)
+    requires { IsNamed stack.now }
+{
+    let event = event_of(rt, stack, line);
+    assert!(rt; core.apply(&event).is_ok(), "{line}");
+}
+
+/// Applies events that are to be steps, one after the other.
+pub fn steps(rt: &impl Abort, stack: &Stack, core: &mut Core, lines: &[&str])
+    requires { IsNamed stack.now }
+{
+    for line in lines {
+        step(rt, stack, core, line);
+    }
+}
+
+/// Applies an event that is to be no step.
+pub fn refused(rt: &impl Abort, stack: &Stack, core: &mut Core, line: &str)
+    requires { IsNamed stack.now }
+{
+    let event = event_of(rt, stack, line);
+    assert!(rt;
+        matches!(core.apply(&event), Err(CoreFault::NotEnabled)),
+        "{line}"
+    );
+}
+
+/// A state of a run: the first task that needs no ordinary memory to go on, if there is one, events that are no step from this state, and
+/// the one that comes next.
+pub type State = (Option<TaskId>, &'static [&'static str], &'static str);
+
+// Whether these are one task, or none.
+fn is_same(one: Option<TaskId>, other: Option<TaskId>) -> bool {
+    match (one, other) {
+        (None, None) => true,
+        (Some(TaskId::Writer(number)), Some(TaskId::Writer(named))) => number == named,
+        (Some(TaskId::Rescuer(dev)), Some(TaskId::Rescuer(named))) => dev == named,
+        (Some(TaskId::Completer(disk)), Some(TaskId::Completer(named))) => disk == named,
+        (Some(TaskId::Keeper), Some(TaskId::Keeper)) => true,
+        _ => false,
+    }
+}
+
+/// A state, and the step from it.
+pub fn state(rt: &impl Abort, stack: &Stack, core: &mut Core, state: &State)
+    requires { IsNamed stack.now }
+{
+    let (free, others, line) = *state;
+    assert!(rt; is_same(core.free(), free), "before {line}");
+    for other in others {
+        refused(rt, stack, core, other);
+    }
+    step(rt, stack, core, line);
+}
+
+/// A run of a text: its states in their order, behind the last of which nothing is left to do.
+pub fn run(rt: &(impl Abort + AllocGlobal), text: &str, states: &[State]) -> Result<(), Fail> {
+    let Opened { accepted, mut core } = opened_of(rt, text)?;
+    let stack = &accepted.stack;
+    for one in states {
+        state(rt, stack, &mut core, one);
+    }
+    assert!(rt; core.free().is_none());
+    Ok(())
+}

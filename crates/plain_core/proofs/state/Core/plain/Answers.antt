@@ -1,0 +1,60 @@
+use Rattle.std.proofs.Common.{◌≡◌, ◌∙◌, ap, sym, replicate, [], length, map, arith}
+use Rattle.stack_base.specs.declared.ids.Status.TheVariants as status
+use Rattle.task_core.specs.Routed.{Routing}
+use Rattle.plain_core.specs.Opening.{counts_of, new_books, new_disks, new_pools, tasks_of}
+use Rattle.plain_core.specs.Plain.{Plain}
+use Rattle.plain_core.specs.Views.{task_of}
+use Rattle.plain_core.proofs.Counted.{count_rounds, last_le}
+use Rattle.plain_core.proofs.Listed.{few_writes}
+use Rattle.plain_core.proofs.Opened.{is_core, opened_so}
+use Rattle.plain_core.proofs.state.Core.plain.Goals as goal
+
+pub counts_of-requires : goal.counts_of-requires
+counts_of-requires c =
+    let few = few_writes c.args.stack.now c.args.work.now.writes.items in
+    let allowed = c.requires.allowed in
+    let paired = c.requires.paired in
+    omega (arith, few, allowed, paired, ap length c.deref.ensures.value)
+
+pub duties_of-requires-clause-few : goal.duties_of-requires-clause-few
+duties_of-requires-clause-few c =
+    let last = last_le c.args.work.now.rounds.items 0 1024 (omega arith) c.requires.rounds in
+    omega (arith, last)
+
+pub seat_all-requires-clause-few : goal.seat_all-requires-clause-few
+seat_all-requires-clause-few c =
+    let few = few_writes c.args.stack.now c.args.work.now.writes.items in
+    let allowed = c.requires.allowed in
+    omega (arith, few, allowed)
+
+pub open_objects-requires-clause-rounds : goal.open_objects-requires-clause-rounds
+open_objects-requires-clause-rounds c =
+    let rounds = c.args.work.now.rounds.items in
+    let long = count_rounds rounds c.in_ok-counts.counts.items (c.in_ok-counts.ensures ∙ ap counts_of c.deref.ensures.value) in
+    let last = last_le rounds 0 1024 (omega arith) c.requires.rounds in
+    omega (arith, long, last)
+
+pub invariant_of-result : goal.invariant_of-result
+invariant_of-result c =
+    is_core c.args.stack.now c.args.scripts.now c.args.work.now c.in_ok-duties.duties.items c.in_ok-new.field-0 c.in_ok-objects.objects
+    (map task_of c.in_ok-tasks.tasks.items) c.in_ok-tasks.slots.items c.requires (ap (λ (r : Routing). r.stack) c.in_ok-new.ensures)
+    (ap (λ (o : Plain). o.stack) c.in_ok-objects.ensures) c.in_ok-tasks.ensures.0 c.in_ok-tasks.ensures.1
+
+pub returns : goal.returns
+returns c =
+    let stack = c.args.stack.now in
+    let work = c.args.work.now in
+    let places = c.in_ok-places.places in
+    let written : c.len-writes.result ≡ length work.writes.items = omega (arith, c.len-writes.ensures, work.writes.ok.0) in
+    let counts = c.in_ok-counts.ensures ∙ ap counts_of c.deref.ensures.value in
+    opened_so stack c.args.scripts.now work c.requires places c.in_ok-places.ensures
+    (record { routing = c.in_ok-new.field-0; objects = c.in_ok-objects.objects; tasks = map task_of c.in_ok-tasks.tasks.items }) c.in_ok-new.ensures
+    (c.in_ok-objects.ensures ∙ (λ k. record {
+      stack = stack;
+      pools = new_pools stack c.args.scripts.now 66;
+      rescues = replicate (length stack.devices.items) [];
+      disks = new_disks stack (length stack.devices.items);
+      books = new_books places 8;
+      tally = record { round = 0; left = counts k; statuses = replicate (written k) status.Ok };
+    }))
+    (c.in_ok-tasks.ensures.0 ∙ ap (tasks_of stack work) c.in_ok-duties.ensures)

@@ -1,0 +1,112 @@
+-- Which task can go on without ordinary memory.
+use Rattle.std.specs.Prelude.{◌≡◌, ◌⊎◌, ◌+◌, ◌-◌, ◌^◌, ◌<◌, ℕ, Bool, true, false, IsTrue, MatchBool, List, length, Option, None, Some}
+use Rattle.stack_base.specs.declared.ids.PoolId.TheVariants.{FsVecs, Records}
+use Rattle.stack_base.specs.PoolId.{pool_number}
+use Rattle.mempool_core.specs.Move.{PoolState, takes_spare, CanMove}
+use Rattle.bioset_pools.specs.Sets.{bios_of}
+use Rattle.bio_books.specs.Books.{Node, node_at}
+use Rattle.bio_books.specs.Links.{IsVacant}
+use Rattle.task_core.specs.declared.event.Event.{Event}
+use Rattle.task_core.specs.declared.event.TaskId.{TaskId}
+use Rattle.task_core.specs.declared.event.What.{What}
+use Rattle.task_core.specs.Events.{id_of, is_free, what_of}
+use Rattle.task_core.specs.Objects.{Objects, Serves}
+use Rattle.task_core.specs.Requests.{Request, Reply, Opening, Write, Chain, Master, Leg, TakeBio, TakeVec, TakeSlip, GiveBio, GiveVec, GiveSlip, Punt, Pop, Push, Complete, Link, Drop, Done, Resize, NextRound, LookRound, LookLeft, Rest}
+use Rattle.task_core.specs.Routed.{Routing, setup}
+use Rattle.task_core.specs.Runs.{State, Steps, IsLet}
+use Rattle.task_core.specs.Tasks.{TaskState, look_of, request}
+use Rattle.plain_core.specs.declared.need.Need.{Need}
+use Rattle.plain_core.specs.declared.need.Need.TheVariants as need
+use Rattle.plain_core.specs.Cores.{CoreState, task_at, scene_of, state_of}
+use Rattle.plain_core.specs.Ledgers.{ledger_of}
+use Rattle.plain_core.specs.Plain.{Plain, pool_at, rescue_at, disk_at, book_at, objects_of}
+
+-- yes where it is so, and no where it is not
+abbrev pub Tells : Bool → Type 0 → Type 0
+Tells answer P = MatchBool answer P (P → ⊥)
+
+-- the request can be answered so that an event tells it which needs no ordinary memory
+pub record CanFree (old : Plain) (request : Request) : Type 0 where
+  pub what : What
+  pub reply : Reply
+  pub new : Objects
+  pub told : what_of request reply ≡ Some what
+  pub serves : Serves ledger_of (objects_of old) request reply new
+  pub free : IsTrue (is_free what)
+
+-- a pool has neither a spare to give nor room for one more to be out
+abbrev pub IsShort : PoolState → Type 0
+IsShort pool = (pool.facts.spares ≡ 0) ⊎ (pool.facts.out ≡ 2 ^ 64 - 1)
+
+-- what each request needs for that
+abbrev pub link_need : ℕ → Opening → Need
+link_need writer (Write write vector) = need.Place writer
+link_need writer (Chain parent) = need.Chain writer parent
+link_need writer (Master parent part slip legs) = need.Child writer parent
+link_need writer (Leg master) = need.Child writer master
+
+abbrev pub need_of : Request → Need
+need_of (TakeBio set waits) = need.Spare (bios_of set) waits
+need_of TakeVec = need.Spare FsVecs true
+need_of (TakeSlip dev) = need.Spare (Records dev) true
+need_of (GiveBio bio) = need.Out bio.share.no
+need_of (GiveVec vector) = need.Out vector.share.no
+need_of (GiveSlip slip) = need.Out slip.share.no
+need_of (Punt dev moved) = need.Nothing
+need_of (Pop dev) = need.Rescued dev
+need_of (Push bio) = need.Nothing
+need_of (Complete disk) = need.Pending disk
+need_of (Link writer opening) = link_need writer opening
+need_of (Drop writer node status part) = need.End writer node
+need_of (Done write status) = need.Nothing
+need_of (Resize pool min) = need.Home pool
+need_of (NextRound round) = need.Round
+need_of LookRound = need.Never
+need_of LookLeft = need.Never
+need_of Rest = need.Never
+
+-- when it is met
+abbrev pub IsMet : Plain → Need → Type 0
+IsMet old need.Nothing = Unit {0}
+IsMet old need.Never = ⊥
+-- a take that does not wait may miss
+IsMet old (need.Spare pool waits) =
+    CanMove (pool_at old (pool_number pool)) takes_spare ⊎ ((waits ≡ false) × IsShort (pool_at old (pool_number pool)))
+IsMet old (need.Out number) = 0 < (pool_at old number).facts.out
+IsMet old (need.Home pool) = (pool_at old (pool_number pool)).facts.out ≡ 0
+IsMet old (need.Rescued dev) = 0 < length (rescue_at old dev.0)
+IsMet old (need.Pending disk) = 0 < length (disk_at old disk.0).pending
+IsMet old (need.Place writer) = (place : ℕ) × IsVacant (book_at old writer) place
+IsMet old (need.Chain writer parent) =
+    (place : ℕ) × (node : Node) × IsVacant (book_at old writer) place × (node_at (book_at old writer) parent ≡ Some node) × (node.count < 2 ^ 64 - 1)
+IsMet old (need.Child writer parent) =
+    (place : ℕ) × (node : Node) × IsVacant (book_at old writer) place × (node_at (book_at old writer) parent ≡ Some node)
+IsMet old (need.End writer place) = (node : Node) × (node_at (book_at old writer) place ≡ Some node) × (0 < node.count)
+IsMet old need.Round = old.tally.round + 1 < length old.tally.left
+
+-- how many ends the node at a place waits for, if one is open there
+abbrev pub IsCountAt : Option Node → ℕ → Type 0
+IsCountAt None count = ⊥
+IsCountAt (Some node) count = node.count ≡ count
+
+-- what a task looks at lets it ask
+abbrev pub TaskIsLet : Plain → TaskState → Type 0
+TaskIsLet old task = IsLet ledger_of (objects_of old) task (look_of task)
+
+-- a task can go on without ordinary memory
+abbrev pub TaskIsFree : Routing → Plain → TaskState → Type 0
+TaskIsFree r old task = TaskIsLet old task × CanFree old (request (setup r) task)
+
+-- the task at this place of a core has a step that needs no ordinary memory
+pub record IsFreeAt (c : CoreState) (place : ℕ) : Type 0 where
+  pub event : Event
+  pub new : State
+  pub steps : Steps (scene_of c) (state_of c) place event new
+  pub free : IsTrue (is_free event.what)
+
+-- the first task of all that has one is of this name
+pub record IsFirstFree (c : CoreState) (name : TaskId) : Type 0 where
+  pub place : ℕ
+  pub named : name ≡ id_of (task_at c.tasks place)
+  pub is_free : IsFreeAt c place
+  pub first : (earlier : ℕ) → earlier < place → IsFreeAt c earlier → ⊥
