@@ -39,12 +39,42 @@ def rounds():
     return "disk a 262144\nmirror m a\n" + f"sync\n{changes}write 0 m 0 2048 0\n" * 1024
 
 
+def limited(memory, count):
+    """Writes of 2,048 sectors to a disk under a limit of one sector: so many fragments each."""
+    lines = f"disk a 262144\nlimit l max=1 a reserve=8\n{memory}"
+    return lines + "".join(f"write 0 l {2048 * k} 2048 {131072 * k}\n" for k in range(count))
+
+
+def mirrored(memory, count):
+    """Writes of one sector to a mirror of two disks that keeps one bio."""
+    return f"disk a 131072\ndisk b 131072\nmirror m a b reserve=1 records=1\n{memory}" + "".join(f"write {k % 8} m {k} 1 0\n" for k in range(count))
+
+
+def whole():
+    """128 writes of 2,048 sectors, which write each sector of the largest disk."""
+    return "disk a 262144\n" + "".join(f"write {k % 8} a {2048 * k} 2048 {131072 * k}\n" for k in range(128))
+
+
+def two_writers():
+    """Two writers on one stripe of two disks, in chunks of 8 sectors."""
+    return "disk a 131072\ndisk b 131072\nstripe s chunk=8 a b\n" + "".join(f"write {k % 2} s {512 * k} 512 0\n" for k in range(512))
+
+
 # name, words, text
 CASES = [
     ("smallest run", ["run"], "disk a 64\nwrite 0 a 0 1 0\n"),
     ("largest disk, 32 sectors at its end", ["run"], "disk a 262144\nwrite 0 a 262112 32 7\n"),
     ("largest disk, 2,048 sectors, no memory", ["run"], "disk a 262144\nmemory none\nwrite 0 a 260096 2048 0\n"),
     ("largest disk, all ranges bad behind it", ["run"], "disk a 262144\n" + "".join(f"bad a {k} 1 io\n" for k in range(1024)) + "write 0 a 4096 2048 0\n"),
+    ("64 writes, 131,072 fragments", ["run"], limited("", 64)),
+    ("the same without ordinary memory", ["run"], limited("memory none\n", 64)),
+    ("32 writes, 65,536 fragments", ["run"], limited("", 32)),
+    ("16,384 writes to a mirror, no memory", ["run"], mirrored("memory none\n", 16384)),
+    ("8,192 writes to a mirror, no memory", ["run"], mirrored("memory none\n", 8192)),
+    ("two writers on a stripe", ["run"], two_writers()),
+    ("gen 7", ["gen", "7"], ""),
+    ("a trace of half a million lines", ["run", "--trace"], limited("", 40)),
+    ("the whole of the largest disk", ["run"], whole()),
     ("refused at the end of 4 MiB", ["run"], "\n" * (MOST_BYTES + 1)),
     ("4 MiB of comments", ["check"], filled("# a comment line of 32 bytes....\n" * 127000)),
     ("4 MiB with 159,000 writes", ["check"], filled(writes(159000))),
@@ -71,7 +101,7 @@ def once(program, words, text):
 
 
 def steps_of(output):
-    for line in output.splitlines():
+    for line in output[-4096:].splitlines():
         if line.startswith("steps "):
             return int(line.split()[1])
     return 0

@@ -26,7 +26,6 @@ const NAMES: &[(Reason, &str)] = &[
     (Reason::TooLong, "TooLong"),
     (Reason::NotText, "NotText"),
     (Reason::TooMuchWork, "TooMuchWork"),
-    (Reason::NotBuilt, "NotBuilt"),
 ];
 
 /// A text, and the line that is refused.

@@ -4,6 +4,7 @@ use outside_io::{MemSink, MemSource, Source};
 use std::alloc::{AllocError, Global};
 use std::process::Abort;
 use std::test::Fail;
+use work_text::generate;
 
 /// More than any report or line here has.
 pub const ROOM: usize = 4096;
@@ -458,40 +459,92 @@ fn a_write_that_fails_leaves_the_disk_as_it_was(rt: HostRuntime) -> Result<(), F
     Ok(())
 }
 
-/// Texts that are accepted and not run yet, and the line that is not.
-const NOT_BUILT: &[(&str, u64)] = &[
-    // A second round, which comes before the second write.
-    ("disk a 8\nwrite 0 a 0 2 0\nsync\nwrite 1 a 1 2 1000\n", 3),
-    ("disk a 8\n\nsync\nresize fs.bios 1\nwrite 0 a 0 2 0\n", 3),
-    ("disk a 64\ndisk b 64\n", 2),
-    ("disk a 64\nlinear n a\nwrite 0 n 0 1 0\n", 2),
-    ("disk a 64\nstripe s chunk=8 a\n", 2),
-    ("disk a 64\nlimit l max=1 a\n", 2),
-    ("# one\ndisk a 64\n\nmirror m a\nfs\n", 4),
+/// Runs over whole stacks, each with its report.
+const STACKS: &[(&str, u8, &str)] = &[
     (
-        "memory none\nfs\nscript fs.bios + +\ndisk a 64\nbad a 0 1 io\n\nscript fs.vecs . -\ndisk b 8\n",
-        8,
+        STRIPED,
+        0,
+        "write 0 ok\ndisk a sum 000000000007c6a0\nrun a 5 11\ndisk b sum 000000000004b6e0\nrun b 0 9\n\
+         pool fs.bios reserve 2 ordinary 1 spare 0\npool fs.vecs reserve 2 ordinary 0 spare 0\n\
+         pool s.bios reserve 2 ordinary 3 spare 0\nsteps 28 of 40\n",
     ),
-    // The second write, however many follow.
-    ("disk a 64\n#\nwrite 0 a 0 32 0\n#\nwrite 0 a 32 1 0\n", 5),
     (
-        "disk a 64\nbad a 0 1 io\nwrite 0 a 1 33 0\nwrite 0 a 0 1 0\nwrite 0 a 34 1 0\n",
-        4,
+        "disk a 64\nlimit l max=3 chunk=8 a\nwrite 0 l 6 10 0\n",
+        0,
+        "write 0 ok\ndisk a sum 0000000000031ec0\nrun a 6 10\n\
+         pool fs.bios reserve 2 ordinary 1 spare 0\npool fs.vecs reserve 2 ordinary 0 spare 0\n\
+         pool l.bios reserve 2 ordinary 3 spare 0\nsteps 28 of 40\n",
     ),
-    ("disk a 4096\nwrite 0 a 0 2048 0\nwrite 0 a 2048 1 0\n", 3),
-    // A second device and a second write.
     (
-        "disk a 64\ndisk b 64\nwrite 0 a 0 1 0\nwrite 0 b 0 1 0\n",
-        2,
+        "disk a 8\ndisk b 8\nlinear n a b reserve=1\nmemory none\nwrite 0 n 6 4 0\n",
+        0,
+        "write 0 ok\ndisk a sum 0000000000001fc0\nrun a 6 2\ndisk b sum 0000000000005fc0\nrun b 0 2\n\
+         pool fs.bios reserve 2 ordinary 0 spare 1\npool fs.vecs reserve 2 ordinary 0 spare 0\n\
+         pool n.bios reserve 1 ordinary 0 spare 1\nsteps 14 of 20\n",
+    ),
+    // The second clone waits for the first one, which the rescuer submits.
+    (
+        "disk a 8\ndisk b 8\nmirror m a b reserve=1 records=1\nmemory none\nwrite 0 m 0 1 0\n",
+        0,
+        "write 0 ok\ndisk a sum 00000000000007e0\nrun a 0 1\ndisk b sum 00000000000007e0\nrun b 0 1\n\
+         pool fs.bios reserve 2 ordinary 0 spare 1\npool fs.vecs reserve 2 ordinary 0 spare 0\n\
+         pool m.records reserve 1 ordinary 0 spare 1\npool m.bios reserve 1 ordinary 0 spare 2\nsteps 25 of 36\n",
+    ),
+    // One copy is enough, and none is not.
+    (
+        "disk a 8\ndisk b 8\nbad a 0 1 medium\nmirror m a b\nwrite 0 m 0 1 0\n",
+        0,
+        "write 0 ok\ndisk a sum 0000000000000000\ndisk b sum 00000000000007e0\nrun b 0 1\n\
+         pool fs.bios reserve 2 ordinary 1 spare 0\npool fs.vecs reserve 2 ordinary 0 spare 0\n\
+         pool m.records reserve 2 ordinary 1 spare 0\npool m.bios reserve 2 ordinary 2 spare 0\nsteps 22 of 36\n",
+    ),
+    (
+        "disk a 8\ndisk b 8\nbad a 0 1 medium\nbad b 0 1 nospace\nmirror m a b\nwrite 0 m 0 1 0\n",
+        1,
+        "write 0 io\ndisk a sum 0000000000000000\ndisk b sum 0000000000000000\n\
+         pool fs.bios reserve 2 ordinary 1 spare 0\npool fs.vecs reserve 2 ordinary 0 spare 0\n\
+         pool m.records reserve 2 ordinary 1 spare 0\npool m.bios reserve 2 ordinary 2 spare 0\nsteps 22 of 36\n",
+    ),
+    // The script lets the first split have ordinary memory, and the others wait for the spare.
+    (
+        "disk a 64\nlimit l max=1 reserve=1 a\nscript l.bios +- -\nwrite 0 l 0 4 0\n",
+        0,
+        "write 0 ok\ndisk a sum 0000000000007f80\nrun a 0 4\n\
+         pool fs.bios reserve 2 ordinary 1 spare 0\npool fs.vecs reserve 2 ordinary 0 spare 0\n\
+         pool l.bios reserve 1 ordinary 1 spare 2\nsteps 28 of 42\n",
+    ),
+    // Two writers.
+    (
+        "disk a 64\nwrite 0 a 0 1 0\nwrite 1 a 1 1 0\n",
+        0,
+        "write 0 ok\nwrite 1 ok\ndisk a sum 0000000000000fc0\nrun a 0 2\n\
+         pool fs.bios reserve 2 ordinary 2 spare 0\npool fs.vecs reserve 2 ordinary 0 spare 0\nsteps 14 of 20\n",
     ),
 ];
 
 #[test]
-fn what_is_not_built_is_refused_at_its_first_line(rt: HostRuntime) -> Result<(), Fail> {
-    for (text, line) in NOT_BUILT {
-        let errors = format!(in rt.alloc(); "biostack: line {line}: 19 NotBuilt\n")?;
-        check_refused(&rt, "run", *text, errors.as_str())?;
+fn whole_stacks_run_to_their_ends(rt: HostRuntime) -> Result<(), Fail> {
+    for (text, status, report) in STACKS {
+        check_run(&rt, *status, *text, *report)?;
     }
+    Ok(())
+}
+
+/// The events of the smallest run, which has one task at a time that can go on.
+const ONE_SECTOR_EVENTS: &str = "event w0 take fs.bios ordinary\nevent w0 link 0 write 0\n\
+    event w0 push a 0 1 leg 0\nevent c:a complete a 0 ok\nevent c:a drop 0 0 ok top\n\
+    event c:a give fs.bios\nevent c:a done 0 ok\n";
+
+#[test]
+fn a_trace_tells_each_event_before_the_report(rt: HostRuntime) -> Result<(), Fail> {
+    let output = format!(in rt.alloc(); "{ONE_SECTOR_EVENTS}{ONE_SECTOR_REPORT}")?;
+    let answer = Answer {
+        status: 0,
+        output: output.as_str(),
+        errors: "",
+    };
+    check(&rt, &["run", "--trace"], ONE_SECTOR, answer)?;
+    check(&rt, &["run", "--trace", "--seed=12"], ONE_SECTOR, answer)?;
     Ok(())
 }
 
@@ -548,7 +601,6 @@ const REFUSED: &[(&str, &str)] = &[
         "biostack: line 2: 15 NoSuchPool\n",
     ),
     ("disk a 64\n# \x7f\n", "biostack: line 2: 17 NotText\n"),
-    // A line that is not built yet stands before the one that is refused.
     (
         "disk a 64\ndisk b 64\nwrite 0 a 0 33 0\nwrite 0 a 64 1 0\n",
         "biostack: line 4: 12 PastEnd\n",
@@ -663,10 +715,17 @@ const OTHER_WORDS: &[&[&str]] = &[
     &["Run"],
     &["run", "x"],
     &["run", "run"],
-    &["run", "--trace"],
+    &["run", "--trace", "--trace"],
+    &["run", "--workers", "0"],
+    &["run", "--workers", "2"],
+    &["run", "--seed", "1", "--workers", "2"],
+    &["run", "--seed"],
     &["check", "--trace"],
     &["layout", "check"],
-    &["gen", "7"],
+    &["gen"],
+    &["gen", "-7", "--text"],
+    &["replay"],
+    &["scrub", "--seed", "3"],
     &["--help"],
     &["--", "run"],
 ];
@@ -680,6 +739,25 @@ fn other_words_are_refused(rt: HostRuntime) -> Result<(), Fail> {
     };
     for words in OTHER_WORDS {
         check(&rt, *words, ONE_SECTOR, answer)?;
+    }
+    Ok(())
+}
+
+#[test]
+fn gen_shows_the_text_of_its_number_and_reads_nothing(rt: HostRuntime) -> Result<(), Fail> {
+    let alloc = rt.alloc();
+    for words in [["gen", "7", "--text"], ["gen", "--text", "7"]] {
+        let words = words_of(alloc, &words)?;
+        let mut source = MemSource::new(Vec::from_slice(alloc, b"disk")?);
+        let mut out = MemSink::new(alloc, 65_536)?;
+        let mut errors = MemSink::new(alloc, ROOM)?;
+        let exit = biostack(alloc, &words, &mut source, &mut out, &mut errors);
+        assert_eq!(rt; exit.0, 0);
+        let text = generate(alloc, 7)?;
+        assert_eq!(rt; out.held(), text.as_slice());
+        assert!(rt; errors.held().is_empty());
+        let mut rest = [0; 8];
+        assert_eq!(rt; source.take(&mut rest), Ok(4));
     }
     Ok(())
 }

@@ -1,11 +1,8 @@
-pub mod LaidLemmas
-pub mod RunLemmas
-pub mod PathLemmas
-pub mod ReportLemmas
-pub mod ServeLemmas
-pub mod EndingLemmas
 pub mod LayoutLemmas
 pub mod SceneLemmas
-pub mod BuiltLemmas
-pub mod PlainLemmas
+pub mod HomeLemmas
+pub mod RunningLemmas
+pub mod TraceLemmas
 pub mod ToldLemmas
+pub mod ServeLemmas
+pub mod EndingLemmas

@@ -1,5 +1,5 @@
 -- A whole text, by its declarations and the rest of it.
-use Rattle.std.proofs.Common.{◌≡◌, ◌+◌, ◌≤◌, ℕ, List, [], Ok, Err, drop, length, lt-ltb, refl, sym, ap, subst, ◌∙◌, arith}
+use Rattle.std.proofs.Common.{◌≡◌, ℕ, List, [], Ok, Err, drop, length, lt-ltb, refl, sym, ap, subst, ◌∙◌, arith}
 use Rattle.std.specs.Prelude.{Contains}
 use Rattle.layout_model.specs.declared.write.Write.{Write}
 use Rattle.layout_model.specs.Writes.{IsWrite}
@@ -19,7 +19,7 @@ use Rattle.std.proofs.lemmas.List.{length-map}
 use Rattle.layout_model.specs.Bound.{IsBound}
 use Rattle.decl_text.specs.Known.{Known}
 use Rattle.biostack_top.specs.declared.scene.Scene.{Scene}
-use Rattle.biostack_top.specs.Scene.{IsSaid, ReadsScene, SaysScene}
+use Rattle.biostack_top.specs.Scene.{IsSaid, ReadsScene, Says}
 
 pub too_long : (text : List ℕ) (fault : ReadFault) → ReadsDecl text (Err fault) → ReadsScene text (Err fault)
 too_long text (Refused first) is = rw (lt-ltb most_bytes (length text) is.0, is.1) refl
@@ -48,32 +48,31 @@ work_refuses text read accepted (Refused first) is accepts refuses = same_refusa
 work_refuses text read accepted Memory is accepts refuses = tt
 
 pub says_all : (text : List ℕ) (read : Read) (scene : Scene) → ReadsDecl text (Ok read) → Accepts read (Ok scene.accepted) → ReadsWork text scene.accepted (Ok scene.work)
-    → ((write : Write) → Contains scene.work.writes.items write → IsWrite scene.accepted.stack write)
-    → last_round scene.work.rounds.items + length scene.work.resizes.items ≤ 5120 → scene.text.now ≡ text → IsSaid scene
-says_all text read scene is accepts reads served few same =
+    → ((write : Write) → Contains scene.work.writes.items write → IsWrite scene.accepted.stack write) → scene.text.now ≡ text → IsSaid scene
+says_all text read scene is accepts reads served same =
     let accepted = scene.accepted in
     let fine = same_refusal text read accepted is accepts ∙ reads.0 in
     let by = decides text read accepted is accepts in
     let work : known_after (known_of accepted.stack) (work_lines text accepted) ≡ work_of (known_of_text text) =
     ap (λ n. known_after (known_of accepted.stack) (lines (drop n text))) accepts.3 ∙ sym (by.work fine) in
-    subst (λ t. SaysScene t scene) (sym same)
+    subst (λ t. Says t accepted scene.work) (sym same)
     (record {
-      says = record {
-        fine = fine;
-        stack = accepted.is_stack;
-        means = by.means fine;
-        writes = reads.1.writes ∙ ap (λ (k : Known). k.writes) work;
-        served = served;
-        needs = subst (λ z. IsBound accepted.stack scene.work.writes.items z scene.work.bound)
-            (omega (
-              arith,
-              ap last_round (reads.1.rounds ∙ ap (λ (k : Known). k.rounds) work),
-              ap length (reads.1.resizes ∙ ap (λ (k : Known). kept_resizes (last_round k.rounds) k.resizes) work),
-              length-map scene.work.resizes.items resized,
-            ))
-            reads.1.bound;
-      };
+      fine = fine;
+      stack = accepted.is_stack;
+      means = by.means fine;
+      rescuers = accepts.2;
+      writes = reads.1.writes ∙ ap (λ (k : Known). k.writes) work;
+      served = served;
       rounds = reads.1.rounds ∙ ap (λ (k : Known). k.rounds) work;
       resizes = reads.1.resizes ∙ ap (λ (k : Known). kept_resizes (last_round k.rounds) k.resizes) work;
-      few_rounds = few;
+      needs = subst (λ z. IsBound accepted.stack scene.work.writes.items z scene.work.bound)
+          (omega (
+            arith,
+            ap last_round (reads.1.rounds ∙ ap (λ (k : Known). k.rounds) work),
+            ap length (reads.1.resizes ∙ ap (λ (k : Known). kept_resizes (last_round k.rounds) k.resizes) work),
+            length-map scene.work.resizes.items resized,
+          ))
+          reads.1.bound;
+      begins = rest_begins text read accepted is accepts;
+      reads = reads;
     })

@@ -1,25 +1,26 @@
 -- What a text that was read makes of the call.
-use Rattle.std.proofs.Common.{◌≡◌, ℕ, List, Option, subst}
+use Rattle.std.proofs.Common.{◌≡◌, ℕ, List, true, false, true≢false, Option, None, refl, sym, ap, ◌∙◌, subst}
 use Rattle.std.specs.Prelude.{Result, Ok, Err}
-use Rattle.outside_io.specs.Saying.{AppendsFront, Writes}
-use Rattle.std.specs.Io.KnownBytes.{Appends, Consumes}
+use Rattle.std.specs.Io.KnownBytes.{Appends}
 use Rattle.outside_io.specs.Causes.{Rose}
-use Rattle.outside_io.specs.Reading.{IsRead}
-use Rattle.biostack_top.specs.declared.order.Order.{Order}
-use Rattle.biostack_top.specs.declared.ending.Ending.{Ending}
-use Rattle.biostack_top.specs.declared.ending.Ending.TheVariants.{Done, NotAllWell, Usage, Refused, ReadFault, WriteFault, Memory}
-use Rattle.biostack_top.specs.Ending.{Call, Reads, EndsBy, TextEndsBy, limit}
+use Rattle.outside_io.specs.Saying.{AppendsFront, Writes}
+use Rattle.biostack_words.specs.declared.order.Order.{Order}
+use Rattle.biostack_words.specs.declared.order.Order.TheVariants.{Run, Workers, Check, Layout, Gen, Replay, Scrub}
+use Rattle.work_text.specs.Whole.{text_refusal}
+use Rattle.work_text.proofs.GeneratedTexts.{never_refused}
+use Rattle.biostack_top.specs.Orders.{is_shown}
+use Rattle.biostack_top.specs.Ending.{IsMade, Tells, made_by}
 
--- a text that was read ends the call as it ends
-pub text_ends : (ending : Ending) (order : Order) (c : Call) (text : List ℕ) → Reads order c → IsRead limit c.source.old text
-    → Consumes c.source.old c.source.new text → c.source.now ≡ c.source.before → TextEndsBy ending order text c.out → EndsBy ending c
-text_ends Done order c text asked was_read taken quiet ends = (order, asked, (text, was_read, taken, quiet, ends))
-text_ends NotAllWell order c text asked was_read taken quiet ends = (order, asked, (text, was_read, taken, quiet, ends))
-text_ends WriteFault order c text asked was_read taken quiet ends = (order, asked, (text, was_read, taken, quiet, ends))
-text_ends (Refused refusal) order c text asked was_read taken quiet ends = (order, asked, (text, was_read, taken, quiet, ends))
-text_ends Memory order c text asked was_read taken quiet ends = (order, asked, (quiet, ends))
-text_ends Usage order c text asked was_read taken quiet ends = absurd ends
-text_ends ReadFault order c text asked was_read taken quiet ends = absurd ends
+-- a text that a number made is shown whole, and is not refused
+pub shown_is : (order : Order) (text : List ℕ) → is_shown order ≡ true → IsMade (made_by order) text → (text_refusal text ≡ None) × Tells order text text true
+shown_is (Gen number true) text is made = (ap text_refusal made ∙ never_refused number, (refl, refl))
+shown_is (Gen number false) text is made = absurd (true≢false (sym is))
+shown_is (Run number trace) text is made = absurd (true≢false (sym is))
+shown_is (Workers n trace) text is made = absurd (true≢false (sym is))
+shown_is Check text is made = absurd (true≢false (sym is))
+shown_is Layout text is made = absurd (true≢false (sym is))
+shown_is Replay text is made = absurd (true≢false (sym is))
+shown_is (Scrub number) text is made = absurd (true≢false (sym is))
 
 -- a text that was written, by how that ended
 pub written_whole : {E : Type 0} {a b : Option (List ℕ)} {f g : ℕ} {text : List ℕ} {result : Result Unit E} {done : Unit} → result ≡ Ok done

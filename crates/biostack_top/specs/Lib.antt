@@ -1,11 +1,6 @@
-pub mod Scenario
-pub mod ScenarioViews
-pub mod Machine
-pub mod Path
-pub mod Runs
-pub mod Report
 pub mod LayoutText
 pub mod Orders
 pub mod Scene
-pub mod Built
+pub mod Tracing
+pub mod Running
 pub mod Ending

@@ -1,17 +1,43 @@
--- What the words after the program's name ask for.
-use Rattle.std.specs.Prelude.{if◌then◌else◌, List, [], ◌∷◌, ℕ, codes, Option, None, Some}
-use Rattle.std.specs.Str.{bytes_eq}
-use Rattle.biostack_top.specs.declared.order.Order.{Order}
-use Rattle.biostack_top.specs.declared.order.Order.TheVariants.{Run, Check, Layout}
+-- Which orders are carried out, and the words that give them.
+use Rattle.std.specs.Prelude.{if◌then◌else◌, Bool, true, false, List, ℕ, Option, None, Some}
+use Rattle.std.specs.Option.{option_and_then}
+use Rattle.biostack_words.specs.Grammar.{meaning}
+use Rattle.biostack_words.specs.declared.order.Order.{Order}
+use Rattle.biostack_words.specs.declared.order.Order.TheVariants.{Run, Workers, Check, Layout, Gen, Replay, Scrub}
 
-abbrev pub order_of_word : List ℕ → Option Order
-order_of_word word =
-    if bytes_eq word (codes "run") then Some Run
-    else (if bytes_eq word (codes "check") then Some Check
-    else (if bytes_eq word (codes "layout") then Some Layout
-    else None))
+-- whether an order is carried out: runs in threads, replays and scrubs are not yet
+abbrev pub is_served : Order → Bool
+is_served (Run number trace) = true
+is_served (Workers n trace) = false
+is_served Check = true
+is_served Layout = true
+is_served (Gen number shown) = true
+is_served Replay = false
+is_served (Scrub number) = false
 
--- an order is one word alone
+-- whether an order is to run the text that is read
+abbrev pub is_run : Order → Bool
+is_run (Run number trace) = true
+is_run (Workers n trace) = false
+is_run Check = false
+is_run Layout = false
+is_run (Gen number shown) = false
+is_run Replay = false
+is_run (Scrub number) = false
+
+-- whether an order is to show the text that its number makes
+abbrev pub is_shown : Order → Bool
+is_shown (Gen number shown) = shown
+is_shown (Run number trace) = false
+is_shown (Workers n trace) = false
+is_shown Check = false
+is_shown Layout = false
+is_shown Replay = false
+is_shown (Scrub number) = false
+
+abbrev pub if_served : Order → Option Order
+if_served order = if is_served order then Some order else None
+
+-- the order that the words give, where it is carried out
 abbrev pub order_of : List (List ℕ) → Option Order
-order_of (word ∷ []) = order_of_word word
-order_of _ = None
+order_of words = option_and_then if_served (meaning words)

@@ -1,40 +1,55 @@
 //! What the words ask for.
 ghost use Rattle.std.specs.Prelude.{◌≡◌, map};
 ghost use Rattle.std.specs.String.{string_bytes};
-ghost use Rattle.biostack_top.specs.Orders.{order_of, order_of_word};
+ghost use Rattle.biostack_top.specs.Orders.{is_served, is_shown};
+ghost use Rattle.biostack_top.specs.Ending.{IsAsked};
 
-/// What the program is asked to do with the text that it reads.
-#[derive(Clone, Copy, Debug, PartialEq, Eq)]
-pub enum Order {
-    /// Run its writes to their end, and report.
-    Run,
-    /// Tell its devices, and what its writes need.
-    Check,
-    /// Tell where its writes go.
-    Layout,
-}
+use crate::ending::Ending;
+use biostack_words::{Order, WordFault, read_words};
+use std::alloc::Global;
 
-// The order that is this word.
-fn order_of_word(word: &str) -> Option<Order>
-    ensures { result ≡ order_of_word word.now }
+// Whether an order is carried out.
+fn is_served(order: Order) -> bool
+    ensures { result ≡ is_served order }
 {
-    if word == "run" {
-        Some(Order::Run)
-    } else if word == "check" {
-        Some(Order::Check)
-    } else if word == "layout" {
-        Some(Order::Layout)
-    } else {
-        None
+    match order {
+        Order::Run { .. } | Order::Check | Order::Layout | Order::Gen { .. } => true,
+        Order::Workers { .. } | Order::Replay | Order::Scrub { .. } => false,
     }
 }
 
-/// The order of these words, where they are one word that is an order.
-pub(crate) fn order_of(words: &[String]) -> Option<Order>
-    ensures { result ≡ order_of (map string_bytes words.now) }
+/// Whether an order is to show the text that its number makes.
+pub(crate) fn is_shown(order: Order) -> bool
+    ensures { result ≡ is_shown order }
 {
-    match words {
-        [word] => order_of_word(word.as_str()),
-        _ => None,
+    match order {
+        Order::Gen { text, .. } => text,
+        Order::Run { .. } => false,
+        Order::Workers { .. } => false,
+        Order::Check => false,
+        Order::Layout => false,
+        Order::Replay => false,
+        Order::Scrub { .. } => false,
+    }
+}
+
+/// The order that the words give, where it is carried out.
+///
+/// # Errors
+///
+/// How the call ends otherwise: `Usage` where they give none, and `Memory` where there is none to read them.
+pub(crate) fn order_of(alloc: Global, words: &[String]) -> Result<Order, Ending>
+    ensures { IsAsked (map string_bytes words.now) result }
+{
+    match read_words(alloc, words) {
+        Ok(order) => {
+            if is_served(order) {
+                Ok(order)
+            } else {
+                Err(Ending::Usage)
+            }
+        }
+        Err(WordFault::Refused) => Err(Ending::Usage),
+        Err(WordFault::Memory) => Err(Ending::Memory),
     }
 }

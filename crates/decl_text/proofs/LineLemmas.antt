@@ -11,7 +11,7 @@ use Rattle.decl_text.specs.declared.stand.Stand.{Stand}
 use Rattle.decl_text.specs.Refusals.{first_found, line_checks}
 use Rattle.decl_text.specs.Lines.{CommandSays, Says, command_first, first_of}
 use Rattle.decl_text.specs.declared.reason.Reason.{Reason}
-use Rattle.decl_text.specs.declared.reason.Reason.TheVariants.{BadWord, BadNumber, NameTaken, NoSuchDevice, MemberTaken, BadShape, TooLarge, EmptyDevice, ReserveZero, NeedsRescuer, NotATop, PastEnd, Overlap, TooManySegments, NoSuchPool, TooLong, NotText, TooMuchWork, NotBuilt}
+use Rattle.decl_text.specs.declared.reason.Reason.TheVariants.{BadWord, BadNumber, NameTaken, NoSuchDevice, MemberTaken, BadShape, TooLarge, EmptyDevice, ReserveZero, NeedsRescuer, NotATop, PastEnd, Overlap, TooManySegments, NoSuchPool, TooLong, NotText, TooMuchWork}
 use Rattle.decl_text.specs.declared.command.Command.{Command}
 use Rattle.decl_text.specs.declared.item.Item.{Item}
 use Rattle.decl_text.specs.declared.line.First.{First}
@@ -173,7 +173,6 @@ fault_said stand line rest command (Wrong NoSuchPool) c stands says = absurd say
 fault_said stand line rest command (Wrong TooLong) c stands says = absurd says
 fault_said stand line rest command (Wrong NotText) c stands says = absurd says
 fault_said stand line rest command (Wrong TooMuchWork) c stands says = absurd says
-fault_said stand line rest command (Wrong NotBuilt) c stands says = absurd says
 
 pub says_late : (stand : Stand) (line : List ℕ) (all : List (List ℕ)) (command : Command) → is_text line ≡ true → words line ≡ all → command_first all ≡ first.Command command
     → may_stand stand command ≡ false → Says stand line (Err (Wrong BadWord))

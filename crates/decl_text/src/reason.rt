@@ -45,8 +45,6 @@ pub enum Reason {
     NotText,
     /// Writes that need more elements than they may.
     TooMuchWork,
-    /// What the program does not do yet.
-    NotBuilt,
 }
 
 impl Reason {
@@ -73,7 +71,6 @@ impl Reason {
             Reason::TooLong => 16,
             Reason::NotText => 17,
             Reason::TooMuchWork => 18,
-            Reason::NotBuilt => 19,
         }
     }
 
@@ -121,7 +118,6 @@ impl Refusal {
             16 => b"TooLong",
             17 => b"NotText",
             18 => b"TooMuchWork",
-            19 => b"NotBuilt",
             _ => b"",
         }
     }

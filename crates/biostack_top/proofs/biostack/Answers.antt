@@ -1,21 +1,25 @@
--- What each status alone says follows from how the call ended.
-use Rattle.std.proofs.Common.{◌∙◌, sym}
-use Rattle.biostack_top.proofs.EndingLemmas.{usage_exit, not_all_well_exit, refused_exit, read_fault_exit, write_fault_exit}
+-- A text that an order refuses was read.
+use Rattle.std.proofs.Common.{◌∙◌, map, inr, sym}
+use Rattle.std.specs.String.{string_bytes}
+use Rattle.biostack_top.specs.Ending.{Call}
+use Rattle.biostack_top.proofs.EndingLemmas.{refused_exit}
 use Rattle.biostack_top.proofs.biostack.Goals as goal
 
-pub returns-clause-usage : goal.returns-clause-usage
-returns-clause-usage g c =
-    let either = usage_exit c.serve-ending.result _ c.serve-ending.ensures in
-    (λ is. either.0 (sym c.exit.ensures ∙ is), λ other. c.exit.ensures ∙ either.1 other)
-
-pub returns-clause-not_all_well : goal.returns-clause-not_all_well
-returns-clause-not_all_well g c = λ is. not_all_well_exit c.serve-ending.result _ c.serve-ending.ensures (sym c.exit.ensures ∙ is)
-
-pub returns-clause-refused : goal.returns-clause-refused
-returns-clause-refused g c = λ is. refused_exit c.serve-ending.result _ c.serve-ending.ensures (sym c.exit.ensures ∙ is)
-
-pub returns-clause-read_fault : goal.returns-clause-read_fault
-returns-clause-read_fault g c = λ is. read_fault_exit c.serve-ending.result _ c.serve-ending.ensures (sym c.exit.ensures ∙ is)
-
-pub returns-clause-write_fault : goal.returns-clause-write_fault
-returns-clause-write_fault g c = λ is. write_fault_exit c.serve-ending.result _ c.serve-ending.ensures (sym c.exit.ensures ∙ is)
+pub returns-in-Ok-clause-refused : goal.returns-in-Ok-clause-refused
+returns-in-Ok-clause-refused g c = λ is.
+    let whole = c.serve_alone.ensures.whole in
+    let call : Call = record {
+      source = record {
+        old = g.S.Source.left c.args.source.now;
+        new = g.S.Source.left c.serve_alone.new.source;
+        before = g.S.Source.faults c.args.source.now;
+        now = g.S.Source.faults c.serve_alone.new.source;
+      };
+      out = record {
+        old = g.K.Sink.held c.args.out.now;
+        new = g.K.Sink.held c.serve_alone.new.out;
+        before = g.K.Sink.faults c.args.out.now;
+        now = g.K.Sink.faults c.serve_alone.new.out;
+      };
+    } in
+    refused_exit whole.0 (map string_bytes c.args.words.now) call (inr (c.in-Ok.order, c.in-Ok.ensures.0, whole.2)) (sym whole.1 ∙ is)

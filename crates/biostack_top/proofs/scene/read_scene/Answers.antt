@@ -18,4 +18,4 @@ returns-in_err-work c =
     rw (p.1, p.2) (work_refuses c.args.text.now c.in_ok-decl.decl c.in_ok-accepted.accepted c.in_err-work.field-0.0 c.in_ok-decl.ensures c.in_ok-accepted.ensures c.in_err-work.ensures.read)
 
 pub returns : goal.returns
-returns c = (refl, says_all c.args.text.now c.in_ok-decl.decl _ c.in_ok-decl.ensures c.in_ok-accepted.ensures c.in_ok-work.ensures.read c.in_ok-work.ensures.served c.in_ok-work.ensures.few refl)
+returns c = (refl, says_all c.args.text.now c.in_ok-decl.decl (record { text = c.args.text; accepted = c.in_ok-accepted.accepted; work = c.in_ok-work.work }) c.in_ok-decl.ensures c.in_ok-accepted.ensures c.in_ok-work.ensures.read c.in_ok-work.ensures.served refl)

@@ -1,0 +1,111 @@
+-- What the run of a text is, and what it leaves.
+use Rattle.std.proofs.Common.{◌≡◌, ◌*◌, ◌^◌, ◌<◌, ◌≤◌, ℕ, suc, List, [], ◌∷◌, length, refl, subst, arith}
+use Rattle.std.specs.Prelude.{Contains}
+use Rattle.std.proofs.lemmas.List.Sums.{sum_by-cons}
+use Rattle.stack_base.specs.declared.stack.Stack.{Stack}
+use Rattle.layout_model.specs.declared.write.Write.{Write}
+use Rattle.layout_model.specs.Bound.{all_elements}
+use Rattle.layout_model.specs.Needs.{elements}
+use Rattle.decl_text.specs.declared.accepted.Accepted.{Accepted}
+use Rattle.work_text.specs.declared.Work.{Work}
+use Rattle.work_text.proofs.Ready.{writes_ready}
+use Rattle.task_core.specs.declared.ended.Ended.{Ended}
+use Rattle.task_core.specs.declared.event.Event.{Event}
+use Rattle.task_core.specs.declared.opened.Opened.{Opened}
+use Rattle.task_core.specs.OfOne.{IsOpened, IsReadBehind, scenario_in}
+use Rattle.task_core.specs.Plains.{stage_of}
+use Rattle.task_core.specs.Opened.{scene, start}
+use Rattle.task_core.specs.Scenario.{scenario_of}
+use Rattle.block_core.specs.Runnable.{IsRunnable}
+use Rattle.block_core.proofs.Claim.{accepted_texts_run_as_claimed}
+use Rattle.block_core.proofs.Runnable.{accepted_texts_are_runnable, steps_are_few}
+use Rattle.rand_pcg.specs.Lcg.{Lcg}
+use Rattle.serial_run.specs.Schedule.{Follows}
+use Rattle.serial_run.specs.Serial.{IsSerialRun}
+use Rattle.serial_run.proofs.Follows.{turns_are_a_run}
+use Rattle.report_text.specs.CheckText.{most_steps}
+use Rattle.report_text.specs.Views.{IsOf, told_of}
+use Rattle.report_text.proofs.LeftLemmas.{left_of, told_is}
+use Rattle.biostack_top.specs.Scene.{Says}
+use Rattle.biostack_top.specs.Running.{EveryRunIsAsClaimed, HasRun, IsTold, sectors, stream_of}
+use Rattle.biostack_top.proofs.HomeLemmas.{opened_run}
+
+module _ (text : List ℕ) (accepted : Accepted) (work : Work) (says : Says text accepted work) where
+  pub read_behind : IsReadBehind accepted work
+  read_behind = record { text = text; begins = says.begins; reads = says.reads; served = says.served }
+
+  pub runnable : IsRunnable (scenario_of accepted work)
+  runnable = (accepted_texts_are_runnable text accepted work says.begins says.reads says.served).0
+
+  -- its bound is small
+  pub few_steps : most_steps work.bound < 2 ^ 64
+  few_steps =
+      let by = accepted_texts_are_runnable text accepted work says.begins says.reads says.served in
+      omega (arith, by.1, steps_are_few (scenario_of accepted work) by.0)
+
+  pub every_run : EveryRunIsAsClaimed accepted work
+  every_run = λ ledger events state naming run.
+      accepted_texts_run_as_claimed text accepted work says.begins says.reads says.served says.rescuers ledger events state naming run
+
+  module _ (number : ℕ) (events : List Event) (ended : Ended) (has : HasRun (scenario_of accepted work) number events ended) where
+    pub is_of : IsOf accepted.stack ended
+    is_of = left_of has.state.objects has.disks accepted.stack (length events) ended has.left
+
+    pub is_told : IsTold accepted work number events (told_of ended (most_steps work.bound))
+    is_told =
+        let run = turns_are_a_run (scene (scenario_of accepted work) has.ledger) (start (scenario_of accepted work)) _ events has.state has.after has.follows in
+        let claimed = every_run has.ledger events has.state has.naming run in
+        record {
+          ledger = has.ledger;
+          naming = has.naming;
+          state = has.state;
+          after = has.after;
+          follows = has.follows;
+          ends = has.ends;
+          named = has.named;
+          run = run;
+          claimed = claimed.0;
+          bounded = claimed.1;
+          told = told_is has.state.objects has.disks accepted.stack (length events) (most_steps work.bound) ended has.left;
+        }
+
+-- writes of up to 2,048 sectors, each of which needs an element
+sectors_of : (stack : Stack) (writes : List Write) → ((write : Write) → Contains writes write → write.count ≤ 2048)
+    → sectors writes ≤ 2048 * all_elements stack writes
+sectors_of stack [] short = omega arith
+sectors_of stack (write ∷ writes) short =
+    omega (
+      arith,
+      short write (0, omega arith, refl),
+      sectors_of stack writes (λ w there. short w (suc there.0, omega (arith, there.1), there.2)),
+      sum_by-cons (λ (w : Write). w.count) write writes,
+      sum_by-cons (λ w. elements stack w) write writes,
+    )
+
+pub few_sectors : (text : List ℕ) (accepted : Accepted) (work : Work) → Says text accepted work → sectors work.writes.items < 2 ^ 64
+few_sectors text accepted work says =
+    omega (
+      arith,
+      sectors_of accepted.stack work.writes.items (writes_ready text work.writes.items says.fine says.writes),
+      says.needs.allowed,
+    )
+
+-- what a run by one thread is, whatever its events are handed to
+pub has_run : {V : Type 0} (happens : V → Event → V → Type 0) (opened : Opened) (number : ℕ) (stream : Lcg) (before : V) (after : Lcg) (now : V) (ended : Ended)
+    → IsOpened opened → stream ≡ stream_of number → (ran : IsSerialRun happens opened stream before after now ended)
+    → HasRun (scenario_in opened) number ran.events ended
+has_run happens opened number stream before after now ended is same ran =
+    let ledger = (stage_of opened.objects).ledger in
+    let run = turns_are_a_run (scene (scenario_in opened) ledger) (start (scenario_in opened)) stream ran.events ran.state after ran.follows in
+    let home = opened_run opened is ran.events ran.state run in
+    record {
+      ledger = ledger;
+      naming = is.one.holds.numbered;
+      state = ran.state;
+      after = after;
+      follows = subst (λ from. Follows (scene (scenario_in opened) ledger) (start (scenario_in opened)) from ran.events ran.state after) same ran.follows;
+      ends = ran.ends;
+      left = ran.left;
+      disks = home.0;
+      named = home.1;
+    }

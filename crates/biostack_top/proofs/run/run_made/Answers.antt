@@ -1,0 +1,71 @@
+-- What was said is what a run of the text had and left.
+use Rattle.std.proofs.Common.{◌^◌, ◌<◌, List, length, true, sym, subst, ap, ◌∙◌, arith}
+use Rattle.layout_model.specs.declared.write.Write.{Write}
+use Rattle.stack_base.specs.Stack.{HasRescuers}
+use Rattle.task_core.specs.Opened.{Scenario}
+use Rattle.block_core.specs.Runnable.{IsRunnable}
+use Rattle.report_text.specs.CheckText.{most_steps}
+use Rattle.report_text.specs.Report.{gen_text}
+use Rattle.report_text.specs.Views.{told_of}
+use Rattle.biostack_top.specs.Running.{HasRun, sectors}
+use Rattle.biostack_top.proofs.RunningLemmas.{few_sectors, few_steps, is_of, runnable}
+use Rattle.biostack_top.proofs.ToldLemmas.{tells_made}
+use Rattle.biostack_top.proofs.run.run_made.Goals as goal
+
+pub run_quiet-ended-requires-clause-runnable : goal.run_quiet-ended-requires-clause-runnable
+run_quiet-ended-requires-clause-runnable g c =
+    let scene = c.args.scene.now in subst IsRunnable (sym c.in-Ok.ensures.of) (runnable scene.text.now scene.accepted scene.work c.requires)
+
+pub run_quiet-ended-requires-clause-rescuers : goal.run_quiet-ended-requires-clause-rescuers
+run_quiet-ended-requires-clause-rescuers g c = subst (λ (s : Scenario). HasRescuers s.stack) (sym c.in-Ok.ensures.of) c.requires.rescuers
+
+pub sectors-requires : goal.sectors-requires
+sectors-requires g c =
+    let scene = c.args.scene.now in
+    subst (λ (writes : List Write). sectors writes < 2 ^ 64) (sym c.deref.ensures.value) (few_sectors scene.text.now scene.accepted scene.work c.requires)
+
+pub write_gen-requires-clause-ended : goal.write_gen-requires-clause-ended
+write_gen-requires-clause-ended g c =
+    let scene = c.args.scene.now in
+    let by = c.run_quiet-ended.ensures in
+    is_of scene.text.now scene.accepted scene.work c.requires c.args.number by.0 c.run_quiet-ended.result
+    (subst (λ (s : Scenario). HasRun s c.args.number by.0 c.run_quiet-ended.result) c.in-Ok.ensures.of by.1)
+
+pub write_gen-requires-clause-bound : goal.write_gen-requires-clause-bound
+write_gen-requires-clause-bound g c =
+    let scene = c.args.scene.now in few_steps scene.text.now scene.accepted scene.work c.requires
+
+pub returns-in-Ok-write_gen : goal.returns-in-Ok-write_gen
+returns-in-Ok-write_gen g c =
+    let scene = c.args.scene.now in
+    let by = c.run_quiet-ended.ensures in
+    let ended = c.run_quiet-ended.result in
+    let has = subst (λ (s : Scenario). HasRun s c.args.number by.0 ended) c.in-Ok.ensures.of by.1 in
+    let written = c.in-Ok-write_gen.ensures in (
+      written.cause.quiet,
+      c.requires.fine,
+      (
+        gen_text c.args.number c.len.result c.sectors.result scene.accepted.stack (told_of ended (most_steps scene.work.bound)),
+        tells_made scene.text.now scene.accepted scene.work c.requires c.args.number by.0 ended has c.len.result c.sectors.result
+            (omega (arith, c.len.ensures, c.deref.ensures.len, ap length c.deref.ensures.value)) (c.sectors.ensures ∙ ap sectors c.deref.ensures.value),
+        written.whole,
+      ),
+    )
+
+pub returns : goal.returns
+returns g c =
+    let scene = c.args.scene.now in
+    let by = c.run_quiet-ended.ensures in
+    let ended = c.run_quiet-ended.result in
+    let has = subst (λ (s : Scenario). HasRun s c.args.number by.0 ended) c.in-Ok.ensures.of by.1 in
+    let written = c.in-Err.ensures in (
+      written.cause.failed,
+      c.requires.fine,
+      (
+        gen_text c.args.number c.len.result c.sectors.result scene.accepted.stack (told_of ended (most_steps scene.work.bound)),
+        true,
+        tells_made scene.text.now scene.accepted scene.work c.requires c.args.number by.0 ended has c.len.result c.sectors.result
+            (omega (arith, c.len.ensures, c.deref.ensures.len, ap length c.deref.ensures.value)) (c.sectors.ensures ∙ ap sectors c.deref.ensures.value),
+        written.front,
+      ),
+    )

@@ -1,0 +1,27 @@
+-- What a trace writes of events.
+use Rattle.std.specs.Prelude.{◌≡◌, Bool, true, false, List, [], ◌∷◌, ◌++◌, ℕ, Option}
+use Rattle.std.specs.List.{flat_map}
+use Rattle.stack_base.specs.declared.stack.Stack.{Stack}
+use Rattle.outside_io.specs.Saying.{Says}
+use Rattle.task_core.specs.declared.event.Event.{Event}
+use Rattle.trace_text.specs.Lines.{line_of}
+use Rattle.biostack_top.specs.declared.trace.Trace.{Trace}
+
+-- the line of an event, with the byte 10 that ends it
+abbrev pub event_line : Stack → Event → List ℕ
+event_line stack event = line_of stack event ++ 10 ∷ []
+
+-- those of events, in their order
+unfoldable pub event_lines : Stack → List Event → List ℕ
+event_lines stack events = flat_map (event_line stack) events
+
+-- a trace went from old to new by the line of this event, over the same sink
+pub record WritesLine {K : Type 0} (held : K → Option (List ℕ)) (faults : K → ℕ) (old : Trace K) (event : Event) (new : Trace K) : Type 0 where
+  pub same_reference : new.out.ghost_name ≡ old.out.ghost_name
+  pub stack : new.stack.now ≡ old.stack.now
+  pub says : Says (held old.out.now) (faults old.out.now) old.pen (held new.out.now) (faults new.out.now) new.pen (event_line old.stack.now event)
+
+-- and only where there is to be a trace
+abbrev pub traced : Bool → Stack → List Event → List ℕ
+traced true stack events = event_lines stack events
+traced false stack events = []

@@ -1,0 +1,93 @@
+//! Writes the line of each event as it happens.
+ghost use Rattle.std.specs.Prelude.{◌≡◌, List, [], false, true, MatchResult};
+ghost use Rattle.stack_base.specs.Stack.{HasRescuers};
+ghost use Rattle.outside_io.specs.Saying.{Says, Writes};
+ghost use Rattle.task_core.specs.declared.event.Event.{Event as Told};
+ghost use Rattle.task_core.specs.OfOne.{IsOpened, scenario_in};
+ghost use Rattle.block_core.specs.Runnable.{IsRunnable};
+ghost use Rattle.biostack_top.specs.Running.{HasRun};
+ghost use Rattle.biostack_top.specs.Tracing.{event_line, event_lines};
+
+use arrayvec::ArrayVec;
+use outside_io::{Failed, Pen, Sink};
+use serial_run::{Events, Schedule, run_serial};
+use stack_base::Stack;
+use task_core::{Ended, Event, Opened};
+use trace_text::write_event;
+
+/// A pen that writes the line of each event to a sink. After a fault of the sink it writes nothing more.
+pub(crate) struct Trace<'k, 's, K> {
+    out: &'k mut K,
+    stack: &'s Stack,
+    pen: Pen,
+}
+
+// Writes the line of an event, with the byte 10 that ends it.
+fn write_line<K: Sink>(pen: &mut Pen, out: &mut K, stack: &Stack, event: &Event)
+    ensures { Says (K.held out.old) (K.faults out.old) pen.old (K.held out.new) (K.faults out.new) pen.new
+        (event_line stack.now event.now) }
+{
+    let mut line = ArrayVec::new();
+    write_event(event, stack, &mut line);
+    pen.put(out, &[line.as_slice(), b"\n"]);
+}
+
+impl<'k, 's, K> Drop for Trace<'k, 's, K> {
+    fn drop(self)
+        ensures { self.exit.0.now ≡ self.entry.out.now }
+    {
+        let Self {
+            out: _,
+            stack: _,
+            pen: _,
+        } = self;
+    }
+}
+
+impl<'k, 's, K: Sink> Events for Trace<'k, 's, K> {
+    ghost use Rattle.biostack_top.specs.Tracing.{WritesLine};
+
+    ghost happens = { WritesLine K.held K.faults };
+
+    fn event(&mut self, event: &Event) {
+        write_line(&mut self.pen, self.out, self.stack, event);
+    }
+}
+
+impl<'k, 's, K: Sink> Trace<'k, 's, K> {
+    // Hands on what waits in the pen. An error says that the sink has failed, now or before.
+    fn finish(&mut self) -> Result<(), Failed>
+        ensures same_reference { self.new.out.ghost_name ≡ self.old.out.ghost_name }
+        ensures says { Says (K.held self.old.out.now) (K.faults self.old.out.now) self.old.pen
+            (K.held self.new.out.now) (K.faults self.new.out.now) self.new.pen [] }
+        ensures handed { self.new.pen.pending ≡ [] }
+        ensures failed { MatchResult result (λ _. self.new.pen.failed ≡ false) (λ _. self.new.pen.failed ≡ true) }
+    {
+        self.pen.finish(self.out)
+    }
+}
+
+/// Runs what was opened by the schedule of a number, and writes the line of each event as it happens. Answers what the run left, and how
+/// the writing ended.
+pub(crate) fn run_traced<K: Sink>(
+    opened: Opened,
+    number: u64,
+    stack: &Stack,
+    out: &mut K,
+) -> (Ended, Result<(), Failed>)
+    requires opened { IsOpened opened }
+    requires runnable { IsRunnable (scenario_in opened) }
+    requires rescuers { HasRescuers (scenario_in opened).stack }
+    ensures { (events : List Told) × HasRun (scenario_in opened) number events result.0
+        × Writes (K.held out.old) (K.faults out.old) (K.held out.new) (K.faults out.new) result.1 (event_lines stack.now events) }
+{
+    let mut schedule = Schedule::new(number);
+    let mut trace = Trace {
+        out,
+        stack,
+        pen: Pen::new(),
+    };
+    let ended = run_serial(opened, &mut schedule, &mut trace);
+    let told = trace.finish();
+    (ended, told)
+}
