@@ -1,5 +1,5 @@
-//! A twin of the program in plain Rust, with nothing proved: it reads an accepted text, runs it and writes its report, by the same rules and with
-//! boxes, lists and books of the same shape. Texts that would be refused are not looked for.
+//! A twin of the program in plain Rust, with nothing proved: it reads an accepted text and runs it and writes its report, by the same rules and with
+//! boxes, lists and books of the same shape, or writes what `check` and `layout` do. Texts that would be refused are not looked for.
 use std::collections::VecDeque;
 use std::env;
 use std::io::{self, BufWriter, Read, Write as _};
@@ -532,6 +532,59 @@ fn needs(devices: &[Device], dev: u32, mut start: u64, mut len: u64) -> (u64, u6
                 }
                 e += 1;
             }
+        }
+    }
+}
+
+/// A part of a write that comes to a disk: its offset in the write, its sectors, the disk and its first sector there.
+type Fragment = (u64, u64, u32, u64);
+
+/// The fragments of a run at a device, whose first sector has this offset in the write.
+fn fragments(devices: &[Device], dev: u32, mut offset: u64, mut start: u64, mut len: u64, into: &mut Vec<Fragment>) {
+    match devices[dev as usize].kind {
+        Kind::Disk => into.push((offset, len, dev, start)),
+        Kind::Mirror => {
+            for &m in &devices[dev as usize].members {
+                fragments(devices, m as u32, offset, start, len, into);
+            }
+        }
+        _ => {
+            while len > 0 {
+                let (n, m, at) = piece(devices, dev, start, len);
+                fragments(devices, m as u32, offset, at, n, into);
+                offset += n;
+                start += n;
+                len -= n;
+            }
+        }
+    }
+}
+
+/// Writes the lines of `check`.
+fn check(t: &Text, (e, g, z): (u64, u64, u64)) {
+    for d in &t.devices {
+        let kind = match d.kind {
+            Kind::Disk => "disk",
+            Kind::Linear => "linear",
+            Kind::Stripe(_) => "stripe",
+            Kind::Zoned(_) => "zoned",
+            Kind::Limit(..) => "limit",
+            Kind::Mirror => "mirror",
+        };
+        println!("device {} {kind} {}", d.name, d.size);
+    }
+    println!("need e {e} g {g} z {z} bound {}", 8 * e + 2 * g + z);
+}
+
+/// Writes the lines of `layout`.
+fn layout(t: &Text) {
+    let mut out = BufWriter::new(io::stdout().lock());
+    for (number, (_, w)) in t.writes.iter().enumerate() {
+        let mut own = Vec::new();
+        fragments(&t.devices, w.dev, 0, w.start, w.count, &mut own);
+        own.sort_by_key(|f| (f.0, f.2));
+        for (offset, len, disk, at) in own {
+            writeln!(out, "fragment {number} {offset} {len} {} {at}", t.devices[disk as usize].name).unwrap();
         }
     }
 }
@@ -1306,6 +1359,11 @@ fn main() {
     }
     let last = t.writes.last().map_or(0, |w| w.1.round);
     let z = t.entries + u64::from(last) + t.resizes.len() as u64;
+    match words[0].as_str() {
+        "check" => return check(&t, (e, g, z)),
+        "layout" => return layout(&t),
+        _ => {}
+    }
     let numbered = |name: &str| match name {
         "fs.bios" => 65,
         "fs.vecs" => 64,

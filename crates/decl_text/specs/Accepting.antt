@@ -4,6 +4,7 @@ use Rattle.std.specs.List.{range_with_len}
 use Rattle.std.specs.Option.{option_map}
 use native.Mathlib.Nat.{ℕ_set}
 use native.Mathlib.Bridge.{le_prop}
+use Rattle.std.proofs.Props.{props}
 use Rattle.fail_script.specs.Script.{Answers, only_tail}
 use Rattle.stack_base.specs.declared.ids.Bad.{Bad}
 use Rattle.stack_base.specs.declared.ids.PoolId.{PoolId}
@@ -106,4 +107,4 @@ HasShape-prop (kind.Limit longest chunk) members = hlevel (ℕ_set, le_prop)
 HasShape-prop (kind.Mirror records) members = hlevel (ℕ_set, le_prop)
 
 pub IsStack-prop : (stack : Stack) → IsProp (IsStack stack)
-IsStack-prop stack = hlevel (HasShape-prop, ℕ_set, le_prop)
+IsStack-prop stack = hlevel (HasShape-prop, ℕ_set, le_prop, props)

@@ -10,7 +10,7 @@ use Rattle.stack_base.specs.declared.ids.DevId.{DevId}
 use Rattle.stack_base.specs.declared.stack.Device.{Device}
 use Rattle.stack_base.specs.declared.stack.Stack.{Stack}
 use Rattle.stack_base.specs.Declaration.{own_sectors, IsDeclared}
-use Rattle.stack_base.specs.Stack.{HasShape, IsMember, IsStack}
+use Rattle.stack_base.specs.Stack.{HasShape, IsMember, IsStack, KeepsSizes}
 use Rattle.stack_base.specs.Tree.{Tree, tree, size, weight}
 use Rattle.stack_base.proofs.DeclaredKinds.{size_of_le, weight_over_le}
 use Rattle.stack_base.proofs.DeclaredSums.{total_grows, total_of_list, value_of, value_le}
@@ -111,8 +111,8 @@ module _ (stack : Stack) (declared : IsDeclared stack) where
       )
 
   -- where each device has a sector, it is a stack that a declaration may have
-  pub declared_stack : ((number : ℕ) → number < length stack.devices.items → 1 ≤ size (tree stack number)) → IsStack stack
-  declared_stack some = record {
+  pub declared_stack : ((number : ℕ) → number < length stack.devices.items → 1 ≤ size (tree stack number)) → KeepsSizes stack → IsStack stack
+  declared_stack some sizes = record {
     few = declared.few;
     each = λ number device found.
         let within = slice_get_within stack.devices.items number device found in
@@ -124,4 +124,5 @@ module _ (stack : Stack) (declared : IsDeclared stack) where
           narrow = declared_narrow number within;
         };
     once = declared.once;
+    sizes = sizes;
   }

@@ -5,7 +5,7 @@ use Rattle.stack_base.specs.declared.stack.Kind.{Kind}
 use Rattle.stack_base.specs.declared.stack.Kind.TheVariants.{Disk, Linear, Stripe, Zoned, Limit, Mirror}
 use Rattle.stack_base.specs.declared.stack.Device.{Device}
 use Rattle.stack_base.specs.declared.stack.Stack.{Stack}
-use Rattle.stack_base.specs.Stack.{HasShape, IsMember, IsStack}
+use Rattle.stack_base.specs.Stack.{HasShape, IsMember, IsStack, KeepsSizes}
 use Rattle.stack_base.specs.Tree.{tree, size}
 
 -- the sectors that a device brings itself: a disk its own, and any other device none
@@ -28,7 +28,8 @@ pub record IsDeclared (stack : Stack) : Type 0 where
   -- all disks together have no more than so many sectors
   pub disks : sum (map (λ (device : Device). own_sectors device.kind) stack.devices.items) ≤ 262144
 
--- so it is a stack, if each device has a sector
+-- so it is a stack, if each device has a sector and the sizes that are kept are theirs
 abbrev pub DeclaredIsStack : Type 0
 DeclaredIsStack =
-    (stack : Stack) → IsDeclared stack → ((number : ℕ) → number < length stack.devices.items → 1 ≤ size (tree stack number)) → IsStack stack
+    (stack : Stack) → IsDeclared stack → ((number : ℕ) → number < length stack.devices.items → 1 ≤ size (tree stack number)) → KeepsSizes stack
+    → IsStack stack

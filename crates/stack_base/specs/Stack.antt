@@ -30,11 +30,16 @@ pub record IsDevice (stack : Stack) (number : ℕ) (device : Device) : Type 0 wh
   -- what begins at one sector is no more than a record and eight clones for each device
   pub narrow : weight (tree stack number) ≤ 288
 
+-- it keeps the size of each device
+abbrev pub KeepsSizes : Stack → Type 0
+KeepsSizes stack = (number : ℕ) → number < length stack.devices.items → slice_get stack.sizes.items number ≡ Some (size (tree stack number))
+
 pub record IsStack (stack : Stack) : Type 0 where
   pub few : length stack.devices.items ≤ 32
   pub each : (number : ℕ) (device : Device) → slice_get stack.devices.items number ≡ Some device → IsDevice stack number device
   -- a device is a member at most once
   pub once : (p q i j m : ℕ) → IsMember stack p i m → IsMember stack q j m → (p ≡ q) × (i ≡ j)
+  pub sizes : KeepsSizes stack
 
 -- The set of each mirror of two members or more has a rescuer. Without one a write may wait for a bio that none but itself gives back.
 abbrev pub HasRescuers : Stack → Type 0

@@ -38,8 +38,8 @@ pub fn numbers_are_apart()
     ensures { NumbersAreApart }
 {}
 
-/// What a declaration is checked for, device by device, makes a stack: that no device is too large, and that little can begin at one
-/// sector of it, follows from each device being a member at most once and from the sum of all disks.
+/// What a declaration is checked for, device by device, makes a stack that keeps the sizes of its devices: that no device is too large, and
+/// that little can begin at one sector of it, follows from each device being a member at most once and from the sum of all disks.
 pub fn declared_is_stack()
     ensures { DeclaredIsStack }
 {}

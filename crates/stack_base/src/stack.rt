@@ -4,7 +4,6 @@ ghost use Rattle.stack_base.specs.Mapping.{size_of};
 ghost use Rattle.stack_base.specs.Stack.{IsDevice, IsStack};
 ghost use Rattle.stack_base.specs.Tree.{over, size, tree};
 
-use crate::sizes::kind_size;
 use crate::{Bad, DevId};
 use arrayvec::{ArrayString, ArrayVec};
 
@@ -46,6 +45,9 @@ pub struct Device {
 pub struct Stack {
     /// The devices, each by its place in this list.
     pub devices: Vec<Device>,
+    /// How many sectors each of them has, by the same places. A device's size goes by those of all that is below it, so it is reckoned
+    /// once, where the device is declared, and not where it is asked for.
+    pub sizes: ArrayVec<u64, 32>,
     /// The reserve of the writers' pool of bios.
     pub fs_bios: u32,
     /// The reserve of the writers' pool of vectors.
@@ -68,19 +70,15 @@ impl Stack {
     /// How many sectors the device has (`get_capacity`, `include/linux/blkdev.h`). A disk has its own number of them, and each other
     /// device as many as its members give it (`linear_size`, `drivers/md/md-linear.c`; `raid0_size`, `drivers/md/raid0.c`;
     /// `raid1_size`, `drivers/md/raid1.c`).
-    #[cycle(sizes)]
     pub fn size(&self, d: DevId) -> u64
         requires stack { IsStack self.now }
         requires device { d.0 < length self.now.devices.items }
         ensures { result ≡ size (tree self.now d.0) }
     {
-        let device = self.device(d);
-        let sizes = self.member_sizes(d);
-        kind_size(&device.kind, &sizes)
+        self.sizes[d.0 as usize]
     }
 
     /// The sizes of the device's members, in their order.
-    #[cycle(sizes)]
     pub fn member_sizes(&self, d: DevId) -> ArrayVec<u64, 8>
         requires stack { IsStack self.now }
         requires device { d.0 < length self.now.devices.items }

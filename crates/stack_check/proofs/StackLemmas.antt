@@ -1,18 +1,18 @@
 -- Devices that were accepted make a stack.
-use Rattle.std.proofs.Common.{◌≡◌, ℕ, ◌<◌, List, [], ◌∷◌, length, map, sum, Some, refl, ap, ◌∙◌, sym, subst, arith}
+use Rattle.std.proofs.Common.{◌≡◌, ℕ, ◌<◌, List, [], ◌∷◌, length, get_or, map, sum, Some, refl, ap, ◌∙◌, sym, subst, arith}
 use Rattle.std.specs.Prelude.{slice_get, IsTrue, nat_le}
 use Rattle.std.specs.Option.{option_map}
 use Rattle.std.proofs.lemmas.Bool.{and_parts, leb-true, eqb-true}
 use Rattle.std.proofs.lemmas.List.{length-map}
 use Rattle.std.proofs.lemmas.List.Sums.{sum_by-cons}
-use Rattle.std.proofs.lemmas.Option.{slice_get-map, slice_get_within, get_or_from_slice_get}
+use Rattle.std.proofs.lemmas.Option.{slice_get-get_or, slice_get-map, slice_get_within, get_or_from_slice_get}
 use Rattle.stack_base.specs.declared.ids.DevId.{DevId}
 use Rattle.stack_base.specs.declared.stack.Kind.{Kind}
 use Rattle.stack_base.specs.declared.stack.Kind.TheVariants as kind
 use Rattle.stack_base.specs.declared.stack.Device.{Device}
 use Rattle.stack_base.specs.declared.stack.Stack.{Stack}
 use Rattle.stack_base.specs.Declaration.{own_sectors, IsDeclared}
-use Rattle.stack_base.specs.Stack.{HasShape, IsMember, IsStack}
+use Rattle.stack_base.specs.Stack.{HasShape, IsMember, IsStack, KeepsSizes}
 use Rattle.stack_base.specs.Tree.{Leaf, size}
 use Rattle.stack_base.proofs.DeclaredBounds.{declared_stack}
 use Rattle.decl_text.specs.Known.{Declared, sectors_of, trees}
@@ -93,8 +93,19 @@ module _ (stack : Stack) (sound : AreSound (shown_devices stack)) where
     disks = omega (arith, all_own stack.devices.items, sound.disks);
   }
 
-  pub is_stack : IsStack stack
-  is_stack =
-      declared_stack stack is_declared (λ number lt.
-      let within : number < length (trees (shown_devices stack)) = omega (arith, trees_length (shown_devices stack), length-map stack.devices.items shown) in
-      omega (arith, sound.some number (Leaf number 0) within, ap size (shown_trees stack goes_down number lt)))
+  within : (number : ℕ) → number < length stack.devices.items → number < length (trees (shown_devices stack))
+  within number lt = omega (arith, trees_length (shown_devices stack), length-map stack.devices.items shown)
+
+  -- the sizes of the trees that were declared are those of the stack's
+  keeps_sizes : stack.sizes.items ≡ map size (trees (shown_devices stack)) → KeepsSizes stack
+  keeps_sizes are number lt =
+      ap (λ (sizes : List ℕ). slice_get sizes number) are
+      ∙ seen_at size (trees (shown_devices stack)) number (get_or (trees (shown_devices stack)) number (Leaf number 0))
+          (slice_get-get_or (trees (shown_devices stack)) number (Leaf number 0) (within number lt))
+      ∙ ap (λ tree. Some (size tree)) (shown_trees stack goes_down number lt)
+
+  pub is_stack : stack.sizes.items ≡ map size (trees (shown_devices stack)) → IsStack stack
+  is_stack are =
+      declared_stack stack is_declared
+      (λ number lt. omega (arith, sound.some number (Leaf number 0) (within number lt), ap size (shown_trees stack goes_down number lt)))
+      (keeps_sizes are)

@@ -3,7 +3,7 @@ ghost use Rattle.std.specs.Prelude.{◌≡◌, ℕ, ◌<◌, ◌≤◌, ◌||◌
 ghost use Rattle.std.specs.List.{list_any};
 ghost use Rattle.std.specs.Option.{option_map};
 ghost use Rattle.stack_base.specs.Tree.{size};
-ghost use Rattle.decl_text.specs.Known.{device_of, device_before, number_in, tree_of};
+ghost use Rattle.decl_text.specs.Known.{device_of, device_before, number_in, tree_of, trees};
 ghost use Rattle.decl_text.specs.Checks.{has_count, is_among, is_disk_device};
 ghost use Rattle.stack_check.specs.Rows.{device_reason, has_no_room, size_with, takes_taken};
 ghost use Rattle.stack_check.specs.Sound.{AreSound, HasNumbers};
@@ -62,12 +62,13 @@ impl<'a> Devices<'a> {
         }
     }
 
-    /// All of them, in the order of their lines.
-    pub(crate) fn into_placed(self) -> Vec<Placed<'a>>
-        ensures devices { result.items ≡ self.entry }
-        ensures sound { AreSound result.items }
+    /// All of them, in the order of their lines, and how many sectors each has.
+    pub(crate) fn into_placed(self) -> (Vec<Placed<'a>>, ArrayVec<u64, MOST_DEVICES>)
+        ensures devices { result.0.items ≡ self.entry }
+        ensures sizes { result.1.items ≡ map size (trees result.0.items) }
+        ensures sound { AreSound result.0.items }
     {
-        self.placed
+        (self.placed, self.sizes)
     }
 
     /// The number of the device of this name.

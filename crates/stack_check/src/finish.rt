@@ -44,12 +44,13 @@ fn meaning(alloc: Global, draft: Draft<'_>) -> Result<(Stack, Vec<(PoolId, Scrip
         scripts,
         no_memory,
     } = draft;
-    let placed = devices.into_placed();
+    let (placed, sizes) = devices.into_placed();
     let scripts = share(alloc, &placed, scripts.into_given(), !no_memory)?;
     let devices = devices_of(alloc, placed, &bad)?;
     let fs = reserves_of(fs);
     let stack = Stack {
         devices,
+        sizes,
         fs_bios: fs.bios as u32,
         fs_vecs: fs.vecs as u32,
     };
