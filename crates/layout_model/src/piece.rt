@@ -1,5 +1,5 @@
 //! The first piece of a run at a device that cuts runs, and the member that it goes to.
-ghost use Rattle.std.specs.Prelude.{◌≡◌, ℕ, ◌+◌, ◌^◌, ◌<◌, ◌≤◌, List, length, sum, map, slice_get};
+ghost use Rattle.std.specs.Prelude.{◌≡◌, ℕ, ◌+◌, ◌^◌, ◌<◌, ◌≤◌, All, List, length, sum, map, slice_get};
 ghost use Rattle.stack_base.specs.Piece.{IsPiece};
 ghost use Rattle.stack_base.specs.Mapping.{size_of};
 ghost use Rattle.stack_base.specs.Stack.{HasShape, IsStack};
@@ -60,27 +60,32 @@ pub fn limit_piece(max: u64, chunk: u64, start: u64, len: u64) -> Piece
 
 /// The first piece at a device whose members stand one behind the other: it ends with its member (`linear_make_request`,
 /// `drivers/md/md-linear.c`).
-pub fn linear_piece(sizes: &[u64], start: u64, len: u64) -> Piece
-    requires few { length sizes.now < 2 ^ 32 }
+pub fn linear_piece(stack: &Stack, members: &[DevId], start: u64, len: u64) -> Piece
+    requires stack { IsStack stack.now }
+    requires known { All (λ m. m.0 < length stack.now.devices.items) members.now }
+    requires few { length members.now < 2 ^ 32 }
     requires some { 1 ≤ len }
-    requires within { start < sum sizes.now }
-    ensures { IsPiece Kind.Linear sizes.now start len result }
+    requires within { start < sum (map (λ m. size (tree stack.now m.0)) members.now) }
+    ensures { IsPiece Kind.Linear (map (λ m. size (tree stack.now m.0)) members.now) start len result }
 {
     let mut at = start;
-    for (member, size) in sizes.iter().enumerate() {
-        if at < *size {
+    for (place, member) in members.iter().enumerate() {
+        let size = stack.size(*member);
+        if at < size {
             return Piece {
-                len: (*size - at).min(len),
-                member: member as u32,
+                len: (size - at).min(len),
+                member: place as u32,
                 at,
             };
         }
-        at -= *size;
+        at -= size;
     }
     unreachable!()
 }
 
 /// The first piece at a device whose chunks go round members of any sizes, as its driver finds it.
+// The driver's zones are large, and a caller that has them among its locals pays for them at other kinds too.
+#[inline(never)]
 pub fn zoned_piece(chunk: u64, sizes: ArrayVec<u64, 8>, start: u64, len: u64) -> Piece
     requires shape { HasShape (Kind.Zoned chunk) (length sizes.items) }
     requires small { sum sizes.items < 2 ^ 32 }
@@ -104,7 +109,7 @@ fn kind_piece(stack: &Stack, device: &Device, dev: DevId, start: u64, len: u64) 
         Kind::Stripe { chunk } => stripe_piece(chunk, device.members.len() as u64, start, len),
         Kind::Zoned { chunk } => zoned_piece(chunk, stack.member_sizes(dev), start, len),
         Kind::Limit { max, chunk } => limit_piece(max, chunk, start, len),
-        Kind::Linear => linear_piece(&stack.member_sizes(dev), start, len),
+        Kind::Linear => linear_piece(stack, &device.members, start, len),
         Kind::Disk { .. } | Kind::Mirror { .. } => unreachable!(),
     }
 }

@@ -1,9 +1,9 @@
-use Rattle.std.proofs.Common.{length, map, sum, sym, ap, ◌∙◌, arith}
+use Rattle.std.proofs.Common.{List, length, map, sum, sym, ap, ◌∙◌, arith}
 use Rattle.std.proofs.lemmas.List.{length-map}
 use Rattle.std.proofs.lemmas.Option.{slice_get_within}
 use Rattle.stack_base.specs.declared.ids.DevId.{DevId}
 use Rattle.stack_base.specs.declared.stack.Kind.TheVariants.{Zoned}
-use Rattle.stack_base.proofs.MemberSizes.{members_small}
+use Rattle.stack_base.proofs.MemberSizes.{member_below, members_small}
 use Rattle.stack_base.specs.Mapping.{size_of}
 use Rattle.stack_base.specs.Tree.{size, tree}
 use Rattle.stack_base.proofs.Unfolded.{size-tree}
@@ -22,12 +22,18 @@ pub limit_piece-requires-clause-max : goal.limit_piece-requires-clause-max
 limit_piece-requires-clause-max c =
     (rw c.in-Limit.is at (c.requires.stack.each c.args.dev.0 c.args.device.now c.requires.found).shape).0
 
+-- its members are devices of the stack
+pub linear_piece-requires-clause-known : goal.linear_piece-requires-clause-known
+linear_piece-requires-clause-known c =
+    let stack = c.args.stack.now in
+    let within = slice_get_within stack.devices.items c.args.dev.0 c.args.device.now c.requires.found in
+    rw c.deref.ensures.0 (λ i d lt. omega (arith, within, member_below stack c.requires.stack c.args.dev.0 c.args.device.now c.requires.found i d lt))
+
 -- the run is within all members together
 pub linear_piece-requires-clause-within : goal.linear_piece-requires-clause-within
 unfolding size_of
 linear_piece-requires-clause-within c =
-    let found = c.member_sizes-in-Linear.ensures c.args.device.now c.requires.found in
-    let all = ap sum (c.deref.ensures.0 ∙ found) in
+    let all = ap (λ (members : List DevId). sum (map (λ (m : DevId). size (tree c.args.stack.now m.0)) members)) c.deref.ensures.0 in
     let whole = size-tree c.args.stack.now c.requires.stack c.args.dev.0 c.args.device.now c.requires.found in
     let linear = rw c.in-Linear.is at whole in
     omega (arith, all, linear)
@@ -44,7 +50,7 @@ returns-in-Limit c = rw c.in-Limit.is (c.limit_piece.ensures _)
 
 pub returns-in-Linear : goal.returns-in-Linear
 returns-in-Linear c =
-    rw (c.in-Linear.is, ← c.member_sizes-in-Linear.ensures c.args.device.now c.requires.found, ← c.deref.ensures.0) c.linear_piece.ensures
+    rw (c.in-Linear.is, ← c.deref.ensures.0) c.linear_piece.ensures
 
 -- a zoned device has its numbers and members, which are small
 pub zoned_piece-requires-clause-shape : goal.zoned_piece-requires-clause-shape
@@ -70,7 +76,3 @@ zoned_piece-requires-clause-within c =
 pub returns-in-Zoned : goal.returns-in-Zoned
 returns-in-Zoned c =
     rw (c.in-Zoned.is, ← c.member_sizes.ensures c.args.device.now c.requires.found) c.zoned_piece.ensures
-
--- the device is one of the stack
-pub member_sizes-requires-in-Linear-clause-device : goal.member_sizes-requires-in-Linear-clause-device
-member_sizes-requires-in-Linear-clause-device c = slice_get_within c.args.stack.now.devices.items c.args.dev.0 c.args.device.now c.requires.found
