@@ -4,6 +4,7 @@ mod Examples
 mod FormLemmas
 mod WordLemmas
 pub mod LineLemmas
+pub mod BlankLines
 pub mod Unrefused
 pub mod Fronts
 pub mod Cuts

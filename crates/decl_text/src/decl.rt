@@ -6,7 +6,7 @@ ghost use Rattle.decl_text.specs.Steps.{Goes, IsSoFar, read_of};
 ghost use Rattle.decl_text.specs.Read.{AreDeclarations};
 ghost use Rattle.decl_text.specs.Reading.{AreOfLines, ReadsDecl};
 
-use crate::line::LineFault;
+use crate::line::{LineFault, is_blank_line};
 use crate::text::Lines;
 use crate::{Item, Line, ReadFault, Reason, Refusal, Stand};
 use std::alloc::{AllocError, Global};
@@ -102,6 +102,10 @@ impl<'a> DeclParts<'a> {
         let Some(bytes) = lines.next() else {
             return Ok(false);
         };
+        if is_blank_line(bytes) {
+            self.pass(None, lines.place())?;
+            return Ok(true);
+        }
         let line = Line::of(alloc, bytes)?;
         if line.begins_work() {
             return Ok(false);

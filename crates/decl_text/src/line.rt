@@ -145,6 +145,13 @@ fn is_text(line: &[u8]) -> bool
         .all(|byte| is_blank(*byte) || (b' ' < *byte && *byte < 127))
 }
 
+/// Whether a line has blanks at the most, so that it has no word and says nothing. A reader that asks first makes no list of words for it.
+pub fn is_blank_line(line: &[u8]) -> bool
+    ensures { result ≡ list_all is_blank line.now }
+{
+    line.iter().all(|byte| is_blank(*byte))
+}
+
 fn is_blank(byte: u8) -> bool
     ensures { result ≡ is_blank byte }
 {

@@ -1,8 +1,12 @@
-use Rattle.std.proofs.Common.{Ok, ap, ◌∙◌, subst}
+use Rattle.std.proofs.Common.{Ok, ap, ◌∙◌, subst, sym}
 use Rattle.std.proofs.lemmas.Result.{err_from_is_err_and}
 use Rattle.decl_text.specs.Lines.{Says}
+use Rattle.decl_text.proofs.BlankLines.{blank_says_nothing}
 use Rattle.work_text.proofs.LineLemmas.{says_work, told_none, told_some, told_wrong}
 use Rattle.work_text.proofs.told.told_by.Goals as goal
+
+pub returns-then-is_blank_line : goal.returns-then-is_blank_line
+returns-then-is_blank_line c = blank_says_nothing c.args.stand c.args.bytes.now (sym c.is_blank_line.ensures ∙ c.if-is_blank_line.true)
 
 pub returns-in_err-said : goal.returns-in_err-said
 returns-in_err-said c =
