@@ -101,7 +101,7 @@ module _ (stack : Stack) (sound : AreSound (shown_devices stack)) where
   keeps_sizes are number lt =
       ap (λ (sizes : List ℕ). slice_get sizes number) are
       ∙ seen_at size (trees (shown_devices stack)) number (get_or (trees (shown_devices stack)) number (Leaf number 0))
-          (slice_get-get_or (trees (shown_devices stack)) number (Leaf number 0) (within number lt))
+      (slice_get-get_or (trees (shown_devices stack)) number (Leaf number 0) (within number lt))
       ∙ ap (λ tree. Some (size tree)) (shown_trees stack goes_down number lt)
 
   pub is_stack : stack.sizes.items ≡ map size (trees (shown_devices stack)) → IsStack stack
