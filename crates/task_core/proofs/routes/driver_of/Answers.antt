@@ -1,4 +1,8 @@
-use Rattle.std.proofs.Common.{◌≡◌, ◌∷◌, [], length, sum, ap, ◌∙◌, sym, arith}
+use Rattle.std.proofs.Common.{◌≡◌, ◌≤◌, ◌∷◌, [], List, ℕ, get_or, length, sum, ap, ◌∙◌, subst, sym, arith}
+use Rattle.std.proofs.lemmas.List.{get_or-replicate, length-map, length-replicate}
+use Rattle.stack_base.specs.declared.ids.DevId.{DevId}
+use Rattle.stack_base.specs.Stack.{HasShape}
+use Rattle.stack_base.specs.Tree.{size, tree}
 use Rattle.stack_base.specs.declared.stack.Device.{Device}
 use Rattle.stack_base.specs.Mapping.{smallest}
 use Rattle.stack_base.proofs.MemberSizes.{members_small}
@@ -13,6 +17,28 @@ new-requires-in-Stripe-clause-small c =
     let sizes = c.member_sizes-sizes.ensures device found in
     stripe_small c.args.stack.now c.requires.stack c.args.dev.0 device found c.in-Stripe.chunk c.len.result c.least.result c.in-Stripe.is
     (c.len.ensures.value ∙ ap length sizes) (c.least.ensures ∙ ap smallest (c.deref.ensures.0 ∙ sizes))
+
+-- and the driver has the numbers of the device
+pub returns-in-Stripe : goal.returns-in-Stripe
+returns-in-Stripe c device found =
+    let same : c.device-device.result.now ≡ device = cc in
+    let kind = sym (ap (λ (d : Device). d.kind) same) ∙ c.in-Stripe.is in
+    let sizes = c.member_sizes-sizes.ensures device found in
+    let stripe = c.new-in-Stripe.result in
+    let all = c.new-in-Stripe.ensures.sizes in
+    let members : stripe.members ≡ c.len.result =
+    sym (length-replicate stripe.members stripe.smallest) ∙ ap length all ∙ length-replicate c.len.result c.least.result in
+    let count : 1 ≤ c.len.result =
+    omega (arith, (subst (λ k. HasShape k (length device.members.items)) kind (c.requires.stack.each c.args.dev.0 device found).shape).1,
+    c.len.ensures.value, ap length sizes, length-map device.members.items (λ (m : DevId). size (tree c.args.stack.now m.0))) in
+    let least : stripe.smallest ≡ c.least.result =
+    sym (get_or-replicate stripe.members 0 stripe.smallest 0 (omega (arith, members, count)))
+    ∙ ap (λ (ss : List ℕ). get_or ss 0 0) all
+    ∙ get_or-replicate c.len.result 0 c.least.result 0 count in (
+      kind ∙ sym c.new-in-Stripe.ensures.kind,
+      members ∙ c.len.ensures.value ∙ ap length sizes,
+      least ∙ c.least.ensures ∙ ap smallest (c.deref.ensures.0 ∙ sizes),
+    )
 
 -- the members of a zoned device have few sectors together
 pub new-requires-in-Zoned-clause-small : goal.new-requires-in-Zoned-clause-small
