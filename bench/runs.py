@@ -111,6 +111,9 @@ CASES = [
     ("gen 7", ["gen", "7"], ""),
     ("a trace of half a million lines", ["run", "--trace"], run.limited("", 40)),
     ("128 MiB, written whole", ["run"], run.whole()),
+    ("150,000 writes over 31 linear devices", ["check"], run.chain(150000)),
+    ("a layout of these", ["layout"], run.chain(150000)),
+    ("4 MiB of byte 10", ["check"], "\n" * run.MOST_BYTES),
 ]
 
 
