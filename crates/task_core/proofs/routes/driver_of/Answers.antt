@@ -29,8 +29,13 @@ returns-in-Stripe c device found =
     let members : stripe.members ≡ c.len.result =
     sym (length-replicate stripe.members stripe.smallest) ∙ ap length all ∙ length-replicate c.len.result c.least.result in
     let count : 1 ≤ c.len.result =
-    omega (arith, (subst (λ k. HasShape k (length device.members.items)) kind (c.requires.stack.each c.args.dev.0 device found).shape).1,
-    c.len.ensures.value, ap length sizes, length-map device.members.items (λ (m : DevId). size (tree c.args.stack.now m.0))) in
+    omega (
+      arith,
+      (subst (λ k. HasShape k (length device.members.items)) kind (c.requires.stack.each c.args.dev.0 device found).shape).1,
+      c.len.ensures.value,
+      ap length sizes,
+      length-map device.members.items (λ (m : DevId). size (tree c.args.stack.now m.0)),
+    ) in
     let least : stripe.smallest ≡ c.least.result =
     sym (get_or-replicate stripe.members 0 stripe.smallest 0 (omega (arith, members, count)))
     ∙ ap (λ (ss : List ℕ). get_or ss 0 0) all
