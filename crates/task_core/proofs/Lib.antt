@@ -31,6 +31,7 @@ pub mod TaskHomes
 pub mod KeeperLemmas
 pub mod Turned
 pub mod TurnLemmas
+pub mod Attempting
 pub mod Filling
 pub mod NewPools
 pub mod Idle

@@ -1,13 +1,15 @@
 -- How a step of a submission, or of a writer outside of one, is a step of its task.
-use Rattle.std.proofs.Common.{◌≡◌, ℕ, Bool, true, false, List, [], ◌∷◌, Option, None, Some, refl, sym, ap, ◌∙◌, subst}
+use Rattle.std.proofs.Common.{◌≡◌, ◌≢◌, ℕ, Bool, true, false, List, [], ◌∷◌, Option, None, Some, refl, sym, ap, ◌∙◌, subst}
 use Rattle.std.proofs.Common.{true≢false, nat_le}
 use Rattle.stack_base.specs.declared.ids.DevId.{DevId}
+use Rattle.stack_base.specs.declared.ids.SetId.TheVariants.{Fs}
 use Rattle.bio_records.specs.declared.tasks.TaskLists.{TaskLists}
 use Rattle.task_core.specs.declared.event.Breach.{Breach}
 use Rattle.task_core.specs.declared.event.TaskId.{TaskId}
 use Rattle.task_core.specs.declared.event.TaskId.TheVariants as id
 use Rattle.task_core.specs.declared.step.Step.{Step}
 use Rattle.task_core.specs.declared.step.Step.TheVariants.{Broken, Ended}
+use Rattle.task_core.specs.declared.writing.Attempt.{Attempt}
 use Rattle.task_core.specs.declared.writing.Taken.{Taken as RealTaken}
 use Rattle.task_core.specs.declared.writing.Taken.TheVariants as taken
 use Rattle.task_core.specs.Scene.{Setup}
@@ -17,7 +19,7 @@ use Rattle.task_core.specs.Tasks.{Todo, Taken, NoBio, HasBio, HasBoth, TaskState
 use Rattle.task_core.specs.Turns.{step_of, Follows, Asks, AsksFor, Acts, ActsIf, TurnsBy, Turns, doing_breach, resting_step}
 use Rattle.task_core.specs.LineViews.{is_asking, is_over}
 use Rattle.task_core.specs.Answers.{finds, Answers}
-use Rattle.task_core.specs.WriterViews.{TakenSuits, WriteAnswers, is_taken}
+use Rattle.task_core.specs.WriterViews.{TakenSuits, WriteAnswers, is_taken, tried}
 use Rattle.task_core.specs.RescuerViews.{PopAnswers}
 
 -- a request that asks for something
@@ -199,6 +201,16 @@ module _ {S : Type 0} (serves : S → Request → Reply → S → Type 0) (owes 
       (subst (λ (asked : Request). AsksFor serves owes setup asked task old next new step)
       (ap (λ (doing : Doing). writer_request setup number (todo ∷ later) taken doing line) (sym rests))
       (asks_for asked task old next new step (write_asks_any number todo later taken) asks))
+
+  -- a writer without a bio for its next write asks for one
+  pub bio_acts : (number : ℕ) (todos : List Todo) (taken : Taken) (line : Line) (came : Attempt) (old new : S) (step : Step) → line.doing ≡ Rests
+      → taken ≡ NoBio → todos ≢ []
+      → ((todo : Todo) (later : List Todo) → WriteAnswers serves owes setup number (TakeBio Fs true) (todo ∷ later) NoBio line old (tried came number (todo ∷ later) line) new step)
+      → Acts serves owes setup (Writer number todos taken line) old (tried came number todos line) new step
+  bio_acts number [] taken line came old new step rests none some answers = absurd (some refl)
+  bio_acts number (todo ∷ later) taken line came old new step rests none some answers =
+      subst (λ (taken : Taken). Acts serves owes setup (Writer number (todo ∷ later) taken line) old (tried came number (todo ∷ later) line) new step) (sym none)
+      (write_acts number (todo ∷ later) NoBio line todo later old (tried came number (todo ∷ later) line) new step rests refl (answers todo later))
 
   -- with a bio it looks at nothing
   taken_look : (todos : List Todo) (taken : Taken) (doing : Doing) → is_taken taken ≡ true → writer_look todos taken doing ≡ None

@@ -1,5 +1,5 @@
 -- What a completer carries, without its boxes.
-use Rattle.std.specs.Prelude.{◌≡◌, None, Some}
+use Rattle.std.specs.Prelude.{◌≡◌, Bool, true, false, None, Some}
 use Rattle.elem_ledger.specs.declared.element.Element.{Element}
 use Rattle.bio_records.specs.declared.bio.Pad.{Pad}
 use Rattle.bio_records.specs.declared.bio.Slip.{Slip}
@@ -19,6 +19,11 @@ carried_of load.Empty = Empty
 carried_of (load.Brings bio status) = Brings (item_of bio) status
 carried_of (load.Carries writer node) = Carries writer (closed_node_of node)
 carried_of (load.Fails breach kept) = Fails breach
+
+-- whether anything is carried, or a completer has broken off
+abbrev pub is_busy : Carried → Bool
+is_busy Empty = false
+is_busy carried = true
 
 -- a bio that is carried is in no list
 abbrev pub IsLoadAlone : Load → Type 0

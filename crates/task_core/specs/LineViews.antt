@@ -1,5 +1,6 @@
 -- A submission without its boxes.
-use Rattle.std.specs.Prelude.{Bool, true, false, Result, Ok, Err}
+use Rattle.std.specs.Prelude.{Bool, true, false, Option, None, Some, Result, Ok, Err}
+use Rattle.stack_base.specs.declared.ids.DevId.{DevId}
 use Rattle.bio_records.specs.declared.tasks.TaskLists.{TaskLists}
 use Rattle.bio_records.specs.Items.{item_of, IsAlone}
 use Rattle.bio_books.specs.Views.{slip_item}
@@ -29,6 +30,18 @@ doing_of doing.Rests = Rests
 doing_of (doing.Drives bio ask) = Drives (item_of bio) (ask_of ask)
 doing_of (doing.Copies bio master leg want) = Copies bio master leg (want_of want)
 doing_of (doing.Breaks breach kept was) = Breaks breach
+
+-- the device of whose set a bio is taken next, and whether it is waited for, if that is next
+abbrev pub attempt_of : Doing → Option (DevId × Bool)
+attempt_of (Drives bio (ToCut (Takes waits))) = Some (bio.bio.dev, waits)
+attempt_of (Copies bio master leg (Takes waits)) = Some (bio.dev, waits)
+attempt_of doing = None
+
+-- the same with something else that is wanted
+abbrev pub wanting : Doing → Want → Doing
+wanting (Drives bio ask) want = Drives bio (ToCut want)
+wanting (Copies bio master leg was) want = Copies bio master leg want
+wanting doing want = doing
 
 -- the lists; one that has broken off has them as they were where it asked
 abbrev pub lists_of : RealDoing → TaskLists → TaskLists

@@ -112,6 +112,15 @@ TurnsBy {S = S} (Some look) serves owes setup task old next new step =
 abbrev pub Turns : {S : Type 0} → (S → Request → Reply → S → Type 0) → (Request → Reply → Type 0) → Setup → TaskState → S → TaskState → S → Step → Type 0
 Turns serves owes setup task old next new step = TurnsBy (look_of task) serves owes setup task old next new step
 
+-- whether a step tells that a bio was completed
+abbrev pub completes : Step → Bool
+completes (Stepped event) = is_completion event.what
+  where
+    is_completion : What → Bool
+    is_completion (what.Complete disk index status) = true
+    is_completion what = false
+completes step = false
+
 -- the chooser was asked where a bio was completed, and else it stays
 abbrev pub Chosen : {C : Type 0} → (C → ℕ → ℕ → C → Type 0) → (DevId → ℕ → ℕ → ℕ → Type 0) → C → Step → C → Type 0
 Chosen chooses picks old (Stepped event) new = chosen_by event.what

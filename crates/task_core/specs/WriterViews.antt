@@ -7,6 +7,8 @@ use Rattle.task_core.specs.declared.event.TaskId.TheVariants as id
 use Rattle.task_core.specs.declared.step.Step.{Step}
 use Rattle.task_core.specs.declared.writing.Taken.{Taken as RealTaken}
 use Rattle.task_core.specs.declared.writing.Taken.TheVariants as taken
+use Rattle.task_core.specs.declared.writing.Attempt.{Attempt}
+use Rattle.task_core.specs.declared.writing.Attempt.TheVariants as attempt
 use Rattle.task_core.specs.declared.writing.Next.{Next}
 use Rattle.task_core.specs.declared.writing.Next.TheVariants as next
 use Rattle.task_core.specs.Scene.{Setup}
@@ -47,6 +49,17 @@ TakenSuits taken.NoBio doing = Unit {0}
 TakenSuits (taken.HasBio bio) doing = Unit {0}
 TakenSuits (taken.HasBoth bio vector) doing = Unit {0}
 TakenSuits (taken.Refused bio was) doing = is_broken doing ≡ true
+
+-- what an attempt at the bio of a write makes of a writer
+abbrev pub tried : Attempt → ℕ → List Todo → Line → TaskState
+tried (attempt.Had bio) number todo line = Writer number todo (HasBio (item_of bio)) line
+tried attempt.Missed number todo line = Writer number todo NoBio line
+tried (attempt.Spent back) number todo line = Writer number todo NoBio (record line { doing = Breaks breach.Spent })
+
+abbrev pub IsAttemptAtBioAlone : Attempt → Type 0
+IsAttemptAtBioAlone (attempt.Had bio) = IsAlone bio
+IsAttemptAtBioAlone attempt.Missed = Unit {0}
+IsAttemptAtBioAlone (attempt.Spent back) = Unit {0}
 
 -- what a step makes of a writer that was to begin a write
 abbrev pub next_of : Next → ℕ → Todo → List Todo → TaskState

@@ -1,5 +1,5 @@
 //! What a completer carries, from its disk up to the write.
-ghost use Rattle.std.specs.Prelude.{◌≡◌, Option, None, Some};
+ghost use Rattle.std.specs.Prelude.{◌≡◌, true, false, Option, None, Some};
 ghost use Rattle.bio_records.specs.declared.bio.Pad.{Pad as Pad'};
 ghost use Rattle.bio_records.specs.Items.{Item, item_of, IsAlone};
 ghost use Rattle.bio_books.specs.Books.{nothing_held};
@@ -15,8 +15,8 @@ ghost use Rattle.task_core.specs.Tasks.{Brings, Carries, Completer as Completes,
 ghost use Rattle.task_core.specs.Routed.{setup};
 ghost use Rattle.task_core.specs.Stage.{Owes};
 ghost use Rattle.task_core.specs.Homes.{IsTaskOf};
-ghost use Rattle.task_core.specs.Turns.{Chosen, Turns, step_of};
-ghost use Rattle.task_core.specs.CarriedViews.{carried_of, with_bio, with_slip, with_vector, HoldsNothing, IsLoadAlone};
+ghost use Rattle.task_core.specs.Turns.{completes, Chosen, Turns, step_of};
+ghost use Rattle.task_core.specs.CarriedViews.{carried_of, is_busy, with_bio, with_slip, with_vector, HoldsNothing, IsLoadAlone};
 
 use crate::event::{Breach, End, Event, TaskId, What};
 use crate::objects::{Chooser, Objects, Unmade};
@@ -114,41 +114,6 @@ fn carrying(writer: u32, node: ClosedNode) -> Carried
 {
     Carried {
         load: Load::Carries { writer, node },
-    }
-}
-
-// Completes one of the bios that wait in the disk (`bio_endio`, `block/bio.c`). Where none waits, it looks whether any write is unfinished.
-fn complete<O: Objects, C: Chooser>(
-    objects: &mut O,
-    chooser: &mut C,
-    disk: DevId,
-) -> (Carried, Step)
-    requires holds { O.holds objects.old }
-    requires fits { IsTaskOf (O.stage objects.old) (Completes disk Empty) }
-    ensures turns { Turns O.serves (Owes (O.stage objects.old)) (setup (O.stage objects.old).routing) (Completes disk Empty) objects.old (Completes disk result.0) objects.new result.1 }
-    ensures chosen { Chosen C.chooses (O.picks objects.old) chooser.old result.1 chooser.new }
-    ensures kept { O.holds objects.new × (O.stage objects.new ≡ O.stage objects.old) }
-{
-    match objects.complete(disk, chooser) {
-        Ok(Some((index, Done { el, status }))) => {
-            let what = What::Complete {
-                disk,
-                index,
-                status,
-            };
-            let load = Load::Brings { bio: el, status };
-            let task = TaskId::Completer(disk);
-            (Carried { load }, Step::Stepped(Event { task, what }))
-        }
-        Ok(None) => {
-            let step = if objects.left() == 0 {
-                Step::Ended
-            } else {
-                Step::Waiting
-            };
-            (Carried { load: Load::Empty }, step)
-        }
-        Err(kept) => spent(kept),
     }
 }
 
@@ -354,21 +319,17 @@ fn finish<O: Objects>(
 }
 
 // A step of a completer that carries this.
-fn step_of<O: Objects, C: Chooser>(
-    objects: &mut O,
-    chooser: &mut C,
-    disk: DevId,
-    load: Load,
-) -> (Carried, Step)
+fn step_of<O: Objects>(objects: &mut O, disk: DevId, load: Load) -> (Carried, Step)
     requires alone { IsLoadAlone load }
+    requires busy { is_busy (carried_of load) ≡ true }
     requires holds { O.holds objects.old }
     requires fits { IsTaskOf (O.stage objects.old) (Completes disk (carried_of load)) }
     ensures turns { Turns O.serves (Owes (O.stage objects.old)) (setup (O.stage objects.old).routing) (Completes disk (carried_of load)) objects.old (Completes disk result.0) objects.new result.1 }
+    ensures completes_none { completes result.1 ≡ false }
     ensures kept { O.holds objects.new × (O.stage objects.new ≡ O.stage objects.old) }
-    ensures chosen { Chosen C.chooses (O.picks objects.old) chooser.old result.1 chooser.new }
 {
     match load {
-        Load::Empty => complete(objects, chooser, disk),
+        Load::Empty => unreachable!(),
         Load::Brings { bio, status } => drop_part(objects, disk, bio, status),
         Load::Carries { writer, node } => finish(objects, disk, writer, node),
         Load::Fails { breach, kept } => (failing(breach, kept), Step::Broken(breach)),
@@ -381,6 +342,58 @@ impl Carried {
         ensures { result ≡ Empty }
     {
         Carried { load: Load::Empty }
+    }
+
+    // Whether it carries anything, or its completer has broken off.
+    fn is_busy(&self) -> bool
+        ensures { result ≡ is_busy self.now }
+    {
+        match self.load {
+            Load::Empty => false,
+            Load::Brings { .. } | Load::Carries { .. } | Load::Fails { .. } => true,
+        }
+    }
+
+    // Completes one of the bios that wait in the disk (`bio_endio`, `block/bio.c`). Where none waits, it looks whether any write is unfinished.
+    fn complete<O: Objects, C: Chooser>(
+        &mut self,
+        objects: &mut O,
+        chooser: &mut C,
+        disk: DevId,
+    ) -> Step
+        requires empty { self.old ≡ Empty }
+        requires holds { O.holds objects.old }
+        requires fits { IsTaskOf (O.stage objects.old) (Completes disk Empty) }
+        ensures turns { Turns O.serves (Owes (O.stage objects.old)) (setup (O.stage objects.old).routing) (Completes disk Empty) objects.old (Completes disk self.new) objects.new result }
+        ensures chosen { Chosen C.chooses (O.picks objects.old) chooser.old result chooser.new }
+        ensures kept { O.holds objects.new × (O.stage objects.new ≡ O.stage objects.old) }
+    {
+        match objects.complete(disk, chooser) {
+            Ok(Some((index, Done { el, status }))) => {
+                self.load = Load::Brings { bio: el, status };
+                let what = What::Complete {
+                    disk,
+                    index,
+                    status,
+                };
+                let task = TaskId::Completer(disk);
+                Step::Stepped(Event { task, what })
+            }
+            Ok(None) => {
+                if objects.left() == 0 {
+                    Step::Ended
+                } else {
+                    Step::Waiting
+                }
+            }
+            Err(kept) => {
+                self.load = Load::Fails {
+                    breach: Breach::Spent,
+                    kept,
+                };
+                Step::Broken(Breach::Spent)
+            }
+        }
     }
 
     /// A step of the completer of a disk.
@@ -396,8 +409,11 @@ impl Carried {
         ensures chosen { Chosen C.chooses (O.picks objects.old) chooser.old result chooser.new }
         ensures kept { O.holds objects.new × (O.stage objects.new ≡ O.stage objects.old) }
     {
+        if !self.is_busy() {
+            return self.complete(objects, chooser, disk);
+        }
         let load = mem::replace(&mut self.load, Load::Empty);
-        let (carried, step) = step_of(objects, chooser, disk, load);
+        let (carried, step) = step_of(objects, disk, load);
         *self = carried;
         step
     }

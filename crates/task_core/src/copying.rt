@@ -1,19 +1,18 @@
 //! What a mirror does for each leg of a bio that it copies: it takes a bio of its set, and submits it as a copy (`raid1_write_request`,
 //! `drivers/md/raid1.c`).
 ghost use Rattle.std.specs.Prelude.{◌≡◌, ◌<◌};
-ghost use Rattle.stack_base.specs.declared.ids.SetId.TheVariants.{Of};
 ghost use Rattle.bio_records.specs.Items.{item_of, IsAlone};
 ghost use Rattle.task_core.specs.Scene.{Setup, tree_at};
-ghost use Rattle.task_core.specs.Requests.{TakeBio, Punt, Link as LinkOf, Leg};
-ghost use Rattle.task_core.specs.Lines.{Copies, Takes, Punts, Links, punted, legs_of, leg_at, copies};
+ghost use Rattle.task_core.specs.Requests.{Punt, Link as LinkOf, Leg};
+ghost use Rattle.task_core.specs.Lines.{Copies, Punts, Links, punted, legs_of, leg_at, copies};
 ghost use Rattle.task_core.specs.Within.{IsWithin, ListsAreWithin};
 ghost use Rattle.task_core.specs.Routed.{setup};
 ghost use Rattle.task_core.specs.Stage.{Fits, Owes};
 ghost use Rattle.task_core.specs.Answers.{Answers};
 
-use crate::calls::{attempt, open_node, punt_all};
+use crate::calls::{open_node, punt_all};
 use crate::event::{Breach, Event, How, TaskId, What};
-use crate::line::{Doing, Kept, Line, Want, break_off, broken_at, go_on, spent};
+use crate::line::{Doing, Kept, Line, Want, break_off, broken_at, go_on};
 use crate::objects::{Ask, Objects};
 use crate::routes::Routes;
 use crate::step::Step;
@@ -54,34 +53,6 @@ pub(crate) fn copy_on(routes: &Routes, run: Copying, legs: u32, lists: TaskLists
             want,
         },
         lists,
-    }
-}
-
-/// Takes a bio of the mirror's set for a leg.
-pub(crate) fn take_to_copy<O: Objects>(
-    objects: &mut O,
-    task: TaskId,
-    run: Copying,
-    waits: bool,
-    lists: TaskLists,
-) -> (Line, Step)
-    requires holds { O.holds objects.old }
-    requires fits { Fits (O.stage objects.old) (TakeBio (Of run.bio.dev) waits) }
-    ensures step { (setup : Setup) → Answers O.serves (Owes (O.stage objects.old)) setup task (Copies run.bio run.master run.leg (Takes waits)) lists objects.old result.0 objects.new result.1 }
-    ensures kept { O.holds objects.new × (O.stage objects.new ≡ O.stage objects.old) }
-{
-    match attempt(objects, task, run.bio.dev, waits) {
-        Ok((want, step)) => {
-            let Copying { bio, master, leg } = run;
-            let doing = Doing::Copies {
-                bio,
-                master,
-                leg,
-                want,
-            };
-            (Line { doing, lists }, step)
-        }
-        Err(back) => spent(None, back, lists),
     }
 }
 

@@ -6,14 +6,14 @@ ghost use Rattle.bio_records.specs.Items.{item_of, IsAlone};
 ghost use Rattle.bio_split.specs.Split.{split_front, split_rest};
 ghost use Rattle.bio_books.specs.Views.{slip_item};
 ghost use Rattle.task_core.specs.Scene.{Setup, tree_at};
-ghost use Rattle.task_core.specs.Requests.{TakeBio, TakeSlip, Push, Punt, Link as LinkOf, Chain, Master};
-ghost use Rattle.task_core.specs.Lines.{Drives, ToPush, ToCut, ToRecord, ToMaster, Takes, Punts, Links, punted, legs_of};
+ghost use Rattle.task_core.specs.Requests.{TakeSlip, Push, Punt, Link as LinkOf, Chain, Master};
+ghost use Rattle.task_core.specs.Lines.{Drives, ToPush, ToCut, ToRecord, ToMaster, Punts, Links, punted, legs_of};
 ghost use Rattle.task_core.specs.Within.{IsWithin, ListsAreWithin, is_cut};
 ghost use Rattle.task_core.specs.Routed.{setup, sent};
 ghost use Rattle.task_core.specs.Stage.{Fits, Owes};
 ghost use Rattle.task_core.specs.Answers.{Answers};
 
-use crate::calls::{attempt, had, missed, open_node, punt_all};
+use crate::calls::{had, missed, open_node, punt_all};
 use crate::copying::{Copying, copy_on};
 use crate::event::{Breach, Event, Got, How, TaskId, What};
 use crate::line::{Doing, DriverAsk, Kept, Line, Want, break_off, broken_at, go_on, spent};
@@ -55,30 +55,6 @@ pub(crate) fn push<O: Objects>(
             Step::Stepped(Event { task, what }),
         ),
         Err(back) => spent(None, back, lists),
-    }
-}
-
-/// Takes a bio of the device's set for the first piece (`bio_alloc_bioset`, `block/bio.c`).
-pub(crate) fn take_to_cut<O: Objects>(
-    objects: &mut O,
-    task: TaskId,
-    bio: BioElement,
-    waits: bool,
-    lists: TaskLists,
-) -> (Line, Step)
-    requires holds { O.holds objects.old }
-    requires alone { IsAlone bio }
-    requires fits { Fits (O.stage objects.old) (TakeBio (Of (item_of bio).bio.dev) waits) }
-    ensures step { (setup : Setup) → Answers O.serves (Owes (O.stage objects.old)) setup task (Drives (item_of bio) (ToCut (Takes waits))) lists objects.old result.0 objects.new result.1 }
-    ensures kept { O.holds objects.new × (O.stage objects.new ≡ O.stage objects.old) }
-{
-    match attempt(objects, task, bio.body.bio.dev, waits) {
-        Ok((want, step)) => {
-            let ask = DriverAsk::ToCut(want);
-            let doing = Doing::Drives { bio, ask };
-            (Line { doing, lists }, step)
-        }
-        Err(back) => spent(Some(bio), back, lists),
     }
 }
 

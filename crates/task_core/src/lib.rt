@@ -5,6 +5,7 @@
 //! relation that cites the object's own moves (`specs/Objects.antt`). An event is both halves at once (`specs/Runs.antt`).
 #![tactic(auto)]
 
+mod attempts;
 mod calls;
 mod carried;
 mod copying;

@@ -9,11 +9,11 @@ ghost use Rattle.task_core.specs.Routed.{setup};
 ghost use Rattle.task_core.specs.Stage.{Fits, Owes};
 ghost use Rattle.task_core.specs.Homes.{IsLineOf};
 ghost use Rattle.task_core.specs.Turns.{doing_breach};
-ghost use Rattle.task_core.specs.LineViews.{want_of, ask_of, doing_of, lists_of, line_of, IsWantAlone, IsAskOfAlone, IsDoingAlone, is_asking};
+ghost use Rattle.task_core.specs.LineViews.{want_of, attempt_of, ask_of, doing_of, lists_of, line_of, IsWantAlone, IsAskOfAlone, IsDoingAlone, is_asking};
 ghost use Rattle.task_core.specs.Answers.{Answers};
 
-use crate::copying::{Copying, leg, punt_to_copy, take_to_copy};
-use crate::driving::{chain, master, punt_to_cut, push, take_record, take_to_cut};
+use crate::copying::{Copying, leg, punt_to_copy};
+use crate::driving::{chain, master, punt_to_cut, push, take_record};
 use crate::event::{Breach, TaskId};
 use crate::homes::lines_stay_home;
 use crate::objects::{Objects, Unmade};
@@ -192,7 +192,7 @@ pub(crate) fn broken_at(
 }
 
 // It cannot go on, and has its lists as they are.
-fn broken(breach: Breach, kept: Kept, lists: TaskLists) -> Line
+pub(crate) fn broken(breach: Breach, kept: Kept, lists: TaskLists) -> Line
     ensures { result ≡ record { doing = Breaks' breach; lists = lists } }
 {
     let was = Snapshot::of(&lists);
@@ -226,6 +226,7 @@ fn cut<O: Objects>(
 ) -> (Line, Step)
     requires holds { O.holds objects.old }
     requires alone { IsAlone bio × IsWantAlone want }
+    requires no_attempt { attempt_of (Drives (item_of bio) (ToCut (want_of want))) ≡ None }
     requires fits { Fits (O.stage objects.old) (line_request (setup routes.now) (Drives (item_of bio) (ToCut (want_of want))) lists) }
     requires within { IsWithin routes.now.stack (item_of bio).bio }
     requires cut { is_cut (tree_at (setup routes.now) (item_of bio).bio.dev) (item_of bio).bio.range ≡ true }
@@ -234,7 +235,7 @@ fn cut<O: Objects>(
     ensures kept { O.holds objects.new × (O.stage objects.new ≡ O.stage objects.old) }
 {
     match want {
-        Want::Takes { waits } => take_to_cut(objects, task, bio, waits, lists),
+        Want::Takes { .. } => unreachable!(),
         Want::Punts => punt_to_cut(objects, task, bio, lists),
         Want::Links { hand } => chain(objects, routes, task, bio, hand, lists),
     }
@@ -251,6 +252,7 @@ fn drive<O: Objects>(
 ) -> (Line, Step)
     requires holds { O.holds objects.old }
     requires alone { IsAlone bio × IsAskOfAlone ask }
+    requires no_attempt { attempt_of (Drives (item_of bio) (ask_of ask)) ≡ None }
     requires fits { Fits (O.stage objects.old) (line_request (setup routes.now) (Drives (item_of bio) (ask_of ask)) lists) }
     requires within { DoingFits routes.now.stack (Drives (item_of bio) (ask_of ask)) }
     requires lists { ListsAreWithin routes.now.stack lists }
@@ -276,6 +278,7 @@ fn copy<O: Objects>(
 ) -> (Line, Step)
     requires holds { O.holds objects.old }
     requires alone { IsWantAlone want }
+    requires no_attempt { attempt_of (Copies' run.bio run.master run.leg (want_of want)) ≡ None }
     requires fits { Fits (O.stage objects.old) (line_request (setup routes.now) (Copies' run.bio run.master run.leg (want_of want)) lists) }
     requires within { DoingFits routes.now.stack (Copies' run.bio run.master run.leg (want_of want)) }
     requires lists { ListsAreWithin routes.now.stack lists }
@@ -283,13 +286,13 @@ fn copy<O: Objects>(
     ensures kept { O.holds objects.new × (O.stage objects.new ≡ O.stage objects.old) }
 {
     match want {
-        Want::Takes { waits } => take_to_copy(objects, task, run, waits, lists),
+        Want::Takes { .. } => unreachable!(),
         Want::Punts => punt_to_copy(objects, task, run, lists),
         Want::Links { hand } => leg(objects, routes, task, run, hand, lists),
     }
 }
 
-// The next step of a submission that has something to ask for.
+// The next step of a submission that has something to ask for, which is no attempt at a bio for a piece or a leg.
 fn turn<O: Objects>(
     objects: &mut O,
     routes: &Routes,
@@ -300,6 +303,7 @@ fn turn<O: Objects>(
     requires holds { O.holds objects.old }
     requires alone { IsDoingAlone doing }
     requires asks { is_asking (doing_of doing) ≡ true }
+    requires no_attempt { attempt_of (doing_of doing) ≡ None }
     requires fits { Fits (O.stage objects.old) (line_request (setup routes.now) (doing_of doing) (lists_of doing lists)) }
     requires within { LineFits routes.now.stack (line_of doing lists) }
     ensures step { Answers O.serves (Owes (O.stage objects.old)) (setup routes.now) task (doing_of doing) (lists_of doing lists) objects.old result.0 objects.new result.1 }
@@ -395,6 +399,9 @@ impl Line {
     {
         routes.known();
         lines_stay_home();
+        if let Some((dev, waits)) = self.attempts() {
+            return self.attempt(objects, task, dev, waits);
+        }
         let doing = mem::replace(&mut self.doing, Doing::Rests);
         let lists = mem::replace(&mut self.lists, TaskLists::new());
         let (line, step) = turn(objects, routes, task, doing, lists);

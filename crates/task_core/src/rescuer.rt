@@ -33,35 +33,6 @@ impl Model for Rescuer {
     ghost view = { λ r. record { dev = r.dev; line = r.line } };
 }
 
-// Submits the first bio that waits for the rescuer. Where none does, it has ended if no write is unfinished.
-fn pop<O: Objects>(objects: &mut O, routes: &Routes, dev: DevId, line: Line) -> (Line, Step)
-    requires holds { O.holds objects.old }
-    requires routing { (O.stage objects.old).routing ≡ routes.now }
-    requires rests { line.doing ≡ Rests }
-    requires fits { Fits (O.stage objects.old) (Pop dev) }
-    ensures step { PopAnswers O.serves (Owes (O.stage objects.old)) (setup routes.now) dev line objects.old result.0 objects.new result.1 }
-    ensures kept { O.holds objects.new × (O.stage objects.new ≡ O.stage objects.old) }
-{
-    match objects.pop(dev) {
-        Ok(Some(bio)) => {
-            let task = TaskId::Rescuer(dev);
-            let what = What::Pop { dev };
-            (
-                Line::begin(routes, bio),
-                Step::Stepped(Event { task, what }),
-            )
-        }
-        Ok(None) => (line, idle(objects.left())),
-        Err(back) => {
-            let kept = Kept::unmade(None, back);
-            (
-                line.breaks(Breach::Spent, kept),
-                Step::Broken(Breach::Spent),
-            )
-        }
-    }
-}
-
 impl Rescuer {
     /// The rescuer of this device's set.
     pub fn new(dev: DevId) -> Rescuer
@@ -70,6 +41,33 @@ impl Rescuer {
         Rescuer {
             dev,
             line: Line::rests(),
+        }
+    }
+
+    // Submits the first bio that waits for it. Where none does, it has ended if no write is unfinished, and nothing moves.
+    fn pop<O: Objects>(&mut self, objects: &mut O, routes: &Routes) -> Step
+        requires holds { O.holds objects.old }
+        requires routing { (O.stage objects.old).routing ≡ routes.now }
+        requires rests { self.old.line.doing ≡ Rests }
+        requires fits { Fits (O.stage objects.old) (Pop self.old.dev) }
+        ensures step { PopAnswers O.serves (Owes (O.stage objects.old)) (setup routes.now) self.old.dev self.old.line objects.old self.new.line objects.new result }
+        ensures dev { self.new.dev ≡ self.old.dev }
+        ensures kept { O.holds objects.new × (O.stage objects.new ≡ O.stage objects.old) }
+    {
+        let dev = self.dev;
+        match objects.pop(dev) {
+            Ok(Some(bio)) => {
+                self.line = Line::begin(routes, bio);
+                let task = TaskId::Rescuer(dev);
+                let what = What::Pop { dev };
+                Step::Stepped(Event { task, what })
+            }
+            Ok(None) => idle(objects.left()),
+            Err(back) => {
+                let line = mem::replace(&mut self.line, Line::rests());
+                self.line = line.breaks(Breach::Spent, Kept::unmade(None, back));
+                Step::Broken(Breach::Spent)
+            }
         }
     }
 
@@ -89,9 +87,6 @@ impl Rescuer {
         if let Some(breach) = self.line.breach() {
             return Step::Broken(breach);
         }
-        let line = mem::replace(&mut self.line, Line::rests());
-        let (line, step) = pop(objects, routes, self.dev, line);
-        self.line = line;
-        step
+        self.pop(objects, routes)
     }
 }

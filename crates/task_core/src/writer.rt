@@ -2,19 +2,20 @@
 ghost use Rattle.std.specs.Prelude.{◌≡◌, ◌≢◌, ◌∷◌, [], true, false, drop};
 ghost use Rattle.task_core.specs.Lines.{Rests, rests};
 ghost use Rattle.task_core.specs.Tasks.{Todo as TodoState, NoBio};
+ghost use Rattle.task_core.specs.Scene.{Setup};
 ghost use Rattle.task_core.specs.Routed.{setup};
 ghost use Rattle.task_core.specs.Stage.{Owes};
 ghost use Rattle.task_core.specs.Homes.{IsTaskOf};
 ghost use Rattle.task_core.specs.Turns.{Acts, Turns};
-ghost use Rattle.task_core.specs.WriterViews.{writer_task, next_of, IsNextAlone, is_taken};
+ghost use Rattle.task_core.specs.WriterViews.{writer_task, next_of, tried, IsNextAlone, IsAttemptAtBioAlone, is_taken};
 
-use crate::event::TaskId;
-use crate::line::Line;
+use crate::event::{Breach, TaskId};
+use crate::line::{Kept, Line};
 use crate::objects::Objects;
 use crate::routes::Routes;
 use crate::step::Step;
 use crate::todo::{Todo, Todos};
-use crate::writing::{Next, Taken, go_on};
+use crate::writing::{Attempt, Next, Taken, go_on, take_bio};
 use std::marker::Model;
 use std::mem;
 
@@ -69,13 +70,14 @@ impl Writer {
         }
     }
 
-    // Asks for what its next write needs.
+    // Asks for what its next write needs, whose bio it has taken.
     fn act<O: Objects>(&mut self, objects: &mut O, routes: &Routes, todo: &Todo) -> Step
         requires holds { O.holds objects.old }
         requires routing { (O.stage objects.old).routing ≡ routes.now }
         requires task { IsTaskOf (O.stage objects.old) (writer_task self.old) }
         requires rests { self.old.line.doing ≡ Rests }
         requires first { self.old.todo ≡ todo.now ∷ drop 1 self.old.todo }
+        requires some { is_taken self.old.taken ≡ true }
         ensures acts { Acts O.serves (Owes (O.stage objects.old)) (setup routes.now) (writer_task self.old) objects.old (writer_task self.new) objects.new result }
         ensures kept { O.holds objects.new × (O.stage objects.new ≡ O.stage objects.old) }
     {
@@ -86,22 +88,51 @@ impl Writer {
         step
     }
 
-    // Asks for a bio, if the round of its next write has come.
-    fn look<O: Objects>(&mut self, objects: &mut O, routes: &Routes, todo: &Todo) -> Step
+    // What came of an attempt at the bio of its next write. Where there was none yet, nothing moves.
+    fn have(&mut self, attempt: Attempt)
+        requires rests { self.old.line.doing ≡ Rests }
+        requires none { self.old.taken ≡ NoBio }
+        requires alone { IsAttemptAtBioAlone attempt }
+        ensures { writer_task self.new ≡ tried attempt self.old.number self.old.todo self.old.line }
+    {
+        match attempt {
+            Attempt::Had(bio) => self.taken = Taken::HasBio(bio),
+            Attempt::Missed => {}
+            Attempt::Spent(back) => {
+                let line = mem::replace(&mut self.line, Line::rests());
+                self.line = line.breaks(Breach::Spent, Kept::unmade(None, back));
+            }
+        }
+    }
+
+    // Asks for the bio of its next write.
+    fn take<O: Objects>(&mut self, objects: &mut O) -> Step
         requires holds { O.holds objects.old }
-        requires routing { (O.stage objects.old).routing ≡ routes.now }
-        requires task { IsTaskOf (O.stage objects.old) (writer_task self.old) }
+        requires rests { self.old.line.doing ≡ Rests }
+        requires none { self.old.taken ≡ NoBio }
+        requires some { self.old.todo ≢ [] }
+        ensures acts { (setup : Setup) → Acts O.serves (Owes (O.stage objects.old)) setup (writer_task self.old) objects.old (writer_task self.new) objects.new result }
+        ensures kept { O.holds objects.new × (O.stage objects.new ≡ O.stage objects.old) }
+    {
+        let (attempt, step) = take_bio(objects, self.number);
+        self.have(attempt);
+        step
+    }
+
+    // Asks for a bio, if the round of its next write has come.
+    fn look<O: Objects>(&mut self, objects: &mut O, todo: &Todo) -> Step
+        requires holds { O.holds objects.old }
         requires rests { self.old.line.doing ≡ Rests }
         requires first { self.old.todo ≡ todo.now ∷ drop 1 self.old.todo }
         requires none { is_taken self.old.taken ≡ false }
-        ensures turn { Turns O.serves (Owes (O.stage objects.old)) (setup routes.now) (writer_task self.old) objects.old (writer_task self.new) objects.new result }
+        ensures turn { (setup : Setup) → Turns O.serves (Owes (O.stage objects.old)) setup (writer_task self.old) objects.old (writer_task self.new) objects.new result }
         ensures kept { O.holds objects.new × (O.stage objects.new ≡ O.stage objects.old) }
     {
         let round = objects.round();
         if round < todo.round {
             return Step::Waiting;
         }
-        self.act(objects, routes, todo)
+        self.take(objects)
     }
 
     // Whether it has taken the bio of its next write.
@@ -136,7 +167,7 @@ impl Writer {
         if self.has_bio() {
             self.act(objects, routes, &todo)
         } else {
-            self.look(objects, routes, &todo)
+            self.look(objects, &todo)
         }
     }
 }

@@ -10,19 +10,19 @@ ghost use Rattle.task_core.specs.Requests.{TakeBio, TakeVec, Link as LinkOf, Wri
 ghost use Rattle.task_core.specs.declared.event.TaskId.TheVariants as id;
 ghost use Rattle.task_core.specs.declared.event.How.TheVariants as how;
 ghost use Rattle.task_core.specs.declared.event.What.TheVariants as what;
-ghost use Rattle.task_core.specs.Lines.{Rests, Breaks, rests};
+ghost use Rattle.task_core.specs.Lines.{Line as LineState, Rests, Breaks, rests};
 ghost use Rattle.task_core.specs.Tasks.{Todo as TodoState, NoBio, HasBio, HasBoth, Writer as WriterTask, needs_vector, first_bio, filled, filled_short, filled_vector, write_request};
 ghost use Rattle.task_core.specs.Within.{IsWithin};
 ghost use Rattle.task_core.specs.Routed.{setup};
 ghost use Rattle.task_core.specs.Stage.{Fits, Owes, has_book, is_vecs, IsHome};
 ghost use Rattle.task_core.specs.Homes.{TodoFits, TakenIsHome};
 ghost use Rattle.task_core.specs.Views.{vec_item};
-ghost use Rattle.task_core.specs.WriterViews.{taken_of, IsTakenAlone, TakenSuits, next_of, IsNextAlone, WriteAnswers, WriteOpened};
+ghost use Rattle.task_core.specs.WriterViews.{taken_of, is_taken, IsTakenAlone, TakenSuits, tried, IsAttemptAtBioAlone, next_of, IsNextAlone, WriteAnswers, WriteOpened};
 
 use crate::calls::{had, missed};
 use crate::event::{Breach, Event, Got, How, TaskId, What};
 use crate::line::{HandedBack, Kept, Line};
-use crate::objects::{Ask, Objects};
+use crate::objects::{Ask, Objects, Unmade};
 use crate::routes::Routes;
 use crate::step::Step;
 use crate::todo::Todo;
@@ -137,32 +137,31 @@ fn filled_vector(todo: &Todo, mut vector: VecElement) -> VecElement
     vector
 }
 
+// What came of an attempt at the bio of a write.
+#[derive(Drop)]
+pub(crate) enum Attempt {
+    // There is one.
+    Had(BioElement),
+    // There is none yet.
+    Missed,
+    // There was no ticket for the call.
+    Spent(Unmade),
+}
+
 // Takes the bio of a write, and waits for it (`bio_alloc_bioset`, `block/bio.c`).
-fn take_bio<O: Objects>(objects: &mut O, number: u32, line: Line) -> (Taken, Line, Step)
+pub(crate) fn take_bio<O: Objects>(objects: &mut O, number: u32) -> (Attempt, Step)
     requires holds { O.holds objects.old }
-    requires rests { line.doing ≡ Rests }
-    ensures step { (setup : Setup) (todo : TodoState) (later : List TodoState) → WriteAnswers O.serves (Owes (O.stage objects.old)) setup number (TakeBio Fs true) (todo ∷ later) NoBio line objects.old (WriterTask number (todo ∷ later) (taken_of result.0) result.1) objects.new result.2 }
-    ensures alone { IsTakenAlone result.0 × TakenSuits result.0 result.1.doing }
+    ensures step { (setup : Setup) (todo : TodoState) (later : List TodoState) (line : LineState) → WriteAnswers O.serves (Owes (O.stage objects.old)) setup number (TakeBio Fs true) (todo ∷ later) NoBio line objects.old (tried result.0 number (todo ∷ later) line) objects.new result.1 }
+    ensures alone { IsAttemptAtBioAlone result.0 }
     ensures kept { O.holds objects.new × (O.stage objects.new ≡ O.stage objects.old) }
 {
     let task = TaskId::Writer(number);
     let pool = PoolId::FsBios;
     match objects.take_bio(SetId::Fs, true) {
-        Ok(Took::Ordinary(bio)) => (
-            Taken::HasBio(bio),
-            line,
-            had(task, true, pool, Got::Ordinary),
-        ),
-        Ok(Took::Spare(bio)) => (Taken::HasBio(bio), line, had(task, true, pool, Got::Spare)),
-        Ok(Took::Miss { used }) => (Taken::NoBio, line, missed(task, true, used, pool)),
-        Err(back) => {
-            let kept = Kept::unmade(None, back);
-            (
-                Taken::NoBio,
-                line.breaks(Breach::Spent, kept),
-                Step::Broken(Breach::Spent),
-            )
-        }
+        Ok(Took::Ordinary(bio)) => (Attempt::Had(bio), had(task, true, pool, Got::Ordinary)),
+        Ok(Took::Spare(bio)) => (Attempt::Had(bio), had(task, true, pool, Got::Spare)),
+        Ok(Took::Miss { used }) => (Attempt::Missed, missed(task, true, used, pool)),
+        Err(back) => (Attempt::Spent(back), Step::Broken(Breach::Spent)),
     }
 }
 
@@ -321,7 +320,7 @@ fn link_long<O: Objects>(
     }
 }
 
-/// The next step of a writer that is to begin a write.
+/// The next step of a writer that has taken the bio of the write that it is to begin.
 pub(crate) fn go_on<O: Objects>(
     objects: &mut O,
     routes: &Routes,
@@ -334,6 +333,7 @@ pub(crate) fn go_on<O: Objects>(
     requires routing { (O.stage objects.old).routing ≡ routes.now }
     requires alone { IsTakenAlone taken }
     requires suits { TakenSuits taken line.doing }
+    requires some { is_taken (taken_of taken) ≡ true }
     requires rests { line.doing ≡ Rests }
     requires todo { TodoFits (O.stage objects.old) todo.now }
     requires book { IsTrue (has_book (O.stage objects.old) number) }
@@ -343,10 +343,6 @@ pub(crate) fn go_on<O: Objects>(
     ensures kept { O.holds objects.new × (O.stage objects.new ≡ O.stage objects.old) }
 {
     match taken {
-        Taken::NoBio => {
-            let (taken, line, step) = take_bio(objects, number, line);
-            (Next::Waits(taken, line), step)
-        }
         Taken::HasBio(bio) => {
             if !needs_vector(&todo.write) {
                 return link_short(objects, routes, number, todo, bio, line);
@@ -355,6 +351,6 @@ pub(crate) fn go_on<O: Objects>(
             (Next::Waits(taken, line), step)
         }
         Taken::HasBoth(bio, vector) => link_long(objects, routes, number, todo, bio, vector, line),
-        Taken::Refused(..) => unreachable!(),
+        Taken::NoBio | Taken::Refused(..) => unreachable!(),
     }
 }

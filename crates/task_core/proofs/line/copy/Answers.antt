@@ -1,8 +1,5 @@
 use Rattle.task_core.specs.Routed.{setup}
 use Rattle.task_core.proofs.line.copy.Goals as goal
 
-pub returns-in-Takes-clause-step : goal.returns-in-Takes-clause-step
-returns-in-Takes-clause-step g c = rw c.in-Takes.is (c.take_to_copy.ensures.step (setup c.args.routes.now))
-
 pub returns-in-Punts-clause-step : goal.returns-in-Punts-clause-step
 returns-in-Punts-clause-step g c = rw c.in-Punts.is (c.punt_to_copy.ensures.step (setup c.args.routes.now))

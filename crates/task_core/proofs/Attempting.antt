@@ -1,0 +1,56 @@
+-- An attempt at a bio for a piece or a leg is what its submission asks for.
+use Rattle.std.proofs.Common.{◌≡◌, Bool, true, false, Option, Some, None, refl, sym, ap, subst}
+use Rattle.std.proofs.Common.{true≢false}
+use Rattle.std.specs.Option.{option_map_or}
+use Rattle.stack_base.specs.declared.ids.DevId.{DevId}
+use Rattle.stack_base.specs.declared.ids.SetId.TheVariants.{Of}
+use Rattle.bio_records.specs.declared.tasks.TaskLists.{TaskLists}
+use Rattle.task_core.specs.declared.event.Breach.TheVariants as breach
+use Rattle.task_core.specs.declared.event.TaskId.{TaskId}
+use Rattle.task_core.specs.declared.step.Step.TheVariants.{Broken}
+use Rattle.task_core.specs.Scene.{Setup}
+use Rattle.task_core.specs.Requests.{Request, Reply, TakeBio, Spent}
+use Rattle.task_core.specs.Lines.{Takes, Punts, Links, ToPush, ToCut, ToRecord, ToMaster, Doing, Rests, Drives, Copies, Breaks}
+use Rattle.task_core.specs.LineViews.{attempt_of}
+use Rattle.task_core.specs.Answers.{Answers, IsSpent}
+
+none_there : {A : Type 0} (there : A) → ◌≡◌ {A = Option A} None (Some there) → ⊥
+none_there {A = A} there none = true≢false (sym (ap (λ (o : Option A). option_map_or (λ (x : A). true) o false) none))
+
+same_there : {A : Type 0} (one there : A) → Some one ≡ Some there → one ≡ there
+same_there {A = A} one there same = ap (λ (o : Option A). option_map_or (λ (x : A). x) o there) same
+
+module _ {S : Type 0} (serves : S → Request → Reply → S → Type 0) (owes : Request → Reply → Type 0) (setup : Setup) (task : TaskId) where
+  -- where there was no ticket for an attempt, the submission has broken off
+  pub attempt_spent : (doing : Doing) (lists : TaskLists) (dev : DevId) (waits : Bool) (old new : S) → attempt_of doing ≡ Some (dev, waits)
+      → IsSpent serves owes (TakeBio (Of dev) waits) old new
+      → Answers serves owes setup task doing lists old (record { doing = Breaks breach.Spent; lists = lists }) new (Broken breach.Spent)
+  attempt_spent (Drives bio (ToCut (Takes waiting))) lists dev waits old new attempts spent =
+      let same = same_there (bio.bio.dev, waiting) (dev, waits) attempts in
+      record {
+        reply = Spent;
+        replied = subst (λ (p : DevId × Bool). serves old (TakeBio (Of p.0) p.1) Spent new) (sym same) spent.0;
+        owed = subst (λ (p : DevId × Bool). owes (TakeBio (Of p.0) p.1) Spent) (sym same) spent.1;
+        found = refl;
+        goes_on = refl;
+        tells = refl;
+      }
+  attempt_spent (Copies bio master leg (Takes waiting)) lists dev waits old new attempts spent =
+      let same = same_there (bio.dev, waiting) (dev, waits) attempts in
+      record {
+        reply = Spent;
+        replied = subst (λ (p : DevId × Bool). serves old (TakeBio (Of p.0) p.1) Spent new) (sym same) spent.0;
+        owed = subst (λ (p : DevId × Bool). owes (TakeBio (Of p.0) p.1) Spent) (sym same) spent.1;
+        found = refl;
+        goes_on = refl;
+        tells = refl;
+      }
+  attempt_spent Rests lists dev waits old new attempts spent = absurd (none_there (dev, waits) attempts)
+  attempt_spent (Breaks why) lists dev waits old new attempts spent = absurd (none_there (dev, waits) attempts)
+  attempt_spent (Drives bio ToPush) lists dev waits old new attempts spent = absurd (none_there (dev, waits) attempts)
+  attempt_spent (Drives bio (ToCut Punts)) lists dev waits old new attempts spent = absurd (none_there (dev, waits) attempts)
+  attempt_spent (Drives bio (ToCut (Links hand))) lists dev waits old new attempts spent = absurd (none_there (dev, waits) attempts)
+  attempt_spent (Drives bio ToRecord) lists dev waits old new attempts spent = absurd (none_there (dev, waits) attempts)
+  attempt_spent (Drives bio (ToMaster slip)) lists dev waits old new attempts spent = absurd (none_there (dev, waits) attempts)
+  attempt_spent (Copies bio master leg Punts) lists dev waits old new attempts spent = absurd (none_there (dev, waits) attempts)
+  attempt_spent (Copies bio master leg (Links hand)) lists dev waits old new attempts spent = absurd (none_there (dev, waits) attempts)

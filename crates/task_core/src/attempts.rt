@@ -1,0 +1,103 @@
+//! Attempts at a bio for a piece or for a leg. What the driver has stays where it is, so that an attempt that misses moves nothing.
+ghost use Rattle.std.specs.Prelude.{◌≡◌, true, Some};
+ghost use Rattle.stack_base.specs.declared.ids.SetId.TheVariants.{Of};
+ghost use Rattle.task_core.specs.declared.event.Breach.TheVariants as breach;
+ghost use Rattle.task_core.specs.Scene.{Setup};
+ghost use Rattle.task_core.specs.Requests.{TakeBio};
+ghost use Rattle.task_core.specs.Lines.{Breaks as Breaks'};
+ghost use Rattle.task_core.specs.Stage.{Fits, Owes};
+ghost use Rattle.task_core.specs.LineViews.{want_of, attempt_of, wanting, is_asking, IsWantAlone};
+ghost use Rattle.task_core.specs.Answers.{Answers};
+
+use crate::calls::attempt;
+use crate::event::{Breach, TaskId};
+use crate::line::{Doing, DriverAsk, Kept, Line, Want, broken};
+use crate::objects::{Objects, Unmade};
+use crate::step::Step;
+use stack_base::DevId;
+use std::mem;
+
+impl Line {
+    /// The device of whose set it takes a bio next, and whether it waits for one, if that is what it does next.
+    pub(crate) fn attempts(&self) -> Option<(DevId, bool)>
+        ensures { result ≡ attempt_of self.now.doing }
+    {
+        match &self.doing {
+            Doing::Drives {
+                bio,
+                ask: DriverAsk::ToCut(Want::Takes { waits }),
+            } => Some((bio.body.bio.dev, *waits)),
+            Doing::Copies {
+                bio,
+                want: Want::Takes { waits },
+                ..
+            } => Some((bio.dev, *waits)),
+            Doing::Rests | Doing::Drives { .. } | Doing::Copies { .. } | Doing::Breaks { .. } => {
+                None
+            }
+        }
+    }
+
+    // What is wanted behind an attempt.
+    fn wants(&mut self, next: Want)
+        requires { IsWantAlone next }
+        ensures { self.new ≡ record self.old { doing = wanting self.old.doing (want_of next) } }
+    {
+        match &mut self.doing {
+            Doing::Drives { ask, .. } => *ask = DriverAsk::ToCut(next),
+            Doing::Copies { want, .. } => *want = next,
+            Doing::Rests | Doing::Breaks { .. } => {}
+        }
+    }
+
+    // What is left of it where there was no ticket for its attempt.
+    fn spent(self, back: Unmade) -> Line
+        requires { is_asking self.doing ≡ true }
+        ensures { result ≡ record self { doing = Breaks' breach.Spent } }
+    {
+        let Line { doing, lists } = self;
+        let bio = match doing {
+            Doing::Drives { bio, .. } => Some(bio),
+            Doing::Copies { .. } => None,
+            Doing::Rests | Doing::Breaks { .. } => unreachable!(),
+        };
+        broken(Breach::Spent, Kept::unmade(bio, back), lists)
+    }
+
+    // There was no ticket for its attempt.
+    fn spend(&mut self, back: Unmade)
+        requires { is_asking self.old.doing ≡ true }
+        ensures { self.new ≡ record self.old { doing = Breaks' breach.Spent } }
+    {
+        let line = mem::replace(self, Line::rests());
+        *self = line.spent(back);
+    }
+
+    /// Takes a bio of this device's set for the first piece of the bio that its driver has, or for the next leg (`bio_alloc_bioset`,
+    /// `block/bio.c`).
+    pub(crate) fn attempt<O: Objects>(
+        &mut self,
+        objects: &mut O,
+        task: TaskId,
+        dev: DevId,
+        waits: bool,
+    ) -> Step
+        requires holds { O.holds objects.old }
+        requires attempts { attempt_of self.old.doing ≡ Some (dev, waits) }
+        requires asks { is_asking self.old.doing ≡ true }
+        requires fits { Fits (O.stage objects.old) (TakeBio (Of dev) waits) }
+        ensures step { (setup : Setup) → Answers O.serves (Owes (O.stage objects.old)) setup task self.old.doing self.old.lists objects.old self.new objects.new result }
+        ensures kept { O.holds objects.new × (O.stage objects.new ≡ O.stage objects.old) }
+    {
+        match attempt(objects, task, dev, waits) {
+            Ok((want, step)) => {
+                self.wants(want);
+                step
+            }
+            Err(back) => {
+                self.spend(back);
+                Step::Broken(Breach::Spent)
+            }
+        }
+    }
+}
