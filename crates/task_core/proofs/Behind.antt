@@ -20,7 +20,7 @@ use Rattle.stack_base.specs.declared.stack.Device.{Device}
 use Rattle.stack_base.specs.declared.stack.Kind.{Kind}
 use Rattle.stack_base.specs.declared.stack.Kind.TheVariants.{Disk, Linear, Stripe, Zoned, Limit, Mirror}
 use Rattle.stack_base.specs.declared.stack.Stack.{Stack}
-use Rattle.stack_base.specs.PoolId.{pool_number}
+use Rattle.stack_base.specs.PoolId.{IsOfStack, pool_number}
 use Rattle.stack_base.specs.Stack.{IsStack}
 use Rattle.stack_base.specs.Tree.{Shape, Keeps, Cuts, Copies, shape_of, size, tree}
 use Rattle.layout_model.specs.declared.write.Write.{Write}
@@ -85,6 +85,22 @@ slips_kept (Stripe chunk) reserve rescuer e fit = absurd (true≢false (sym e))
 slips_kept (Zoned chunk) reserve rescuer e fit = absurd (true≢false (sym e))
 slips_kept (Limit longest chunk) reserve rescuer e fit = absurd (true≢false (sym e))
 slips_kept (Mirror records) reserve rescuer e fit = fit.0.0
+
+disks_keep_none : (kind : Kind) (reserve : ℕ) (rescuer : Bool) → keeps (shape_of kind) ≡ true → HasReserves (what_of kind) reserve rescuer → reserve ≡ 0
+disks_keep_none (Disk sectors bad) reserve rescuer e fit = fit.0
+disks_keep_none Linear reserve rescuer e fit = absurd (true≢false (sym e))
+disks_keep_none (Stripe chunk) reserve rescuer e fit = absurd (true≢false (sym e))
+disks_keep_none (Zoned chunk) reserve rescuer e fit = absurd (true≢false (sym e))
+disks_keep_none (Limit longest chunk) reserve rescuer e fit = absurd (true≢false (sym e))
+disks_keep_none (Mirror records) reserve rescuer e fit = absurd (true≢false (sym e))
+
+others_have_none : (kind : Kind) → copies (shape_of kind) ≡ false → records_at kind ≡ 0
+others_have_none (Disk sectors bad) e = refl
+others_have_none Linear e = refl
+others_have_none (Stripe chunk) e = refl
+others_have_none (Zoned chunk) e = refl
+others_have_none (Limit longest chunk) e = refl
+others_have_none (Mirror records) e = absurd (true≢false e)
 
 -- devices
 pub is_below : (a b : ℕ) → a < b → nat_lt a b ≡ true
@@ -207,6 +223,19 @@ number_small stack good (Records dev) is =
     let lt = slice_get_within stack.devices.items dev.0 told.0 told.1 in
     let few = good.few in omega (arith, lt, few)
 
+-- and one that a stack can have
+pub of_stack : (stack : Stack) → IsStack stack → (pool : PoolId) → IsPoolIn (shown_devices stack) pool → IsOfStack pool
+of_stack stack good FsBios is = tt
+of_stack stack good FsVecs is = tt
+of_stack stack good (Bios dev) is =
+    let told = told_device bios_of stack dev.0 (Bios dev) is in
+    let lt = slice_get_within stack.devices.items dev.0 told.0 told.1 in
+    let few = good.few in omega (arith, lt, few)
+of_stack stack good (Records dev) is =
+    let told = told_device records_of stack dev.0 (Records dev) is in
+    let lt = slice_get_within stack.devices.items dev.0 told.0 told.1 in
+    let few = good.few in omega (arith, lt, few)
+
 -- the scripts of declarations are of their pools
 pub all_flat : {X Y : Type 0} (P : Y → Type 0) (f : X → List Y) (xs : List X) → All (λ x. All P (f x)) xs → All P (flat_map f xs)
 all_flat P f [] all = All-nil P
@@ -286,6 +315,22 @@ scripts_small stack scripts good so = λ k d lt. elim (lt_or (pool_number (get_o
       let small = number_small stack good (get_or scripts k d).0 (scripts_in stack scripts declared k d lt) in omega (arith, small, large)))
 ]
 
+pub scripts_of_stack : (stack : Stack) (scripts : Scripts) → IsStack stack → ∥ IsDeclaredSo stack scripts ∥₁
+    → All (λ (script : PoolId × Answers). IsOfStack script.0) scripts
+scripts_of_stack stack scripts good so = λ k d lt. by_pool (get_or scripts k d).0 (λ declared. of_stack stack good (get_or scripts k d).0 (scripts_in stack scripts declared k d lt))
+  where
+    by_pool : (pool : PoolId) → (IsDeclaredSo stack scripts → IsOfStack pool) → IsOfStack pool
+    by_pool FsBios is = tt
+    by_pool FsVecs is = tt
+    by_pool (Bios dev) is = elim (lt_or dev.0 32) [
+      | inl small ↦ small
+      | inr large ↦ absurd (not_there so (λ declared. let small = is declared in omega (arith, small, large)))
+    ]
+    by_pool (Records dev) is = elim (lt_or dev.0 32) [
+      | inl small ↦ small
+      | inr large ↦ absurd (not_there so (λ declared. let small = is declared in omega (arith, small, large)))
+    ]
+
 none_passes : {X : Type 0} (p : X → Bool) (xs : List X) → All (λ x. p x ≡ false) xs → find p xs ≡ None
 none_passes p [] all = refl
 none_passes p (x ∷ xs) all = let first = All-head (λ x. p x ≡ false) x xs all in rw (first) (none_passes p xs (All-tail (λ x. p x ≡ false) x xs all))
@@ -342,6 +387,39 @@ module _ (routing : Routing) (good : IsStack routing.stack) (fit : IsFitStack ro
       let copies_all = sym (mirror_by routing.stack good dev device.0 device.1 (shape_of device.0.kind) refl) ∙ parts.1 in
       subst (λ n. 1 ≤ n) (sym (ap (λ o. option_map_or (λ (d : Device). records_at d.kind) o 0) device.1))
       (slips_kept device.0.kind device.0.reserve device.0.rescuer copies_all (fit.devices dev device.0 device.1).reserves)
+
+  -- and what has no pool keeps nothing
+  pub no_set_keeps : (dev : ℕ) → has_set (setup routing) dev ≡ false → reserve_of routing.stack (Bios (at dev)) ≡ 0
+  no_set_keeps dev none = by_found (slice_get routing.stack.devices.items dev) refl
+    where
+      keeps_it : (device : Device) → slice_get routing.stack.devices.items dev ≡ Some device → (b : Bool) → keeps (shape_of device.kind) ≡ b → b ≡ true
+      keeps_it device q true e = refl
+      keeps_it device q false e =
+          let below = is_below dev (length routing.stack.devices.items) (slice_get_within routing.stack.devices.items dev device q) in
+          let keeps_none = data_by routing.stack good dev device q (shape_of device.kind) refl ∙ e in
+          absurd (clash (has_set (setup routing) dev) (rw (below, keeps_none) refl) none)
+
+      by_found : (o : Option Device) → slice_get routing.stack.devices.items dev ≡ o → reserve_of routing.stack (Bios (at dev)) ≡ 0
+      by_found None q = ap (λ o. option_map_or (λ (d : Device). d.reserve) o 0) q
+      by_found (Some device) q =
+          ap (λ o. option_map_or (λ (d : Device). d.reserve) o 0) q
+          ∙ disks_keep_none device.kind device.reserve device.rescuer (keeps_it device q (keeps (shape_of device.kind)) refl) (fit.devices dev device q).reserves
+
+  pub no_slips_keep : (dev : ℕ) → uses_slips routing dev ≡ false → reserve_of routing.stack (Records (at dev)) ≡ 0
+  no_slips_keep dev none = by_found (slice_get routing.stack.devices.items dev) refl
+    where
+      copies_none : (device : Device) → slice_get routing.stack.devices.items dev ≡ Some device → (b : Bool) → copies (shape_of device.kind) ≡ b → b ≡ false
+      copies_none device q false e = refl
+      copies_none device q true e =
+          let below = is_below dev (length routing.stack.devices.items) (slice_get_within routing.stack.devices.items dev device q) in
+          let copies_all = mirror_by routing.stack good dev device q (shape_of device.kind) refl ∙ e in
+          absurd (clash (uses_slips routing dev) (rw (below, copies_all) refl) none)
+
+      by_found : (o : Option Device) → slice_get routing.stack.devices.items dev ≡ o → reserve_of routing.stack (Records (at dev)) ≡ 0
+      by_found None q = ap (λ o. option_map_or (λ (d : Device). records_at d.kind) o 0) q
+      by_found (Some device) q =
+          ap (λ o. option_map_or (λ (d : Device). records_at d.kind) o 0) q
+          ∙ others_have_none device.kind (copies_none device q (copies (shape_of device.kind)) refl)
 
 -- bad ranges
 pub bads_are : (stack : Stack) → IsStack stack → IsFitStack stack → (dev : ℕ) → All (IsBadRange (size (tree stack dev))) (bads_of stack dev)

@@ -194,6 +194,7 @@ module _ (o : Opened) (kinds : List Kind) (routing : Routing) (read : IsReadBehi
     (objects : AreOpened routing o.accepted.value.scripts.items (reserves_in o.work.value.resizes.items)
     (tally_in o.work.value.rounds.items o.work.value.writes.items) o.objects)
     (tasks_are : o.tasks.items ≡ with_routing routing (shown kinds))
+    (shared_are : o.routes.value ≡ routing)
     (kinds_are : shown kinds ≡ writers_of o.work.value.rounds.items o.work.value.writes.items (range_with_len 0 8)
     ++ others_in (setup routing) o.work.value.rounds.items o.work.value.resizes.items)
     (room : HasRoom o.accepted.value.stack (length o.work.value.writes.items) o.room) where
@@ -290,6 +291,7 @@ module _ (o : Opened) (kinds : List Kind) (routing : Routing) (read : IsReadBehi
   is_opened = record {
     read = read;
     one = of_one;
+    routes = shared_are ∙ sym objects.routing_is;
     stack = stack_here;
     setup = setup_here;
     writes = many;
@@ -308,7 +310,7 @@ module _ (o : Opened) (kinds : List Kind) (routing : Routing) where
       × HasRoom accepted.stack (length work.writes.items) o.room
 
   pub opened_of : (accepted : Accepted) (work : Work) → o.accepted.value ≡ accepted → o.work.value ≡ work → o.tasks.items ≡ with_routing routing (shown kinds)
-      → Facts accepted work → IsOpened o
-  opened_of accepted work is also tasks_are given =
+      → o.routes.value ≡ routing → Facts accepted work → IsOpened o
+  opened_of accepted work is also tasks_are shared_are given =
       let facts : Facts o.accepted.value o.work.value = subst (λ a. Facts a o.work.value) (sym is) (subst (Facts accepted) (sym also) given) in
-      is_opened o kinds routing facts.0 facts.1 facts.2 facts.3 tasks_are facts.4 facts.5
+      is_opened o kinds routing facts.0 facts.1 facts.2 facts.3 tasks_are shared_are facts.4 facts.5

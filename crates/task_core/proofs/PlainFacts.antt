@@ -1,4 +1,4 @@
--- The numbers of the pools of one thread.
+-- The numbers and the scripts of the pools of one thread.
 use Rattle.std.proofs.Common.{◌≡◌, ◌<◌, ℕ, length, get_or, ap, subst, sym}
 use Rattle.std.specs.Prelude.{IsTrue, slice_index_or}
 use Rattle.stack_base.specs.declared.ids.DevId.{DevId}
@@ -30,6 +30,10 @@ module _ (plain : Plain) (holds : Holds plain) (of : SetId) (is : IsTrue (is_poo
       → entry.1.state.facts ≡ ((objects_of plain).pool (pool_number (bios_of of))).facts
   bios_facts entry value = ap (λ (p : LedgerPool). p.state.facts) (bios_there plain holds (pool_number (bios_of of)) i used place entry value)
 
+  pub bios_script : (entry : SetId × LedgerPool) → entry ≡ get_or plain.bios.items i entry
+      → entry.1.state.script ≡ ((objects_of plain).pool (pool_number (bios_of of))).script
+  bios_script entry value = ap (λ (p : LedgerPool). p.state.script) (bios_there plain holds (pool_number (bios_of of)) i used place entry value)
+
 module _ (plain : Plain) (holds : Holds plain) (dev : DevId) (is : IsTrue (is_pool (stage_of plain) (Records dev))) (i : ℕ)
     (place : i ≡ slice_index_or plain.seats.records (pool_number (Records dev)) 0) where
   kept : IsTrue (is_slips (stage_of plain) (pool_number (Records dev)))
@@ -41,3 +45,7 @@ module _ (plain : Plain) (holds : Holds plain) (dev : DevId) (is : IsTrue (is_po
   pub records_facts : (entry : DevId × LedgerPool) → entry ≡ get_or plain.records.items i entry
       → entry.1.state.facts ≡ ((objects_of plain).pool (pool_number (Records dev))).facts
   records_facts entry value = ap (λ (p : LedgerPool). p.state.facts) (records_there plain holds (pool_number (Records dev)) i kept place entry value)
+
+  pub records_script : (entry : DevId × LedgerPool) → entry ≡ get_or plain.records.items i entry
+      → entry.1.state.script ≡ ((objects_of plain).pool (pool_number (Records dev))).script
+  records_script entry value = ap (λ (p : LedgerPool). p.state.script) (records_there plain holds (pool_number (Records dev)) i kept place entry value)

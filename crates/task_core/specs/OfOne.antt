@@ -51,6 +51,7 @@ scenario_in o = scenario_of o.accepted.value o.work.value
 pub record IsOpened (o : Opened) : Type 0 where
   pub read : IsReadBehind o.accepted.value o.work.value
   pub one : AreOfOne o.objects o.tasks.items
+  pub routes : o.routes.value ≡ (stage_of o.objects).routing
   pub stack : (stage_of o.objects).routing.stack ≡ (scenario_in o).stack
   pub setup : setup (stage_of o.objects).routing ≡ opened.setup (scenario_in o)
   pub writes : (stage_of o.objects).writes ≡ length (scenario_in o).writes

@@ -140,6 +140,13 @@ impl Keeper {
         }
     }
 
+    /// What it has still to do, in this order.
+    pub fn duties(&self) -> &[Duty]
+        ensures { (duties : List DutyState) → self.now ≡ Keeps duties → map duty_of result.now ≡ duties }
+    {
+        self.duties.get(self.next..).unwrap_or(&[])
+    }
+
     /// A step of the keeper: it looks at the number of unfinished writes, and does what is next where none is left of the rounds so far.
     pub fn step<O: Objects>(&mut self, objects: &mut O) -> Step
         requires holds { O.holds objects.old }

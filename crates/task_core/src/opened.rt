@@ -21,6 +21,7 @@ use decl_text::Accepted;
 use stack_base::{PoolId, Stack};
 use std::alloc::{AllocError, Global};
 use std::snapshot::Snapshot;
+use std::sync::Arc;
 use work_text::{Resize, Work};
 
 /// The objects and the tasks of an accepted text, as a run begins with them, and room for what it leaves.
@@ -31,6 +32,8 @@ pub struct Opened {
     pub tasks: Vec<Task>,
     /// Empty lists, with room for all that a run leaves.
     pub room: Ended,
+    // What all tasks know of devices, which they share.
+    pub(crate) routes: Arc<Routes>,
     // What they were opened of. It has no bytes here.
     pub(crate) accepted: Snapshot<Accepted>,
     pub(crate) work: Snapshot<Work>,
@@ -126,6 +129,18 @@ fn open_plain(
     )
 }
 
+impl Opened {
+    /// What all tasks know of devices, shared once more.
+    ///
+    /// # Errors
+    /// Where no more can share it.
+    pub fn routes(&self) -> Result<Arc<Routes>, AllocError>
+        ensures { IfOk result (λ routes. routes.value ≡ self.now.routes.value) }
+    {
+        self.routes.clone()
+    }
+}
+
 /// The objects and the tasks of an accepted text, as its runs begin, and room for what a run leaves.
 ///
 /// # Errors
@@ -141,11 +156,12 @@ pub fn open(alloc: Global, accepted: &Accepted, work: &Work) -> Result<Opened, A
     open_others(alloc, accepted, work, &routes, &left, &mut kinds)?;
     let objects = open_plain(alloc, accepted, work, &routes, left)?;
     let room = room_of(alloc, &accepted.stack, work.writes.len())?;
-    let tasks = tasks_of(alloc, kinds, routes)?;
+    let routes = Arc::new(alloc, routes)?;
     Ok(Opened {
         objects,
-        tasks,
+        tasks: tasks_of(alloc, kinds, &routes)?,
         room,
+        routes,
         accepted: Snapshot::of(accepted),
         work: Snapshot::of(work),
     })

@@ -12,6 +12,7 @@ use bio_books::{Book, Dropped, Link};
 use bio_records::{
     BioBody, BioElement, BioList, Pad, RescueList, Slip, SlipElement, VecElement, Vector,
 };
+use fail_script::Script;
 use mempool_core::{Facts, Pool, Taken};
 use model_disks::{Disk, Done};
 use stack_base::{DevId, PoolId, SetId, Status};
@@ -55,7 +56,7 @@ impl Plain {
     ghost use Rattle.stack_base.specs.declared.ids.PoolId.TheVariants.{FsVecs, Records};
     ghost use Rattle.task_core.specs.Plains.{objects_of, stage_of, Holds, Tells};
     ghost use Rattle.task_core.specs.Requests.{Resize, OutIs};
-    ghost use Rattle.task_core.specs.Stage.{is_pool, Fits};
+    ghost use Rattle.task_core.specs.Stage.{has_disk, is_pool, Fits};
 
     // Sets the reserve of a set's pool of bios, where nothing of it is out. It answers how much is.
     fn resize_bios(&mut self, set: SetId, min: u32) -> u64
@@ -121,6 +122,49 @@ impl Plain {
             PoolId::Bios(dev) => self.bios_facts(SetId::Of(dev)),
             PoolId::Records(dev) => self.records_facts(dev),
         }
+    }
+
+    // The script of a set's pool of bios.
+    fn bios_script(&self, set: SetId) -> &Script
+        requires holds { Holds self.now }
+        requires pool { IsTrue (is_pool (stage_of self.now) (bios_of set)) }
+        ensures { result.now ≡ ((objects_of self.now).pool (pool_number (bios_of set))).script }
+    {
+        let at = place(&self.seats.bios, bios_number(set));
+        self.bios[at].1.script()
+    }
+
+    // The script of the pool of a mirror's records.
+    fn records_script(&self, dev: DevId) -> &Script
+        requires holds { Holds self.now }
+        requires pool { IsTrue (is_pool (stage_of self.now) (Records dev)) }
+        ensures { result.now ≡ ((objects_of self.now).pool (pool_number (Records dev))).script }
+    {
+        let at = place(&self.seats.records, PoolId::Records(dev).no());
+        self.records[at].1.script()
+    }
+
+    /// The script of a pool of the stack.
+    pub fn script(&self, pool: PoolId) -> &Script
+        requires holds { Holds self.now }
+        requires pool { IsTrue (is_pool (stage_of self.now) pool) }
+        ensures { result.now ≡ ((objects_of self.now).pool (pool_number pool)).script }
+    {
+        match pool {
+            PoolId::FsBios => self.bios_script(SetId::Fs),
+            PoolId::FsVecs => self.vecs.script(),
+            PoolId::Bios(dev) => self.bios_script(SetId::Of(dev)),
+            PoolId::Records(dev) => self.records_script(dev),
+        }
+    }
+
+    /// A disk of the stack.
+    pub fn disk(&self, dev: DevId) -> &Disk
+        requires holds { Holds self.now }
+        requires disk { IsTrue (has_disk (stage_of self.now) dev) }
+        ensures { result.now ≡ (objects_of self.now).disk dev.0 }
+    {
+        &self.disks[place(&self.seats.disks, dev.0)]
     }
 }
 

@@ -44,6 +44,13 @@ impl Rescuer {
         }
     }
 
+    /// Whose set it is of.
+    pub fn dev(&self) -> DevId
+        ensures { result ≡ self.now.dev }
+    {
+        self.dev
+    }
+
     // Submits the first bio that waits for it. Where none does, it has ended if no write is unfinished, and nothing moves.
     fn pop<O: Objects>(&mut self, objects: &mut O, routes: &Routes) -> Step
         requires holds { O.holds objects.old }

@@ -65,6 +65,13 @@ impl Task {
         &self.routes
     }
 
+    /// What it does.
+    pub fn kind(&self) -> &Kind
+        ensures { task_of result.now ≡ self.now.state }
+    {
+        &self.kind
+    }
+
     /// The next step of the task. It looks where it has to, asks one object once for what it needs next, and goes on with the reply; no memory is
     /// taken but for an ordinary element. The objects are those of the task's scenario, and all of its elements are at home in them.
     ///

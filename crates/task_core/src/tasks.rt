@@ -75,11 +75,10 @@ pub(crate) fn open_completers(
 pub(crate) fn tasks_of(
     alloc: Global,
     kinds: Vec<Kind>,
-    routes: Routes,
+    routes: &Arc<Routes>,
 ) -> Result<Vec<Task>, AllocError>
-    ensures { IfOk result (λ tasks. tasks.items ≡ with_routing routes (shown kinds.items)) }
+    ensures { IfOk result (λ tasks. tasks.items ≡ with_routing routes.now.value (shown kinds.items)) }
 {
-    let routes = Arc::new(alloc, routes)?;
     let mut tasks = Vec::with_capacity(alloc, kinds.len())?;
     'sharing: for kind in kinds {
         tasks.push(Task::new(routes.clone()?, kind))?;

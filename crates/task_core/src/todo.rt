@@ -56,6 +56,13 @@ impl Todos {
         self.writes.get(self.begun).copied()
     }
 
+    /// All that are left, in their order.
+    pub fn rest(&self) -> &[Todo]
+        ensures { result.now ≡ self.now }
+    {
+        self.writes.get(self.begun..).unwrap_or(&[])
+    }
+
     /// The first one is begun.
     pub fn advance(&mut self)
         requires { self.old ≢ [] }

@@ -51,6 +51,20 @@ impl Writer {
         }
     }
 
+    /// Its number.
+    pub fn number(&self) -> u32
+        ensures { result ≡ self.now.number }
+    {
+        self.number
+    }
+
+    /// The writes that it has still to begin.
+    pub fn todo(&self) -> &Todos
+        ensures { result.now ≡ self.now.todo }
+    {
+        &self.todo
+    }
+
     // What a step has made of its next write.
     fn put(&mut self, next: Next)
         requires todo { self.old.todo ≢ [] }

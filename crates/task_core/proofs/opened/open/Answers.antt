@@ -1,7 +1,7 @@
 use Rattle.std.proofs.Common.{◌≡◌, ◌<◌, ◌^◌, ◌++◌, ◌∙◌, ℕ, List, ap, arith, length, subst, sym}
 use Rattle.std.specs.List.{range_with_len}
 use Rattle.task_core.specs.Leaving.{HasRoom}
-use Rattle.task_core.specs.NewTasks.{others_in, shown, writers_of}
+use Rattle.task_core.specs.NewTasks.{others_in, shown, with_routing, writers_of}
 use Rattle.task_core.specs.Routed.{setup}
 use Rattle.task_core.proofs.Behind.{rounds_few}
 use Rattle.task_core.proofs.Opens.{opened_of}
@@ -16,6 +16,7 @@ pub returns-clause-opened : goal.returns-clause-opened
 returns-clause-opened c =
     let work = c.args.work.now in
     let routing = c.in_ok-routes.routes in
+    let shared = c.in_ok-routes-2.ensures.ok in
     let writers = writers_of work.rounds.items work.writes.items (range_with_len 0 8) in
     let others = others_in (setup routing) work.rounds.items work.resizes.items in
     let kinds = c.in_ok-open_others.ensures ∙ ap (λ tasks. tasks ++ others) (c.in_ok-routes.ensures.kinds ∙ ap (λ kinds. shown kinds ++ writers) c.new-kinds.ensures.items) in
@@ -23,5 +24,5 @@ returns-clause-opened c =
     let ok = work.writes.ok in
     let many : c.len.result ≡ length work.writes.items = omega (arith, len, ok) in
     let room = subst (λ writes. HasRoom c.args.accepted.now.stack writes c.in_ok-room.room) many c.in_ok-room.ensures in
-    opened_of _ c.open_others.new.kinds.items routing c.args.accepted.now work c.of.ensures c.of-2.ensures c.in_ok-tasks.ensures
+    opened_of _ c.open_others.new.kinds.items routing c.args.accepted.now work c.of.ensures c.of-2.ensures (c.in_ok-tasks_of.ensures ∙ ap (λ r. with_routing r (shown c.open_others.new.kinds.items)) shared) shared
     (c.requires.read, c.in_ok-routes.ensures.routes.0, c.in_ok-routes.ensures.routes.1, c.in_ok-objects.ensures, kinds, room)
