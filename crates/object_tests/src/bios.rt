@@ -1,5 +1,5 @@
-//! Bios and lists of them as a test makes them.
-ghost use Rattle.std.specs.Prelude.{◌≡◌, IfOk};
+//! Bios and lists of them as a test makes them. Where something cannot be made, the test ends.
+ghost use Rattle.std.specs.Prelude.{◌≡◌};
 ghost use Rattle.bio_records.specs.Items.{item_of, IsAlone};
 
 use bio_records::{Bio, BioBody, BioElement, BioList, Iter, Pad};
@@ -7,12 +7,12 @@ use bioset_pools::fill_bio;
 use fail_script::Script;
 use mempool_core::{Pool, Taken};
 use stack_base::{DevId, Range, SetId};
-use std::alloc::{AllocError, Global};
-use std::test::Fail;
+use std::process::Abort;
 
 /// A pool of bios, of which each take may have ordinary memory.
-pub fn open_bios(alloc: Global) -> Result<Pool<BioBody<Pad>>, AllocError> {
-    Pool::open(alloc, 65, 1, Script::new(Vec::new(alloc), true))
+pub fn open_bios(rt: &(impl Abort + AllocGlobal)) -> Pool<BioBody<Pad>> {
+    let script = Script::new(Vec::new(rt.alloc()), true);
+    Pool::open(rt.alloc(), 65, 1, script).expect(rt, "no pool")
 }
 
 /// The bio of a write of this number, to this run of device 0, whose data begin with this word.
@@ -34,47 +34,63 @@ pub fn bio_of(write: u32, range: Range, word: u64) -> Bio
     }
 }
 
+/// The bio of a write of this number to the first sector of device 0.
+pub fn bio_of_write(write: u32) -> Bio {
+    bio_of(write, Range { start: 0, len: 1 }, 0)
+}
+
 /// An element of the pool that holds this bio.
-pub fn take(pool: &mut Pool<BioBody<Pad>>, bio: Bio) -> Result<BioElement, Fail>
-    ensures bio { IfOk result (λ element. (item_of element).bio ≡ bio) }
-    ensures alone { IfOk result IsAlone }
+pub fn take(rt: &impl Abort, pool: &mut Pool<BioBody<Pad>>, bio: Bio) -> BioElement
+    ensures bio { (item_of result).bio ≡ bio }
+    ensures alone { IsAlone result }
 {
-    let (Taken::Ordinary(mut element) | Taken::Spare(mut element)) = pool.take() else {
-        return Err(Fail::from("no bio"));
-    };
-    fill_bio(&mut element, bio, Pad { leg: 0 });
-    Ok(element)
+    match pool.take() {
+        Taken::Ordinary(mut element) | Taken::Spare(mut element) => {
+            fill_bio(&mut element, bio, Pad { leg: 0 });
+            element
+        }
+        Taken::Miss { .. } => rt.panic("no bio"),
+    }
 }
 
 /// Puts the bio of a write of this number at the end of a list.
-pub fn push(list: &mut BioList, pool: &mut Pool<BioBody<Pad>>, write: u32) -> Result<(), Fail> {
-    let element = take(pool, bio_of(write, Range { start: 0, len: 1 }, 0))?;
-    list.push(element);
-    Ok(())
+pub fn push(rt: &impl Abort, list: &mut BioList, pool: &mut Pool<BioBody<Pad>>, write: u32) {
+    list.push(take(rt, pool, bio_of_write(write)));
 }
 
 /// The list of the bios of writes of these numbers.
-pub fn list_of(alloc: Global, writes: &[u32]) -> Result<BioList, Fail> {
-    let mut pool = open_bios(alloc)?;
+pub fn list_of(rt: &(impl Abort + AllocGlobal), writes: &[u32]) -> BioList {
+    let mut pool = open_bios(rt);
     let mut list = BioList::new();
     for write in writes {
-        push(&mut list, &mut pool, *write)?;
+        push(rt, &mut list, &mut pool, *write);
     }
-    Ok(list)
+    list
 }
 
 /// The number of the write whose bio a pop had.
 pub fn write_of(popped: Option<BioElement>) -> Option<u32> {
-    popped.map(|element| element.body.bio.write)
+    match popped {
+        Some(element) => Some(element.body.bio.write),
+        None => None,
+    }
 }
 
-/// The numbers of the writes whose bios are in a list, in its order.
-pub fn writes_of(alloc: Global, mut list: BioList) -> Result<Vec<u32>, AllocError> {
-    let mut writes = Vec::new(alloc);
-    for _ in 0..list.len() {
-        if let Some(write) = write_of(list.pop()) {
-            writes.push(write)?;
-        }
+/// What a pop had has to be the bio of this write, or none.
+pub fn is_bio(rt: &impl Abort, popped: Option<BioElement>, write: Option<u32>) {
+    let found = write_of(popped);
+    assert_eq!(rt; found, write);
+}
+
+/// The next bio of a list has to be that of this write, or none.
+pub fn pops(rt: &impl Abort, list: &mut BioList, write: Option<u32>) {
+    is_bio(rt, list.pop(), write);
+}
+
+/// A list has to have the bios of these writes, in this order.
+pub fn holds(rt: &impl Abort, mut list: BioList, writes: &[u32]) {
+    for write in writes {
+        pops(rt, &mut list, Some(*write));
     }
-    Ok(writes)
+    pops(rt, &mut list, None);
 }

@@ -1,20 +1,16 @@
 //! Books of the parts of writes.
-ghost use Rattle.bio_records.specs.Items.{IsAlone};
-
-use crate::bios::{bio_of, open_bios, take, write_of};
-use crate::elements::crosses;
+use crate::asks::{holds, is};
+use crate::bios::{bio_of_write, open_bios, take, write_of};
+use crate::elements::{always, crosses};
 use arrayvec::ArrayVec;
 use bio_books::{Back, Book, ClosedNode, Dropped, Link, Role};
-use bio_records::{BioBody, BioElement, Pad, Segment, Slip, SlipElement, VecElement, Vector};
-use fail_script::Script;
+use bio_records::{BioBody, Pad, Segment, Slip, SlipElement, VecElement, Vector};
 use mempool_core::{Pool, Taken};
-use stack_base::{Range, Status};
-use std::alloc::{AllocError, Global};
+use stack_base::Status;
 use std::process::Abort;
-use std::test::Fail;
 
 /// A call of a book. Nodes are numbered in the order in which they were opened.
-#[derive(Clone, Copy, Debug)]
+#[derive(Clone, Copy)]
 enum Call {
     Open,
     Chain(usize),
@@ -25,7 +21,7 @@ enum Call {
 }
 
 /// What a book answers, without elements and places.
-#[derive(Clone, Copy, Debug, PartialEq, Eq)]
+#[derive(Clone, Copy, PartialEq, Eq)]
 enum Answer {
     Made,
     NoRoom,
@@ -252,43 +248,48 @@ struct Pools {
 }
 
 // Pools of which each take may have ordinary memory.
-fn open_pools(alloc: Global) -> Result<Pools, AllocError> {
-    let bios = open_bios(alloc)?;
-    let slips = Pool::open(alloc, 1, 1, Script::new(Vec::new(alloc), true))?;
-    Ok(Pools { bios, slips })
+fn open_pools(rt: &(impl Abort + AllocGlobal)) -> Pools {
+    Pools {
+        bios: open_bios(rt),
+        slips: Pool::open(rt.alloc(), 1, 1, always(rt, true)).expect(rt, "no pool"),
+    }
 }
 
 // A record of a mirror.
-fn slip(pool: &mut Pool<Slip>) -> Result<SlipElement, Fail> {
+fn slip(rt: &impl Abort, pool: &mut Pool<Slip>) -> SlipElement {
     match pool.take() {
-        Taken::Ordinary(element) | Taken::Spare(element) => Ok(element),
-        Taken::Miss { .. } => Err(Fail::from("no record")),
+        Taken::Ordinary(element) | Taken::Spare(element) => element,
+        Taken::Miss { .. } => rt.panic("no record"),
     }
 }
 
 // Opens the master of a mirror of so many legs, and of one at least, for the node at a place.
-fn master(book: &mut Book, pools: &mut Pools, place: u32, legs: u32) -> Result<Link, Fail> {
-    let part = take(&mut pools.bios, bio_of(7, Range { start: 0, len: 1 }, 0))?;
-    let slip = slip(&mut pools.slips)?;
-    Ok(book.master(place, part, slip, legs.max(1)))
+fn master(rt: &impl Abort, book: &mut Book, pools: &mut Pools, place: u32, legs: u32) -> Link {
+    let part = take(rt, &mut pools.bios, bio_of_write(7));
+    let slip = slip(rt, &mut pools.slips);
+    book.master(place, part, slip, legs.max(1))
 }
 
 // Carries out a call.
 fn carry_out(
+    rt: &impl Abort,
     book: &mut Book,
     pools: &mut Pools,
     places: &mut Places,
     call: Call,
-) -> Result<Answer, Fail> {
-    Ok(match call {
+) -> Answer {
+    match call {
         Call::Open => opened(book.open_write(7, None), places),
         Call::Chain(node) => opened(book.chain(place_of(places, node)), places),
         Call::Master(node, legs) => {
-            opened(master(book, pools, place_of(places, node), legs)?, places)
+            opened(
+                master(rt, book, pools, place_of(places, node), legs),
+                places,
+            )
         }
         Call::Leg(node) => opened(book.leg(place_of(places, node)), places),
         Call::Drop(node, status) => told(book.drop_one(place_of(places, node), status, None)),
-    })
+    }
 }
 
 // Whether no node of a book is open. A book may cross threads.
@@ -302,167 +303,179 @@ fn is_done(book: Book) -> bool {
     }
 }
 
-// Carries out the calls of cases, which have to answer as stated there. It answers how many calls those were.
-fn tries(rt: &(impl Abort + AllocGlobal), cases: &[Case]) -> Result<u32, Fail> {
-    let mut pools = open_pools(rt.alloc())?;
-    let mut tried: u32 = 0;
-    for (places, calls, done) in cases {
-        let mut book = Book::open(rt.alloc(), 0, *places)?;
-        let mut nodes = Places::new();
-        for (call, answer) in *calls {
-            let found = carry_out(&mut book, &mut pools, &mut nodes, *call)?;
-            assert_eq!(rt; found, *answer, "{call:?}");
-            tried = tried.wrapping_add(1);
-        }
-        assert_eq!(rt; is_done(book), *done);
+// A book of so many places, of the writer of this number.
+fn open(rt: &(impl Abort + AllocGlobal), writer: u32, places: u32) -> Book {
+    Book::open(rt.alloc(), writer, places).expect(rt, "no book")
+}
+
+// Carries out the calls of a case, which have to answer as stated there. It answers how many calls those were.
+fn tries(rt: &(impl Abort + AllocGlobal), pools: &mut Pools, case: &Case) -> usize {
+    let (places, calls, done) = case;
+    let mut book = open(rt, 0, *places);
+    let mut nodes = Places::new();
+    for (number, (call, answer)) in calls.iter().enumerate() {
+        let found = carry_out(rt, &mut book, pools, &mut nodes, *call);
+        assert!(rt; found == *answer, "call {number} of a book of {places}");
     }
-    Ok(tried)
+    holds(rt, is_done(book) == *done, "whether a node is open");
+    calls.len()
 }
 
 // In each of the two tests none of the calls of all cases is left out.
-#[test]
-fn a_node_closes_with_its_last_end_as_the_first_that_failed(rt: HostRuntime) -> Result<(), Fail> {
-    assert_eq!(rt; tries(&rt, CASES)?, 30);
-    Ok(())
+fn tries_all(rt: &(impl Abort + AllocGlobal), cases: &[Case], calls: usize) {
+    let mut pools = open_pools(rt);
+    let mut tried: usize = 0;
+    for case in cases {
+        tried = tried.saturating_add(tries(rt, &mut pools, case));
+    }
+    is(rt, tried as u64, calls as u64);
 }
 
 #[test]
-fn a_master_ends_well_where_one_leg_did(rt: HostRuntime) -> Result<(), Fail> {
-    assert_eq!(rt; tries(&rt, MIRRORS)?, 64);
-    Ok(())
+fn a_node_closes_with_its_last_end_as_the_first_that_failed(rt: HostRuntime) {
+    tries_all(&rt, CASES, 30);
+}
+
+#[test]
+fn a_master_ends_well_where_one_leg_did(rt: HostRuntime) {
+    tries_all(&rt, MIRRORS, 64);
 }
 
 // A vector of so many segments.
-fn vector_of(alloc: Global, segments: u32) -> Result<VecElement, Fail> {
-    let mut pool: Pool<Vector> = Pool::open(alloc, 64, 1, Script::new(Vec::new(alloc), true))?;
+fn vector_of(rt: &(impl Abort + AllocGlobal), segments: u32) -> VecElement {
+    let opened = Pool::open(rt.alloc(), 64, 1, always(rt, true));
+    let mut pool: Pool<Vector> = opened.expect(rt, "no pool");
     let (Taken::Ordinary(mut element) | Taken::Spare(mut element)) = pool.take() else {
-        return Err(Fail::from("no vector"));
+        rt.panic("no vector")
     };
     for _ in 0..segments {
         let _full = element.body.segments.try_push(Segment::default());
     }
-    Ok(element)
+    element
 }
 
-// The place of a write's node that holds this vector.
-fn open(book: &mut Book, vector: VecElement) -> Result<u32, Fail> {
-    match book.open_write(7, Some(vector)) {
-        Link::Made(place) => Ok(place),
-        Link::NoRoom(_) | Link::Stray(_) => Err(Fail::from("no node")),
+// The place of the node that a call made.
+fn made(rt: &impl Abort, link: Link) -> u32 {
+    match link {
+        Link::Made(place) => place,
+        Link::NoRoom(_) | Link::Stray(_) => rt.panic("no node"),
     }
 }
 
-// What is left of a write's node after its only end, which brings its bio.
-fn end(book: &mut Book, place: u32, part: BioElement) -> Result<ClosedNode, Fail>
-    requires { IsAlone part }
-{
-    match book.drop_one(place, Status::Ok, Some(part)) {
-        Dropped::Top(closed) => Ok(closed),
-        Dropped::Left | Dropped::Up(_) | Dropped::Stray(_) => Err(Fail::from("no top node")),
-    }
+/// What a node holds: the write of its bio, the segments of its vector, and the legs of its record.
+type Held = (Option<u32>, Option<usize>, Option<u32>);
+
+// This has to have been held.
+fn is_held(rt: &impl Abort, found: Held, wanted: Held) {
+    assert_eq!(rt; found, wanted);
 }
 
-#[test]
-fn a_node_that_closes_hands_out_what_it_held(rt: HostRuntime) -> Result<(), Fail> {
-    let mut pool = open_bios(rt.alloc())?;
-    let part = take(&mut pool, bio_of(7, Range { start: 0, len: 1 }, 0))?;
-    let vector = vector_of(rt.alloc(), 5)?;
-    let mut book = Book::open(rt.alloc(), 0, 1)?;
-    let place = open(&mut book, vector)?;
-    let ClosedNode {
-        held,
-        write,
-        parent,
-        status,
-    } = end(&mut book, place, part)?;
-    assert_eq!(rt; (write, parent, status), (7, None, Status::Ok));
-    let Back { bio, vector, slip } = held;
-    assert_eq!(rt; write_of(bio), Some(7));
-    assert_eq!(rt; vector.map(|element| element.body.segments.len()), Some(5));
-    assert!(rt; slip.is_none());
-    Ok(())
+// What came back.
+fn came_back(back: Back) -> Held {
+    let Back { bio, vector, slip } = back;
+    let segments = match vector {
+        Some(element) => Some(element.body.segments.len()),
+        None => None,
+    };
+    let legs = match slip {
+        Some(element) => Some(element.body.legs),
+        None => None,
+    };
+    (write_of(bio), segments, legs)
 }
 
-// The place of the master of a mirror of two legs, for the write's node at a place.
-fn mirror(book: &mut Book, pools: &mut Pools, place: u32) -> Result<u32, Fail> {
-    match master(book, pools, place, 2)? {
-        Link::Made(place) => Ok(place),
-        Link::NoRoom(_) | Link::Stray(_) => Err(Fail::from("no master")),
-    }
-}
-
-// What is left of a node after one of its ends, which has to be its last.
-fn last(book: &mut Book, place: u32) -> Result<ClosedNode, Fail> {
+// What the node at a place hands out at one of its ends, which has to be its last. It has to end well.
+fn last(rt: &impl Abort, book: &mut Book, place: u32) -> Held {
     match book.drop_one(place, Status::Ok, None) {
-        Dropped::Top(closed) | Dropped::Up(closed) => Ok(closed),
-        Dropped::Left | Dropped::Stray(_) => Err(Fail::from("no last end")),
+        Dropped::Top(closed) | Dropped::Up(closed) => {
+            let ClosedNode {
+                held,
+                write,
+                status,
+                ..
+            } = closed;
+            holds(rt, write == 7 && status == Status::Ok, "a good end");
+            came_back(held)
+        }
+        Dropped::Left | Dropped::Stray(_) => rt.panic("no last end"),
     }
 }
 
-// The write whose bio came back, and the legs of the record that did.
-fn came_back(back: Back) -> (Option<u32>, Option<u32>) {
-    let Back { bio, slip, .. } = back;
-    (write_of(bio), slip.map(|element| element.body.legs))
+#[test]
+fn a_node_that_closes_hands_out_what_it_held(rt: HostRuntime) {
+    let mut book = open(&rt, 0, 1);
+    let place = made(&rt, book.open_write(7, Some(vector_of(&rt, 5))));
+    let part = take(&rt, &mut open_bios(&rt), bio_of_write(7));
+    match book.drop_one(place, Status::Ok, Some(part)) {
+        Dropped::Top(closed) => {
+            holds(
+                &rt,
+                closed.parent.is_none() && closed.write == 7,
+                "the write",
+            );
+            holds(&rt, closed.status == Status::Ok, "a good end");
+            is_held(&rt, came_back(closed.held), (Some(7), Some(5), None));
+        }
+        Dropped::Left | Dropped::Up(_) | Dropped::Stray(_) => rt.panic("no top node"),
+    }
 }
 
-// The same of what a node that has closed held.
-fn handed_out(closed: ClosedNode) -> (Option<u32>, Option<u32>) {
-    let ClosedNode { held, .. } = closed;
-    came_back(held)
+/// What a node shows: its role, its count and its status, the write of its bio, and the legs of its record.
+type Shown = (Role, u64, Status, Option<u32>, Option<u32>);
+
+// There has to be a node at a place, which shows this.
+fn shows(rt: &impl Abort, book: &Book, place: u32, wanted: Shown) {
+    let found = shown(book, place);
+    assert_eq!(rt; found, Some(wanted));
 }
 
-// The role, the count and the status of the node at a place.
-fn shown(book: &Book, place: u32) -> Option<(Role, u64, Status)> {
+// What the node at a place shows.
+fn shown(book: &Book, place: u32) -> Option<Shown> {
     let node = book.node(place)?;
-    Some((node.role(), node.count(), node.status()))
-}
-
-// The write whose bio the node at a place holds, and the legs of the record that it holds.
-fn holds(book: &Book, place: u32) -> Option<(Option<u32>, Option<u32>)> {
-    let held = book.node(place)?.held();
-    let bio = held.bio.as_ref().map(|element| element.body.bio.write);
-    let slip = held.slip.as_ref().map(|element| element.body.legs);
-    Some((bio, slip))
-}
-
-#[test]
-fn a_master_holds_the_record_and_its_node_the_part(rt: HostRuntime) -> Result<(), Fail> {
-    let mut pools = open_pools(rt.alloc())?;
-    let mut book = Book::open(rt.alloc(), 3, 2)?;
-    let vector = vector_of(rt.alloc(), 5)?;
-    let top = open(&mut book, vector)?;
-    let place = mirror(&mut book, &mut pools, top)?;
-    assert_eq!(rt; (book.writer(), book.places()), (3, 2));
-    assert_eq!(rt; shown(&book, top), Some((Role::Top, 1, Status::Ok)));
-    assert_eq!(rt;
-        shown(&book, place),
-        Some((Role::Master { parent: top }, 2, Status::Io))
-    );
-    assert_eq!(rt; shown(&book, 2), None);
-    assert_eq!(rt; holds(&book, top), Some((Some(7), None)));
-    assert_eq!(rt; holds(&book, place), Some((None, Some(2))));
-    assert!(rt; matches!(book.drop_one(place, Status::Ok, None), Dropped::Left));
-    assert_eq!(rt;
-        shown(&book, place),
-        Some((Role::Master { parent: top }, 1, Status::Ok))
-    );
-    assert_eq!(rt; handed_out(last(&mut book, place)?), (None, Some(2)));
-    assert_eq!(rt; handed_out(last(&mut book, top)?), (Some(7), None));
-    Ok(())
+    let held = node.held();
+    let write = match &held.bio {
+        Some(element) => Some(element.body.bio.write),
+        None => None,
+    };
+    let legs = match &held.slip {
+        Some(element) => Some(element.body.legs),
+        None => None,
+    };
+    Some((node.role(), node.count(), node.status(), write, legs))
 }
 
 #[test]
-fn what_no_master_was_made_for_comes_back(rt: HostRuntime) -> Result<(), Fail> {
-    let mut pools = open_pools(rt.alloc())?;
-    let mut book = Book::open(rt.alloc(), 0, 1)?;
-    let vector = vector_of(rt.alloc(), 5)?;
-    let top = open(&mut book, vector)?;
+fn a_master_holds_the_record_and_its_node_the_part(rt: HostRuntime) {
+    let mut pools = open_pools(&rt);
+    let mut book = open(&rt, 3, 2);
+    is(&rt, u64::from(book.writer()), 3);
+    is(&rt, u64::from(book.places()), 2);
+    let top = made(&rt, book.open_write(7, Some(vector_of(&rt, 5))));
+    let place = made(&rt, master(&rt, &mut book, &mut pools, top, 2));
+    let role = Role::Master { parent: top };
+    shows(&rt, &book, top, (Role::Top, 1, Status::Ok, Some(7), None));
+    shows(&rt, &book, place, (role, 2, Status::Io, None, Some(2)));
+    holds(&rt, book.node(2).is_none(), "no third node");
+    let left = told(book.drop_one(place, Status::Ok, None));
+    holds(&rt, left == Answer::Left, "one more leg");
+    shows(&rt, &book, place, (role, 1, Status::Ok, None, Some(2)));
+    let held = last(&rt, &mut book, place);
+    is_held(&rt, held, (None, None, Some(2)));
+    let held = last(&rt, &mut book, top);
+    is_held(&rt, held, (Some(7), Some(5), None));
+}
+
+#[test]
+fn what_no_master_was_made_for_comes_back(rt: HostRuntime) {
+    let mut pools = open_pools(&rt);
+    let mut book = open(&rt, 0, 1);
+    let top = made(&rt, book.open_write(7, None));
     for place in [top, 8] {
-        let (Link::NoRoom(back) | Link::Stray(back)) = master(&mut book, &mut pools, place, 2)?
-        else {
-            return Err(Fail::from("a master"));
-        };
-        assert_eq!(rt; came_back(back), (Some(7), Some(0)));
+        match master(&rt, &mut book, &mut pools, place, 2) {
+            Link::NoRoom(back) | Link::Stray(back) => {
+                is_held(&rt, came_back(back), (Some(7), None, Some(0)));
+            }
+            Link::Made(_) => rt.panic("a master"),
+        }
     }
-    Ok(())
 }

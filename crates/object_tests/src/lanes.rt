@@ -1,20 +1,17 @@
 //! Kernels over lists of words.
+use crate::asks::{are, holds, is};
 use image_lanes::{count_unlike, fill, same, sum_words};
-use std::alloc::{AllocError, Global};
-use std::test::Fail;
+use std::process::Abort;
 
 #[test]
 fn words_count_up_past_the_largest(rt: HostRuntime) {
     let mut words = [7; 65];
     fill(&mut words, u64::MAX - 1);
-    assert_eq!(rt;
-        (words[0], words[1], words[2], words[3]),
-        (u64::MAX - 1, u64::MAX, 0, 1)
-    );
+    are(&rt, &words[..4], &[u64::MAX - 1, u64::MAX, 0, 1]);
     for (word, expected) in words[2..].iter().zip(0..63) {
-        assert_eq!(rt; *word, expected);
+        is(&rt, *word, expected);
     }
-    assert_eq!(rt; sum_words(&words), 1950);
+    is(&rt, sum_words(&words), 1950);
 }
 
 #[test]
@@ -26,52 +23,58 @@ fn a_sector_that_differs_counts_once(rt: HostRuntime) {
     let mut two = zeros;
     two[3] = 1;
     two[64] = 1;
-    assert_eq!(rt; count_unlike(&zeros, &one), 1);
-    assert_eq!(rt; count_unlike(&zeros, &two), 2);
-    assert_eq!(rt; count_unlike(&one, &two), 2);
-    assert_eq!(rt; (count_unlike(&two, &two), count_unlike(&[], &[])), (0, 0));
+    is(&rt, count_unlike(&zeros, &one), 1);
+    is(&rt, count_unlike(&zeros, &two), 2);
+    is(&rt, count_unlike(&one, &two), 2);
+    is(&rt, count_unlike(&two, &two), 0);
+    is(&rt, count_unlike(&[], &[]), 0);
 }
 
 #[test]
 fn lists_are_the_same_to_the_last_word(rt: HostRuntime) {
     assert!(rt; !same(&[1, 2, 3, 4, 5, 6, 7], &[1, 2, 3, 4, 5, 6, 8]));
     assert!(rt; !same(&[0; 8], &[0; 9]) && same(&[], &[]));
-    assert_eq!(rt; sum_words(&[]), 0);
+    is(&rt, sum_words(&[]), 0);
 }
 
-// So many words that count up from `first`, one by one.
-fn slow_fill(alloc: Global, count: usize, first: u64) -> Result<Vec<u64>, AllocError> {
-    let mut words = Vec::with_capacity(alloc, count)?;
+// Sets words to numbers that count up from `first`, one by one.
+fn slow_fill(words: &mut [u64], first: u64) {
     let mut next = first;
-    for _ in 0..count {
-        words.push(next)?;
+    for word in words {
+        *word = next;
         next = next.wrapping_add(1);
     }
-    Ok(words)
 }
 
 fn slow_sum(words: &[u64]) -> u64 {
-    words
-        .iter()
-        .fold(0, |all: u64, word| all.wrapping_add(*word))
+    let mut sum: u64 = 0;
+    for word in words {
+        sum = sum.wrapping_add(*word);
+    }
+    sum
+}
+
+// Compares what the kernels do with words, that were set to these by a slow loop, and then with their last one changed.
+fn agree(rt: &impl Abort, words: &mut [u64], expected: &[u64], first: u64) {
+    fill(words, first);
+    holds(
+        rt,
+        &*words == expected && same(words, expected),
+        "the same words",
+    );
+    is(rt, sum_words(words), slow_sum(expected));
+    if let Some(last) = words.last_mut() {
+        *last = last.wrapping_add(1);
+        holds(rt, !same(words, expected), "other words");
+    }
 }
 
 #[test]
-fn lists_of_each_length_are_as_slow_loops_say(rt: HostRuntime) -> Result<(), Fail> {
-    for count in 0..=70 {
-        let first = u64::MAX - 34;
-        let expected = slow_fill(rt.alloc(), count, first)?;
-        let mut words = vec![in rt.alloc(); 9; count]?;
-        fill(&mut words, first);
-        assert!(rt;
-            words == expected && same(&words, &expected),
-            "{count} words"
-        );
-        assert_eq!(rt; sum_words(&words), slow_sum(&expected), "{count} words");
-        if let Some(last) = words.last_mut() {
-            *last = last.wrapping_add(1);
-            assert!(rt; !same(&words, &expected), "{count} words");
-        }
+fn lists_of_each_length_are_as_slow_loops_say(rt: HostRuntime) {
+    let first = u64::MAX - 34;
+    for count in 0..=70_usize {
+        let mut expected = [9; 70];
+        slow_fill(&mut expected[..count], first);
+        agree(&rt, &mut [9; 70][..count], &expected[..count], first);
     }
-    Ok(())
 }

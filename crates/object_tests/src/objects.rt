@@ -1,15 +1,15 @@
 //! The calls of the lower crates that the program does not make, and each that allocates once.
-ghost use Rattle.std.specs.Prelude.{◌≡◌, ◌+◌, IfOk};
+ghost use Rattle.std.specs.Prelude.{◌≡◌, ◌≤◌, ◌<◌, length, max};
 
+use crate::asks::{are, holds, is};
+use crate::elements::{Note, always, notes};
 use fail_script::Script;
-use mempool_core::{Element, Facts, Fresh, Pool, Taken};
+use mempool_core::{Element, Facts, Pool, Taken};
 use outside_io::{Failed, MemSource, Sink, Source, StdSink, StdSource, read_up_to};
 use stack_base::{DevId, PoolId};
-use std::alloc::{AllocError, Global};
 use std::cell::Cell;
 use std::io::{self, ErrorKind, Read, Write};
 use std::process::Abort;
-use std::test::Fail;
 
 #[test]
 fn pools_have_their_numbers(rt: HostRuntime) {
@@ -21,136 +21,139 @@ fn pools_have_their_numbers(rt: HostRuntime) {
         (PoolId::Bios(DevId(31)), 62),
         (PoolId::Records(DevId(31)), 63),
     ] {
-        assert_eq!(rt; pool.no(), number);
+        is(&rt, u64::from(pool.no()), number);
     }
 }
 
-#[derive(Debug, PartialEq, Eq, Drop)]
-struct Body(u8);
+/// The spares of a pool, its elements that are out and live, and its script's position.
+type Numbers = [u64; 4];
 
-impl Fresh for Body {
-    ghost is_clear = { λ _. Unit {0} };
+// A pool has to have these numbers.
+fn has(rt: &impl Abort, pool: &Pool<Note>, wanted: Numbers) {
+    let facts = pool.facts();
+    let found = [facts.spares, facts.out, facts.live, facts.pos];
+    are(rt, &found, &wanted);
+}
 
-    fn fresh() -> Self {
-        Body(0)
+// The next take has to have ordinary memory, and the pool these numbers then.
+fn ordinary(rt: &impl Abort, pool: &mut Pool<Note>, wanted: Numbers) -> Element<Note>
+    ensures most { pool.new.most ≡ pool.old.most }
+    ensures ledger { pool.new.ledger ≡ pool.old.ledger }
+    ensures element { result.share ≡ pool.old.ledger }
+{
+    match pool.take() {
+        Taken::Ordinary(element) => {
+            has(rt, pool, wanted);
+            element
+        }
+        Taken::Spare(_) | Taken::Miss { .. } => rt.panic("no ordinary element"),
     }
 }
 
-// The spares, and the elements that are out and live.
-fn numbers(pool: &Pool<Body>) -> (u64, u64, u64) {
-    let facts = pool.facts();
-    (facts.spares, facts.out, facts.live)
+// The next take has to have a spare, and the pool these numbers then.
+fn spare(rt: &impl Abort, pool: &mut Pool<Note>, wanted: Numbers) -> Element<Note>
+    ensures most { pool.new.most ≡ pool.old.most }
+    ensures ledger { pool.new.ledger ≡ pool.old.ledger }
+    ensures element { result.share ≡ pool.old.ledger }
+{
+    match pool.take() {
+        Taken::Spare(element) => {
+            has(rt, pool, wanted);
+            element
+        }
+        Taken::Ordinary(_) | Taken::Miss { .. } => rt.panic("no spare"),
+    }
 }
 
-// A pool has to have so many spares, and so many elements that are out and live.
-fn has(rt: &impl Abort, pool: &Pool<Body>, wanted: (u64, u64, u64)) {
-    assert_eq!(rt; numbers(pool), wanted);
+// The next take has to miss, whether it uses up an entry or not, and the pool these numbers then.
+fn misses(rt: &impl Abort, pool: &mut Pool<Note>, is_used: bool, wanted: Numbers)
+    ensures most { pool.new.most ≡ pool.old.most }
+    ensures ledger { pool.new.ledger ≡ pool.old.ledger }
+{
+    match pool.take() {
+        Taken::Miss { used } => {
+            holds(rt, used == is_used, "whether an entry is used");
+            has(rt, pool, wanted);
+        }
+        Taken::Ordinary(_) | Taken::Spare(_) => rt.panic("no miss"),
+    }
 }
 
-#[test]
-fn a_pool_whose_script_allows_it_takes_ordinary_memory(rt: HostRuntime) -> Result<(), Fail> {
-    let mut pool: Pool<Body> = Pool::open(
-        rt.alloc(),
-        65,
-        2,
-        Script::new(Vec::new(rt.alloc()), true),
-    )?;
-    has(&rt, &pool, (2, 0, 0));
-    let taken = pool.take();
-    has(&rt, &pool, (2, 1, 1));
-    let Taken::Ordinary(element) = taken else {
-        return Err(Fail::from("no ordinary element"));
-    };
-    assert_eq!(rt; element.no(), 65);
+// Gives an element back, behind which the pool has to have these numbers.
+fn gives(rt: &impl Abort, pool: &mut Pool<Note>, element: Element<Note>, wanted: Numbers)
+    requires { element.share ≡ pool.old.ledger }
+    ensures most { pool.new.most ≡ pool.old.most }
+    ensures ledger { pool.new.ledger ≡ pool.old.ledger }
+{
     pool.give(element);
-    has(&rt, &pool, (2, 0, 0));
-    let closed = pool.close();
-    assert!(rt;
-        matches!(
-            closed,
-            Ok(Facts {
-                ordinary: 1,
-                spare: 0,
-                ..
-            })
-        )
-    );
-    Ok(())
+    has(rt, pool, wanted);
+}
+
+// A pool with an element out does not close, and stays as it was.
+fn stays_open(rt: &impl Abort, pool: Pool<Note>) -> Pool<Note>
+    ensures { result ≡ pool }
+{
+    match pool.close() {
+        Ok(_) => rt.panic("closed with an element out"),
+        Err(pool) => pool,
+    }
+}
+
+// The numbers of a pool that has to close.
+fn closes(rt: &impl Abort, pool: Pool<Note>) -> Facts {
+    match pool.close() {
+        Ok(facts) => facts,
+        Err(_) => rt.panic("an element is out"),
+    }
 }
 
 #[test]
-fn a_pool_whose_script_refuses_lends_its_spares_and_then_misses(
-    rt: HostRuntime,
-) -> Result<(), Fail> {
-    let mut pool: Pool<Body> = Pool::open(
-        rt.alloc(),
-        64,
-        1,
-        Script::new(Vec::new(rt.alloc()), false),
-    )?;
-    let taken = pool.take();
-    has(&rt, &pool, (0, 1, 0));
-    let Taken::Spare(element) = taken else {
-        return Err(Fail::from("no spare"));
-    };
-    let missed = pool.take();
-    assert!(rt; matches!(missed, Taken::Miss { used: false }));
-    has(&rt, &pool, (0, 1, 0));
-    let Err(mut pool) = pool.close() else {
-        return Err(Fail::from("closed with an element out"));
-    };
-    pool.give(element);
-    has(&rt, &pool, (1, 0, 0));
-    assert!(rt; pool.close().is_ok());
-    Ok(())
-}
-
-// The spares, the elements that are out and live, and the script's position.
-fn numbers_and_position(pool: &Pool<Body>) -> (u64, u64, u64, u64) {
-    let facts = pool.facts();
-    (facts.spares, facts.out, facts.live, facts.pos)
-}
-
-// The same, and its script has to stand at this position.
-fn stands(rt: &impl Abort, pool: &Pool<Body>, wanted: (u64, u64, u64, u64)) {
-    assert_eq!(rt; numbers_and_position(pool), wanted);
+fn a_pool_whose_script_allows_it_takes_ordinary_memory(rt: HostRuntime) {
+    let mut pool = notes(&rt, 65, 2, always(&rt, true));
+    has(&rt, &pool, [2, 0, 0, 0]);
+    let element = ordinary(&rt, &mut pool, [2, 1, 1, 0]);
+    is(&rt, u64::from(element.no()), 65);
+    gives(&rt, &mut pool, element, [2, 0, 0, 0]);
+    let facts = closes(&rt, pool);
+    are(&rt, &[facts.ordinary, facts.spare], &[1, 0]);
 }
 
 #[test]
-fn a_pool_goes_by_its_script(rt: HostRuntime) -> Result<(), Fail> {
-    let script = Script::new(vec![in rt.alloc(); true, false]?, false);
-    let mut pool: Pool<Body> = Pool::open(rt.alloc(), 65, 1, script)?;
-    stands(&rt, &pool, (1, 0, 0, 0));
-    let Taken::Ordinary(first) = pool.take() else {
-        return Err(Fail::from("no ordinary element"));
-    };
-    stands(&rt, &pool, (1, 1, 1, 1));
-    let Taken::Spare(second) = pool.take() else {
-        return Err(Fail::from("no spare"));
-    };
-    stands(&rt, &pool, (0, 2, 1, 2));
-    pool.give(first);
-    stands(&rt, &pool, (1, 1, 1, 2));
-    pool.give(second);
-    stands(&rt, &pool, (1, 0, 0, 2));
-    let Taken::Spare(third) = pool.take() else {
-        return Err(Fail::from("no spare"));
-    };
-    stands(&rt, &pool, (0, 1, 0, 2));
-    assert!(rt; matches!(pool.take(), Taken::Miss { used: false }));
-    stands(&rt, &pool, (0, 1, 0, 2));
-    let Err(mut pool) = pool.close() else {
-        return Err(Fail::from("closed with an element out"));
-    };
-    pool.give(third);
-    assert!(rt; pool.close().is_ok());
-    Ok(())
+fn a_pool_whose_script_refuses_lends_its_spares_and_then_misses(rt: HostRuntime) {
+    let mut pool = notes(&rt, 64, 1, always(&rt, false));
+    let element = spare(&rt, &mut pool, [0, 1, 0, 0]);
+    misses(&rt, &mut pool, false, [0, 1, 0, 0]);
+    let mut pool = stays_open(&rt, pool);
+    gives(&rt, &mut pool, element, [1, 0, 0, 0]);
+    closes(&rt, pool);
+}
+
+// A script of these entries, whose tail refuses.
+fn script_of(rt: &(impl Abort + AllocGlobal), entries: &[bool]) -> Script {
+    let entries = Vec::from_slice(rt.alloc(), entries).expect(rt, "no entries");
+    Script::new(entries, false)
 }
 
 #[test]
-fn a_take_that_misses_uses_up_an_entry(rt: HostRuntime) -> Result<(), Fail> {
-    let script = Script::new(vec![in rt.alloc(); false, false, true]?, false);
-    assert_eq!(rt; (script.entries(), script.tail()), (3, false));
+fn a_pool_goes_by_its_script(rt: HostRuntime) {
+    let mut pool = notes(&rt, 65, 1, script_of(&rt, &[true, false]));
+    has(&rt, &pool, [1, 0, 0, 0]);
+    let first = ordinary(&rt, &mut pool, [1, 1, 1, 1]);
+    let second = spare(&rt, &mut pool, [0, 2, 1, 2]);
+    gives(&rt, &mut pool, first, [1, 1, 1, 2]);
+    gives(&rt, &mut pool, second, [1, 0, 0, 2]);
+    let third = spare(&rt, &mut pool, [0, 1, 0, 2]);
+    misses(&rt, &mut pool, false, [0, 1, 0, 2]);
+    let mut pool = stays_open(&rt, pool);
+    gives(&rt, &mut pool, third, [1, 0, 0, 2]);
+    closes(&rt, pool);
+}
+
+#[test]
+fn a_script_allows_by_its_entries_and_then_by_its_tail(rt: HostRuntime) {
+    let script = script_of(&rt, &[false, false, true]);
+    is(&rt, script.entries(), 3);
+    holds(&rt, !script.tail(), "the tail refuses");
     for (pos, allowed) in [
         (0, false),
         (1, false),
@@ -158,112 +161,129 @@ fn a_take_that_misses_uses_up_an_entry(rt: HostRuntime) -> Result<(), Fail> {
         (3, false),
         (u64::MAX, false),
     ] {
-        assert_eq!(rt; script.allows(pos), allowed);
+        holds(&rt, script.allows(pos) == allowed, "an entry");
     }
-    let mut pool: Pool<Body> = Pool::open(rt.alloc(), 65, 1, script)?;
-    let Taken::Spare(element) = pool.take() else {
-        return Err(Fail::from("no spare"));
-    };
-    assert!(rt; matches!(pool.take(), Taken::Miss { used: true }));
-    stands(&rt, &pool, (0, 1, 0, 2));
-    assert!(rt; matches!(pool.take(), Taken::Ordinary(_)));
-    stands(&rt, &pool, (0, 2, 1, 3));
-    pool.give(element);
-    Ok(())
 }
 
-// The element of a take that has a spare.
-fn spare_of(pool: &mut Pool<Body>) -> Result<Element<Body>, Fail>
-    ensures most { pool.new.most ≡ pool.old.most }
-    ensures out { IfOk result (λ _. pool.new.state.facts.out ≡ pool.old.state.facts.out + 1) }
-    ensures ledger { pool.new.ledger ≡ pool.old.ledger }
-    ensures element { IfOk result (λ element. element.share ≡ pool.old.ledger) }
-{
-    match pool.take() {
-        Taken::Spare(element) => Ok(element),
-        Taken::Ordinary(_) | Taken::Miss { .. } => Err(Fail::from("no spare")),
-    }
+#[test]
+fn a_take_that_misses_uses_up_an_entry(rt: HostRuntime) {
+    let mut pool = notes(&rt, 65, 1, script_of(&rt, &[false, false, true]));
+    let element = spare(&rt, &mut pool, [0, 1, 0, 1]);
+    misses(&rt, &mut pool, true, [0, 1, 0, 2]);
+    let _dropped = ordinary(&rt, &mut pool, [0, 2, 1, 3]);
+    gives(&rt, &mut pool, element, [1, 1, 1, 3]);
 }
 
 // A pool of one spare that was laid out for three, whose script refuses each take.
-fn open_wide(alloc: Global) -> Result<Pool<Body>, AllocError>
-    ensures most { IfOk result (λ pool. pool.most ≡ 3) }
-    ensures home { IfOk result (λ pool. pool.state.facts.out ≡ 0) }
+fn open_wide(rt: &(impl Abort + AllocGlobal)) -> Pool<Note>
+    ensures { result.most ≡ 3 }
 {
-    let mut pool: Pool<Body> = Pool::open(alloc, 65, 1, Script::new(Vec::new(alloc), false))?;
-    pool.widen(3)?;
-    Ok(pool)
+    let mut pool = notes(rt, 65, 1, always(rt, false));
+    widens(rt, &mut pool, 3);
+    pool
+}
+
+// Lays elements aside in a pool that nothing is out of, so that its reserve can be as many.
+fn widens(rt: &(impl Abort + AllocGlobal), pool: &mut Pool<Note>, most: u32)
+    ensures most { pool.new.most ≡ max pool.old.most most }
+    ensures ledger { pool.new.ledger ≡ pool.old.ledger }
+{
+    assert!(rt; pool.facts().out == 0);
+    pool.widen(most).expect(rt, "no elements");
+}
+
+// Resizes a pool that nothing is out of, which has to have that many spares then.
+fn resizes(rt: &impl Abort, pool: &mut Pool<Note>, min: u32)
+    requires some { 1 ≤ min }
+    requires within { min ≤ pool.old.most }
+    ensures most { pool.new.most ≡ pool.old.most }
+    ensures ledger { pool.new.ledger ≡ pool.old.ledger }
+{
+    assert!(rt; pool.facts().out == 0);
+    pool.resize(min);
+    has(rt, pool, [u64::from(min), 0, 0, 0]);
 }
 
 #[test]
-fn a_pool_lends_what_was_laid_aside_only_when_it_is_resized(rt: HostRuntime) -> Result<(), Fail> {
-    let mut pool = open_wide(rt.alloc())?;
-    assert_eq!(rt; (pool.no(), pool.script().tail()), (65, false));
-    has(&rt, &pool, (1, 0, 0));
-    let only = spare_of(&mut pool)?;
-    assert!(rt; matches!(pool.take(), Taken::Miss { used: false }));
-    pool.give(only);
-    pool.resize(3);
-    has(&rt, &pool, (3, 0, 0));
-    let _first = spare_of(&mut pool)?;
-    let _second = spare_of(&mut pool)?;
-    let _third = spare_of(&mut pool)?;
-    has(&rt, &pool, (0, 3, 0));
-    assert!(rt; matches!(pool.take(), Taken::Miss { used: false }));
-    Ok(())
+fn a_pool_lends_what_was_laid_aside_only_when_it_is_resized(rt: HostRuntime) {
+    let mut pool = open_wide(&rt);
+    is(&rt, u64::from(pool.no()), 65);
+    holds(&rt, !pool.script().tail(), "the tail refuses");
+    has(&rt, &pool, [1, 0, 0, 0]);
+    let only = spare(&rt, &mut pool, [0, 1, 0, 0]);
+    misses(&rt, &mut pool, false, [0, 1, 0, 0]);
+    gives(&rt, &mut pool, only, [1, 0, 0, 0]);
+    resizes(&rt, &mut pool, 3);
+    for wanted in [[2, 1, 0, 0], [1, 2, 0, 0], [0, 3, 0, 0]] {
+        let _dropped = spare(&rt, &mut pool, wanted);
+    }
+    misses(&rt, &mut pool, false, [0, 3, 0, 0]);
 }
 
 #[test]
-fn a_pool_is_resized_down_and_up_again(rt: HostRuntime) -> Result<(), Fail> {
-    let mut pool = open_wide(rt.alloc())?;
-    pool.resize(3);
-    let first = spare_of(&mut pool)?;
-    let second = spare_of(&mut pool)?;
-    pool.give(first);
-    pool.give(second);
-    pool.resize(1);
-    has(&rt, &pool, (1, 0, 0));
-    let only = spare_of(&mut pool)?;
-    assert!(rt; matches!(pool.take(), Taken::Miss { used: false }));
-    pool.give(only);
-    pool.widen(2)?;
-    pool.resize(3);
-    has(&rt, &pool, (3, 0, 0));
-    let Ok(facts) = pool.close() else {
-        return Err(Fail::from("not closed with nothing out"));
-    };
-    assert_eq!(rt; (facts.min, facts.spares, facts.spare), (3, 3, 3));
-    Ok(())
+fn a_pool_is_resized_down_and_up_again(rt: HostRuntime) {
+    let mut pool = open_wide(&rt);
+    resizes(&rt, &mut pool, 3);
+    let first = spare(&rt, &mut pool, [2, 1, 0, 0]);
+    let second = spare(&rt, &mut pool, [1, 2, 0, 0]);
+    gives(&rt, &mut pool, first, [2, 1, 0, 0]);
+    gives(&rt, &mut pool, second, [3, 0, 0, 0]);
+    resizes(&rt, &mut pool, 1);
+    let only = spare(&rt, &mut pool, [0, 1, 0, 0]);
+    misses(&rt, &mut pool, false, [0, 1, 0, 0]);
+    gives(&rt, &mut pool, only, [1, 0, 0, 0]);
+    widens(&rt, &mut pool, 2);
+    resizes(&rt, &mut pool, 3);
+    let facts = closes(&rt, pool);
+    are(&rt, &[facts.min, facts.spares, facts.spare], &[3, 3, 3]);
+}
+
+// A take of a piece has to answer so.
+fn takes<S: Source>(
+    rt: &impl Abort,
+    source: &mut S,
+    piece: &mut [u8],
+    wanted: Result<usize, Failed>,
+)
+    requires { 0 < length piece.old }
+{
+    let found = source.take(piece);
+    holds(rt, found == wanted, "a take");
+}
+
+// A put of some bytes has to answer so.
+fn puts<K: Sink>(rt: &impl Abort, sink: &mut K, piece: &[u8], wanted: Result<usize, Failed>)
+    requires { 0 < length piece.now }
+{
+    let found = sink.put(piece);
+    holds(rt, found == wanted, "a put");
 }
 
 #[test]
-fn reading_stops_at_the_limit(rt: HostRuntime) -> Result<(), Fail> {
-    let mut source = MemSource::new(Vec::from_slice(rt.alloc(), b"0123456789")?);
-    let text = read_up_to(rt.alloc(), &mut source, 4)?;
-    assert_eq!(rt; text.as_slice(), b"0123".as_slice());
-    let mut rest = [0; 16];
-    assert_eq!(rt; source.take(&mut rest), Ok(6));
-    Ok(())
+fn reading_stops_at_the_limit(rt: HostRuntime) {
+    let bytes = Vec::from_slice(rt.alloc(), b"0123456789").expect(&rt, "no bytes");
+    let mut source = MemSource::new(bytes);
+    let text = read_up_to(rt.alloc(), &mut source, 4).expect(&rt, "no text");
+    holds(&rt, text.as_slice() == b"0123".as_slice(), "the limit");
+    takes(&rt, &mut source, &mut [0; 16], Ok(6));
 }
 
 #[test]
-fn readers_and_writers_of_std_are_sources_and_sinks(rt: HostRuntime) -> Result<(), Fail> {
+fn readers_and_writers_of_std_are_sources_and_sinks(rt: HostRuntime) {
     let mut source = StdSource::new(b"abc".as_slice());
-    let mut piece = [0; 2];
-    assert_eq!(rt; source.take(&mut piece), Ok(2));
-    assert_eq!(rt; source.take(&mut piece), Ok(1));
-    assert_eq!(rt; source.take(&mut piece), Ok(0));
+    for count in [2, 1, 0] {
+        takes(&rt, &mut source, &mut [0; 2], Ok(count));
+    }
     let mut sink = StdSink::new(Vec::new(rt.alloc()));
-    assert_eq!(rt; sink.put(b"abc"), Ok(3));
-    Ok(())
+    puts(&rt, &mut sink, b"abc", Ok(3));
 }
 
 #[test]
 fn a_writer_that_takes_no_byte_is_a_fault(rt: HostRuntime) {
     let mut room = [0; 2];
     let mut sink = StdSink::new(room.as_mut_slice());
-    assert_eq!(rt; sink.put(b"abc"), Ok(2));
-    assert_eq!(rt; sink.put(b"c"), Err(Failed));
+    puts(&rt, &mut sink, b"abc", Ok(2));
+    puts(&rt, &mut sink, b"c", Err(Failed));
 }
 
 // A reader of many bytes that gives one at a time, and counts how often it is read; and a writer of the same kind.
@@ -294,15 +314,14 @@ impl Write for OneByOne<'_> {
 fn a_source_of_std_reads_once_a_call_and_a_sink_writes_once(rt: HostRuntime) {
     let calls = Cell::new(0);
     let mut source = StdSource::new(OneByOne { calls: &calls });
-    let mut piece = [0; 4];
     for count in 1..4_u64 {
-        assert_eq!(rt; source.take(&mut piece), Ok(1));
-        assert_eq!(rt; calls.get(), count);
+        takes(&rt, &mut source, &mut [0; 4], Ok(1));
+        is(&rt, calls.get(), count);
     }
     let mut sink = StdSink::new(OneByOne { calls: &calls });
     for count in 4..7_u64 {
-        assert_eq!(rt; sink.put(b"abcd"), Ok(1));
-        assert_eq!(rt; calls.get(), count);
+        puts(&rt, &mut sink, b"abcd", Ok(1));
+        is(&rt, calls.get(), count);
     }
 }
 
@@ -340,18 +359,17 @@ impl Write for FailsOnce {
 #[test]
 fn each_error_of_std_is_a_fault_and_is_not_tried_again(rt: HostRuntime) {
     for kind in [ErrorKind::Interrupted, ErrorKind::Other] {
-        let mut piece = [0; 4];
         let mut source = StdSource::new(FailsOnce {
             kind,
             failed: false,
         });
-        assert_eq!(rt; source.take(&mut piece), Err(Failed));
-        assert_eq!(rt; source.take(&mut piece), Ok(0));
+        takes(&rt, &mut source, &mut [0; 4], Err(Failed));
+        takes(&rt, &mut source, &mut [0; 4], Ok(0));
         let mut sink = StdSink::new(FailsOnce {
             kind,
             failed: false,
         });
-        assert_eq!(rt; sink.put(b"abc"), Err(Failed));
-        assert_eq!(rt; sink.put(b"abc"), Ok(3));
+        puts(&rt, &mut sink, b"abc", Err(Failed));
+        puts(&rt, &mut sink, b"abc", Ok(3));
     }
 }

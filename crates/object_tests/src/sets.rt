@@ -1,187 +1,153 @@
 //! Sets of pools, and what their elements hold.
-use crate::bios::{bio_of, list_of, open_bios, take, write_of};
-use crate::elements::crosses;
-use bio_records::{BioBody, BioElement, BioList, Pad, Slip, TaskLists, Vector};
+ghost use Rattle.std.specs.Prelude.{◌≡◌, ◌≤◌};
+
+use crate::asks::{are, holds, is};
+use crate::bios::{bio_of, bio_of_write, open_bios, take};
+use crate::elements::{always, crosses};
+use crate::records::lists_with;
+use bio_records::{BioBody, Pad, Slip, Vector};
 use bioset_pools::{BioSet, SetParts, SetPlan, clear_bio, first_is_try};
-use fail_script::Script;
 use mempool_core::{Fresh, Pool, Taken};
 use stack_base::{DevId, Range, SetId};
-use std::alloc::Global;
-use std::test::Fail;
+use std::process::Abort;
 
-// A script with no entries.
-fn always(alloc: Global, tail: bool) -> Script {
-    Script::new(Vec::new(alloc), tail)
+// The set of a device, with a reserve of so many bios.
+fn set_of(rt: &(impl Abort + AllocGlobal), dev: u32, bios: u32, rescuer: bool) -> SetParts
+    requires some { 1 ≤ bios }
+    requires device { dev ≤ 31 }
+{
+    let plan = SetPlan {
+        set: SetId::Of(DevId(dev)),
+        bios,
+        vecs: None,
+        rescuer,
+    };
+    let made = BioSet::open(rt.alloc(), plan, always(rt, true), always(rt, true));
+    made.expect(rt, "no set").parts()
 }
 
-#[test]
-fn the_writers_set_has_bios_and_vectors(rt: HostRuntime) -> Result<(), Fail> {
+// The writers' set, of one bio and three vectors. Bios may have ordinary memory, and vectors may not.
+fn writers_set(rt: &(impl Abort + AllocGlobal)) -> SetParts {
     let plan = SetPlan {
         set: SetId::Fs,
         bios: 1,
         vecs: Some(3),
         rescuer: false,
     };
-    let set = BioSet::open(
-        rt.alloc(),
-        plan,
-        always(rt.alloc(), true),
-        always(rt.alloc(), false),
-    )?;
+    let made = BioSet::open(rt.alloc(), plan, always(rt, true), always(rt, false));
+    made.expect(rt, "no set").parts()
+}
+
+// The reserve of a pool, the number of an element that it lends, and whether that is a spare. It is given back.
+fn lends<P: Fresh + Drop>(pool: &mut Pool<P>) -> [u64; 3] {
+    let min = pool.facts().min;
+    let (element, spares) = match pool.take() {
+        Taken::Ordinary(element) => (element, 0),
+        Taken::Spare(element) => (element, 1),
+        Taken::Miss { .. } => return [min, 0, 2],
+    };
+    let number = u64::from(element.no());
+    pool.give(element);
+    [min, number, spares]
+}
+
+#[test]
+fn the_writers_set_has_bios_and_vectors(rt: HostRuntime) {
     let SetParts {
         mut bios,
         vecs,
         list,
-    } = set.parts();
-    let Some(mut vecs) = vecs else {
-        return Err(Fail::from("no vectors"));
-    };
-    assert_eq!(rt;
-        (bios.facts().min, vecs.facts().min, list.is_some()),
-        (1, 3, false)
-    );
-    let Taken::Ordinary(bio) = bios.take() else {
-        return Err(Fail::from("no ordinary bio"));
-    };
-    let Taken::Spare(vector) = vecs.take() else {
-        return Err(Fail::from("no spare vector"));
-    };
-    assert_eq!(rt; (bio.no(), vector.no()), (65, 64));
-    bios.give(bio);
-    vecs.give(vector);
-    Ok(())
+    } = writers_set(&rt);
+    let mut vecs = vecs.expect(&rt, "no vectors");
+    holds(&rt, list.is_none(), "no list");
+    are(&rt, &lends(&mut bios), &[1, 65, 0]);
+    are(&rt, &lends(&mut vecs), &[3, 64, 1]);
 }
 
-#[test]
-fn a_devices_set_may_have_a_rescuer(rt: HostRuntime) -> Result<(), Fail> {
-    let plan = SetPlan {
-        set: SetId::Of(DevId(31)),
-        bios: 5,
-        vecs: None,
-        rescuer: true,
-    };
-    let set = BioSet::open(
-        rt.alloc(),
-        plan,
-        always(rt.alloc(), true),
-        always(rt.alloc(), true),
-    )?;
-    let SetParts {
-        mut bios,
-        vecs,
-        list,
-    } = set.parts();
-    assert_eq!(rt; (bios.facts().min, vecs.is_some()), (5, false));
-    let Some(mut list) = list else {
-        return Err(Fail::from("no list"));
-    };
-    assert_eq!(rt; write_of(list.pop()), None);
-    let Taken::Ordinary(bio) = bios.take() else {
-        return Err(Fail::from("no ordinary bio"));
-    };
-    assert_eq!(rt; bio.no(), 62);
-    Ok(())
-}
-
-#[test]
-fn a_devices_set_may_have_none(rt: HostRuntime) -> Result<(), Fail> {
-    let plan = SetPlan {
-        set: SetId::Of(DevId(0)),
-        bios: 2,
-        vecs: None,
-        rescuer: false,
-    };
-    let set = BioSet::open(
-        rt.alloc(),
-        plan,
-        always(rt.alloc(), true),
-        always(rt.alloc(), true),
-    )?;
-    let parts = set.parts();
-    assert_eq!(rt;
-        (parts.vecs.is_some(), parts.list.is_some()),
-        (false, false)
-    );
-    Ok(())
-}
-
-// A list of one bio, or of none.
-fn list_with(alloc: Global, any: bool) -> Result<BioList, Fail> {
-    if any {
-        list_of(alloc, &[1])
-    } else {
-        list_of(alloc, &[])
+// Whether a set has a rescuer's list, which is empty then.
+fn has_empty_list(set: &SetParts) -> bool {
+    match &set.list {
+        Some(list) => list.is_empty(),
+        None => false,
     }
 }
 
-// A task's lists, each of one bio or of none.
-fn lists_with(alloc: Global, zero: bool, one: bool) -> Result<TaskLists, Fail> {
-    let mut lists = TaskLists::new();
-    lists.list0 = list_with(alloc, zero)?;
-    lists.list1 = list_with(alloc, one)?;
-    Ok(lists)
+#[test]
+fn a_devices_set_may_have_a_rescuer(rt: HostRuntime) {
+    let mut with = set_of(&rt, 31, 5, true);
+    holds(
+        &rt,
+        with.vecs.is_none() && has_empty_list(&with),
+        "a list alone",
+    );
+    are(&rt, &lends(&mut with.bios), &[5, 62, 0]);
+    let without = set_of(&rt, 0, 2, false);
+    holds(
+        &rt,
+        without.vecs.is_none() && without.list.is_none(),
+        "no list",
+    );
+    is(&rt, without.bios.facts().min, 2);
 }
 
+/// Whether a set has a rescuer, the writes in the two lists of a task, and whether its first attempt does not wait.
+type Try = (bool, &'static [u32], &'static [u32], bool);
+
+const TRIES: &[Try] = &[
+    (false, &[], &[], false),
+    (true, &[], &[], false),
+    (false, &[1], &[1], false),
+    (true, &[1], &[], true),
+    (true, &[], &[1], true),
+    (true, &[1], &[1], true),
+];
+
 #[test]
-fn the_first_attempt_does_not_wait_where_a_task_is_busy(rt: HostRuntime) -> Result<(), Fail> {
-    for (rescuer, zero, one, is_try) in [
-        (false, false, false, false),
-        (true, false, false, false),
-        (false, true, true, false),
-        (true, true, false, true),
-        (true, false, true, true),
-        (true, true, true, true),
-    ] {
+fn the_first_attempt_does_not_wait_where_a_task_is_busy(rt: HostRuntime) {
+    for (rescuer, zero, one, is_try) in TRIES {
         let plan = SetPlan {
             set: SetId::Of(DevId(0)),
             bios: 2,
             vecs: None,
-            rescuer,
+            rescuer: *rescuer,
         };
-        let lists = lists_with(rt.alloc(), zero, one)?;
-        assert_eq!(rt;
-            first_is_try(&plan, &lists),
-            is_try,
-            "{rescuer} {zero} {one}"
-        );
+        let found = first_is_try(&plan, &lists_with(&rt, zero, one));
+        holds(&rt, found == *is_try, "whether it waits");
     }
-    Ok(())
 }
 
 #[test]
-fn a_bio_that_is_cleared_stays_of_its_pool(rt: HostRuntime) -> Result<(), Fail> {
-    let mut pool = open_bios(rt.alloc())?;
+fn a_bio_that_is_cleared_stays_of_its_pool(rt: HostRuntime) {
+    let mut pool = open_bios(&rt);
     let bio = bio_of(7, Range { start: 3, len: 2 }, 5);
-    let mut element: BioElement = take(&mut pool, bio)?;
-    assert_eq!(rt; element.body.bio, bio);
+    let mut element = take(&rt, &mut pool, bio);
+    let filled = element.body.bio;
     clear_bio(&mut element);
-    let clear: BioBody<Pad> = BioBody::fresh();
-    assert_eq!(rt; (element.no(), element.body.bio), (65, clear.bio));
-    assert_eq!(rt;
-        (clear.bio.write, clear.bio.range),
-        (0, Range { start: 0, len: 0 })
-    );
-    Ok(())
+    let cleared = element.body.bio;
+    is(&rt, u64::from(element.no()), 65);
+    assert!(rt; filled == bio && cleared == bio_of(0, Range { start: 0, len: 0 }, 0));
 }
 
 #[test]
-fn a_mirrors_record_has_no_legs_yet(rt: HostRuntime) -> Result<(), Fail> {
-    let mut pool: Pool<Slip> = Pool::open(rt.alloc(), 1, 4, always(rt.alloc(), true))?;
-    let Taken::Ordinary(mut element) = pool.take() else {
-        return Err(Fail::from("no ordinary record"));
-    };
-    assert_eq!(rt; *element.body, Slip { legs: 0 });
-    element.body.legs = 2;
-    pool.give(element);
-    Ok(())
+fn a_mirrors_record_has_no_legs_yet(rt: HostRuntime) {
+    let opened = Pool::open(rt.alloc(), 1, 4, always(&rt, true));
+    let mut pool: Pool<Slip> = opened.expect(&rt, "no pool");
+    match pool.take() {
+        Taken::Ordinary(mut element) => {
+            is(&rt, u64::from(element.body.legs), 0);
+            element.body.legs = 2;
+            pool.give(element);
+        }
+        Taken::Spare(_) | Taken::Miss { .. } => rt.panic("no ordinary record"),
+    }
 }
 
 #[test]
-fn pools_of_bios_and_their_elements_may_cross_threads(rt: HostRuntime) -> Result<(), Fail> {
-    let mut pool: Pool<BioBody<Pad>> = open_bios(rt.alloc())?;
-    crosses(take(&mut pool, bio_of(0, Range { start: 0, len: 1 }, 0))?);
+fn pools_of_bios_and_their_elements_may_cross_threads(rt: HostRuntime) {
+    let mut pool: Pool<BioBody<Pad>> = open_bios(&rt);
+    crosses(take(&rt, &mut pool, bio_of_write(0)));
     crosses(pool);
-    let vectors: Pool<Vector> = Pool::open(rt.alloc(), 64, 1, always(rt.alloc(), true))?;
+    let opened = Pool::open(rt.alloc(), 64, 1, always(&rt, true));
+    let vectors: Pool<Vector> = opened.expect(&rt, "no pool");
     crosses(vectors);
-    Ok(())
 }
