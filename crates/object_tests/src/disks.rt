@@ -1,5 +1,5 @@
 //! Disks of the model.
-ghost use Rattle.std.specs.Prelude.{◌≡◌, ◌≤◌, ◌+◌, ◌<◌, length};
+ghost use Rattle.std.specs.Prelude.{◌≡◌, length};
 
 use crate::asks::is;
 use crate::bios::{bio_of, open_bios, take};

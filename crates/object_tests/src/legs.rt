@@ -1,6 +1,7 @@
 //! Legs of bios on mirrors.
 ghost use Rattle.std.specs.Prelude.{◌≡◌, length};
 
+use crate::asks::is;
 use crate::bios::bio_of;
 use arrayvec::ArrayVec;
 use bio_records::{Bio, Iter, Pad};
@@ -21,7 +22,8 @@ fn over_three() -> Mirror
 #[test]
 fn a_bio_has_a_leg_for_each_member(rt: HostRuntime) {
     let mirror = over_three();
-    assert_eq!(rt; (mirror.legs(), mirror.size()), (3, 40));
+    is(&rt, u64::from(mirror.legs()), 3);
+    is(&rt, mirror.size(), 40);
     let run = Range { start: 10, len: 20 };
     let bio = Bio {
         at: Iter {
@@ -43,9 +45,7 @@ fn a_bio_has_a_leg_for_each_member(rt: HostRuntime) {
             at: bio.at,
             set,
         };
-        assert_eq!(rt;
-            mirror.clone_for(&bio, leg, set, node),
-            (wanted, Pad { leg })
-        );
+        let found = mirror.clone_for(&bio, leg, set, node);
+        assert!(rt; found == (wanted, Pad { leg }));
     }
 }

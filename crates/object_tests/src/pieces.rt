@@ -1,10 +1,12 @@
 //! Pieces of runs on devices that cut.
 ghost use Rattle.std.specs.Prelude.{◌≡◌, ◌+◌, ◌≤◌, length};
 
+use crate::asks::is;
 use arrayvec::ArrayVec;
 use limit_split::Limit;
 use linear_map::Linear;
 use stack_base::{MapLaw, Piece};
+use std::process::Abort;
 use stripe_map::Stripe;
 use zoned_map::Zoned;
 
@@ -36,20 +38,15 @@ fn over_three() -> Linear {
 #[test]
 fn a_linear_device_cuts_at_the_ends_of_members(rt: HostRuntime) {
     let device = over_three();
-    assert_eq!(rt; device.size(), 14);
     for (start, len, first, member, at) in OVER_THREE {
         assert!(rt; *len >= 1 && *start <= 14 && *len <= 14 - *start && device.size() == 14);
-        let piece = Piece {
-            len: *first,
-            member: *member,
-            at: *at,
-        };
-        assert_eq!(rt;
-            device.piece(*start, *len),
-            piece,
-            "of {len} sectors from {start}"
-        );
+        is_piece(&rt, device.piece(*start, *len), *first, *member, *at);
     }
+}
+
+// A piece has to have this length, and to go to this sector of this member.
+fn is_piece(rt: &impl Abort, found: Piece, len: u64, member: u32, at: u64) {
+    assert_eq!(rt; found, Piece { len, member, at });
 }
 
 // How long the pieces of a run are, one after the other. Each is cut off what is left of the run.
@@ -81,7 +78,7 @@ fn are(found: &ArrayVec<u64, 8>, wanted: &[u64]) -> bool {
 #[tactic(auto, unfolding(stack_base::specs::Mapping::size_of, stack_base::specs::Mapping::smallest))]
 fn a_stripe_cuts_at_the_ends_of_chunks(rt: HostRuntime) {
     let device = Stripe::new(8, 2, 32);
-    assert_eq!(rt; device.size(), 64);
+    is(&rt, device.size(), 64);
     assert!(rt; are(&lengths(&device, 5, 20), &[3, 8, 8, 1]));
 }
 
@@ -108,38 +105,17 @@ fn zoned_over(first: u64, second: u64, third: u64) -> Zoned
 #[test]
 fn a_zoned_device_goes_on_round_the_members_that_have_more(rt: HostRuntime) {
     let device = zoned_over(16, 32, 20);
-    assert_eq!(rt; device.size(), 64);
     assert!(rt; device.size() == 64);
-    let last = Piece {
-        len: 8,
-        member: 2,
-        at: 8,
-    };
-    assert_eq!(rt; device.piece(40, 16), last);
-    let next = Piece {
-        len: 8,
-        member: 1,
-        at: 16,
-    };
-    assert_eq!(rt; device.piece(48, 8), next);
-    assert_eq!(rt; device.sector_of(2, 8), Some(40));
-    assert_eq!(rt; device.sector_of(2, 16), None);
+    is_piece(&rt, device.piece(40, 16), 8, 2, 8);
+    is_piece(&rt, device.piece(48, 8), 8, 1, 16);
+    assert!(rt; device.sector_of(2, 8) == Some(40));
+    assert!(rt; device.sector_of(2, 16).is_none());
 }
 
 #[test]
 fn chunks_of_a_zone_are_counted_from_its_first(rt: HostRuntime) {
     let device = zoned_over(8, 16, 16);
     assert!(rt; device.size() == 40);
-    let first = Piece {
-        len: 8,
-        member: 1,
-        at: 8,
-    };
-    assert_eq!(rt; device.piece(24, 16), first);
-    let second = Piece {
-        len: 8,
-        member: 2,
-        at: 8,
-    };
-    assert_eq!(rt; device.piece(32, 8), second);
+    is_piece(&rt, device.piece(24, 16), 8, 1, 8);
+    is_piece(&rt, device.piece(32, 8), 8, 2, 8);
 }

@@ -312,14 +312,19 @@ pub fn lists_with(rt: &(impl Abort + AllocGlobal), zero: &[u32], one: &[u32]) ->
 
 #[test]
 fn a_task_is_busy_while_one_of_its_lists_has_a_bio(rt: HostRuntime) {
-    assert!(rt; !TaskLists::new().busy());
     for (zero, one, before, after) in BUSY {
-        let mut lists = lists_with(&rt, zero, one);
-        let is_busy = lists.busy();
-        drop(lists.list0.pop());
-        drop(lists.list1.pop());
-        assert!(rt; is_busy == *before && lists.busy() == *after);
+        let found = busy_with(&rt, zero, one);
+        assert!(rt; found == (*before, *after), "{zero:?} {one:?}");
     }
+}
+
+// Whether a task is busy with the bios of these writes in its lists, and whether it still is when each list was popped once.
+fn busy_with(rt: &(impl Abort + AllocGlobal), zero: &[u32], one: &[u32]) -> (bool, bool) {
+    let mut lists = lists_with(rt, zero, one);
+    let before = lists.busy();
+    drop(lists.list0.pop());
+    drop(lists.list1.pop());
+    (before, lists.busy())
 }
 
 #[test]

@@ -1,5 +1,5 @@
 //! Sets of pools, and what their elements hold.
-ghost use Rattle.std.specs.Prelude.{◌≡◌, ◌≤◌};
+ghost use Rattle.std.specs.Prelude.{◌≤◌};
 
 use crate::asks::{are, holds, is};
 use crate::bios::{bio_of, bio_of_write, open_bios, take};
@@ -64,30 +64,31 @@ fn the_writers_set_has_bios_and_vectors(rt: HostRuntime) {
     are(&rt, &lends(&mut vecs), &[3, 64, 1]);
 }
 
-// Whether a set has a rescuer's list, which is empty then.
-fn has_empty_list(set: &SetParts) -> bool {
+// One more than the bios that wait for the rescuer of a set, and 0 where it has none.
+fn rescuers(set: &SetParts) -> u64 {
     match &set.list {
-        Some(list) => list.is_empty(),
-        None => false,
+        Some(list) => list.len().saturating_add(1),
+        None => 0,
     }
 }
 
 #[test]
 fn a_devices_set_may_have_a_rescuer(rt: HostRuntime) {
-    let mut with = set_of(&rt, 31, 5, true);
-    holds(
-        &rt,
-        with.vecs.is_none() && has_empty_list(&with),
-        "a list alone",
-    );
-    are(&rt, &lends(&mut with.bios), &[5, 62, 0]);
-    let without = set_of(&rt, 0, 2, false);
-    holds(
-        &rt,
-        without.vecs.is_none() && without.list.is_none(),
-        "no list",
-    );
-    is(&rt, without.bios.facts().min, 2);
+    for (dev, bios, rescuer, wanted) in [
+        (31, 5, true, [5, 0, 1, 62, 0]),
+        (0, 2, false, [2, 0, 0, 0, 0]),
+    ] {
+        assert!(rt; bios > 0 && dev < 32);
+        are(&rt, &shown(set_of(&rt, dev, bios, rescuer)), &wanted);
+    }
+}
+
+// The reserve of bios of a set, whether it has vectors, its rescuers as above, the number of a bio, and whether that is a spare.
+fn shown(set: SetParts) -> [u64; 5] {
+    let (vectors, rescuers) = (u64::from(set.vecs.is_some()), rescuers(&set));
+    let mut bios = set.bios;
+    let [min, number, spares] = lends(&mut bios);
+    [min, vectors, rescuers, number, spares]
 }
 
 /// Whether a set has a rescuer, the writes in the two lists of a task, and whether its first attempt does not wait.

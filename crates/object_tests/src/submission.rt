@@ -1,5 +1,4 @@
 //! The order in which a task serves what its drivers submit, and bios that are split.
-ghost use Rattle.std.specs.Prelude.{◌≡◌};
 ghost use Rattle.bio_records.specs.Items.{IsAlone};
 
 use crate::bios::{bio_of, bio_of_write, holds, is_bio, open_bios, take};
@@ -138,16 +137,22 @@ fn goes(rt: &(impl Abort + AllocGlobal), lists: &mut TaskLists, step: Step) {
 
 #[test]
 fn bios_are_served_in_the_order_of_a_task(rt: HostRuntime) {
-    let mut pool = open_bios(&rt);
     for (waiting, steps) in CASES {
-        let mut lists = TaskLists::new();
-        for write in *waiting {
-            lists.list1.push(bio_for(&rt, &mut pool, *write, 3));
-        }
+        let mut lists = waiting_in(&rt, waiting);
         for step in *steps {
             goes(&rt, &mut lists, *step);
         }
     }
+}
+
+// The lists of a task in which the bios of these writes wait.
+fn waiting_in(rt: &(impl Abort + AllocGlobal), writes: &[u32]) -> TaskLists {
+    let mut pool = open_bios(rt);
+    let mut lists = TaskLists::new();
+    for write in writes {
+        lists.list1.push(bio_for(rt, &mut pool, *write, 3));
+    }
+    lists
 }
 
 // The set of this number: the writers', or that of a device.
