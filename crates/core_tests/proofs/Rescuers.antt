@@ -54,8 +54,8 @@ was old new alike number device found = by (slice_get old.devices.items number) 
       same = same_Some (bare device) (bare before) (sym (ap (option_map bare) found) ∙ alike number ∙ ap (option_map bare) is);
     }
 
-pub stays_stack : (old new : Stack) → length new.devices.items ≡ length old.devices.items → AreAlike old new → IsStack old → IsStack new
-stays_stack old new long alike is = record {
+pub stays_stack : (old new : Stack) → length new.devices.items ≡ length old.devices.items → new.sizes.items ≡ old.sizes.items → AreAlike old new → IsStack old → IsStack new
+stays_stack old new long kept alike is = record {
   few = omega (arith, long, is.few);
   each = λ number device found.
       let w = was old new alike number device found in
@@ -70,6 +70,9 @@ stays_stack old new long alike is = record {
         narrow = subst (λ t. weight t ≤ 288) (sym same) d.narrow;
       };
   once = λ p q i j m one other. is.once p q i j m (member p i m one) (member q j m other);
+  sizes = λ number lt.
+      ap (λ (sizes : List ℕ). slice_get sizes number) kept ∙ is.sizes number (omega (arith, long, lt))
+      ∙ ap (λ t. Some (size t)) (sym (below_same old new alike (number + 1) number));
 }
   where
     member : (d i m : ℕ) → IsMember new d i m → IsMember old d i m

@@ -82,6 +82,16 @@ fn device(name: &str, kind: Kind) -> Result<Device, Fail>
     })
 }
 
+// The sizes of four devices of 16 sectors.
+fn sizes() -> ArrayVec<u64, 32> {
+    let mut sizes = ArrayVec::new();
+    sizes.push(16);
+    sizes.push(16);
+    sizes.push(16);
+    sizes.push(16);
+    sizes
+}
+
 // The facts of a pool of this reserve that served so many takes from ordinary memory and so many with spares.
 fn facts(min: u64, ordinary: u64, spare: u64) -> Facts {
     Facts {
@@ -119,6 +129,7 @@ pub fn made(rt: &(impl Abort + AllocGlobal)) -> Result<(Stack, Ended), Fail>
     let l = device("l", Kind::Limit { max: 4, chunk: 0 })?;
     let stack = Stack {
         devices: vec![in alloc; a, b, m, l]?,
+        sizes: sizes(),
         fs_bios: 2,
         fs_vecs: 5,
     };
