@@ -18,7 +18,7 @@ pub struct Pad {
 }
 
 /// The record of a mirror for one bio that it serves (`struct r1bio`, `drivers/md/raid1.h`).
-#[derive(Clone, Copy, Debug, PartialEq, Eq)]
+#[derive(Clone, Copy, PartialEq, Eq)]
 pub struct Slip {
     /// How many legs the bio has, and 0 in a record that none has yet.
     pub legs: u32,

@@ -12,7 +12,7 @@ use std::test::Fail;
 use work_text::{Work, read_work};
 
 /// What a text says.
-#[derive(Debug, Drop)]
+#[derive(Drop)]
 pub struct Scene {
     /// The stack and the scripts of its pools.
     pub accepted: Accepted,

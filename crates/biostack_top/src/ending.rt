@@ -12,11 +12,11 @@ const USAGE: &[u8] =
     b"biostack: usage: run [--seed N | --workers N] [--trace] | check | layout | gen N [--text]\n";
 
 /// The status that the program ends with.
-#[derive(Clone, Copy, Debug, PartialEq, Eq)]
+#[derive(Clone, Copy, PartialEq, Eq)]
 pub struct Exit(pub u8);
 
 /// Why a call ended.
-#[derive(Clone, Copy, Debug, PartialEq, Eq)]
+#[derive(Clone, Copy, PartialEq, Eq)]
 pub enum Ending {
     /// What was asked for was written whole, and each write that was run ended well.
     Done,

@@ -7,7 +7,7 @@ use std::alloc::Global;
 use work_text::{Work, read_work};
 
 /// What a text says.
-#[derive(Debug, Drop)]
+#[derive(Drop)]
 pub struct Scene<'a> {
     /// The text.
     pub text: &'a [u8],

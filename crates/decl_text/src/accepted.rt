@@ -7,7 +7,7 @@ use stack_base::{PoolId, Stack};
 
 /// A stack and the scripts of its pools, which the declarations of a text mean. They have no refusal but perhaps that a mirror of two
 /// members or more has no rescuer.
-#[derive(Debug, Drop)]
+#[derive(Drop)]
 pub struct Accepted {
     pub stack: Stack,
     /// The script of each pool, once, by falling number.

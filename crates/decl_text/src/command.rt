@@ -5,7 +5,7 @@ ghost use Rattle.decl_text.specs.Commands.{command_of, word_of};
 use crate::Word;
 
 /// What a line is about, as its first word says.
-#[derive(Clone, Copy, Debug, PartialEq, Eq)]
+#[derive(Clone, Copy, PartialEq, Eq)]
 pub enum Command {
     /// A disk.
     Disk,

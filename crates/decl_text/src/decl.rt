@@ -13,20 +13,20 @@ use std::alloc::{AllocError, Global};
 use std::marker::Model;
 
 /// What a line says, and the number of the line, counted from 1.
-#[derive(Debug, Drop)]
+#[derive(Drop)]
 pub struct Numbered<'a> {
     pub line: u64,
     pub item: Item<'a>,
 }
 
 /// The declarations of a text as they were read, and not yet checked against each other.
-#[derive(Debug, Drop)]
+#[derive(Drop)]
 pub struct Decl<'a> {
     parts: DeclParts<'a>,
 }
 
 /// The parts of a [`Decl`].
-#[derive(Debug, Drop)]
+#[derive(Drop)]
 pub struct DeclParts<'a> {
     /// What the lines say, up to the first that is wrong by itself.
     pub items: Vec<Numbered<'a>>,

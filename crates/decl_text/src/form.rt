@@ -6,7 +6,7 @@ ghost use Rattle.decl_text.specs.Forms.{form};
 use crate::{Command, Word};
 
 /// One of a few words.
-#[derive(Clone, Copy, Debug, PartialEq, Eq)]
+#[derive(Clone, Copy, PartialEq, Eq)]
 pub enum Few {
     /// How a write to a bad range ends: `io`, `medium` or `nospace`.
     Faults,
@@ -19,7 +19,7 @@ pub enum Few {
 }
 
 /// What may stand at a place of a line, or behind the `=` of an option.
-#[derive(Clone, Copy, Debug, PartialEq, Eq)]
+#[derive(Clone, Copy, PartialEq, Eq)]
 pub enum Place {
     /// A name that is declared here.
     Name,
@@ -34,7 +34,7 @@ pub enum Place {
 }
 
 /// What an option is about.
-#[derive(Clone, Copy, Debug, PartialEq, Eq)]
+#[derive(Clone, Copy, PartialEq, Eq)]
 pub enum Key {
     /// How many elements the device's pool of bios keeps.
     Reserve,
@@ -53,7 +53,7 @@ pub enum Key {
 }
 
 /// An option of a line: what it is about, whether it has to be there, and what its value may be.
-#[derive(Clone, Copy, Debug, PartialEq, Eq)]
+#[derive(Clone, Copy, PartialEq, Eq)]
 pub struct Setting {
     pub key: Key,
     pub wanted: bool,

@@ -4,7 +4,7 @@ use fail_script::Script;
 use stack_base::{Range, Status};
 
 /// What a declared device does, with the numbers of its line.
-#[derive(Clone, Copy, Debug, PartialEq, Eq)]
+#[derive(Clone, Copy, PartialEq, Eq)]
 pub enum What {
     /// Keeps the data of so many sectors.
     Disk { sectors: u64 },
@@ -21,7 +21,7 @@ pub enum What {
 }
 
 /// What a line says, by its words alone.
-#[derive(Debug, Drop)]
+#[derive(Drop)]
 pub enum Item<'a> {
     /// A device of that name, over the members of these names.
     Device {

@@ -34,7 +34,7 @@ impl From<AllocError> for LineFault {
 }
 
 /// A line, which contracts see as its bytes.
-#[derive(Debug, Drop)]
+#[derive(Drop)]
 pub struct Line<'a> {
     bytes: &'a [u8],
     words: Vec<Word<'a>>,
@@ -107,7 +107,7 @@ impl<'a> Line<'a> {
 }
 
 /// What the first word of a line says.
-#[derive(Clone, Copy, Debug, PartialEq, Eq)]
+#[derive(Clone, Copy, PartialEq, Eq)]
 pub enum First {
     /// There is none, or it begins a comment.
     Skipped,

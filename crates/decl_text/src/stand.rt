@@ -5,7 +5,7 @@ ghost use Rattle.decl_text.specs.Stands.{may_stand};
 use crate::Command;
 
 /// Where a line stands, as far as it matters for what the line may be about.
-#[derive(Clone, Copy, Debug, PartialEq, Eq)]
+#[derive(Clone, Copy, PartialEq, Eq)]
 pub enum Stand {
     /// Before all writes and `sync` lines.
     Front,

@@ -7,7 +7,7 @@ ghost use Rattle.decl_text.specs.Places.{left};
 use std::marker::Model;
 
 /// The lines of a text from a place on, which is the first byte of a line, or the end.
-#[derive(Debug, Drop)]
+#[derive(Drop)]
 pub struct Lines<'a> {
     text: &'a [u8],
     place: usize,

@@ -13,7 +13,7 @@ use std::alloc::{AllocError, Global};
 use std::marker::Model;
 
 /// A part of a line without blanks.
-#[derive(Debug, Drop)]
+#[derive(Drop)]
 pub struct Word<'a> {
     bytes: &'a [u8],
 }
@@ -215,7 +215,7 @@ fn entries_of(alloc: Global, word: &[u8]) -> Result<Vec<bool>, AllocError>
 }
 
 /// Words, in their order.
-#[derive(Debug, Drop)]
+#[derive(Drop)]
 pub struct Words<'a> {
     words: Vec<Word<'a>>,
 }

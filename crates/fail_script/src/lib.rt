@@ -11,7 +11,7 @@ use std::marker::Model;
 /// Which takes of a pool may have ordinary memory, by their position.
 ///
 /// Each of the first takes has an entry of its own, and the tail answers for all takes behind them.
-#[derive(Debug, Drop)]
+#[derive(Drop)]
 pub struct Script {
     entries: Vec<bool>,
     tail: bool,

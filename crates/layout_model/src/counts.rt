@@ -17,7 +17,7 @@ const SEGMENT_SECTORS: u64 = 8;
 const OWN_SEGMENTS: u64 = 4;
 
 /// What a write needs, as counts.
-#[derive(Clone, Copy, Debug, PartialEq, Eq)]
+#[derive(Clone, Copy, PartialEq, Eq)]
 pub struct Needs {
     /// The elements of pools: bios, vectors and records.
     pub elements: u64,

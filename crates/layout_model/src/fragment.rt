@@ -27,7 +27,7 @@ pub struct Fragment {
 }
 
 // A run of a write: the place of its first sector in the write, its first sector at its device, and its length.
-#[derive(Clone, Copy, Debug)]
+#[derive(Clone, Copy)]
 struct Run {
     offset: u64,
     start: u64,

@@ -11,7 +11,7 @@ use stack_base::{DevId, Device, Kind, MapLaw, Piece, Stack};
 use zoned_map::Zoned;
 
 /// A run of sectors of a device.
-#[derive(Clone, Copy, Debug, PartialEq, Eq)]
+#[derive(Clone, Copy, PartialEq, Eq)]
 pub struct FirstRun {
     /// The device.
     pub dev: DevId,

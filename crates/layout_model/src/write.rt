@@ -2,7 +2,7 @@
 use stack_base::DevId;
 
 /// A write of a scenario. Places and lengths count sectors.
-#[derive(Clone, Copy, Debug, PartialEq, Eq)]
+#[derive(Clone, Copy, PartialEq, Eq)]
 pub struct Write {
     /// The number of the task that writes.
     pub task: u32,

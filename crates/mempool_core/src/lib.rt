@@ -47,7 +47,7 @@ pub enum Taken<P> {
 }
 
 /// The numbers of a pool: elements at first, then takes.
-#[derive(Clone, Copy, Debug, PartialEq, Eq)]
+#[derive(Clone, Copy, PartialEq, Eq)]
 pub struct Facts {
     /// The reserve: the elements that the pool was made with or last resized to, which is also the most spares that it keeps
     /// (`min_nr`).
@@ -80,7 +80,7 @@ fn fresh_bodies<P: Fresh + Drop>(alloc: Global, count: usize) -> Result<Vec<Box<
 }
 
 // What a pool counts beside its bodies and its ledger.
-#[derive(Clone, Copy, Debug, PartialEq, Eq)]
+#[derive(Clone, Copy, PartialEq, Eq)]
 struct Counts {
     min: u64,
     // The bodies that are laid aside.

@@ -9,7 +9,7 @@ use std::alloc::{AllocError, Global};
 use std::marker::Model;
 
 /// Gives the bytes of a vector, a few at a time, and fails at given calls.
-#[derive(Debug, Drop)]
+#[derive(Drop)]
 pub struct FailSource {
     source: MemSource,
     fails: Vec<u64>,
@@ -84,7 +84,7 @@ impl Source for FailSource {
 
 /// Holds the bytes that are put into it, a few at a time and up to a room that is fixed when it is
 /// made, and fails at given calls.
-#[derive(Debug, Drop)]
+#[derive(Drop)]
 pub struct FailSink {
     sink: MemSink,
     fails: Vec<u64>,

@@ -9,7 +9,7 @@ use std::alloc::{AllocError, Global};
 use std::marker::Model;
 
 /// Gives the bytes of a vector, as many at a time as are asked for, and never fails.
-#[derive(Debug, Drop)]
+#[derive(Drop)]
 pub struct MemSource {
     bytes: Vec<u8>,
     at: usize,
@@ -69,7 +69,7 @@ impl Source for MemSource {
 }
 
 /// Holds the bytes that are put into it, up to a room that is fixed when it is made.
-#[derive(Debug, Drop)]
+#[derive(Drop)]
 pub struct MemSink {
     bytes: Vec<u8>,
     room: usize,

@@ -10,7 +10,7 @@ use std::io::{Read, Write};
 /// Gives what a reader of std gives.
 ///
 /// Each take is one read, and an error of it a fault, an interrupted read too.
-#[derive(Debug, Drop)]
+#[derive(Drop)]
 pub struct StdSource<R> {
     from: R,
     faults: u64,
@@ -53,7 +53,7 @@ impl<R: Read> Source for StdSource<R> {
 ///
 /// Each put is one write. An error of it is a fault, an interrupted write too, and so is a write of
 /// no byte.
-#[derive(Debug, Drop)]
+#[derive(Drop)]
 pub struct StdSink<W> {
     to: W,
     faults: u64,

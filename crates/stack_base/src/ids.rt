@@ -3,11 +3,11 @@ ghost use Rattle.std.specs.Prelude.{◌≡◌, ◌^◌, ◌<◌};
 ghost use Rattle.stack_base.specs.PoolId.{pool_number};
 
 /// A device, by its place in the declaration of the stack, from 0 to 31.
-#[derive(Clone, Copy, Debug, Default, PartialEq, Eq, PartialOrd, Ord, Hash)]
+#[derive(Clone, Copy, Debug, Default, PartialEq, Eq, PartialOrd, Ord)]
 pub struct DevId(pub u32);
 
 /// A set of bios (`struct bio_set`).
-#[derive(Clone, Copy, Debug, PartialEq, Eq, Hash)]
+#[derive(Clone, Copy, Debug, PartialEq, Eq)]
 pub enum SetId {
     /// The writers' set, above all devices (`fs_bio_set`).
     Fs,
@@ -16,7 +16,7 @@ pub enum SetId {
 }
 
 /// A pool of elements that the stack serves writes from.
-#[derive(Clone, Copy, Debug, PartialEq, Eq, Hash)]
+#[derive(Clone, Copy, Debug, PartialEq, Eq)]
 pub enum PoolId {
     /// The bios of the writers above the stack (`bio_pool` of `fs_bio_set`, `block/bio.c`).
     FsBios,
@@ -44,7 +44,7 @@ impl PoolId {
 }
 
 /// A run of sectors.
-#[derive(Clone, Copy, Debug, PartialEq, Eq, Hash)]
+#[derive(Clone, Copy, Debug, PartialEq, Eq)]
 pub struct Range {
     /// The first sector.
     pub start: u64,
@@ -53,7 +53,7 @@ pub struct Range {
 }
 
 /// How a bio ended (`blk_status_t`, `include/linux/blk_types.h`).
-#[derive(Clone, Copy, Debug, PartialEq, Eq, Hash)]
+#[derive(Clone, Copy, Debug, PartialEq, Eq)]
 pub enum Status {
     /// All of it was done (`BLK_STS_OK`).
     Ok,
@@ -66,7 +66,7 @@ pub enum Status {
 }
 
 /// A range of a disk at which writes fail.
-#[derive(Clone, Copy, Debug, PartialEq, Eq, Hash)]
+#[derive(Clone, Copy, PartialEq, Eq)]
 pub struct Bad {
     /// The sectors.
     pub range: Range,

@@ -8,7 +8,7 @@ use crate::{Bad, DevId};
 use arrayvec::{ArrayString, ArrayVec};
 
 /// What a device does with the bios that it serves, with the numbers of its declaration.
-#[derive(Debug, Drop)]
+#[derive(Drop)]
 pub enum Kind {
     /// Keeps the data. `sectors` is its size, and writes to one of the ranges in `bad` fail.
     Disk { sectors: u64, bad: Vec<Bad> },
@@ -27,7 +27,7 @@ pub enum Kind {
 }
 
 /// A device of the stack.
-#[derive(Debug, Drop)]
+#[derive(Drop)]
 pub struct Device {
     /// Its name, of 1 to 16 characters.
     pub name: ArrayString<16>,
@@ -41,7 +41,7 @@ pub struct Device {
 }
 
 /// A declaration of devices, and the reserves of the writers' set.
-#[derive(Debug, Drop)]
+#[derive(Drop)]
 pub struct Stack {
     /// The devices, each by its place in this list.
     pub devices: Vec<Device>,

@@ -24,7 +24,7 @@ const MOST_DISKS: u64 = 16;
 const MOST_SECTORS: u64 = 262_144;
 
 /// The devices in the order of their lines, and what is looked up of them often.
-#[derive(Debug, Drop)]
+#[derive(Drop)]
 pub(crate) struct Devices<'a> {
     placed: Vec<Placed<'a>>,
     /// How many sectors each has.

@@ -19,7 +19,7 @@ use std::marker::Model;
 const MOST_BAD: usize = 1024;
 
 /// A range of a disk at which writes fail.
-#[derive(Debug, Drop)]
+#[derive(Drop)]
 pub(crate) struct BadAt {
     pub(crate) disk: DevId,
     pub(crate) bad: Bad,
@@ -43,7 +43,7 @@ impl BadAt {
 }
 
 /// The reserves of the writers' set.
-#[derive(Debug, Drop)]
+#[derive(Drop)]
 pub(crate) struct FsReserves {
     pub(crate) bios: u64,
     pub(crate) vecs: u64,
@@ -58,7 +58,7 @@ impl Model for FsReserves {
 }
 
 /// What was declared, each in the order of its lines.
-#[derive(Debug, Drop)]
+#[derive(Drop)]
 pub(crate) struct Draft<'a> {
     pub(crate) devices: Devices<'a>,
     pub(crate) bad: Vec<BadAt>,

@@ -8,7 +8,7 @@ use stack_base::DevId;
 use std::marker::Model;
 
 /// A device by its name, with the numbers of its members.
-#[derive(Debug, Drop)]
+#[derive(Drop)]
 pub(crate) struct Placed<'a> {
     pub(crate) name: Word<'a>,
     pub(crate) what: What,

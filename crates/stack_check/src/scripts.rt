@@ -13,7 +13,7 @@ use std::marker::Model;
 const MOST_ENTRIES: u64 = 65_536;
 
 /// A pool and its script.
-#[derive(Debug, Drop)]
+#[derive(Drop)]
 pub(crate) struct Scripted {
     pub(crate) pool: PoolId,
     pub(crate) script: Script,
@@ -28,7 +28,7 @@ impl Model for Scripted {
 }
 
 /// Scripts in the order of their lines.
-#[derive(Debug, Drop)]
+#[derive(Drop)]
 pub(crate) struct Scripts {
     given: Vec<Scripted>,
     /// How many entries they have together.

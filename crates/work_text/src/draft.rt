@@ -36,7 +36,7 @@ const MOST_RESIZES: usize = 4096;
 const MOST_RESERVE: u64 = 1024;
 
 /// The work of a text so far, and which sectors of the devices the writes of the present round have.
-#[derive(Debug, Drop)]
+#[derive(Drop)]
 pub(crate) struct Draft {
     pub(crate) work: Work,
     /// How many `sync` lines there were.

@@ -25,7 +25,7 @@ use stack_base::PoolId;
 use std::alloc::Global;
 
 /// The reserve that a pool has from a round on.
-#[derive(Clone, Copy, Debug, PartialEq, Eq)]
+#[derive(Clone, Copy, PartialEq, Eq)]
 pub struct Resize {
     /// The round that starts next.
     pub round: u32,
@@ -35,7 +35,7 @@ pub struct Resize {
 }
 
 /// The writes of a text, in their order, and what they need together.
-#[derive(Debug, Drop)]
+#[derive(Drop)]
 pub struct Work {
     pub writes: Vec<Write>,
     /// The round of each write, from 0 on: so many `sync` lines stand before it.

@@ -36,7 +36,7 @@ fn no_mark_of(alloc: Global, stack: &Stack, dev: DevId) -> Result<Marks, AllocEr
 }
 
 /// A mark for each sector of a device: a number for each round, and 0 where there is no mark.
-#[derive(Debug, Drop)]
+#[derive(Drop)]
 pub(crate) struct Marks {
     sectors: Vec<u32>,
 }

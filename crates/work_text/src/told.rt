@@ -7,7 +7,7 @@ use stack_base::Range;
 use std::alloc::Global;
 
 /// What a line says of the work.
-#[derive(Debug, Drop)]
+#[derive(Drop)]
 pub(crate) enum Told<'a> {
     /// A write to the device of this name.
     Write {
