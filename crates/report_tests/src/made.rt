@@ -9,7 +9,7 @@ use bioset_pools::fill_bio;
 use fail_script::Script;
 use mempool_core::{Facts, Pool, Taken};
 use model_disks::Disk;
-use stack_base::{DevId, Device, Kind, PoolId, Range, SetId, Stack, Status};
+use stack_base::{Bad, DevId, Device, Kind, PoolId, Range, SetId, Stack, Status};
 use std::process::Abort;
 use std::test::Fail;
 use task_core::Ended;
@@ -92,6 +92,13 @@ fn sizes() -> ArrayVec<u64, 32> {
     sizes
 }
 
+// A disk of 16 sectors with these bad ranges.
+fn disk(name: &str, bad: Vec<Bad>) -> Result<Device, Fail>
+    ensures { IfOk result (λ device. device.kind ≡ Kind.Disk 16 bad) }
+{
+    device(name, Kind::Disk { sectors: 16, bad })
+}
+
 // The facts of a pool of this reserve that served so many takes from ordinary memory and so many with spares.
 fn facts(min: u64, ordinary: u64, spare: u64) -> Facts {
     Facts {
@@ -111,20 +118,8 @@ pub fn made(rt: &(impl Abort + AllocGlobal)) -> Result<(Stack, Ended), Fail>
     ensures { IfOk result (λ made. IsOf made.0 made.1) }
 {
     let alloc = rt.alloc();
-    let a = device(
-        "a",
-        Kind::Disk {
-            sectors: 16,
-            bad: Vec::new(alloc),
-        },
-    )?;
-    let b = device(
-        "b",
-        Kind::Disk {
-            sectors: 16,
-            bad: Vec::new(alloc),
-        },
-    )?;
+    let a = disk("a", Vec::new(alloc))?;
+    let b = disk("b", Vec::new(alloc))?;
     let m = device("m", Kind::Mirror { records: 7 })?;
     let l = device("l", Kind::Limit { max: 4, chunk: 0 })?;
     let stack = Stack {
