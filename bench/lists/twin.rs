@@ -110,10 +110,29 @@ fn time_rounds(waiting: u32, count: u32) -> (u128, u64) {
     (start.elapsed().as_nanos(), served)
 }
 
+/// The nanoseconds of so many merges of one bio each onto a list of so many.
+fn time_merges(waiting: u32, count: u32) -> (u128, u64) {
+    let mut list: VecDeque<Element> = (0..waiting).map(|_| bio(2)).collect();
+    let start = Instant::now();
+    let mut merged = 0;
+    for _ in 0..count {
+        let Some(element) = list.pop_front() else {
+            break;
+        };
+        let mut one = VecDeque::new();
+        one.push_back(element);
+        list.append(&mut one);
+        merged += 1;
+    }
+    (start.elapsed().as_nanos(), merged)
+}
+
 fn main() {
     let count: u32 = std::env::args().nth(1).and_then(|word| word.parse().ok()).unwrap_or(0);
     let (alone, served) = time_rounds(0, count / 2);
     println!("alone {alone} {served}");
     let (waiting, served) = time_rounds(100, count / 2);
     println!("waiting {waiting} {served}");
+    let (merge, merged) = time_merges(100_000, count / 2);
+    println!("merge {merge} {merged}");
 }
