@@ -1,6 +1,6 @@
 -- What stands at a place of a list that is kept as a front and a back.
-use Rattle.std.proofs.Common.{◌≡◌, ℕ, zero, suc, ◌+◌, ◌<◌, List, [], ◌∷◌, ◌++◌, length, reverse, refl, sym, ◌∙◌, ap, arith, append_assoc}
-use Rattle.std.specs.Prelude.{Some, remove, slice_get}
+use Rattle.std.proofs.Common.{◌≡◌, ℕ, zero, suc, ◌+◌, ◌<◌, List, [], ◌∷◌, ◌++◌, length, reverse, refl, sym, ◌∙◌, ap, arith, append_assoc, subst}
+use Rattle.std.specs.Prelude.{Option, Some, None, MatchOption, ◌≤◌, ◌-◌, remove, slice_get}
 use Rattle.std.proofs.lemmas.List.{length-append, length-reverse}
 
 -- the element behind those before it, and the list without it
@@ -51,3 +51,32 @@ taken_out front ends first_passed first_left brought ends_left passed left more 
     none_lacking : {X : Type 0} (none : ℕ) (left : List X) (x : X) (more : List X) → left ≡ x ∷ more → (0 < none → left ≡ []) → none ≡ 0
     none_lacking zero left x more found lacked = refl
     none_lacking (suc none) left x more found lacked = let gone : left ≡ [] = lacked (omega arith) in absurd (cc)
+
+-- the element at a place of a list, or none where the list ends before
+abbrev pub DetachedAt : {E X : Type 0} (item : E → X) (IsFree : E → Type 0) → List X → ℕ → Option E → List X → Type 0
+DetachedAt item IsFree old index answer new =
+    MatchOption answer ((length old ≤ index) × (new ≡ old)) (λ e. (slice_get old index ≡ Some (item e)) × (new ≡ remove old index) × IsFree e)
+
+-- what is behind the first element is one place nearer there
+behind : {E X : Type 0} (item : E → X) (IsFree : E → Type 0) (first : X) (old new : List X) (index : ℕ) (answer : Option E)
+    → DetachedAt item IsFree old index answer new → DetachedAt item IsFree (first ∷ old) (suc index) answer (first ∷ new)
+behind item IsFree first old new index None detached = (omega (arith, detached.0), ap (λ l. first ∷ l) detached.1)
+behind item IsFree first old new index (Some e) detached = (detached.0, ap (λ l. first ∷ l) detached.1, detached.2)
+
+pub behind_one : {E X : Type 0} (item : E → X) (IsFree : E → Type 0) (first : X) (old new : List X) (index : ℕ) (answer : Option E) → (index ≡ 0 → ⊥)
+    → DetachedAt item IsFree old (index - 1) answer new → DetachedAt item IsFree (first ∷ old) index answer (first ∷ new)
+behind_one item IsFree first old new zero answer some detached = absurd (some refl)
+behind_one item IsFree first old new (suc index) answer some detached =
+    let less : suc index - 1 ≡ index = omega arith in
+    behind item IsFree first old new index answer (subst (λ (i : ℕ). DetachedAt item IsFree old i answer new) less detached)
+
+-- what is taken out of the front of a list is taken out of the list
+pub near_rest : {X : Type 0} (front ends : List X) (index : ℕ) (x : X) → slice_get front index ≡ Some x → remove front index ++ ends ≡ remove (front ++ ends) index
+near_rest [] ends index x found = absurd (cc)
+near_rest (y ∷ front) ends zero x found = refl
+near_rest (y ∷ front) ends (suc index) x found = ap (λ l. y ∷ l) (near_rest front ends index x found)
+
+pub near_counted : {X : Type 0} (front : List X) (index : ℕ) (x : X) → slice_get front index ≡ Some x → length (remove front index) + 1 ≡ length front
+near_counted [] index x found = absurd (cc)
+near_counted (y ∷ front) zero x found = omega arith
+near_counted (y ∷ front) (suc index) x found = let behind : length (remove front index) + 1 ≡ length front = near_counted front index x found in omega (arith, behind)

@@ -1,5 +1,5 @@
 //! Chains of elements, each in the box of the one before it.
-ghost use Rattle.std.specs.Prelude.{◌≡◌, ◌++◌, filter, ◌+◌, ◌<◌, [], ◌∷◌, length, reverse, remove, slice_get, min, ◌^◌, ◌-◌, MatchOption, Some};
+ghost use Rattle.std.specs.Prelude.{◌≡◌, ◌++◌, filter, ◌+◌, ◌<◌, ◌≤◌, [], ◌∷◌, length, reverse, remove, slice_get, min, ◌^◌, ◌-◌, MatchOption, Some};
 ghost use Rattle.bio_records.specs.Items.{items, item_of, IsAlone};
 ghost use Rattle.bio_records.specs.Sorting.{is_lower, is_of, is_of_other, is_same, same_set};
 
@@ -168,8 +168,26 @@ pub fn bring_round<F: Drop>(front: &mut Link<F>, back: &mut Link<F>)
     }
 }
 
-/// Takes the element at a place out of a list with this front and back. The others keep their order.
-pub fn take_out<F: Drop>(front: &mut Link<F>, back: &mut Link<F>, index: u64) -> Element<BioBody<F>>
+// The places of a chain that are reached by calls of `detach_at` within each other are those below this.
+const NEAR: u64 = 64;
+
+/// Takes the element at a place out of a chain, if it is that long. The others stay where they are.
+#[cycle(places)]
+pub fn detach_at<F: Drop>(link: &mut Link<F>, index: u64) -> Option<Element<BioBody<F>>>
+    ensures { MatchOption result ((length (items link.old) ≤ index) × (items link.new ≡ items link.old))
+        (λ element. (slice_get (items link.old) index ≡ Some (item_of element)) × (items link.new ≡ remove (items link.old) index) × IsAlone element) }
+{
+    if index == 0 {
+        return detach(link);
+    }
+    let Some((body, _)) = link else {
+        return None;
+    };
+    detach_at(&mut body.next, index - 1)
+}
+
+// Takes the element at a place out of a list with this front and back, by moving those before it. The others keep their order.
+fn take_far<F: Drop>(front: &mut Link<F>, back: &mut Link<F>, index: u64) -> Element<BioBody<F>>
     requires { index < length (items front.old) + length (items back.old) }
     ensures taken { slice_get (items front.old ++ reverse (items back.old)) index ≡ Some (item_of result) }
     ensures rest { items front.new ++ reverse (items back.new) ≡ remove (items front.old ++ reverse (items back.old)) index }
@@ -183,4 +201,20 @@ pub fn take_out<F: Drop>(front: &mut Link<F>, back: &mut Link<F>, index: u64) ->
     let element = detach(front).unwrap();
     *front = reverse_onto(passed, front.take());
     element
+}
+
+/// Takes the element at a place out of a list with this front and back. The others keep their order.
+pub fn take_out<F: Drop>(front: &mut Link<F>, back: &mut Link<F>, index: u64) -> Element<BioBody<F>>
+    requires { index < length (items front.old) + length (items back.old) }
+    ensures taken { slice_get (items front.old ++ reverse (items back.old)) index ≡ Some (item_of result) }
+    ensures rest { items front.new ++ reverse (items back.new) ≡ remove (items front.old ++ reverse (items back.old)) index }
+    ensures counted { length (items front.new) + length (items back.new) + 1 ≡ length (items front.old) + length (items back.old) }
+    ensures alone { IsAlone result }
+{
+    if index < NEAR {
+        if let Some(element) = detach_at(front, index) {
+            return element;
+        }
+    }
+    take_far(front, back, index)
 }

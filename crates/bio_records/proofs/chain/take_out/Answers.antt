@@ -1,39 +1,13 @@
--- What was moved off the front, and put back, stands before the element that was taken out.
 use Rattle.std.proofs.Common.{◌++◌, length, reverse, ◌∙◌, ap, arith}
-use Rattle.std.proofs.lemmas.List.{length-reverse, length-append}
 use Rattle.bio_records.specs.Items.{items, item_of}
-use Rattle.bio_records.proofs.Places.{TakenOut, taken_out}
-use Rattle.bio_records.proofs.chain.take_out.Given
+use Rattle.bio_records.proofs.Places.{near_rest, near_counted}
 use Rattle.bio_records.proofs.chain.take_out.Goals as goal
 
-out : (g : Given.Over) (c : goal.Joined-front-reverse_onto g)
-    → TakenOut (items c.args.front.now ++ reverse (items c.args.back.now)) (items c.pass-none.new.passed) (item_of c.unwrap-element.result)
-    (items c.detach.new.link) (reverse (items c.bring_round.new.back)) c.args.index
-out g c =
-    taken_out (items c.args.front.now) (reverse (items c.args.back.now)) (items c.pass-lacking.new.passed) (items c.pass-lacking.new.from)
-    (items c.bring_round.new.front) (reverse (items c.bring_round.new.back)) (items c.pass-none.new.passed) (items c.pass-none.new.from)
-    (items c.detach.new.link) (item_of c.unwrap-element.result) c.args.index c.pass-lacking.result c.pass-none.result
-    c.pass-lacking.ensures.same c.bring_round.ensures.same c.pass-none.ensures.same (rw c.unwrap-element.ensures at c.detach.ensures).0
-    (omega (arith, c.pass-lacking.ensures.counted)) c.pass-none.ensures.counted c.pass-none.ensures.lacked
+pub returns-in-Some-clause-rest : goal.returns-in-Some-clause-rest
+returns-in-Some-clause-rest g c =
+    ap (λ l. l ++ reverse (items c.args.back.now)) c.in-Some.ensures.1
+    ∙ near_rest (items c.args.front.now) (reverse (items c.args.back.now)) c.args.index (item_of c.in-Some.element) c.in-Some.ensures.0
 
-pub returns-clause-taken : goal.returns-clause-taken
-returns-clause-taken g c = (out g c).taken
-
-pub returns-clause-rest : goal.returns-clause-rest
-returns-clause-rest g c =
-    let end = out g c in
-    ap (λ l. l ++ reverse (items c.bring_round.new.back)) (c.reverse_onto.ensures ∙ ap (λ link. reverse (items c.pass-none.new.passed) ++ items link) c.take.ensures.value)
-    ∙ end.rest
-
-pub returns-clause-counted : goal.returns-clause-counted
-returns-clause-counted g c =
-    let end = out g c in
-    let front = c.reverse_onto.ensures ∙ ap (λ link. reverse (items c.pass-none.new.passed) ++ items link) c.take.ensures.value in
-    omega (
-      arith,
-      end.counted,
-      ap length front,
-      length-reverse (items c.args.back.now),
-      length-reverse (items c.bring_round.new.back),
-      length-append (items c.args.front.now) (reverse (items c.args.back.now)),
-    )
+pub returns-in-Some-clause-counted : goal.returns-in-Some-clause-counted
+returns-in-Some-clause-counted g c =
+    omega (arith, ap length c.in-Some.ensures.1, near_counted (items c.args.front.now) c.args.index (item_of c.in-Some.element) c.in-Some.ensures.0)
