@@ -14,3 +14,7 @@ pub mod Freed
 pub mod FirstFree
 pub mod Needed
 pub mod ByKind
+pub mod Readable
+pub mod Seen
+pub mod Risen
+pub mod SeenCores

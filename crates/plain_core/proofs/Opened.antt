@@ -145,7 +145,7 @@ module _ (stack : Stack) (scripts : List (PoolId × Answers)) (work : Work) (can
     last_is : 1 + last_of work.rounds.items - 1 ≡ last_of work.rounds.items
     last_is = omega arith
 
-    tasks_is : tasks_of stack work (duties_up_to work (last_of work.rounds.items)) ≡ tasks (scenario_by stack scripts work)
+    pub tasks_is : tasks_of stack work (duties_up_to work (last_of work.rounds.items)) ≡ tasks (scenario_by stack scripts work)
     tasks_is = ap (λ n. tasks_of stack work (duties_up_to work n)) (sym last_is)
 
     setup_is : setup_of stack (places_at places) ≡ opening.setup (scenario_by stack scripts work)

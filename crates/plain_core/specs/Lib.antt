@@ -11,3 +11,5 @@ pub mod Steps
 pub mod Cores
 pub mod Free
 pub mod Opening
+pub mod Readable
+pub mod Seen

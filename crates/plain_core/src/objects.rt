@@ -26,11 +26,11 @@ use crate::lists::{Lists, Rescue};
 use crate::part::{Part, Slip, Vector};
 use crate::pool::Pool;
 use crate::told;
-use stack_base::{DevId, PoolId, Stack, Status};
+use stack_base::{DevId, PoolId, Status};
 use std::alloc::AllocError;
 use std::marker::Model;
 use std::snapshot::Snapshot;
-use task_core::{Got, How, What};
+use task_core::{Got, How, Routes, What};
 
 /// What is counted of writes.
 #[derive(Drop)]
@@ -156,7 +156,7 @@ pub fn number_of(pool: PoolId) -> u64
 #[derive(Drop)]
 pub struct Objects {
     // Whose objects they are, which has no bytes here.
-    stack: Snapshot<Stack>,
+    stage: Snapshot<Routes>,
     pools: Vec<Pool>,
     rescues: Vec<Rescue>,
     disks: Vec<Option<Disk>>,
@@ -170,7 +170,7 @@ impl Model for Objects {
     ghost Value = { Plain };
 
     ghost view = { λ o. record {
-      stack = o.stack.value;
+      stack = o.stage.value.stack;
       pools = o.pools.items;
       rescues = o.rescues.items;
       disks = o.disks.items;
@@ -178,22 +178,22 @@ impl Model for Objects {
       tally = o.tally;
     } };
 
-    ghost invariant = { λ o. HasPlaces o.stack.value o.pools.items o.rescues.items o.disks.items };
+    ghost invariant = { λ o. HasPlaces o.stage.value.stack o.pools.items o.rescues.items o.disks.items };
 }
 
 impl Objects {
-    /// The objects of a stack, which have a place for all that it has.
+    /// The objects of the stack of these routes, which have a place for all that it has.
     pub fn new(
-        stack: &Stack,
+        routes: &Routes,
         pools: Vec<Pool>,
         rescues: Vec<Rescue>,
         disks: Vec<Option<Disk>>,
         books: Vec<Book>,
         tally: Tally,
     ) -> Objects
-        requires { HasPlaces stack.now pools.items rescues.items disks.items }
+        requires { HasPlaces routes.now.stack pools.items rescues.items disks.items }
         ensures { result ≡ record {
-          stack = stack.now;
+          stack = routes.now.stack;
           pools = pools.items;
           rescues = rescues.items;
           disks = disks.items;
@@ -202,7 +202,7 @@ impl Objects {
         } }
     {
         Objects {
-            stack: Snapshot::of(stack),
+            stage: Snapshot::of(routes),
             pools,
             rescues,
             disks,

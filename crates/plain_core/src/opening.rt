@@ -17,6 +17,7 @@ use crate::told::pool_of;
 use fail_script::Script;
 use stack_base::{DevId, Kind, PoolId, Stack, Status};
 use std::alloc::{AllocError, Global};
+use task_core::Routes;
 
 // The reserve of the records of a device, which a mirror alone has.
 fn records_of(kind: &Kind) -> u32
@@ -50,8 +51,11 @@ fn reserve_of(stack: &Stack, pool: PoolId) -> u32
     }
 }
 
-// The same script once more.
-fn copy_of(alloc: Global, script: &Script) -> Result<Script, AllocError>
+/// The same script once more.
+///
+/// # Errors
+/// Where there is no memory.
+pub fn copy_of(alloc: Global, script: &Script) -> Result<Script, AllocError>
     ensures { IfOk result (λ copy. copy ≡ script.now) }
 {
     let mut entries = Vec::with_capacity(alloc, script.entries() as usize)?;
@@ -91,8 +95,11 @@ fn open_pools(
     Ok(pools)
 }
 
-// Opens the lists of bios that wait for the rescuers of so many devices.
-fn open_rescues(alloc: Global, count: usize) -> Result<Vec<Rescue>, AllocError>
+/// Opens the lists of bios that wait for the rescuers of so many devices.
+///
+/// # Errors
+/// Where there is no memory.
+pub fn open_rescues(alloc: Global, count: usize) -> Result<Vec<Rescue>, AllocError>
     ensures { IfOk result (λ rescues. rescues.items ≡ replicate count []) }
 {
     let mut rescues = Vec::with_capacity(alloc, count)?;
@@ -132,13 +139,16 @@ fn open_disks(alloc: Global, stack: &Stack) -> Result<Vec<Option<Disk>>, AllocEr
     Ok(disks)
 }
 
-// Opens the books of the writers, with so many places for each.
-fn open_books(alloc: Global, places: &[u32; 8]) -> Result<Vec<Book>, AllocError>
-    ensures { IfOk result (λ books. books.items ≡ new_books places.now 8) }
+/// Opens the books of the writers, with the places that these routes have for each.
+///
+/// # Errors
+/// Where there is no memory.
+pub fn open_books(alloc: Global, routes: &Routes) -> Result<Vec<Book>, AllocError>
+    ensures { IfOk result (λ books. books.items ≡ new_books routes.now.places 8) }
 {
     let mut books = Vec::with_capacity(alloc, 8)?;
     'opening: for writer in 0..8 {
-        books.push(Book::open(alloc, writer as u32, places[writer])?)?;
+        books.push(Book::open(alloc, writer, routes.places(writer))?)?;
     }
     Ok(books)
 }
@@ -152,18 +162,19 @@ fn open_statuses(alloc: Global, count: usize) -> Result<Vec<Status>, AllocError>
     Ok(statuses)
 }
 
-/// Opens the objects of a stack, where the books of writers have so many places and so many writes are of each round.
+/// Opens the objects of a stack, where the books of writers have the places of its routes and so many writes are of each round.
 ///
 /// # Errors
 /// Where there is no memory.
 pub fn open_objects(
     alloc: Global,
     stack: &Stack,
+    routes: &Routes,
     scripts: &[(PoolId, Script)],
-    places: &[u32; 8],
     counts: Vec<u64>,
     writes: usize,
 ) -> Result<Objects, AllocError>
+    requires same { routes.now.stack ≡ stack.now }
     requires stack { IsStack stack.now }
     requires scripts { All (λ (script : Pools × Answers). IsOfStack script.0) scripts.now }
     requires rounds { length counts.items < 2 ^ 32 }
@@ -172,14 +183,14 @@ pub fn open_objects(
       pools = new_pools stack.now scripts.now 66;
       rescues = replicate (length stack.now.devices.items) [];
       disks = new_disks stack.now (length stack.now.devices.items);
-      books = new_books places.now 8;
+      books = new_books routes.now.places 8;
       tally = record { round = 0; left = counts.items; statuses = replicate writes Well };
     }) }
 {
     let pools = open_pools(alloc, stack, scripts)?;
     let rescues = open_rescues(alloc, stack.devices.len())?;
     let disks = open_disks(alloc, stack)?;
-    let books = open_books(alloc, places)?;
+    let books = open_books(alloc, routes)?;
     let tally = Tally::new(counts, open_statuses(alloc, writes)?);
-    Ok(Objects::new(stack, pools, rescues, disks, books, tally))
+    Ok(Objects::new(routes, pools, rescues, disks, books, tally))
 }

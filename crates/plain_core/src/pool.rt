@@ -1,5 +1,6 @@
 //! Pools as numbers.
 ghost use Rattle.std.specs.Prelude.{◌≡◌, ◌<◌, MatchBool};
+ghost use Rattle.mempool_core.specs.Facts.{AddsUp};
 ghost use Rattle.mempool_core.specs.Move.{opened, takes_spare, gives, resizes, CanMove, after_move};
 ghost use Rattle.plain_core.specs.Free.{IsShort};
 ghost use Rattle.plain_core.specs.Pools.{move_of, uses, CanTake};
@@ -45,6 +46,14 @@ impl Pool {
                 spare: 0,
             },
         }
+    }
+
+    /// A pool with this script and these numbers.
+    pub fn of(script: Script, facts: Facts) -> Pool
+        requires { AddsUp facts }
+        ensures { result ≡ record { script = script; facts = facts } }
+    {
+        Pool { script, facts }
     }
 
     // Whether a take uses up an entry of the script.

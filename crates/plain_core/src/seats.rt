@@ -31,8 +31,11 @@ pub fn slot_of(task: TaskId) -> u64
     }
 }
 
-// Puts a task behind the others.
-fn seat(tasks: &mut Vec<Task>, places: &mut Vec<u32>, task: Task) -> Result<(), AllocError>
+/// Puts a task behind the others.
+///
+/// # Errors
+/// Where there is no memory.
+pub fn seat(tasks: &mut Vec<Task>, places: &mut Vec<u32>, task: Task) -> Result<(), AllocError>
     requires small { slot_of (id_of (task_of task)) < 73 }
     requires seated { AreSeated (map task_of tasks.old.items) places.old.items (slot_of (id_of (task_of task))) }
     ensures { OnOk result (Seats tasks.old.items (task_of task ∷ []) tasks.new.items places.new.items (slot_of (id_of (task_of task)) + 1)) }
@@ -43,8 +46,8 @@ fn seat(tasks: &mut Vec<Task>, places: &mut Vec<u32>, task: Task) -> Result<(), 
     Ok(())
 }
 
-// A submission that has not begun.
-fn resting(alloc: Global) -> Line
+/// A submission that has not begun.
+pub fn resting(alloc: Global) -> Line
     ensures { line_of result ≡ rests }
 {
     Line {
@@ -208,8 +211,11 @@ fn seat_keeper(
     seat(tasks, places, Task::Keeper(Keeper { duties, done: 0 }))
 }
 
-// So many slots, in which no place is kept.
-fn open_slots(alloc: Global) -> Result<Vec<u32>, AllocError>
+/// All slots, in which no place is kept.
+///
+/// # Errors
+/// Where there is no memory.
+pub fn open_slots(alloc: Global) -> Result<Vec<u32>, AllocError>
     ensures { IfOk result (λ places. length places.items ≡ 73) }
 {
     let mut places = Vec::new(alloc);

@@ -2,6 +2,7 @@
 ghost use Rattle.std.specs.Prelude.{◌≡◌, ◌<◌, map, length, slice_get, MatchBool, MatchOption, IfOk};
 ghost use Rattle.task_core.specs.Routed.{setup};
 ghost use Rattle.task_core.specs.Within.{TaskFits};
+ghost use Rattle.task_core.specs.OfOne.{IsOpened as AreTheFirst, scenario_in};
 ghost use Rattle.plain_core.specs.Views.{task_of};
 ghost use Rattle.plain_core.specs.Opening.{CanOpen, IsOpened, scenario_by};
 ghost use Rattle.task_core.specs.Runs.{HasFree};
@@ -14,6 +15,8 @@ use crate::objects::Objects;
 use crate::opening::open_objects;
 use crate::rounds::{counts_of, duties_of};
 use crate::seats::{seat_all, slot_of};
+use crate::seen_objects::objects_seen;
+use crate::seen_tasks::tasks_seen;
 use crate::step::task_step;
 use crate::task::Task;
 use crate::todos::places;
@@ -21,14 +24,15 @@ use fail_script::Script;
 use stack_base::{PoolId, Stack};
 use std::alloc::{AllocError, Global};
 use std::marker::Model;
+use std::sync::Arc;
 use task_core::within::tasks_stay_within;
-use task_core::{Event, Routes, TaskId, What};
+use task_core::{Event, Opened, Routes, TaskId, What};
 use work_text::Work;
 
 /// A state of the machine of a run, without elements and ledgers.
 #[derive(Drop)]
 pub struct Core {
-    routes: Routes,
+    routes: Arc<Routes>,
     objects: Objects,
     tasks: Vec<Task>,
     // Where each task stands, by its name.
@@ -42,9 +46,9 @@ impl Model for Core {
 
     ghost Value = { CoreState };
 
-    ghost view = { λ c. record { routing = c.routes; objects = c.objects; tasks = map task_of c.tasks.items } };
+    ghost view = { λ c. record { routing = c.routes.value; objects = c.objects; tasks = map task_of c.tasks.items } };
 
-    ghost invariant = { λ c. IsCore c.routes c.objects (map task_of c.tasks.items) c.places.items };
+    ghost invariant = { λ c. IsCore c.routes.value c.objects (map task_of c.tasks.items) c.places.items };
 }
 
 // Whether two names are of one task.
@@ -110,12 +114,32 @@ impl Core {
         let duties = duties_of(alloc, work, &counts)?;
         let (tasks, slots) = seat_all(alloc, stack, work, duties)?;
         let writes = work.writes.len();
-        let objects = open_objects(alloc, stack, scripts, &places, counts, writes)?;
+        let routes = Routes::new(alloc, stack, places)?;
+        let objects = open_objects(alloc, stack, &routes, scripts, counts, writes)?;
         Ok(Core {
-            routes: Routes::new(alloc, stack, places)?,
+            routes: Arc::new(alloc, routes)?,
             objects,
             tasks,
             places: slots,
+        })
+    }
+
+    /// The plain state of what was opened of a text: pools, disks, books, the tally and the tasks as they are there, without an element.
+    ///
+    /// # Errors
+    /// Where there is no memory.
+    pub fn of(alloc: Global, opened: &Opened) -> Result<Core, AllocError>
+        requires { AreTheFirst opened.now }
+        ensures { IfOk result (IsOpened (scenario_in opened.now)) }
+    {
+        let routes = opened.routes()?;
+        let objects = objects_seen(alloc, opened, &routes)?;
+        let (tasks, places) = tasks_seen(alloc, &opened.tasks)?;
+        Ok(Core {
+            routes,
+            objects,
+            tasks,
+            places,
         })
     }
 

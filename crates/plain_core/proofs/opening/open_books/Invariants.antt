@@ -3,4 +3,4 @@ use Rattle.plain_core.specs.Opening.{new_books}
 use Rattle.plain_core.proofs.opening.open_books.Given as goal
 
 abbrev pub invariant-opening : goal.invariant-opening
-invariant-opening l = l.books.items ≡ new_books l.places l.writer
+invariant-opening l = l.books.items ≡ new_books l.routes.places l.writer

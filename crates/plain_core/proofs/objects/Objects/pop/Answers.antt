@@ -7,7 +7,7 @@ use Rattle.plain_core.proofs.objects.Objects.pop.Goals as goal
 
 pub invariant_of-self-2 : goal.invariant_of-self-2
 invariant_of-self-2 c =
-    let stack = c.self.inside.stack.value in
+    let stack = c.self.inside.stage.value.stack in
     let here : slice_index_or c.self.inside.rescues.items c.args.dev.0 [] ≡ c.in-Some.rescue.now = search rules in
     rescued c.args.dev.0 c.pop.new.self c.self.invariant
     (subst (AreWithin stack) (sym c.pop.ensures.rest)

@@ -9,7 +9,7 @@ use Rattle.plain_core.proofs.objects.Objects.punt.Goals as goal
 
 pub invariant_of-self-2 : goal.invariant_of-self-2
 invariant_of-self-2 c =
-    let stack = c.self.inside.stack.value in
+    let stack = c.self.inside.stage.value.stack in
     let here : slice_index_or c.self.inside.rescues.items c.args.dev.0 [] ≡ c.in-Some.rescue.now = search rules in
     let lists = lists_of c.args.lists.now in
     let within : ListsAreWithin stack lists = subst (λ (o : Plain). ListsAreWithin o.stack lists) (sym c.self.view_is) c.requires.within in

@@ -16,10 +16,10 @@ returns-then-task_is_free c =
     let at = slice_get_read i.tasks.items (length i.tasks.items) c.asking.place x refl here c.index.ensures in
     let y = c.index-then-task_is_free.result.now in
     let again = slice_get_read i.tasks.items (length i.tasks.items) c.asking.place y refl here c.index-then-task_is_free.ensures in
-    let free = subst (λ b. Tells b (TaskIsFree i.routes i.objects (task_of x))) c.if-task_is_free.true (c.task_is_free.ensures i.routes) in
+    let free = subst (λ b. Tells b (TaskIsFree i.routes.value i.objects (task_of x))) c.if-task_is_free.true (c.task_is_free.ensures i.routes.value) in
     let before = subst (λ (o : CoreState). (k : ℕ) → k < c.asking.place → IsFreeAt o k → ⊥) (sym c.self.view_is) c.asking.invariant in
     subst (λ (o : CoreState). IsFirstFree o c.id.result) c.self.view_is
-    (found_free i.routes i.objects i.tasks.items c.asking.place x c.id.result at here
+    (found_free i.routes.value i.objects i.tasks.items c.asking.place x c.id.result at here
     (c.id.ensures ∙ ap (λ t. id_of (task_of t)) (same_Some y x (sym again ∙ at))) free before)
 
 pub asking-preserved : goal.asking-preserved
@@ -28,8 +28,8 @@ asking-preserved c =
     let here : c.asking.place < length i.tasks.items = omega (arith, c.asking-test.true, c.len-place-end.ensures) in
     let x = c.index.result.now in
     let at = slice_get_read i.tasks.items (length i.tasks.items) c.asking.place x refl here c.index.ensures in
-    let never = subst (λ b. Tells b (TaskIsFree i.routes i.objects (task_of x))) c.if-task_is_free.false (c.task_is_free.ensures i.routes) in
-    let not_here = subst (λ (o : CoreState). IsFreeAt o c.asking.place → ⊥) c.self.view_is (found_not i.routes i.objects i.tasks.items c.asking.place x at never) in
+    let never = subst (λ b. Tells b (TaskIsFree i.routes.value i.objects (task_of x))) c.if-task_is_free.false (c.task_is_free.ensures i.routes.value) in
+    let not_here = subst (λ (o : CoreState). IsFreeAt o c.asking.place → ⊥) c.self.view_is (found_not i.routes.value i.objects i.tasks.items c.asking.place x at never) in
     next_is_not c.args.self.now c.asking.place c.asking.invariant not_here
 
 pub returns : goal.returns

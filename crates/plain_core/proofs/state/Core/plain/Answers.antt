@@ -36,8 +36,8 @@ open_objects-requires-clause-rounds c =
 
 pub invariant_of-result : goal.invariant_of-result
 invariant_of-result c =
-    is_core c.args.stack.now c.args.scripts.now c.args.work.now c.in_ok-duties.duties.items c.in_ok-new.field-0 c.in_ok-objects.objects
-    (map task_of c.in_ok-tasks.tasks.items) c.in_ok-tasks.slots.items c.requires (ap (λ (r : Routing). r.stack) c.in_ok-new.ensures)
+    is_core c.args.stack.now c.args.scripts.now c.args.work.now c.in_ok-duties.duties.items c.in_ok-new.field-0.value c.in_ok-objects.objects
+    (map task_of c.in_ok-tasks.tasks.items) c.in_ok-tasks.slots.items c.requires (ap (λ (r : Routing). r.stack) (c.in_ok-new.ensures.ok ∙ c.in_ok-routes.ensures))
     (ap (λ (o : Plain). o.stack) c.in_ok-objects.ensures) c.in_ok-tasks.ensures.0 c.in_ok-tasks.ensures.1
 
 pub returns : goal.returns
@@ -47,14 +47,16 @@ returns c =
     let places = c.in_ok-places.places in
     let written : c.len-writes.result ≡ length work.writes.items = omega (arith, c.len-writes.ensures, work.writes.ok.0) in
     let counts = c.in_ok-counts.ensures ∙ ap counts_of c.deref.ensures.value in
+    let kept = ap (λ (r : Routing). r.places) c.in_ok-routes.ensures in
     opened_so stack c.args.scripts.now work c.requires places c.in_ok-places.ensures
-    (record { routing = c.in_ok-new.field-0; objects = c.in_ok-objects.objects; tasks = map task_of c.in_ok-tasks.tasks.items }) c.in_ok-new.ensures
+    (record { routing = c.in_ok-new.field-0.value; objects = c.in_ok-objects.objects; tasks = map task_of c.in_ok-tasks.tasks.items })
+    (c.in_ok-new.ensures.ok ∙ c.in_ok-routes.ensures)
     (c.in_ok-objects.ensures ∙ (λ k. record {
       stack = stack;
       pools = new_pools stack c.args.scripts.now 66;
       rescues = replicate (length stack.devices.items) [];
       disks = new_disks stack (length stack.devices.items);
-      books = new_books places 8;
+      books = new_books (kept k) 8;
       tally = record { round = 0; left = counts k; statuses = replicate (written k) status.Ok };
     }))
     (c.in_ok-tasks.ensures.0 ∙ ap (tasks_of stack work) c.in_ok-duties.ensures)

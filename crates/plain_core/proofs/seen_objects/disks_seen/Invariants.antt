@@ -1,0 +1,7 @@
+use Rattle.std.proofs.Common.{◌≡◌}
+use Rattle.task_core.specs.OfOne.{scenario_in}
+use Rattle.plain_core.specs.Opening.{new_disks}
+use Rattle.plain_core.proofs.seen_objects.disks_seen.Given as goal
+
+abbrev pub invariant-seeing : goal.invariant-seeing
+invariant-seeing l = l.disks.items ≡ new_disks (scenario_in l.opened).stack l.number

@@ -1,0 +1,25 @@
+-- Tasks that have not begun, in the order of their slots.
+use Rattle.std.specs.Prelude.{◌≡◌, ◌+◌, ◌≤◌, ℕ, All, List, [], ◌∷◌}
+use Rattle.stack_base.specs.PoolId.{IsOfStack}
+use Rattle.task_core.specs.Events.{id_of}
+use Rattle.task_core.specs.Lines.{rests}
+use Rattle.task_core.specs.Tasks.{TaskState, Duty, Resizes, Starts, NoBio, Empty, Keeps, Stops, Writer, Rescuer, Completer, Keeper}
+use Rattle.plain_core.specs.Cores.{slot_of}
+
+-- a change of reserves names a pool that a stack can have
+abbrev pub IsOfPool : Duty → Type 0
+IsOfPool (Resizes pool min later) = IsOfStack pool
+IsOfPool (Starts round later) = Unit {0}
+
+-- it has nothing at hand
+abbrev pub IsFirst : TaskState → Type 0
+IsFirst (Writer number todo taken line) = (taken ≡ NoBio) × (line ≡ rests)
+IsFirst (Rescuer dev line) = line ≡ rests
+IsFirst (Completer disk carried) = carried ≡ Empty
+IsFirst (Keeper (Keeps duties)) = All IsOfPool duties
+IsFirst (Keeper (Stops breach)) = ⊥
+
+-- the slots of tasks rise from one number up to below another
+abbrev pub Rises : ℕ → List TaskState → ℕ → Type 0
+Rises low [] high = low ≤ high
+Rises low (task ∷ tasks) high = (low ≤ slot_of (id_of task)) × Rises (slot_of (id_of task) + 1) tasks high
