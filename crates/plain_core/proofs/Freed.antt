@@ -1,36 +1,35 @@
 -- A request can be answered without ordinary memory exactly where its need is met.
-use Rattle.std.proofs.Common.{◌≡◌, ◌≢◌, ◌⊎◌, inl, inr, ◌+◌, ◌-◌, ◌^◌, ◌<◌, ◌==◌, ◌∷◌, if◌then◌else◌, ℕ, zero, suc, Bool, true, false, List, [], length, min, remove, refl, sym, ap, ◌∙◌, subst, arith, Option, None, Some, IsSome, IsTrue, MatchBool}
+use Rattle.std.proofs.Common.{◌≡◌, ◌⊎◌, inl, inr, ◌-◌, ◌^◌, ◌<◌, ◌==◌, ◌∷◌, if◌then◌else◌, ℕ, Bool, true, false, List, [], length, min, remove, refl, sym, ap, ◌∙◌, subst, arith, Option, None, Some, IsSome, IsTrue}
 use Rattle.std.specs.Prelude.{slice_get}
 use Rattle.std.proofs.lemmas.Bool.Decides.{nat_tests}
 use Rattle.std.proofs.lemmas.Option.{slice_get_within}
 use Rattle.stack_base.specs.declared.ids.DevId.{DevId}
 use Rattle.stack_base.specs.declared.ids.PoolId.{PoolId}
 use Rattle.stack_base.specs.declared.ids.PoolId.TheVariants.{FsVecs, Records}
-use Rattle.stack_base.specs.declared.ids.SetId.{SetId}
 use Rattle.stack_base.specs.declared.ids.Status.{Status}
 use Rattle.stack_base.specs.declared.ids.Status.TheVariants as status
 use Rattle.stack_base.specs.PoolId.{pool_number}
 use Rattle.stack_base.specs.Fault.{fault, status_eq}
 use Rattle.mempool_core.specs.Position.{uses_entry}
-use Rattle.mempool_core.specs.Move.{PoolState, takes_ordinary, takes_spare, misses, gives, resizes, CanMove, after_move}
+use Rattle.mempool_core.specs.Move.{PoolState, takes_spare, misses, gives, after_move}
 use Rattle.bio_records.specs.declared.bio.Pad.{Pad}
 use Rattle.bio_records.specs.Items.{Item}
 use Rattle.bioset_pools.specs.Sets.{bios_of}
 use Rattle.model_disks.specs.Disks.{DiskState}
-use Rattle.model_disks.specs.Moves.{Completes, pushed, written}
+use Rattle.model_disks.specs.Moves.{Completes, written}
 use Rattle.bio_books.specs.Books.{BookState, Node, node_at, parent_of, with_node, top_node, child_node, master_node, leg_node, keeping, raised, lowered, told}
 use Rattle.bio_books.specs.Drops.{Drops, DropsAt, DropsNode, closed_of}
 use Rattle.bio_books.specs.Drops as drop
-use Rattle.bio_books.specs.Links.{Linked, Made, NoRoom, Stray, IsVacant, ChainsAt, MastersAt, LegsAt}
+use Rattle.bio_books.specs.Links.{Linked, Made, NoRoom, Stray, ChainsAt, MastersAt, LegsAt}
 use Rattle.task_core.specs.declared.event.Got.TheVariants as got
 use Rattle.task_core.specs.declared.event.What.{What}
 use Rattle.task_core.specs.declared.event.What.TheVariants as what
 use Rattle.task_core.specs.Events.{is_free, what_of, take_of, miss_of, pool_of, how_of, link_of, drop_of, resize_of}
 use Rattle.task_core.specs.Maps.{upd}
-use Rattle.task_core.specs.Objects.{Objects, Opened, Serves, clear_bio, clear_vector, clear_slip, done_one}
+use Rattle.task_core.specs.Objects.{Objects, Opened, Serves, clear_bio, clear_vector, clear_slip}
 use Rattle.task_core.specs.Requests.{Request, Reply, Opening, Write, Chain, Master, Leg, TakeBio, TakeVec, TakeSlip, GiveBio, GiveVec, GiveSlip, Punt, Pop, Push, Complete, Link, Drop, Done, Resize, NextRound, LookRound, LookLeft, Rest, HadBio, HadVec, HadSlip, Missed, Did, Popped, Completed, LinkedTo, DroppedTo, OutIs, Nothing}
 use Rattle.task_core.proofs.Frames.{upd_same}
-use Rattle.plain_core.specs.Free.{CanFree, IsMet, IsShort, Tells, link_need, need_of}
+use Rattle.plain_core.specs.Free.{CanFree, IsMet, Tells, link_need, need_of}
 use Rattle.plain_core.specs.Ledgers.{ledger_of}
 use Rattle.plain_core.specs.Plain.{Plain, pool_at, rescue_at, disk_at, book_at, objects_of}
 use Rattle.plain_core.specs.declared.need.Need.{Need}

@@ -1,5 +1,5 @@
 -- What tasks need is what their requests do, and when what they look at lets them ask.
-use Rattle.std.proofs.Common.{◌≡◌, ◌⊎◌, inl, inr, ℕ, ◌<◌, ◌≤◌, Bool, true, false, nat_le, ◌==◌, List, [], ◌∷◌, sum, refl, sym, ap, ◌∙◌, subst, arith, IsTrue, MatchBool}
+use Rattle.std.proofs.Common.{◌≡◌, ℕ, Bool, true, false, nat_le, ◌==◌, List, ◌∷◌, sum, refl, sym, ap, ◌∙◌, subst, IsTrue}
 use Rattle.stack_base.specs.declared.ids.DevId.{DevId}
 use Rattle.task_core.specs.Lines as line
 use Rattle.task_core.specs.Objects.{Serves}

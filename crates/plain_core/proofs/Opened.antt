@@ -1,6 +1,6 @@
 -- What is opened of a text is the state in which its runs begin.
-use Rattle.std.proofs.Common.{◌≡◌, ◌+◌, ◌-◌, ◌/◌, ◌%◌, ◌<◌, ◌≤◌, ◌==◌, ◌++◌, ◌⊎◌, inl, inr, ℕ, Bool, true, false, cond, List, [], ◌∷◌, length, map, get_or, find, replicate, refl, sym, ap, ◌∙◌, subst, arith, Option, None, Some}
-use Rattle.std.specs.Prelude.{All, slice_get, slice_index_or, filter, flat_map}
+use Rattle.std.proofs.Common.{◌≡◌, ◌+◌, ◌-◌, ◌/◌, ◌%◌, ◌<◌, ◌≤◌, ◌==◌, ◌⊎◌, inl, inr, ℕ, Bool, true, false, cond, List, [], ◌∷◌, length, map, find, replicate, refl, sym, ap, ◌∙◌, subst, arith, Option, None, Some}
+use Rattle.std.specs.Prelude.{All, slice_get, slice_index_or, filter}
 use Rattle.std.specs.List.{range_with_len}
 use Rattle.std.specs.Option.{option_map_or}
 use Rattle.std.proofs.lemmas.Bool.Decides.{nat_tests}
@@ -16,21 +16,18 @@ use Rattle.stack_base.specs.declared.stack.Device.{Device}
 use Rattle.stack_base.specs.declared.stack.Stack.{Stack}
 use Rattle.stack_base.specs.PoolId.{IsOfStack, pool_number}
 use Rattle.stack_base.specs.Tree.{size, tree}
-use Rattle.layout_model.specs.declared.write.Write.{Write}
 use Rattle.layout_model.specs.Writes.{IsWrite}
 use Rattle.mempool_core.specs.Move.{PoolState, opened}
 use Rattle.bio_records.specs.declared.bio.Pad.{Pad}
 use Rattle.bio_records.specs.Items.{Item}
-use Rattle.bio_books.specs.Books.{BookState}
 use Rattle.model_disks.specs.Disks.{DiskState}
 use Rattle.work_text.specs.declared.Work.{Work}
 use Rattle.task_core.specs.Events.{pool_of}
 use Rattle.task_core.specs.Lines.{rests}
 use Rattle.task_core.specs.Opened.{Scenario, at, is_by, is_numbered, keepers, no_task, objects, places_of, records_of, reserve_of, script_at, tasks}
 use Rattle.task_core.specs.Opened as opening
-use Rattle.task_core.specs.Objects.{Objects, TallyState}
 use Rattle.task_core.specs.Routed.{Routing, places_at, setup}
-use Rattle.task_core.specs.Scene.{Setup, keeps_data, setup_of}
+use Rattle.task_core.specs.Scene.{keeps_data, setup_of}
 use Rattle.task_core.specs.Tasks.{Duty, TaskState, Todo, Writer, Rescuer, Completer, Keeper, Keeps, NoBio, Empty}
 use Rattle.task_core.specs.Within.{AreWithin, IsItemWithin, LineFits, TaskFits}
 use Rattle.plain_core.specs.Cores.{CoreState, AreFound, IsCore}

@@ -1,19 +1,13 @@
 -- Opened objects are those of their text.
-use Rattle.std.proofs.Common.{◌≡◌, ◌+◌, ◌/◌, ◌%◌, ◌^◌, ◌<◌, ◌≤◌, ◌==◌, ◌&&◌, ◌||◌, ℕ, Bool, true, false, true≢false, not, cond, List, length, replicate, refl, sym, ap, ◌∙◌, subst, arith, Option, None, Some}
-use Rattle.std.specs.Prelude.{IsTrue}
+use Rattle.std.proofs.Common.{◌≡◌, ◌/◌, ◌%◌, ◌^◌, ◌<◌, ◌≤◌, ◌==◌, ◌&&◌, ◌||◌, ℕ, Bool, true, false, true≢false, cond, length, refl, sym, ap, ◌∙◌, subst, arith}
 use Rattle.std.proofs.lemmas.Bool.Decides.{nat_tests}
-use Rattle.std.proofs.lemmas.List.{length-replicate}
 use Rattle.fail_script.specs.Script.{Answers, only_tail}
-use Rattle.stack_base.specs.declared.ids.DevId.{DevId}
 use Rattle.stack_base.specs.declared.ids.PoolId.{PoolId}
 use Rattle.stack_base.specs.declared.ids.PoolId.TheVariants.{FsBios, FsVecs, Bios, Records}
-use Rattle.stack_base.specs.declared.stack.Stack.{Stack}
 use Rattle.stack_base.specs.PoolId.{pool_number}
-use Rattle.stack_base.specs.Tree.{tree}
 use Rattle.mempool_core.specs.Facts.{AddsUp}
 use Rattle.mempool_core.specs.declared.Facts.{Facts}
 use Rattle.mempool_core.specs.Move.{PoolState, opened}
-use Rattle.model_disks.specs.Disks.{DiskState}
 use Rattle.decl_text.proofs.Fits.{accepted_fit}
 use Rattle.task_core.specs.declared.opened.Opened.{Opened}
 use Rattle.task_core.specs.Events.{pool_of}
@@ -23,10 +17,10 @@ use Rattle.task_core.specs.Opened.{Scenario, at, objects, reserve_of, script_at}
 use Rattle.task_core.specs.Openings.{has_pool, uses_slips}
 use Rattle.task_core.specs.Plains.{objects_of, stage_of}
 use Rattle.task_core.specs.Routed.{Routing, setup}
-use Rattle.task_core.specs.Scene.{has_set, keeps_data}
+use Rattle.task_core.specs.Scene.{has_set}
 use Rattle.task_core.specs.Stage.{Stage, is_pool}
 use Rattle.task_core.proofs.Behind.{no_set_keeps, no_slips_keep, scripts_alone}
-use Rattle.plain_core.specs.Opening.{CanOpen, new_disk, new_pool}
+use Rattle.plain_core.specs.Opening.{CanOpen, new_pool}
 use Rattle.plain_core.specs.Plain.{opened_disk}
 use Rattle.plain_core.proofs.Counted.{count_rounds, last_le}
 use Rattle.plain_core.proofs.Readable.{can_open}

@@ -1,9 +1,5 @@
 -- The plain state of what was opened is that in which the runs of its text begin.
-use Rattle.std.proofs.Common.{◌≡◌, ◌+◌, ℕ, List, [], length, replicate, sym, ap, ◌∙◌, subst}
-use Rattle.std.specs.Prelude.{slice_get}
-use Rattle.fail_script.specs.Script.{Answers}
-use Rattle.stack_base.specs.declared.ids.PoolId.{PoolId}
-use Rattle.stack_base.specs.declared.stack.Stack.{Stack}
+use Rattle.std.proofs.Common.{◌≡◌, ℕ, List, [], length, replicate, sym, ap, ◌∙◌}
 use Rattle.work_text.specs.declared.Work.{Work}
 use Rattle.task_core.specs.declared.opened.Opened.{Opened}
 use Rattle.task_core.specs.OfOne.{IsOpened as AreTheFirst, scenario_in, states}

@@ -1,5 +1,5 @@
 -- Which task can go on without ordinary memory.
-use Rattle.std.specs.Prelude.{◌≡◌, ◌⊎◌, ◌+◌, ◌-◌, ◌^◌, ◌<◌, ℕ, Bool, true, false, IsTrue, MatchBool, List, length, Option, None, Some}
+use Rattle.std.specs.Prelude.{◌≡◌, ◌⊎◌, ◌+◌, ◌-◌, ◌^◌, ◌<◌, ℕ, Bool, true, false, IsTrue, MatchBool, length, Option, None, Some}
 use Rattle.stack_base.specs.declared.ids.PoolId.TheVariants.{FsVecs, Records}
 use Rattle.stack_base.specs.PoolId.{pool_number}
 use Rattle.mempool_core.specs.Move.{PoolState, takes_spare, CanMove}

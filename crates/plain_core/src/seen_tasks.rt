@@ -2,11 +2,8 @@
 ghost use Rattle.std.specs.Prelude.{◌≡◌, IfOk, All, map};
 ghost use Rattle.task_core.specs.KeeperViews.{duty_of as keeps};
 ghost use Rattle.task_core.specs.OfOne.{states};
-ghost use Rattle.task_core.specs.Tasks.{Duty as Ahead, Keeper as Keeping, Keeps};
-ghost use Rattle.task_core.specs.RescuerViews.{rescuer_task};
-ghost use Rattle.task_core.specs.TaskViews.{TaskOf};
+ghost use Rattle.task_core.specs.Tasks.{Keeper as Keeping};
 ghost use Rattle.task_core.specs.WriterViews.{writer_task};
-ghost use Rattle.task_core.specs.declared.keeper.Duty.{Duty as Duties};
 ghost use Rattle.plain_core.specs.Cores.{AreFound};
 ghost use Rattle.plain_core.specs.Seen.{IsFirst, IsOfPool, Rises};
 ghost use Rattle.plain_core.specs.Views.{keeper_of, task_of, writer_of};

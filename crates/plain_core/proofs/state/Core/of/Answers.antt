@@ -1,4 +1,4 @@
-use Rattle.std.proofs.Common.{◌≡◌, ap, sym, ◌∙◌, List, map, subst}
+use Rattle.std.proofs.Common.{ap, sym, ◌∙◌, List, map, subst}
 use Rattle.std.specs.Prelude.{All}
 use Rattle.task_core.specs.OfOne.{states}
 use Rattle.task_core.specs.TaskViews.{TaskOf}
