@@ -27,7 +27,7 @@ const EVENTS: &[State] = &[
 
 #[test]
 fn seven_events_end_a_write(rt: HostRuntime) -> Result<(), Fail> {
-    run(&rt, ONE, EVENTS)
+    run(&rt, ONE, &[EVENTS])
 }
 
 #[test]

@@ -73,7 +73,7 @@ const MISSES: &[State] = &[
 
 #[test]
 fn a_miss_uses_up_an_entry(rt: HostRuntime) -> Result<(), Fail> {
-    run(&rt, MISS, MISSES)
+    run(&rt, MISS, &[MISSES])
 }
 
 /// Two writers at one disk.
@@ -139,7 +139,7 @@ const WRITERS: &[State] = &[
 
 #[test]
 fn two_writers_have_a_book_each(rt: HostRuntime) -> Result<(), Fail> {
-    run(&rt, TWO, WRITERS)
+    run(&rt, TWO, &[WRITERS])
 }
 
 /// Limits of one sector under a stripe.
@@ -189,7 +189,7 @@ const PIECES: &[State] = &[
 
 #[test]
 fn a_limit_under_a_stripe_splits_its_piece(rt: HostRuntime) -> Result<(), Fail> {
-    run(&rt, STRIPE, PIECES)
+    run(&rt, STRIPE, &[PIECES])
 }
 
 /// A write that needs a vector, and ends in a bad range.
@@ -230,5 +230,5 @@ const VECTOR: &[State] = &[
 
 #[test]
 fn a_long_write_to_a_bad_range_ends_with_its_status(rt: HostRuntime) -> Result<(), Fail> {
-    run(&rt, LONG, VECTOR)
+    run(&rt, LONG, &[VECTOR])
 }

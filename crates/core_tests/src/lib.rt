@@ -4,7 +4,11 @@
 #[cfg(test)]
 mod cases;
 #[cfg(test)]
+mod cuts;
+#[cfg(test)]
 mod kinds;
+#[cfg(test)]
+mod legs;
 #[cfg(test)]
 mod mirrors;
 #[cfg(test)]
@@ -12,3 +16,5 @@ mod rounds;
 #[cfg(test)]
 mod states;
 pub mod texts;
+#[cfg(test)]
+mod waits;

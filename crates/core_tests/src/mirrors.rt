@@ -221,15 +221,8 @@ const ENDS: &[State] = &[
 
 #[test]
 fn the_run_of_a_mirror_is_applied_event_by_event(rt: HostRuntime) -> Result<(), Fail> {
-    let mut states = Vec::from_slice(rt.alloc(), PUNTS)?;
-    for state in RESCUES {
-        states.push(*state)?;
-    }
-    for state in ENDS {
-        states.push(*state)?;
-    }
-    assert_eq!(rt; states.len(), 25);
-    run(&rt, MIRROR, &states)
+    assert_eq!(rt; PUNTS.len() + RESCUES.len() + ENDS.len(), 25);
+    run(&rt, MIRROR, &[PUNTS, RESCUES, ENDS])
 }
 
 /// A mirror of one member, which is a mirror.
@@ -327,9 +320,5 @@ const UP: &[State] = &[
 
 #[test]
 fn the_run_of_a_mirror_of_a_mirror_is_applied(rt: HostRuntime) -> Result<(), Fail> {
-    let mut states = Vec::from_slice(rt.alloc(), DOWN)?;
-    for state in UP {
-        states.push(*state)?;
-    }
-    run(&rt, NESTED, &states)
+    run(&rt, NESTED, &[DOWN, UP])
 }

@@ -2,13 +2,14 @@
 ghost use Rattle.std.specs.Prelude.{IfOk};
 ghost use Rattle.trace_text.specs.Names.{IsNamed};
 
-use crate::texts::{Opened, Scene, can_open, scene_of};
+use crate::texts::{Opened, Scene, scene_of};
+use plain_core::laws::accepted_texts_can_open;
 use plain_core::{Core, CoreFault};
 use stack_base::Stack;
 use std::alloc::AllocGlobal;
 use std::process::Abort;
 use std::test::Fail;
-use task_core::{Event, TaskId};
+use task_core::{Event, TaskId, open};
 use trace_text::read_event;
 
 /// The state in which the runs of a text begin that is to be accepted.
@@ -16,8 +17,18 @@ pub fn opened_of(rt: &(impl Abort + AllocGlobal), text: &str) -> Result<Opened, 
     ensures { IfOk result (λ opened. IsNamed opened.accepted.stack) }
 {
     let Scene { accepted, work } = scene_of(rt.alloc(), text)?;
-    assert!(rt; can_open(&accepted.stack, &accepted.scripts, &work));
+    accepted_texts_can_open();
     let core = Core::plain(rt.alloc(), &accepted.stack, &accepted.scripts, &work)?;
+    Ok(Opened { accepted, core })
+}
+
+/// The plain state of the objects and tasks that are opened of such a text.
+pub fn seen_of(rt: &(impl Abort + AllocGlobal), text: &str) -> Result<Opened, Fail>
+    ensures { IfOk result (λ opened. IsNamed opened.accepted.stack) }
+{
+    let Scene { accepted, work } = scene_of(rt.alloc(), text)?;
+    let opened = open(rt.alloc(), &accepted, &work)?;
+    let core = Core::of(rt.alloc(), &opened)?;
     Ok(Opened { accepted, core })
 }
 
@@ -87,13 +98,23 @@ pub fn state(rt: &impl Abort, stack: &Stack, core: &mut Core, state: &State)
     step(rt, stack, core, line);
 }
 
-/// A run of a text: its states in their order, behind the last of which nothing is left to do.
-pub fn run(rt: &(impl Abort + AllocGlobal), text: &str, states: &[State]) -> Result<(), Fail> {
-    let Opened { accepted, mut core } = opened_of(rt, text)?;
+// The states of a run in their order, part by part, behind the last of which nothing is left to do.
+fn follow(rt: &impl Abort, opened: Opened, parts: &[&[State]])
+    requires { IsNamed opened.accepted.stack }
+{
+    let Opened { accepted, mut core } = opened;
     let stack = &accepted.stack;
-    for one in states {
-        state(rt, stack, &mut core, one);
+    for part in parts {
+        for one in *part {
+            state(rt, stack, &mut core, one);
+        }
     }
     assert!(rt; core.free().is_none());
+}
+
+/// A run of a text, from its plain state and from that of what is opened of it.
+pub fn run(rt: &(impl Abort + AllocGlobal), text: &str, parts: &[&[State]]) -> Result<(), Fail> {
+    follow(rt, opened_of(rt, text)?, parts);
+    follow(rt, seen_of(rt, text)?, parts);
     Ok(())
 }

@@ -8,6 +8,7 @@ ghost use Rattle.layout_model.specs.declared.write.Write.{Write as Writes};
 ghost use Rattle.layout_model.specs.Bound.{all_elements, most_elements};
 ghost use Rattle.layout_model.specs.Writes.{IsWrite};
 ghost use Rattle.work_text.specs.declared.Resize.{Resize as Resizes};
+ghost use Rattle.task_core.specs.OfOne.{IsReadBehind};
 ghost use Rattle.trace_text.specs.Names.{IsNamed};
 ghost use Rattle.plain_core.specs.Opening.{CanOpen};
 
@@ -135,7 +136,8 @@ pub struct Opened {
 
 // What a text says.
 fn read(alloc: Global, text: &[u8]) -> Result<Scene, ReadFault>
-    ensures { IfOk result (λ scene. IsStack scene.accepted.stack) }
+    ensures stack { IfOk result (λ scene. IsStack scene.accepted.stack) }
+    ensures read { IfOk result (λ scene. IsReadBehind scene.accepted scene.work) }
 {
     let decl = read_decl(alloc, text)?;
     let accepted = accept(alloc, decl)?;
@@ -147,6 +149,7 @@ fn read(alloc: Global, text: &[u8]) -> Result<Scene, ReadFault>
 pub fn scene_of(alloc: Global, text: &str) -> Result<Scene, Fail>
     ensures named { IfOk result (λ scene. IsNamed scene.accepted.stack) }
     ensures stack { IfOk result (λ scene. IsStack scene.accepted.stack) }
+    ensures read { IfOk result (λ scene. IsReadBehind scene.accepted scene.work) }
 {
     let scene = read(alloc, text.as_bytes())?;
     accepted_stacks_are_named();
