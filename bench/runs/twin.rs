@@ -1281,6 +1281,17 @@ fn read(text: &str) -> Text {
     t
 }
 
+/// Whether each write ends within its device, and no two of one round share a sector.
+fn stands(t: &Text) -> bool {
+    let mut order: Vec<&Todo> = t.writes.iter().map(|write| &write.1).collect();
+    order.sort_unstable_by_key(|write| (write.round, write.dev, write.start));
+    let within = |write: &&Todo| write.start + write.count <= t.devices[write.dev as usize].size;
+    let apart = |one: &Todo, other: &Todo| {
+        (one.round, one.dev) != (other.round, other.dev) || one.start + one.count <= other.start
+    };
+    order.iter().all(within) && order.windows(2).all(|two| apart(two[0], two[1]))
+}
+
 fn generate(number: u64) -> String {
     let mut pcg = Pcg::new(number);
     let mut pick = |n: u32| u64::from(pcg.word() % n);
@@ -1343,6 +1354,9 @@ fn main() {
         }
     };
     let t = read(&text);
+    if !stands(&t) {
+        std::process::exit(3);
+    }
     let script = |pool: &str| {
         t.scripts
             .iter()
