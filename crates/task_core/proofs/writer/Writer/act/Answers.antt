@@ -1,9 +1,11 @@
-use Rattle.std.proofs.Common.{◌≡◌, ◌∷◌, drop, sym, subst}
+use Rattle.std.proofs.Common.{◌≡◌, List, ◌∷◌, drop, sym, subst, arith}
+use Rattle.std.specs.Prelude.{All}
 use Rattle.task_core.specs.declared.writing.Taken.{Taken}
 use Rattle.task_core.specs.Lines.{Line, Rests}
-use Rattle.task_core.specs.Tasks.{TaskState, write_request}
+use Rattle.task_core.specs.Tasks.{Todo, TaskState, write_request}
 use Rattle.task_core.specs.Routed.{setup}
 use Rattle.task_core.specs.Stage.{Owes}
+use Rattle.task_core.specs.Homes.{TodoFits}
 use Rattle.task_core.specs.Turns.{Acts}
 use Rattle.task_core.specs.WriterViews.{WriterState, writer_task, taken_of, next_of, WriteAnswers}
 use Rattle.task_core.proofs.TurnLemmas.{write_acts}
@@ -32,3 +34,9 @@ returns-clause-acts g c =
     subst (λ (next : TaskState). Acts serves owes known (writer_task c.args.self.now) old next new step) (sym (c.put.ensures todo first))
     (subst (λ (s : WriterState). Acts serves owes known (writer_task s) old after new step) c.self.view_is
     (write_acts serves owes known w.number w.todo (taken_of w.taken) w.line todo later old after new step rests first answers))
+
+-- its next write is the first of those that fit
+pub go_on-next-requires-clause-todo : goal.go_on-next-requires-clause-todo
+go_on-next-requires-clause-todo g c =
+    let fits : List Todo → Type 0 = All (TodoFits (g.O.Objects.stage c.args.objects.now)) in
+    subst fits c.requires.first c.requires.task.1 0 c.args.todo.now (omega arith)
