@@ -1,9 +1,10 @@
 -- How a disk is kept. No contract of its public calls speaks of this.
-use Rattle.std.specs.Prelude.{◌≡◌, ◌+◌, ◌*◌, ◌^◌, ◌<◌, ◌≤◌, ℕ, Bool, List, map, length, All}
+use Rattle.std.specs.Prelude.{◌≡◌, ◌+◌, ◌-◌, ◌*◌, ◌%◌, ◌^◌, ◌<◌, ◌≤◌, ◌++◌, ℕ, Bool, List, map, length, take, drop, replicate, All}
 use Rattle.stack_base.specs.declared.ids.Range.{Range}
 use Rattle.stack_base.specs.declared.ids.Bad.{Bad}
 use Rattle.stack_base.specs.Words.{is_written}
-use Rattle.image_lanes.specs.Lanes.{sectors}
+use Rattle.image_lanes.specs.Lanes.{counting, sectors}
+use Rattle.bio_records.specs.declared.bio.Bio.{Bio}
 use Rattle.bio_records.specs.declared.bio.Pad.{Pad}
 use Rattle.bio_records.specs.Items.{Item}
 use Rattle.model_disks.specs.Disks.{IsBadRange}
@@ -12,6 +13,26 @@ use Rattle.model_disks.specs.Disks.{IsBadRange}
 pub record IsNoted (words : List ℕ) (flags : List Bool) : Type 0 where
   pub size : length words ≡ 64 * length flags
   pub noted : flags ≡ map is_written (sectors (length flags) words)
+
+-- words with zeros behind them, so that they are as many as this where they were fewer
+unfoldable pub grown : ℕ → List ℕ → List ℕ
+grown size words = words ++ replicate (size - length words) 0
+
+-- the words of so many sectors, of which these are the front and all others are zeros
+abbrev pub padded : ℕ → List ℕ → List ℕ
+padded count front = grown (64 * count) front
+
+-- words with those of a bio's sectors in the place of those that were there
+abbrev pub filled : Bio → List ℕ → List ℕ
+filled bio words =
+    take (64 * bio.range.start) words
+    ++ (counting bio.word (64 * bio.range.len) ++ drop (64 * bio.range.start + 64 * bio.range.len) words)
+
+-- the front of an image: whole sectors, behind which all are zeros, and for which and for all others there is room
+pub record IsFront (room : ℕ) (front : List ℕ) (flags : List Bool) : Type 0 where
+  pub whole : length front % 64 ≡ 0
+  pub fits : 64 * length flags ≤ room
+  pub noted : IsNoted (padded (length flags) front) flags
 
 -- the end of a range is a number of 64 bits
 abbrev pub IsCountable : Range → Type 0

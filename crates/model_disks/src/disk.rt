@@ -1,12 +1,4 @@
 //! A disk: its image, its bad ranges and the bios that wait in it.
-ghost use Rattle.std.specs.Prelude.{◌≡◌, ◌+◌, ◌-◌, ◌^◌, ◌<◌, ◌≤◌, [], ◌∷◌, length, map, min, All, IfOk, MatchOption};
-ghost use Rattle.std.specs.List.{concat};
-ghost use Rattle.stack_base.specs.Words.{is_written};
-ghost use Rattle.bio_records.specs.Items.{item_of, IsAlone};
-ghost use Rattle.model_disks.specs.Disks.{IsBadRange, sum_of_words};
-ghost use Rattle.model_disks.specs.Moves.{opened, pushed, Completes};
-ghost use Rattle.model_disks.specs.Runs.{runs_from, IsApart};
-
 use crate::fault::fault;
 use crate::image::Image;
 use bio_records::{BioElement, BioList};
@@ -48,6 +40,17 @@ pub struct Done {
 }
 
 impl Disk {
+    ghost use Rattle.std.specs.Prelude.{◌≡◌, ◌+◌, ◌-◌, ◌*◌, ◌%◌, ◌^◌, ◌<◌, ◌≤◌, [], ◌∷◌, ◌++◌, length, map, min, replicate, All, IfOk, MatchOption};
+    ghost use Rattle.std.specs.Borrow.{sem};
+    ghost use Rattle.std.specs.Io.BufRead.{Rests};
+    ghost use Rattle.std.specs.List.{concat};
+    ghost use Rattle.stack_base.specs.Words.{is_written};
+    ghost use Rattle.bio_records.specs.Items.{item_of, IsAlone};
+    ghost use Rattle.model_disks.specs.Disks.{IsBadRange, sum_of_words};
+    ghost use Rattle.model_disks.specs.Moves.{opened, pushed, Completes};
+    ghost use Rattle.model_disks.specs.Runs.{runs_from, IsApart};
+    ghost use Rattle.model_disks.specs.contracts.disk.Disk.{the_row};
+
     /// A disk of so many sectors, all zeros, in which no bio waits. Each of its bad ranges has a sector, ends within the disk, and is of a
     /// kind other than `Status::Ok`.
     ///
@@ -96,9 +99,21 @@ impl Disk {
         &self.bad
     }
 
-    /// The words of all its sectors, one sector behind the other, each of 64 words.
-    pub fn image(&self) -> &[u64]
-        ensures { result.now ≡ concat self.now.image }
+    /// The words of its first sectors, each of 64 words, one sector behind the other, at least up to the last sector that was ever written:
+    /// all words behind them are zeros.
+    pub fn front(&self) -> &[u64]
+        ensures front { concat self.now.image ≡ result.now ++ replicate (64 * length self.now.image - length result.now) 0 }
+        ensures whole { length result.now % 64 ≡ 0 }
+        ensures within { length result.now ≤ 64 * length self.now.image }
+    {
+        self.image.front()
+    }
+
+    /// The words of all its sectors, one sector behind the other, each of 64 words. The disk stays as it is. The zeros behind its front are
+    /// written, in memory that was reserved when the disk was opened.
+    pub fn image(&mut self) -> &[u64]
+        ensures* same { sem 𝓛 (Rests the_row self.entry (λ disk. disk ≡ self.old)) }
+        ensures image { result.now ≡ concat self.old.image }
     {
         self.image.words()
     }

@@ -1,12 +1,8 @@
 //! The image of a disk.
-ghost use Rattle.std.specs.Prelude.{◌≡◌, ◌+◌, ◌*◌, ◌^◌, ◌<◌, ◌≤◌, [], ◌∷◌, ◌++◌, length, map, take, drop, replicate, IfOk, MatchOption};
-ghost use Rattle.std.specs.List.{concat};
-ghost use Rattle.image_lanes.specs.Lanes.{counting, sum_mod, sectors};
-ghost use Rattle.stack_base.specs.Words.{is_written, zero_sector};
+ghost use Rattle.std.specs.Prelude.{◌≡◌, ◌+◌, ◌*◌, ◌%◌, ◌≤◌, length, take, drop, vec_capacity};
+ghost use Rattle.image_lanes.specs.Lanes.{sum_mod, sectors};
 ghost use Rattle.model_disks.specs.Disks.{sum_of_words};
-ghost use Rattle.model_disks.specs.Kept.{IsNoted};
-ghost use Rattle.model_disks.specs.Moves.{written};
-ghost use Rattle.model_disks.specs.Runs.{runs_from, IsApart};
+ghost use Rattle.model_disks.specs.Kept.{IsNoted, grown, padded, filled};
 
 use crate::flags;
 use bio_records::Bio;
@@ -17,37 +13,62 @@ use std::marker::Model;
 
 /// The sectors of a disk, one behind the other.
 ///
-/// Contracts see the list of the sectors, each of 64 words. Sums and runs go by a flag a sector, and read no word of a sector that is not
-/// written.
+/// Contracts see the list of the sectors, each of 64 words. Of the words only a front is kept, up to the last sector that was ever written:
+/// all words behind it are zeros. Room for all words is reserved at the opening, so the front grows without taking memory. Sums and runs go by
+/// a flag a sector, and read no word of a sector that is not written.
 #[derive(Drop)]
 pub struct Image {
-    // The words of all sectors, 64 a sector.
-    words: Vec<u64>,
+    // The words of the front, 64 a sector.
+    front: Vec<u64>,
     // For each sector whether it is written, as one of its words is not 0.
     flags: Vec<bool>,
 }
 
 impl Model for Image {
-    ghost use Rattle.std.specs.Prelude.{ℕ, List, length};
+    ghost use Rattle.std.specs.Prelude.{ℕ, List, length, vec_capacity};
     ghost use Rattle.image_lanes.specs.Lanes.{sectors};
-    ghost use Rattle.model_disks.specs.Kept.{IsNoted};
+    ghost use Rattle.model_disks.specs.Kept.{IsFront, padded};
 
     ghost Value = { List (List ℕ) };
 
-    ghost view = { λ i. sectors (length i.flags.items) i.words.items };
+    ghost view = { λ i. sectors (length i.flags.items) (padded (length i.flags.items) i.front.items) };
 
-    ghost invariant = { λ i. IsNoted i.words.items i.flags.items };
+    ghost invariant = { λ i. IsFront (vec_capacity i.front) i.front.items i.flags.items };
+}
+
+// Brings the front up to so many words, for which there is room, with zeros.
+fn grow(front: &mut Vec<u64>, size: usize)
+    requires { size ≤ vec_capacity front.old }
+    ensures words { front.new.items ≡ grown size front.old.items }
+    ensures room { vec_capacity front.old ≤ vec_capacity front.new }
+{
+    if front.len() >= size {
+        return;
+    }
+    let Ok(()) = front.resize(size, 0) else {
+        unreachable!()
+    };
 }
 
 // Writes the words of a bio's sectors, which end within the words.
 fn write_words(words: &mut [u64], bio: Bio)
     requires { 64 * bio.range.start + 64 * bio.range.len ≤ length words.old }
-    ensures { words.new ≡ take (64 * bio.range.start) words.old
-        ++ (counting bio.word (64 * bio.range.len) ++ drop (64 * bio.range.start + 64 * bio.range.len) words.old) }
+    ensures { words.new ≡ filled bio words.old }
 {
     let start = 64 * bio.range.start as usize;
     let end = start + 64 * bio.range.len as usize;
     fill(&mut words[start..end], bio.word);
+}
+
+// Writes the words of a bio's sectors, for which there is room. The front grows up to their end.
+fn write_front(front: &mut Vec<u64>, bio: Bio)
+    requires { 64 * bio.range.start + 64 * bio.range.len ≤ vec_capacity front.old }
+    ensures words { front.new.items ≡ filled bio (grown (64 * bio.range.start + 64 * bio.range.len) front.old.items) }
+    ensures room { vec_capacity front.old ≤ vec_capacity front.new }
+{
+    let size = 64 * bio.range.start as usize + 64 * bio.range.len as usize;
+    grow(front, size);
+    write_words(front, bio);
 }
 
 // The sum of the words of the sector at this place, modulo 2 ^ 64.
@@ -59,21 +80,32 @@ fn sum_of_sector(words: &[u64], place: usize) -> u64
     sum_words(&words[start..start + 64])
 }
 
-// The sum of all words, modulo 2 ^ 64: those of the sectors that are written.
-fn sum_of_written(words: &[u64], flags: &[bool]) -> u64
-    requires { IsNoted words.now flags.now }
-    ensures { result ≡ sum_of_words (sectors (length flags.now) words.now) }
+// The sum of all words, modulo 2 ^ 64: those of the sectors that are written, which are sectors of the front.
+fn sum_of_written(front: &[u64], flags: &[bool]) -> u64
+    requires whole { length front.now % 64 ≡ 0 }
+    requires noted { IsNoted (padded (length flags.now) front.now) flags.now }
+    ensures { result ≡ sum_of_words (sectors (length flags.now) (padded (length flags.now) front.now)) }
 {
     let mut all = 0u64;
     'adding: for place in 0..flags.len() {
         if flags[place] {
-            all = all.wrapping_add(sum_of_sector(words, place));
+            all = all.wrapping_add(sum_of_sector(front, place));
         }
     }
     all
 }
 
 impl Image {
+    ghost use Rattle.std.specs.Prelude.{◌≡◌, ◌+◌, ◌*◌, ◌-◌, ◌%◌, ◌^◌, ◌<◌, ◌≤◌, [], ◌∷◌, ◌++◌, length, map, replicate, IfOk, MatchOption};
+    ghost use Rattle.std.specs.Borrow.{sem};
+    ghost use Rattle.std.specs.Io.BufRead.{Rests};
+    ghost use Rattle.std.specs.List.{concat};
+    ghost use Rattle.stack_base.specs.Words.{is_written, zero_sector};
+    ghost use Rattle.model_disks.specs.Disks.{sum_of_words};
+    ghost use Rattle.model_disks.specs.Moves.{written};
+    ghost use Rattle.model_disks.specs.Runs.{runs_from, IsApart};
+    ghost use Rattle.model_disks.specs.contracts.image.Image.{the_row};
+
     /// An image of so many sectors of zeros.
     ///
     /// # Errors
@@ -86,7 +118,7 @@ impl Image {
             return Err(AllocError);
         };
         Ok(Image {
-            words: vec![in alloc; 0; words]?,
+            front: Vec::with_capacity(alloc, words)?,
             flags: vec![in alloc; false; sectors as usize]?,
         })
     }
@@ -98,11 +130,22 @@ impl Image {
         self.flags.len() as u64
     }
 
-    /// The words of all sectors, one sector behind the other.
-    pub fn words(&self) -> &[u64]
-        ensures { result.now ≡ concat self.now }
+    /// The words of its first sectors, at least up to the last one that was ever written: all words behind them are zeros.
+    pub fn front(&self) -> &[u64]
+        ensures front { concat self.now ≡ result.now ++ replicate (64 * length self.now - length result.now) 0 }
+        ensures whole { length result.now % 64 ≡ 0 }
+        ensures within { length result.now ≤ 64 * length self.now }
     {
-        &self.words
+        &self.front
+    }
+
+    /// The words of all sectors, one sector behind the other. The front grows up to the last one, and the image stays as it is.
+    pub fn words(&mut self) -> &[u64]
+        ensures* same { sem 𝓛 (Rests the_row self.entry (λ image. image ≡ self.old)) }
+        ensures words { result.now ≡ concat self.old }
+    {
+        grow(&mut self.front, 64 * self.flags.len());
+        &self.front
     }
 
     /// Writes a bio's sectors, which end within the image.
@@ -111,7 +154,7 @@ impl Image {
         ensures image { self.new ≡ written bio self.old }
         ensures size { length self.new ≡ length self.old }
     {
-        write_words(&mut self.words, bio);
+        write_front(&mut self.front, bio);
         flags::set(&mut self.flags, bio.range);
     }
 
@@ -119,7 +162,7 @@ impl Image {
     pub fn sum(&self) -> u64
         ensures { result ≡ sum_of_words self.now }
     {
-        sum_of_written(&self.words, &self.flags)
+        sum_of_written(&self.front, &self.flags)
     }
 
     /// The first run of written sectors that starts at or behind `from`, which is not inside a run.

@@ -190,12 +190,14 @@ fn disks_hold_what_was_pushed_and_completed(rt: HostRuntime) {
     }
 }
 
-// Device 2 has to have eight sectors of zeros, and this bad range.
-fn is_empty(rt: &impl Abort, disk: &Disk, bad: Bad) {
+// Device 2 has to have eight sectors of zeros, of which it keeps none, and this bad range.
+fn is_empty(rt: &impl Abort, disk: &mut Disk, bad: Bad) {
     is(rt, disk.sectors(), 8);
-    is(rt, disk.image().len() as u64, 512);
+    is(rt, disk.front().len() as u64, 0);
     assert!(rt; disk.dev() == DevId(2) && disk.bad() == [bad].as_slice());
-    for word in disk.image() {
+    let image = disk.image();
+    is(rt, image.len() as u64, 512);
+    for word in image {
         is(rt, *word, 0);
     }
 }
@@ -219,10 +221,37 @@ fn an_image_is_the_words_of_all_sectors(rt: HostRuntime) {
         kind: Status::Io,
     };
     let mut disk = open(&rt, 2, 8, Some(bad));
-    is_empty(&rt, &disk, bad);
+    is_empty(&rt, &mut disk, bad);
     push_all(&rt, &mut disk, &[(Range { start: 3, len: 2 }, 5)]);
     drop(complete(&rt, &mut disk, 0));
     has_two_sectors(&rt, disk.image());
+}
+
+// The words of the first of 1,000 sectors have to be 1 to 64, those of the last 5 to 68, and all others 0.
+fn has_both_ends(rt: &impl Abort, image: &[u64]) {
+    is(rt, image.len() as u64, 64_000);
+    for (place, word) in image.iter().enumerate() {
+        let expected = match place / 64 {
+            0 => place % 64 + 1,
+            999 => place % 64 + 5,
+            _ => 0,
+        };
+        is(rt, *word, expected as u64);
+    }
+}
+
+#[test]
+fn an_image_grows_up_to_what_is_written(rt: HostRuntime) {
+    let first = Range { start: 0, len: 1 };
+    let last = Range { start: 999, len: 1 };
+    let mut disk = open(&rt, 0, 1000, None);
+    push_all(&rt, &mut disk, &[(first, 1), (last, 5)]);
+    drop(complete(&rt, &mut disk, 0));
+    is(&rt, disk.front().len() as u64, 64);
+    drop(complete(&rt, &mut disk, 0));
+    is(&rt, disk.front().len() as u64, 64_000);
+    has_both_ends(&rt, disk.image());
+    shows(&rt, &disk, 0, 2080 + 2336, (Some(first), Some(last)));
 }
 
 #[test]
