@@ -20,6 +20,8 @@ BENCH = os.path.dirname(os.path.abspath(__file__))
 TOP = os.path.dirname(BENCH)
 ROUNDS = 9
 CALLS = 1000000
+# of disks a call is a sector, and each of their disks has as many as a disk may have
+CALLS_OF = {"disks": 4 * 262144}
 
 
 def names():
@@ -109,24 +111,25 @@ def build_twin(name, folder):
     return twin
 
 
-def once(program):
+def once(program, calls):
     """Runs the program once: nanoseconds a call, by row."""
-    output = subprocess.run([program, str(CALLS)], check=True, stdout=subprocess.PIPE, text=True).stdout
+    output = subprocess.run([program, str(calls)], check=True, stdout=subprocess.PIPE, text=True).stdout
     rows = {}
     for line in output.splitlines():
         name, nanoseconds, served = line.split()
-        if int(served) != CALLS:
-            sys.exit(f"{program}: {served} of {CALLS} calls were served at {name}")
-        rows[name] = int(nanoseconds) / CALLS
+        if int(served) != calls:
+            sys.exit(f"{program}: {served} of {calls} calls were served at {name}")
+        rows[name] = int(nanoseconds) / calls
     return rows
 
 
 def measure(name):
     """Prints the table of one folder, under its name: the least of the runs, and the middle one, which tells more where threads meet."""
+    calls = CALLS_OF.get(name, CALLS)
     with tempfile.TemporaryDirectory() as folder:
         measured, twin = build_measured(name, folder), build_twin(name, folder)
         # in turn, so that what else the machine does falls on both
-        runs = [(once(measured), once(twin)) for _ in range(ROUNDS)]
+        runs = [(once(measured, calls), once(twin, calls)) for _ in range(ROUNDS)]
     print(f"{name:10} {'Rattle ns':>10} {'Rust ns':>10} {'ratio':>6} {'Rattle mid':>10} {'Rust mid':>10} {'ratio':>6}")
     for row in runs[0][0]:
         words = [f"{row:10}"]
