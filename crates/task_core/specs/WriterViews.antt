@@ -62,13 +62,13 @@ IsAttemptAtBioAlone attempt.Missed = Unit {0}
 IsAttemptAtBioAlone (attempt.Spent back) = Unit {0}
 
 -- what a step makes of a writer that was to begin a write
-abbrev pub next_of : Next → ℕ → Todo → List Todo → TaskState
-next_of (next.Begins line) number todo later = Writer number later NoBio line
-next_of (next.Waits taken line) number todo later = Writer number (todo ∷ later) (taken_of taken) line
+abbrev pub next_of : Next → ℕ → Todo → List Todo → Line → TaskState
+next_of next.Begins number todo later line = Writer number later NoBio line
+next_of (next.Waits taken) number todo later line = Writer number (todo ∷ later) (taken_of taken) line
 
-abbrev pub IsNextAlone : Next → Type 0
-IsNextAlone (next.Begins line) = Unit {0}
-IsNextAlone (next.Waits taken line) = IsTakenAlone taken × TakenSuits taken line.doing
+abbrev pub IsNextAlone : Next → Doing → Type 0
+IsNextAlone next.Begins doing = Unit {0}
+IsNextAlone (next.Waits taken) doing = IsTakenAlone taken × TakenSuits taken doing
 
 -- a writer outside of a submission has asked the objects for this, and goes on with their reply
 pub record WriteAnswers {S : Type 0} (serves : S → Request → Reply → S → Type 0) (owes : Request → Reply → Type 0) (setup : Setup) (number : ℕ)
@@ -96,11 +96,11 @@ pub record IsRefusedWrite {S : Type 0} (serves : S → Request → Reply → S �
   pub tells : step ≡ step_of setup (id.Writer number) (Link number opening) reply
 
 -- the node of a write is opened, or is not
-abbrev pub WriteOpened : {S : Type 0} → (S → Request → Reply → S → Type 0) → (Request → Reply → Type 0) → Setup → ℕ → Opening → Line → S → S
-    → Result ℕ (Line × Step) → Type 0
-WriteOpened serves owes setup number opening line old new (Ok node) =
-    serves old (Link number opening) (LinkedTo (Made node)) new × owes (Link number opening) (LinkedTo (Made node))
-WriteOpened serves owes setup number opening line old new (Err broken) = IsRefusedWrite serves owes setup number opening line old broken.0 new broken.1
+abbrev pub WriteOpened : {S : Type 0} → (S → Request → Reply → S → Type 0) → (Request → Reply → Type 0) → Setup → ℕ → Opening → Line → S → Line → S
+    → Result ℕ Step → Type 0
+WriteOpened serves owes setup number opening line old after new (Ok node) =
+    serves old (Link number opening) (LinkedTo (Made node)) new × owes (Link number opening) (LinkedTo (Made node)) × (after ≡ line)
+WriteOpened serves owes setup number opening line old after new (Err step) = IsRefusedWrite serves owes setup number opening line old after new step
 
 -- whether it has taken a bio
 abbrev pub is_taken : Taken → Bool

@@ -11,11 +11,20 @@ ghost use Rattle.task_core.specs.Answers.{Answers};
 
 use crate::calls::attempt;
 use crate::event::{Breach, TaskId};
-use crate::line::{Doing, DriverAsk, Kept, Line, Want, broken};
+use crate::line::{Doing, DriverAsk, Kept, Line, Want, broken, put};
 use crate::objects::{Objects, Unmade};
 use crate::step::Step;
+use bio_records::BioElement;
 use stack_base::DevId;
 use std::mem;
+
+// The bio that a driver has, if one has a bio.
+fn bio_of(doing: Doing) -> Option<BioElement> {
+    match doing {
+        Doing::Drives { bio, .. } => Some(bio),
+        Doing::Rests | Doing::Copies { .. } | Doing::Breaks { .. } => None,
+    }
+}
 
 impl Line {
     /// The device of whose set it takes a bio next, and whether it waits for one, if that is what it does next.
@@ -50,27 +59,14 @@ impl Line {
         }
     }
 
-    // What is left of it where there was no ticket for its attempt.
-    fn spent(self, back: Unmade) -> Line
-        requires { is_asking self.doing ≡ true }
-        ensures { result ≡ record self { doing = Breaks' breach.Spent } }
-    {
-        let Line { doing, lists } = self;
-        let bio = match doing {
-            Doing::Drives { bio, .. } => Some(bio),
-            Doing::Copies { .. } => None,
-            Doing::Rests | Doing::Breaks { .. } => unreachable!(),
-        };
-        broken(Breach::Spent, Kept::unmade(bio, back), lists)
-    }
-
     // There was no ticket for its attempt.
     fn spend(&mut self, back: Unmade)
         requires { is_asking self.old.doing ≡ true }
         ensures { self.new ≡ record self.old { doing = Breaks' breach.Spent } }
     {
-        let line = mem::replace(self, Line::rests());
-        *self = line.spent(back);
+        let doing = mem::replace(&mut self.doing, Doing::Rests);
+        let kept = Kept::unmade(bio_of(doing), back);
+        put(&mut self.doing, broken(Breach::Spent, kept, &self.lists));
     }
 
     /// Takes a bio of this device's set for the first piece of the bio that its driver has, or for the next leg (`bio_alloc_bioset`,

@@ -354,6 +354,14 @@ impl Carried {
         }
     }
 
+    // It carries this from now on.
+    fn put(&mut self, load: Load)
+        requires { IsLoadAlone load }
+        ensures { self.new ≡ carried_of load }
+    {
+        self.load = load;
+    }
+
     // Completes one of the bios that wait in the disk (`bio_endio`, `block/bio.c`). Where none waits, it looks whether any write is unfinished.
     fn complete<O: Objects, C: Chooser>(
         &mut self,
@@ -370,7 +378,7 @@ impl Carried {
     {
         match objects.complete(disk, chooser) {
             Ok(Some((index, Done { el, status }))) => {
-                self.load = Load::Brings { bio: el, status };
+                self.put(Load::Brings { bio: el, status });
                 let what = What::Complete {
                     disk,
                     index,
@@ -387,10 +395,10 @@ impl Carried {
                 }
             }
             Err(kept) => {
-                self.load = Load::Fails {
+                self.put(Load::Fails {
                     breach: Breach::Spent,
                     kept,
-                };
+                });
                 Step::Broken(Breach::Spent)
             }
         }
@@ -414,7 +422,7 @@ impl Carried {
         }
         let load = mem::replace(&mut self.load, Load::Empty);
         let (carried, step) = step_of(objects, disk, load);
-        *self = carried;
+        self.put(carried.load);
         step
     }
 }

@@ -8,11 +8,12 @@ ghost use Rattle.task_core.specs.Lines.{Copies, Punts, Links, punted, legs_of, l
 ghost use Rattle.task_core.specs.Within.{IsWithin, ListsAreWithin};
 ghost use Rattle.task_core.specs.Routed.{setup};
 ghost use Rattle.task_core.specs.Stage.{Fits, Owes};
+ghost use Rattle.task_core.specs.LineViews.{line_of, IsDoingAlone};
 ghost use Rattle.task_core.specs.Answers.{Answers};
 
 use crate::calls::{open_node, punt_all};
 use crate::event::{Breach, Event, How, TaskId, What};
-use crate::line::{Doing, Kept, Line, Want, break_off, broken_at, go_on};
+use crate::line::{Doing, Kept, Want, break_off, broken_at, go_on};
 use crate::objects::{Ask, Objects};
 use crate::routes::Routes;
 use crate::step::Step;
@@ -33,26 +34,24 @@ pub(crate) struct Copying {
 }
 
 /// The next leg is made, or the driver of the mirror returns behind the last of so many.
-pub(crate) fn copy_on(routes: &Routes, run: Copying, legs: u32, lists: TaskLists) -> Line
+pub(crate) fn copy_on(routes: &Routes, run: Copying, legs: u32, lists: &mut TaskLists) -> Doing
     requires bio { IsWithin routes.now.stack run.bio }
     requires legs { legs ≡ legs_of (tree_at (setup routes.now) run.bio.dev) }
-    requires lists { ListsAreWithin routes.now.stack lists }
-    ensures { result ≡ copies (setup routes.now) lists run.bio run.master run.leg }
+    requires lists { ListsAreWithin routes.now.stack lists.old }
+    ensures line { line_of result lists.new ≡ copies (setup routes.now) lists.old run.bio run.master run.leg }
+    ensures alone { IsDoingAlone result }
 {
     let Copying { bio, master, leg } = run;
     if leg == legs {
         return go_on(routes, lists, bio.dev);
     }
-    let waits = routes.first_waits(bio.dev, &lists);
+    let waits = routes.first_waits(bio.dev, lists);
     let want = Want::Takes { waits };
-    Line {
-        doing: Doing::Copies {
-            bio,
-            master,
-            leg,
-            want,
-        },
-        lists,
+    Doing::Copies {
+        bio,
+        master,
+        leg,
+        want,
     }
 }
 
@@ -61,15 +60,16 @@ pub(crate) fn punt_to_copy<O: Objects>(
     objects: &mut O,
     task: TaskId,
     run: Copying,
-    mut lists: TaskLists,
-) -> (Line, Step)
+    lists: &mut TaskLists,
+) -> (Doing, Step)
     requires holds { O.holds objects.old }
-    requires fits { Fits (O.stage objects.old) (Punt run.bio.dev (punted run.bio.dev lists)) }
-    ensures step { (setup : Setup) → Answers O.serves (Owes (O.stage objects.old)) setup task (Copies run.bio run.master run.leg Punts) lists objects.old result.0 objects.new result.1 }
+    requires fits { Fits (O.stage objects.old) (Punt run.bio.dev (punted run.bio.dev lists.old)) }
+    ensures step { (setup : Setup) → Answers O.serves (Owes (O.stage objects.old)) setup task (Copies run.bio run.master run.leg Punts) lists.old objects.old (line_of result.0 lists.new) objects.new result.1 }
+    ensures alone { IsDoingAlone result.0 }
     ensures kept { O.holds objects.new × (O.stage objects.new ≡ O.stage objects.old) }
 {
-    let was = Snapshot::of(&lists);
-    match punt_all(objects, task, run.bio.dev, &mut lists) {
+    let was = Snapshot::of(lists);
+    match punt_all(objects, task, run.bio.dev, lists) {
         Ok(step) => {
             let want = Want::Takes { waits: true };
             let Copying { bio, master, leg } = run;
@@ -79,12 +79,12 @@ pub(crate) fn punt_to_copy<O: Objects>(
                 leg,
                 want,
             };
-            (Line { doing, lists }, step)
+            (doing, step)
         }
         Err(back) => {
             let kept = Kept::unmade(None, back);
             (
-                broken_at(Breach::Spent, kept, lists, was),
+                broken_at(Breach::Spent, kept, was),
                 Step::Broken(Breach::Spent),
             )
         }
@@ -112,15 +112,16 @@ pub(crate) fn leg<O: Objects>(
     task: TaskId,
     run: Copying,
     hand: BioElement,
-    mut lists: TaskLists,
-) -> (Line, Step)
+    lists: &mut TaskLists,
+) -> (Doing, Step)
     requires holds { O.holds objects.old }
     requires alone { IsAlone hand }
     requires fits { Fits (O.stage objects.old) (LinkOf run.bio.writer (Leg run.master)) }
     requires within { IsWithin routes.now.stack run.bio }
     requires leg { run.leg < legs_of (tree_at (setup routes.now) run.bio.dev) }
-    requires lists { ListsAreWithin routes.now.stack lists }
-    ensures step { Answers O.serves (Owes (O.stage objects.old)) (setup routes.now) task (Copies run.bio run.master run.leg (Links (item_of hand))) lists objects.old result.0 objects.new result.1 }
+    requires lists { ListsAreWithin routes.now.stack lists.old }
+    ensures step { Answers O.serves (Owes (O.stage objects.old)) (setup routes.now) task (Copies run.bio run.master run.leg (Links (item_of hand))) lists.old objects.old (line_of result.0 lists.new) objects.new result.1 }
+    ensures alone { IsDoingAlone result.0 }
     ensures kept { O.holds objects.new × (O.stage objects.new ≡ O.stage objects.old) }
 {
     let Copying { bio, master, leg } = run;

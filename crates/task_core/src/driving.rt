@@ -11,12 +11,13 @@ ghost use Rattle.task_core.specs.Lines.{Drives, ToPush, ToCut, ToRecord, ToMaste
 ghost use Rattle.task_core.specs.Within.{IsWithin, ListsAreWithin, is_cut};
 ghost use Rattle.task_core.specs.Routed.{setup, sent};
 ghost use Rattle.task_core.specs.Stage.{Fits, Owes};
+ghost use Rattle.task_core.specs.LineViews.{line_of, IsDoingAlone};
 ghost use Rattle.task_core.specs.Answers.{Answers};
 
 use crate::calls::{had, missed, open_node, punt_all};
 use crate::copying::{Copying, copy_on};
 use crate::event::{Breach, Event, Got, How, TaskId, What};
-use crate::line::{Doing, DriverAsk, Kept, Line, Want, break_off, broken_at, go_on, spent};
+use crate::line::{Doing, DriverAsk, Kept, Want, break_off, broken_at, go_on, spent};
 use crate::objects::{Ask, Objects};
 use crate::routes::{Cut, Routes};
 use crate::step::Step;
@@ -33,13 +34,14 @@ pub(crate) fn push<O: Objects>(
     routes: &Routes,
     task: TaskId,
     bio: BioElement,
-    lists: TaskLists,
-) -> (Line, Step)
+    lists: &mut TaskLists,
+) -> (Doing, Step)
     requires holds { O.holds objects.old }
     requires alone { IsAlone bio }
     requires fits { Fits (O.stage objects.old) (Push (item_of bio)) }
-    requires within { ListsAreWithin routes.now.stack lists }
-    ensures step { Answers O.serves (Owes (O.stage objects.old)) (setup routes.now) task (Drives (item_of bio) ToPush) lists objects.old result.0 objects.new result.1 }
+    requires within { ListsAreWithin routes.now.stack lists.old }
+    ensures step { Answers O.serves (Owes (O.stage objects.old)) (setup routes.now) task (Drives (item_of bio) ToPush) lists.old objects.old (line_of result.0 lists.new) objects.new result.1 }
+    ensures alone { IsDoingAlone result.0 }
     ensures kept { O.holds objects.new × (O.stage objects.new ≡ O.stage objects.old) }
 {
     let at = bio.body.bio.dev;
@@ -63,25 +65,26 @@ pub(crate) fn punt_to_cut<O: Objects>(
     objects: &mut O,
     task: TaskId,
     bio: BioElement,
-    mut lists: TaskLists,
-) -> (Line, Step)
+    lists: &mut TaskLists,
+) -> (Doing, Step)
     requires holds { O.holds objects.old }
     requires alone { IsAlone bio }
-    requires fits { Fits (O.stage objects.old) (Punt (item_of bio).bio.dev (punted (item_of bio).bio.dev lists)) }
-    ensures step { (setup : Setup) → Answers O.serves (Owes (O.stage objects.old)) setup task (Drives (item_of bio) (ToCut Punts)) lists objects.old result.0 objects.new result.1 }
+    requires fits { Fits (O.stage objects.old) (Punt (item_of bio).bio.dev (punted (item_of bio).bio.dev lists.old)) }
+    ensures step { (setup : Setup) → Answers O.serves (Owes (O.stage objects.old)) setup task (Drives (item_of bio) (ToCut Punts)) lists.old objects.old (line_of result.0 lists.new) objects.new result.1 }
+    ensures alone { IsDoingAlone result.0 }
     ensures kept { O.holds objects.new × (O.stage objects.new ≡ O.stage objects.old) }
 {
-    let was = Snapshot::of(&lists);
-    match punt_all(objects, task, bio.body.bio.dev, &mut lists) {
+    let was = Snapshot::of(lists);
+    match punt_all(objects, task, bio.body.bio.dev, lists) {
         Ok(step) => {
             let ask = DriverAsk::ToCut(Want::Takes { waits: true });
             let doing = Doing::Drives { bio, ask };
-            (Line { doing, lists }, step)
+            (doing, step)
         }
         Err(back) => {
             let kept = Kept::unmade(Some(bio), back);
             (
-                broken_at(Breach::Spent, kept, lists, was),
+                broken_at(Breach::Spent, kept, was),
                 Step::Broken(Breach::Spent),
             )
         }
@@ -113,15 +116,16 @@ pub(crate) fn chain<O: Objects>(
     task: TaskId,
     mut bio: BioElement,
     hand: BioElement,
-    mut lists: TaskLists,
-) -> (Line, Step)
+    lists: &mut TaskLists,
+) -> (Doing, Step)
     requires holds { O.holds objects.old }
     requires alone { IsAlone bio × IsAlone hand }
     requires fits { Fits (O.stage objects.old) (LinkOf (item_of bio).bio.writer (Chain (item_of bio).bio.node)) }
     requires within { IsWithin routes.now.stack (item_of bio).bio }
     requires cut { is_cut (tree_at (setup routes.now) (item_of bio).bio.dev) (item_of bio).bio.range ≡ true }
-    requires lists { ListsAreWithin routes.now.stack lists }
-    ensures step { Answers O.serves (Owes (O.stage objects.old)) (setup routes.now) task (Drives (item_of bio) (ToCut (Links (item_of hand)))) lists objects.old result.0 objects.new result.1 }
+    requires lists { ListsAreWithin routes.now.stack lists.old }
+    ensures step { Answers O.serves (Owes (O.stage objects.old)) (setup routes.now) task (Drives (item_of bio) (ToCut (Links (item_of hand)))) lists.old objects.old (line_of result.0 lists.new) objects.new result.1 }
+    ensures alone { IsDoingAlone result.0 }
     ensures kept { O.holds objects.new × (O.stage objects.new ≡ O.stage objects.old) }
 {
     let whole = bio.body.bio;
@@ -156,12 +160,13 @@ pub(crate) fn take_record<O: Objects>(
     objects: &mut O,
     task: TaskId,
     bio: BioElement,
-    lists: TaskLists,
-) -> (Line, Step)
+    lists: &mut TaskLists,
+) -> (Doing, Step)
     requires holds { O.holds objects.old }
     requires alone { IsAlone bio }
     requires fits { Fits (O.stage objects.old) (TakeSlip (item_of bio).bio.dev) }
-    ensures step { (setup : Setup) → Answers O.serves (Owes (O.stage objects.old)) setup task (Drives (item_of bio) ToRecord) lists objects.old result.0 objects.new result.1 }
+    ensures step { (setup : Setup) → Answers O.serves (Owes (O.stage objects.old)) setup task (Drives (item_of bio) ToRecord) lists.old objects.old (line_of result.0 lists.new) objects.new result.1 }
+    ensures alone { IsDoingAlone result.0 }
     ensures kept { O.holds objects.new × (O.stage objects.new ≡ O.stage objects.old) }
 {
     let dev = bio.body.bio.dev;
@@ -170,17 +175,17 @@ pub(crate) fn take_record<O: Objects>(
         Ok(Taken::Ordinary(slip)) => {
             let ask = DriverAsk::ToMaster(slip);
             let doing = Doing::Drives { bio, ask };
-            (Line { doing, lists }, had(task, true, pool, Got::Ordinary))
+            (doing, had(task, true, pool, Got::Ordinary))
         }
         Ok(Taken::Spare(slip)) => {
             let ask = DriverAsk::ToMaster(slip);
             let doing = Doing::Drives { bio, ask };
-            (Line { doing, lists }, had(task, true, pool, Got::Spare))
+            (doing, had(task, true, pool, Got::Spare))
         }
         Ok(Taken::Miss { used }) => {
             let ask = DriverAsk::ToRecord;
             let doing = Doing::Drives { bio, ask };
-            (Line { doing, lists }, missed(task, true, used, pool))
+            (doing, missed(task, true, used, pool))
         }
         Err(back) => spent(Some(bio), back, lists),
     }
@@ -194,14 +199,15 @@ pub(crate) fn master<O: Objects>(
     task: TaskId,
     bio: BioElement,
     slip: SlipElement,
-    lists: TaskLists,
-) -> (Line, Step)
+    lists: &mut TaskLists,
+) -> (Doing, Step)
     requires holds { O.holds objects.old }
     requires alone { IsAlone bio }
     requires fits { Fits (O.stage objects.old) (LinkOf (item_of bio).bio.writer (Master (item_of bio).bio.node (item_of bio) (slip_item slip) (legs_of (tree_at (setup routes.now) (item_of bio).bio.dev)))) }
     requires within { IsWithin routes.now.stack (item_of bio).bio }
-    requires lists { ListsAreWithin routes.now.stack lists }
-    ensures step { Answers O.serves (Owes (O.stage objects.old)) (setup routes.now) task (Drives (item_of bio) (ToMaster (slip_item slip))) lists objects.old result.0 objects.new result.1 }
+    requires lists { ListsAreWithin routes.now.stack lists.old }
+    ensures step { Answers O.serves (Owes (O.stage objects.old)) (setup routes.now) task (Drives (item_of bio) (ToMaster (slip_item slip))) lists.old objects.old (line_of result.0 lists.new) objects.new result.1 }
+    ensures alone { IsDoingAlone result.0 }
     ensures kept { O.holds objects.new × (O.stage objects.new ≡ O.stage objects.old) }
 {
     let whole = bio.body.bio;

@@ -129,6 +129,13 @@ impl Model for Line {
     ghost invariant = { λ l. IsDoingAlone l.doing };
 }
 
+// What it is at from now on.
+pub(crate) fn put(at: &mut Doing, doing: Doing)
+    ensures { at.new ≡ doing }
+{
+    *at = doing;
+}
+
 // What the driver of a device does with a bio that has come to it.
 fn asked(routes: &Routes, dev: DevId, lists: &TaskLists) -> DriverAsk
     requires { dev.0 < length routes.now.stack.devices.items }
@@ -144,72 +151,63 @@ fn asked(routes: &Routes, dev: DevId, lists: &TaskLists) -> DriverAsk
     }
 }
 
-// The bio goes to its driver, with these lists.
-fn serve(routes: &Routes, mut bio: BioElement, lists: TaskLists) -> Line
+// The bio goes to its driver, while these wait.
+fn serve(routes: &Routes, mut bio: BioElement, lists: &TaskLists) -> Doing
     requires within { IsWithin routes.now.stack (item_of bio).bio }
     requires alone { IsAlone bio }
-    ensures { result ≡ record { doing = driven (setup routes.now) lists (item_of bio); lists = lists } }
+    ensures line { line_of result lists.now ≡ record { doing = driven (setup routes.now) lists.now (item_of bio); lists = lists.now } }
+    ensures alone { IsDoingAlone result }
 {
     bio.body.bio = routes.land(bio.body.bio);
-    let ask = asked(routes, bio.body.bio.dev, &lists);
-    Line {
-        doing: Doing::Drives { bio, ask },
-        lists,
-    }
+    let ask = asked(routes, bio.body.bio.dev, lists);
+    Doing::Drives { bio, ask }
 }
 
 // The driver of a device has returned: the next bio goes to its driver, if one waits.
-pub(crate) fn go_on(routes: &Routes, mut lists: TaskLists, served: DevId) -> Line
-    requires { ListsAreWithin routes.now.stack lists }
-    ensures { result ≡ goes_on (setup routes.now) served lists }
+pub(crate) fn go_on(routes: &Routes, lists: &mut TaskLists, served: DevId) -> Doing
+    requires { ListsAreWithin routes.now.stack lists.old }
+    ensures line { line_of result lists.new ≡ goes_on (setup routes.now) served lists.old }
+    ensures alone { IsDoingAlone result }
 {
     match lists.next(served) {
-        None => Line {
-            doing: Doing::Rests,
-            lists,
-        },
+        None => Doing::Rests,
         Some(bio) => serve(routes, bio, lists),
     }
 }
 
-// It cannot go on, and had the second lists where it asked.
-pub(crate) fn broken_at(
-    breach: Breach,
-    kept: Kept,
-    lists: TaskLists,
-    was: Snapshot<TaskLists>,
-) -> Line
-    ensures { result ≡ record { doing = Breaks' breach; lists = was.value } }
+// It cannot go on, and had these lists where it asked.
+pub(crate) fn broken_at(breach: Breach, kept: Kept, was: Snapshot<TaskLists>) -> Doing
+    ensures line { (lists : TaskLists) → line_of result lists ≡ record { doing = Breaks' breach; lists = was.value } }
+    ensures alone { IsDoingAlone result }
 {
-    Line {
-        doing: Doing::Breaks {
-            breach,
-            kept,
-            lists: was,
-        },
-        lists,
+    Doing::Breaks {
+        breach,
+        kept,
+        lists: was,
     }
 }
 
 // It cannot go on, and has its lists as they are.
-pub(crate) fn broken(breach: Breach, kept: Kept, lists: TaskLists) -> Line
-    ensures { result ≡ record { doing = Breaks' breach; lists = lists } }
+pub(crate) fn broken(breach: Breach, kept: Kept, lists: &TaskLists) -> Doing
+    ensures line { (later : TaskLists) → line_of result later ≡ record { doing = Breaks' breach; lists = lists.now } }
+    ensures alone { IsDoingAlone result }
 {
-    let was = Snapshot::of(&lists);
-    broken_at(breach, kept, lists, was)
+    broken_at(breach, kept, Snapshot::of(lists))
 }
 
 // It breaks off.
-pub(crate) fn break_off(breach: Breach, kept: Kept, lists: TaskLists) -> (Line, Step)
-    ensures line { result.0 ≡ record { doing = Breaks' breach; lists = lists } }
+pub(crate) fn break_off(breach: Breach, kept: Kept, lists: &TaskLists) -> (Doing, Step)
+    ensures line { line_of result.0 lists.now ≡ record { doing = Breaks' breach; lists = lists.now } }
+    ensures alone { IsDoingAlone result.0 }
     ensures step { result.1 ≡ Step.Broken breach }
 {
     (broken(breach, kept, lists), Step::Broken(breach))
 }
 
 // There was no ticket for its call.
-pub(crate) fn spent(bio: Option<BioElement>, back: Unmade, lists: TaskLists) -> (Line, Step)
-    ensures line { result.0 ≡ record { doing = Breaks' Breach.Spent; lists = lists } }
+pub(crate) fn spent(bio: Option<BioElement>, back: Unmade, lists: &TaskLists) -> (Doing, Step)
+    ensures line { line_of result.0 lists.now ≡ record { doing = Breaks' Breach.Spent; lists = lists.now } }
+    ensures alone { IsDoingAlone result.0 }
     ensures step { result.1 ≡ Step.Broken Breach.Spent }
 {
     break_off(Breach::Spent, Kept::unmade(bio, back), lists)
@@ -222,16 +220,17 @@ fn cut<O: Objects>(
     task: TaskId,
     bio: BioElement,
     want: Want,
-    lists: TaskLists,
-) -> (Line, Step)
+    lists: &mut TaskLists,
+) -> (Doing, Step)
     requires holds { O.holds objects.old }
     requires alone { IsAlone bio × IsWantAlone want }
     requires no_attempt { attempt_of (Drives (item_of bio) (ToCut (want_of want))) ≡ None }
-    requires fits { Fits (O.stage objects.old) (line_request (setup routes.now) (Drives (item_of bio) (ToCut (want_of want))) lists) }
+    requires fits { Fits (O.stage objects.old) (line_request (setup routes.now) (Drives (item_of bio) (ToCut (want_of want))) lists.old) }
     requires within { IsWithin routes.now.stack (item_of bio).bio }
     requires cut { is_cut (tree_at (setup routes.now) (item_of bio).bio.dev) (item_of bio).bio.range ≡ true }
-    requires lists { ListsAreWithin routes.now.stack lists }
-    ensures step { Answers O.serves (Owes (O.stage objects.old)) (setup routes.now) task (Drives (item_of bio) (ToCut (want_of want))) lists objects.old result.0 objects.new result.1 }
+    requires lists { ListsAreWithin routes.now.stack lists.old }
+    ensures step { Answers O.serves (Owes (O.stage objects.old)) (setup routes.now) task (Drives (item_of bio) (ToCut (want_of want))) lists.old objects.old (line_of result.0 lists.new) objects.new result.1 }
+    ensures alone { IsDoingAlone result.0 }
     ensures kept { O.holds objects.new × (O.stage objects.new ≡ O.stage objects.old) }
 {
     match want {
@@ -248,15 +247,16 @@ fn drive<O: Objects>(
     task: TaskId,
     bio: BioElement,
     ask: DriverAsk,
-    lists: TaskLists,
-) -> (Line, Step)
+    lists: &mut TaskLists,
+) -> (Doing, Step)
     requires holds { O.holds objects.old }
     requires alone { IsAlone bio × IsAskOfAlone ask }
     requires no_attempt { attempt_of (Drives (item_of bio) (ask_of ask)) ≡ None }
-    requires fits { Fits (O.stage objects.old) (line_request (setup routes.now) (Drives (item_of bio) (ask_of ask)) lists) }
+    requires fits { Fits (O.stage objects.old) (line_request (setup routes.now) (Drives (item_of bio) (ask_of ask)) lists.old) }
     requires within { DoingFits routes.now.stack (Drives (item_of bio) (ask_of ask)) }
-    requires lists { ListsAreWithin routes.now.stack lists }
-    ensures step { Answers O.serves (Owes (O.stage objects.old)) (setup routes.now) task (Drives (item_of bio) (ask_of ask)) lists objects.old result.0 objects.new result.1 }
+    requires lists { ListsAreWithin routes.now.stack lists.old }
+    ensures step { Answers O.serves (Owes (O.stage objects.old)) (setup routes.now) task (Drives (item_of bio) (ask_of ask)) lists.old objects.old (line_of result.0 lists.new) objects.new result.1 }
+    ensures alone { IsDoingAlone result.0 }
     ensures kept { O.holds objects.new × (O.stage objects.new ≡ O.stage objects.old) }
 {
     match ask {
@@ -274,15 +274,16 @@ fn copy<O: Objects>(
     task: TaskId,
     run: Copying,
     want: Want,
-    lists: TaskLists,
-) -> (Line, Step)
+    lists: &mut TaskLists,
+) -> (Doing, Step)
     requires holds { O.holds objects.old }
     requires alone { IsWantAlone want }
     requires no_attempt { attempt_of (Copies' run.bio run.master run.leg (want_of want)) ≡ None }
-    requires fits { Fits (O.stage objects.old) (line_request (setup routes.now) (Copies' run.bio run.master run.leg (want_of want)) lists) }
+    requires fits { Fits (O.stage objects.old) (line_request (setup routes.now) (Copies' run.bio run.master run.leg (want_of want)) lists.old) }
     requires within { DoingFits routes.now.stack (Copies' run.bio run.master run.leg (want_of want)) }
-    requires lists { ListsAreWithin routes.now.stack lists }
-    ensures step { Answers O.serves (Owes (O.stage objects.old)) (setup routes.now) task (Copies' run.bio run.master run.leg (want_of want)) lists objects.old result.0 objects.new result.1 }
+    requires lists { ListsAreWithin routes.now.stack lists.old }
+    ensures step { Answers O.serves (Owes (O.stage objects.old)) (setup routes.now) task (Copies' run.bio run.master run.leg (want_of want)) lists.old objects.old (line_of result.0 lists.new) objects.new result.1 }
+    ensures alone { IsDoingAlone result.0 }
     ensures kept { O.holds objects.new × (O.stage objects.new ≡ O.stage objects.old) }
 {
     match want {
@@ -298,15 +299,16 @@ fn turn<O: Objects>(
     routes: &Routes,
     task: TaskId,
     doing: Doing,
-    lists: TaskLists,
-) -> (Line, Step)
+    lists: &mut TaskLists,
+) -> (Doing, Step)
     requires holds { O.holds objects.old }
     requires alone { IsDoingAlone doing }
     requires asks { is_asking (doing_of doing) ≡ true }
     requires no_attempt { attempt_of (doing_of doing) ≡ None }
-    requires fits { Fits (O.stage objects.old) (line_request (setup routes.now) (doing_of doing) (lists_of doing lists)) }
-    requires within { LineFits routes.now.stack (line_of doing lists) }
-    ensures step { Answers O.serves (Owes (O.stage objects.old)) (setup routes.now) task (doing_of doing) (lists_of doing lists) objects.old result.0 objects.new result.1 }
+    requires fits { Fits (O.stage objects.old) (line_request (setup routes.now) (doing_of doing) (lists_of doing lists.old)) }
+    requires within { LineFits routes.now.stack (line_of doing lists.old) }
+    ensures step { Answers O.serves (Owes (O.stage objects.old)) (setup routes.now) task (doing_of doing) (lists_of doing lists.old) objects.old (line_of result.0 lists.new) objects.new result.1 }
+    ensures alone { IsDoingAlone result.0 }
     ensures kept { O.holds objects.new × (O.stage objects.new ≡ O.stage objects.old) }
 {
     match doing {
@@ -345,26 +347,31 @@ impl Line {
         requires alone { IsAlone bio }
         ensures { result ≡ settled (setup routes.now) (item_of bio ∷ []) }
     {
-        serve(routes, bio, TaskLists::new())
+        let lists = TaskLists::new();
+        let doing = serve(routes, bio, &lists);
+        Line { doing, lists }
+    }
+
+    /// It is another one from now on.
+    pub(crate) fn becomes(&mut self, line: Line)
+        ensures { self.new ≡ line }
+    {
+        *self = line;
     }
 
     /// The task of a submission that is over cannot go on.
-    pub(crate) fn breaks(self, breach: Breach, kept: Kept) -> Line
-        requires { self.doing ≡ Rests }
-        ensures { result ≡ record self { doing = Breaks' breach } }
+    pub(crate) fn breaks(&mut self, breach: Breach, kept: Kept)
+        requires { self.old.doing ≡ Rests }
+        ensures { self.new ≡ record self.old { doing = Breaks' breach } }
     {
-        match self.doing {
-            Doing::Rests => broken(breach, kept, self.lists),
-            Doing::Drives { .. } | Doing::Copies { .. } | Doing::Breaks { .. } => unreachable!(),
-        }
+        put(&mut self.doing, broken(breach, kept, &self.lists));
     }
 
     /// It was refused the node of a write.
-    pub(crate) fn refused(self, breach: Breach, kept: Kept) -> Line
-        ensures { result ≡ record rests { doing = Breaks' breach } }
+    pub(crate) fn refused(&mut self, breach: Breach, kept: Kept)
+        ensures { self.new ≡ record rests { doing = Breaks' breach } }
     {
-        let none = TaskLists::new();
-        broken_at(breach, kept, self.lists, Snapshot::of(&none))
+        put(&mut self.doing, broken(breach, kept, &TaskLists::new()));
     }
 
     /// Whether it has something to ask for: it is not over, and has not broken off.
@@ -403,9 +410,8 @@ impl Line {
             return self.attempt(objects, task, dev, waits);
         }
         let doing = mem::replace(&mut self.doing, Doing::Rests);
-        let lists = mem::replace(&mut self.lists, TaskLists::new());
-        let (line, step) = turn(objects, routes, task, doing, lists);
-        *self = line;
+        let (doing, step) = turn(objects, routes, task, doing, &mut self.lists);
+        put(&mut self.doing, doing);
         step
     }
 }

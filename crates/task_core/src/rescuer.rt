@@ -16,7 +16,6 @@ use crate::routes::Routes;
 use crate::step::Step;
 use stack_base::DevId;
 use std::marker::Model;
-use std::mem;
 
 /// The rescuer of a device's set.
 #[derive(Drop)]
@@ -64,15 +63,14 @@ impl Rescuer {
         let dev = self.dev;
         match objects.pop(dev) {
             Ok(Some(bio)) => {
-                self.line = Line::begin(routes, bio);
+                self.line.becomes(Line::begin(routes, bio));
                 let task = TaskId::Rescuer(dev);
                 let what = What::Pop { dev };
                 Step::Stepped(Event { task, what })
             }
             Ok(None) => idle(objects.left()),
             Err(back) => {
-                let line = mem::replace(&mut self.line, Line::rests());
-                self.line = line.breaks(Breach::Spent, Kept::unmade(None, back));
+                self.line.breaks(Breach::Spent, Kept::unmade(None, back));
                 Step::Broken(Breach::Spent)
             }
         }

@@ -68,19 +68,13 @@ impl Writer {
     // What a step has made of its next write.
     fn put(&mut self, next: Next)
         requires todo { self.old.todo ≢ [] }
-        requires alone { IsNextAlone next }
-        ensures { (todo : TodoState) → self.old.todo ≡ todo ∷ drop 1 self.old.todo → writer_task self.new ≡ next_of next self.old.number todo (drop 1 self.old.todo) }
+        requires none { self.old.taken ≡ NoBio }
+        requires alone { IsNextAlone next self.old.line.doing }
+        ensures { (todo : TodoState) → self.old.todo ≡ todo ∷ drop 1 self.old.todo → writer_task self.new ≡ next_of next self.old.number todo (drop 1 self.old.todo) self.old.line }
     {
         match next {
-            Next::Begins(line) => {
-                self.todo.advance();
-                self.taken = Taken::NoBio;
-                self.line = line;
-            }
-            Next::Waits(taken, line) => {
-                self.taken = taken;
-                self.line = line;
-            }
+            Next::Begins => self.todo.advance(),
+            Next::Waits(taken) => self.taken = taken,
         }
     }
 
@@ -96,8 +90,7 @@ impl Writer {
         ensures kept { O.holds objects.new × (O.stage objects.new ≡ O.stage objects.old) }
     {
         let taken = mem::replace(&mut self.taken, Taken::NoBio);
-        let line = mem::replace(&mut self.line, Line::rests());
-        let (next, step) = go_on(objects, routes, self.number, todo, taken, line);
+        let (next, step) = go_on(objects, routes, self.number, todo, taken, &mut self.line);
         self.put(next);
         step
     }
@@ -113,8 +106,7 @@ impl Writer {
             Attempt::Had(bio) => self.taken = Taken::HasBio(bio),
             Attempt::Missed => {}
             Attempt::Spent(back) => {
-                let line = mem::replace(&mut self.line, Line::rests());
-                self.line = line.breaks(Breach::Spent, Kept::unmade(None, back));
+                self.line.breaks(Breach::Spent, Kept::unmade(None, back));
             }
         }
     }

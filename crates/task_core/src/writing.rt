@@ -50,9 +50,9 @@ pub enum Taken {
 #[derive(Drop)]
 pub(crate) enum Next {
     // Its bio is submitted.
-    Begins(Line),
+    Begins,
     // It waits for more, or can't begin.
-    Waits(Taken, Line),
+    Waits(Taken),
 }
 
 // How many segments a bio keeps itself (`BIO_INLINE_VECS`, `block/bio.c`).
@@ -170,13 +170,13 @@ fn take_vector<O: Objects>(
     objects: &mut O,
     number: u32,
     bio: BioElement,
-    line: Line,
-) -> (Taken, Line, Step)
+    line: &mut Line,
+) -> (Taken, Step)
     requires holds { O.holds objects.old }
     requires alone { IsAlone bio }
-    requires rests { line.doing ≡ Rests }
-    ensures step { (setup : Setup) (todo : TodoState) (later : List TodoState) → WriteAnswers O.serves (Owes (O.stage objects.old)) setup number TakeVec (todo ∷ later) (HasBio (item_of bio)) line objects.old (WriterTask number (todo ∷ later) (taken_of result.0) result.1) objects.new result.2 }
-    ensures alone { IsTakenAlone result.0 × TakenSuits result.0 result.1.doing }
+    requires rests { line.old.doing ≡ Rests }
+    ensures step { (setup : Setup) (todo : TodoState) (later : List TodoState) → WriteAnswers O.serves (Owes (O.stage objects.old)) setup number TakeVec (todo ∷ later) (HasBio (item_of bio)) line.old objects.old (WriterTask number (todo ∷ later) (taken_of result.0) line.new) objects.new result.1 }
+    ensures alone { IsTakenAlone result.0 × TakenSuits result.0 line.new.doing }
     ensures kept { O.holds objects.new × (O.stage objects.new ≡ O.stage objects.old) }
 {
     let task = TaskId::Writer(number);
@@ -184,52 +184,47 @@ fn take_vector<O: Objects>(
     match objects.take_vec() {
         Ok(Took::Ordinary(vector)) => (
             Taken::HasBoth(bio, vector),
-            line,
             had(task, true, pool, Got::Ordinary),
         ),
         Ok(Took::Spare(vector)) => (
             Taken::HasBoth(bio, vector),
-            line,
             had(task, true, pool, Got::Spare),
         ),
-        Ok(Took::Miss { used }) => (Taken::HasBio(bio), line, missed(task, true, used, pool)),
+        Ok(Took::Miss { used }) => (Taken::HasBio(bio), missed(task, true, used, pool)),
         Err(back) => {
-            let kept = Kept::unmade(None, back);
-            (
-                Taken::HasBio(bio),
-                line.breaks(Breach::Spent, kept),
-                Step::Broken(Breach::Spent),
-            )
+            line.breaks(Breach::Spent, Kept::unmade(None, back));
+            (Taken::HasBio(bio), Step::Broken(Breach::Spent))
         }
     }
 }
 
-// What a writer has left that was refused the node of a write.
-fn unlinked(line: Line, breach: Breach, back: Back) -> (Line, Step)
-    ensures line { result.0 ≡ record rests { doing = Breaks breach } }
-    ensures step { result.1 ≡ Step.Broken breach }
+// A writer was refused the node of a write.
+fn unlinked(line: &mut Line, breach: Breach, back: Back) -> Step
+    ensures line { line.new ≡ record rests { doing = Breaks breach } }
+    ensures step { result ≡ Step.Broken breach }
 {
     let kept = Kept {
         bio: None,
         hand: None,
         back: HandedBack::Unlinked(back),
     };
-    (line.refused(breach, kept), Step::Broken(breach))
+    line.refused(breach, kept);
+    Step::Broken(breach)
 }
 
-// Opens the node of a write, and answers its place, or what is left of a writer that can't go on.
+// Opens the node of a write, and answers its place, or the step of a writer that can't go on.
 fn open_write<O: Objects>(
     objects: &mut O,
     routes: &Routes,
     writer: u32,
     write: u32,
     vector: Option<VecElement>,
-    line: Line,
-) -> Result<u32, (Line, Step)>
+    line: &mut Line,
+) -> Result<u32, Step>
     requires holds { O.holds objects.old }
-    requires rests { line.doing ≡ Rests }
+    requires rests { line.old.doing ≡ Rests }
     requires fits { Fits (O.stage objects.old) (LinkOf writer (WriteOf write (vector_of vector))) }
-    ensures opens { WriteOpened O.serves (Owes (O.stage objects.old)) (setup routes.now) writer (WriteOf write (vector_of vector)) line objects.old objects.new result }
+    ensures opens { WriteOpened O.serves (Owes (O.stage objects.old)) (setup routes.now) writer (WriteOf write (vector_of vector)) line.old objects.old line.new objects.new result }
     ensures kept { O.holds objects.new × (O.stage objects.new ≡ O.stage objects.old) }
 {
     match objects.link(writer, Ask::Write { write, vector }) {
@@ -240,9 +235,8 @@ fn open_write<O: Objects>(
         }
         Ok(Link::Stray(back)) => Err(unlinked(line, Breach::Stray { writer, node: 0 }, back)),
         Err(back) => {
-            let kept = Kept::unmade(None, back);
-            let line = line.breaks(Breach::Spent, kept);
-            Err((line, Step::Broken(Breach::Spent)))
+            line.breaks(Breach::Spent, Kept::unmade(None, back));
+            Err(Step::Broken(Breach::Spent))
         }
     }
 }
@@ -266,25 +260,26 @@ fn link_short<O: Objects>(
     number: u32,
     todo: &Todo,
     bio: BioElement,
-    line: Line,
+    line: &mut Line,
 ) -> (Next, Step)
     requires holds { O.holds objects.old }
     requires routing { (O.stage objects.old).routing ≡ routes.now }
     requires alone { IsAlone bio }
-    requires rests { line.doing ≡ Rests }
+    requires rests { line.old.doing ≡ Rests }
     requires short { needs_vector todo.now.write ≡ false }
     requires todo { TodoFits (O.stage objects.old) todo.now }
     requires book { IsTrue (has_book (O.stage objects.old) number) }
-    ensures step { (later : List TodoState) → WriteAnswers O.serves (Owes (O.stage objects.old)) (setup routes.now) number (LinkOf number (WriteOf todo.now.number None)) (todo.now ∷ later) (HasBio (item_of bio)) line objects.old (next_of result.0 number todo.now later) objects.new result.1 }
-    ensures alone { IsNextAlone result.0 }
+    ensures step { (later : List TodoState) → WriteAnswers O.serves (Owes (O.stage objects.old)) (setup routes.now) number (LinkOf number (WriteOf todo.now.number None)) (todo.now ∷ later) (HasBio (item_of bio)) line.old objects.old (next_of result.0 number todo.now later line.new) objects.new result.1 }
+    ensures alone { IsNextAlone result.0 line.new.doing }
     ensures kept { O.holds objects.new × (O.stage objects.new ≡ O.stage objects.old) }
 {
     match open_write(objects, routes, number, todo.number, None, line) {
         Ok(node) => {
             let bio = filled_short(number, todo, node, bio);
-            (Next::Begins(Line::begin(routes, bio)), opened(number, node))
+            line.becomes(Line::begin(routes, bio));
+            (Next::Begins, opened(number, node))
         }
-        Err((line, step)) => (Next::Waits(Taken::HasBio(bio), line), step),
+        Err(step) => (Next::Waits(Taken::HasBio(bio)), step),
     }
 }
 
@@ -296,17 +291,17 @@ fn link_long<O: Objects>(
     todo: &Todo,
     bio: BioElement,
     vector: VecElement,
-    line: Line,
+    line: &mut Line,
 ) -> (Next, Step)
     requires holds { O.holds objects.old }
     requires routing { (O.stage objects.old).routing ≡ routes.now }
     requires alone { IsAlone bio }
-    requires rests { line.doing ≡ Rests }
+    requires rests { line.old.doing ≡ Rests }
     requires todo { TodoFits (O.stage objects.old) todo.now }
     requires book { IsTrue (has_book (O.stage objects.old) number) }
     requires home { IsHome (O.stage objects.old) is_vecs vector.share }
-    ensures step { (later : List TodoState) → WriteAnswers O.serves (Owes (O.stage objects.old)) (setup routes.now) number (LinkOf number (WriteOf todo.now.number (Some (filled_vector todo.now (vec_item vector))))) (todo.now ∷ later) (HasBoth (item_of bio) (vec_item vector)) line objects.old (next_of result.0 number todo.now later) objects.new result.1 }
-    ensures alone { IsNextAlone result.0 }
+    ensures step { (later : List TodoState) → WriteAnswers O.serves (Owes (O.stage objects.old)) (setup routes.now) number (LinkOf number (WriteOf todo.now.number (Some (filled_vector todo.now (vec_item vector))))) (todo.now ∷ later) (HasBoth (item_of bio) (vec_item vector)) line.old objects.old (next_of result.0 number todo.now later line.new) objects.new result.1 }
+    ensures alone { IsNextAlone result.0 line.new.doing }
     ensures kept { O.holds objects.new × (O.stage objects.new ≡ O.stage objects.old) }
 {
     let was = Snapshot::of(&vector);
@@ -314,9 +309,10 @@ fn link_long<O: Objects>(
     match open_write(objects, routes, number, todo.number, vector, line) {
         Ok(node) => {
             let bio = filled(number, todo, node, bio);
-            (Next::Begins(Line::begin(routes, bio)), opened(number, node))
+            line.becomes(Line::begin(routes, bio));
+            (Next::Begins, opened(number, node))
         }
-        Err((line, step)) => (Next::Waits(Taken::Refused(bio, was), line), step),
+        Err(step) => (Next::Waits(Taken::Refused(bio, was)), step),
     }
 }
 
@@ -327,19 +323,19 @@ pub(crate) fn go_on<O: Objects>(
     number: u32,
     todo: &Todo,
     taken: Taken,
-    line: Line,
+    line: &mut Line,
 ) -> (Next, Step)
     requires holds { O.holds objects.old }
     requires routing { (O.stage objects.old).routing ≡ routes.now }
     requires alone { IsTakenAlone taken }
-    requires suits { TakenSuits taken line.doing }
+    requires suits { TakenSuits taken line.old.doing }
     requires some { is_taken (taken_of taken) ≡ true }
-    requires rests { line.doing ≡ Rests }
+    requires rests { line.old.doing ≡ Rests }
     requires todo { TodoFits (O.stage objects.old) todo.now }
     requires book { IsTrue (has_book (O.stage objects.old) number) }
     requires home { TakenIsHome (O.stage objects.old) (taken_of taken) }
-    ensures step { (later : List TodoState) → WriteAnswers O.serves (Owes (O.stage objects.old)) (setup routes.now) number (write_request number (todo.now ∷ later) (taken_of taken)) (todo.now ∷ later) (taken_of taken) line objects.old (next_of result.0 number todo.now later) objects.new result.1 }
-    ensures alone { IsNextAlone result.0 }
+    ensures step { (later : List TodoState) → WriteAnswers O.serves (Owes (O.stage objects.old)) (setup routes.now) number (write_request number (todo.now ∷ later) (taken_of taken)) (todo.now ∷ later) (taken_of taken) line.old objects.old (next_of result.0 number todo.now later line.new) objects.new result.1 }
+    ensures alone { IsNextAlone result.0 line.new.doing }
     ensures kept { O.holds objects.new × (O.stage objects.new ≡ O.stage objects.old) }
 {
     match taken {
@@ -347,8 +343,8 @@ pub(crate) fn go_on<O: Objects>(
             if !needs_vector(&todo.write) {
                 return link_short(objects, routes, number, todo, bio, line);
             }
-            let (taken, line, step) = take_vector(objects, number, bio, line);
-            (Next::Waits(taken, line), step)
+            let (taken, step) = take_vector(objects, number, bio, line);
+            (Next::Waits(taken), step)
         }
         Taken::HasBoth(bio, vector) => link_long(objects, routes, number, todo, bio, vector, line),
         Taken::NoBio | Taken::Refused(..) => unreachable!(),

@@ -8,5 +8,5 @@ use Rattle.task_core.proofs.driving.chain.Goals as goal
 pub go_on-requires : goal.go_on-requires
 go_on-requires g c =
     both_within c.args.routes.now.stack (setup c.args.routes.now) (item_of c.args.bio) (item_of c.args.hand) c.in-Ok.node c.cut-cut.result _ (search rules)
-    c.cut-cut.ensures c.args.lists c.submit.new.self c.submit-in-Ok.new.self _ _ c.requires.lists c.cut_off-child.ensures.child c.cut_off-child.ensures.rest
+    c.cut-cut.ensures c.args.lists.now c.submit.new.self c.submit-in-Ok.new.self _ _ c.requires.lists c.cut_off-child.ensures.child c.cut_off-child.ensures.rest
     c.submit.ensures c.submit-in-Ok.ensures

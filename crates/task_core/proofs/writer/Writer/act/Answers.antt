@@ -1,7 +1,7 @@
 use Rattle.std.proofs.Common.{◌≡◌, List, ◌∷◌, drop, sym, subst, arith}
 use Rattle.std.specs.Prelude.{All}
 use Rattle.task_core.specs.declared.writing.Taken.{Taken}
-use Rattle.task_core.specs.Lines.{Line, Rests}
+use Rattle.task_core.specs.Lines.{Rests}
 use Rattle.task_core.specs.Tasks.{Todo, TaskState, write_request}
 use Rattle.task_core.specs.Routed.{setup}
 use Rattle.task_core.specs.Stage.{Owes}
@@ -23,14 +23,12 @@ returns-clause-acts g c =
     let old = c.args.objects.now in
     let new = c.go_on-next.new.objects in
     let step = c.go_on-next.result.1 in
-    let after : TaskState = next_of c.go_on-next.result.0 w.number todo later in
+    let after : TaskState = next_of c.go_on-next.result.0 w.number todo later c.go_on-next.new.line in
     let rests = subst (λ (s : WriterState). s.line.doing ≡ Rests) (sym c.self.view_is) c.requires.rests in
     let first = subst (λ (s : WriterState). s.todo ≡ todo ∷ drop 1 s.todo) (sym c.self.view_is) c.requires.first in
     let answers =
-    subst (λ (line : Line). WriteAnswers serves owes known w.number (write_request w.number (todo ∷ later) (taken_of w.taken)) (todo ∷ later) (taken_of w.taken) line old after new step)
-    c.replace-line.ensures.value
-    (subst (λ (taken : Taken). WriteAnswers serves owes known w.number (write_request w.number (todo ∷ later) (taken_of taken)) (todo ∷ later) (taken_of taken) c.replace-line.result old after new step)
-    c.replace-taken.ensures.value (c.go_on-next.ensures.step later)) in
+    subst (λ (taken : Taken). WriteAnswers serves owes known w.number (write_request w.number (todo ∷ later) (taken_of taken)) (todo ∷ later) (taken_of taken) w.line old after new step)
+    c.replace-taken.ensures.value (c.go_on-next.ensures.step later) in
     subst (λ (next : TaskState). Acts serves owes known (writer_task c.args.self.now) old next new step) (sym (c.put.ensures todo first))
     (subst (λ (s : WriterState). Acts serves owes known (writer_task s) old after new step) c.self.view_is
     (write_acts serves owes known w.number w.todo (taken_of w.taken) w.line todo later old after new step rests first answers))
