@@ -1,5 +1,5 @@
 //! Chains of elements, each in the box of the one before it.
-ghost use Rattle.std.specs.Prelude.{◌≡◌, ◌++◌, filter, ◌+◌, ◌<◌, ◌≤◌, [], ◌∷◌, length, reverse, remove, slice_get, min, ◌^◌, ◌-◌, MatchOption, Some};
+ghost use Rattle.std.specs.Prelude.{◌≡◌, ◌++◌, filter, ◌+◌, ◌<◌, ◌≤◌, [], ◌∷◌, length, reverse, remove, slice_get, min, ◌^◌, ◌-◌, MatchOption, None, Some};
 ghost use Rattle.bio_records.specs.Items.{items, item_of, IsAlone};
 ghost use Rattle.bio_records.specs.Sorting.{is_lower, is_of, is_of_other, is_same, same_set};
 
@@ -168,22 +168,34 @@ pub fn bring_round<F: Drop>(front: &mut Link<F>, back: &mut Link<F>)
     }
 }
 
-// The places of a chain that are reached by calls of `detach_at` within each other are those below this.
+// The places of a chain that are reached by calls of `detach_to` within each other are those below this.
 const NEAR: u64 = 64;
 
-/// Takes the element at a place out of a chain, if it is that long. The others stay where they are.
+// Takes the element at a place out of a chain, if it is that long, and hands it to `taken`, which has none. The others stay where they are.
+// Nothing is left to do behind the inner call, so that it costs no more than a turn of a loop.
 #[cycle(places)]
+fn detach_to<F: Drop>(link: &mut Link<F>, index: u64, taken: &mut Option<Element<BioBody<F>>>)
+    requires { taken.old ≡ None }
+    ensures { MatchOption taken.new ((length (items link.old) ≤ index) × (items link.new ≡ items link.old))
+        (λ element. (slice_get (items link.old) index ≡ Some (item_of element)) × (items link.new ≡ remove (items link.old) index) × IsAlone element) }
+{
+    if index == 0 {
+        *taken = detach(link);
+        return;
+    }
+    if let Some((body, _)) = link {
+        detach_to(&mut body.next, index - 1, taken);
+    }
+}
+
+/// Takes the element at a place out of a chain, if it is that long. The others stay where they are.
 pub fn detach_at<F: Drop>(link: &mut Link<F>, index: u64) -> Option<Element<BioBody<F>>>
     ensures { MatchOption result ((length (items link.old) ≤ index) × (items link.new ≡ items link.old))
         (λ element. (slice_get (items link.old) index ≡ Some (item_of element)) × (items link.new ≡ remove (items link.old) index) × IsAlone element) }
 {
-    if index == 0 {
-        return detach(link);
-    }
-    let Some((body, _)) = link else {
-        return None;
-    };
-    detach_at(&mut body.next, index - 1)
+    let mut taken = None;
+    detach_to(link, index, &mut taken);
+    taken
 }
 
 // Takes the element at a place out of a list with this front and back, by moving those before it. The others keep their order.
