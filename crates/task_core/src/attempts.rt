@@ -21,8 +21,14 @@ use std::mem;
 // The bio that a driver has, if one has a bio.
 fn bio_of(doing: Doing) -> Option<BioElement> {
     match doing {
-        Doing::Drives { bio, .. } => Some(bio),
-        Doing::Rests | Doing::Copies { .. } | Doing::Breaks { .. } => None,
+        Doing::Drives { bio, ask } => {
+            drop(ask);
+            Some(bio)
+        }
+        rest @ (Doing::Rests | Doing::Copies { .. } | Doing::Breaks { .. }) => {
+            drop(rest);
+            None
+        }
     }
 }
 

@@ -196,7 +196,10 @@ fn give_vector<O: Objects>(
     let pool = pool_of(vector.no());
     match objects.give_vec(vector) {
         Ok(()) => (carrying(writer, rest), gives(disk, pool)),
-        Err(kept) => spent(kept),
+        Err(kept) => {
+            drop(rest);
+            spent(kept)
+        }
     }
 }
 
@@ -218,7 +221,10 @@ fn give_bio<O: Objects>(
     let pool = pool_of(bio.no());
     match objects.give_bio(bio) {
         Ok(()) => (carrying(writer, rest), gives(disk, pool)),
-        Err(kept) => spent(kept),
+        Err(kept) => {
+            drop(rest);
+            spent(kept)
+        }
     }
 }
 
@@ -239,7 +245,10 @@ fn give_slip<O: Objects>(
     let pool = pool_of(slip.no());
     match objects.give_slip(slip) {
         Ok(()) => (carrying(writer, rest), gives(disk, pool)),
-        Err(kept) => spent(kept),
+        Err(kept) => {
+            drop(rest);
+            spent(kept)
+        }
     }
 }
 
@@ -312,9 +321,11 @@ fn finish<O: Objects>(
     if let Some(slip) = rest.held.slip.take() {
         return give_slip(objects, disk, writer, slip, rest);
     }
-    match rest.parent {
-        Some(parent) => drop_parent(objects, disk, writer, parent, rest.write, rest.status),
-        None => end_write(objects, disk, writer, rest.write, rest.status),
+    let (parent, write, status) = (rest.parent, rest.write, rest.status);
+    drop(rest);
+    match parent {
+        Some(parent) => drop_parent(objects, disk, writer, parent, write, status),
+        None => end_write(objects, disk, writer, write, status),
     }
 }
 
@@ -359,7 +370,7 @@ impl Carried {
         requires { IsLoadAlone load }
         ensures { self.new ≡ carried_of load }
     {
-        self.load = load;
+        drop(mem::replace(&mut self.load, load));
     }
 
     // Completes one of the bios that wait in the disk (`bio_endio`, `block/bio.c`). Where none waits, it looks whether any write is unfinished.

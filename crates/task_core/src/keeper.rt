@@ -57,9 +57,10 @@ fn keeps(what: What) -> Step
 }
 
 // The tally or a pool had no ticket for a call, which was handed nothing.
-fn spent(_nothing: Unmade) -> (Option<Breach>, Step)
+fn spent(nothing: Unmade) -> (Option<Breach>, Step)
     ensures { result ≡ (Some Breach'.Spent, Step'.Broken Breach'.Spent) }
 {
+    drop(nothing);
     (Some(Breach::Spent), Step::Broken(Breach::Spent))
 }
 

@@ -133,7 +133,7 @@ impl Model for Line {
 pub(crate) fn put(at: &mut Doing, doing: Doing)
     ensures { at.new ≡ doing }
 {
-    *at = doing;
+    drop(mem::replace(at, doing));
 }
 
 // What the driver of a device does with a bio that has come to it.
@@ -356,7 +356,8 @@ impl Line {
     pub(crate) fn becomes(&mut self, line: Line)
         ensures { self.new ≡ line }
     {
-        *self = line;
+        put(&mut self.doing, line.doing);
+        self.lists = line.lists;
     }
 
     /// The task of a submission that is over cannot go on.

@@ -154,12 +154,12 @@ pub fn open(alloc: Global, accepted: &Accepted, work: &Work) -> Result<Opened, A
     let routes = open_routes(alloc, accepted, work, &mut kinds)?;
     let left = left_of(alloc, &work.rounds)?;
     open_others(alloc, accepted, work, &routes, &left, &mut kinds)?;
-    let objects = open_plain(alloc, accepted, work, &routes, left)?;
-    let room = room_of(alloc, &accepted.stack, work.writes.len())?;
     let routes = Arc::new(alloc, routes)?;
+    let tasks = tasks_of(alloc, kinds, &routes)?;
+    let room = room_of(alloc, &accepted.stack, work.writes.len())?;
     Ok(Opened {
-        objects,
-        tasks: tasks_of(alloc, kinds, &routes)?,
+        objects: open_plain(alloc, accepted, work, &routes, left)?,
+        tasks,
         room,
         routes,
         accepted: Snapshot::of(accepted),

@@ -1,8 +1,9 @@
 //! The tasks of devices, and the list of all tasks.
-ghost use Rattle.std.specs.Prelude.{◌≡◌, ◌<◌, [], ◌∷◌, IfOk, OnOk, length};
+ghost use Rattle.std.specs.Prelude.{◌≡◌, ◌<◌, [], ◌∷◌, ◌++◌, IfOk, OnOk, length};
 ghost use Rattle.std.specs.List.{range_with_len};
 ghost use Rattle.stack_base.specs.Stack.{IsStack};
 ghost use Rattle.task_core.specs.Routed.{setup};
+ghost use Rattle.task_core.specs.TaskViews.{task_of};
 ghost use Rattle.task_core.specs.NewTasks.{rescuers_of, completers_of, shown, with_routing, Adds};
 
 use crate::carried::Carried;
@@ -71,6 +72,22 @@ pub(crate) fn open_completers(
     Ok(())
 }
 
+// Adds a task of this kind, which shares what all know of devices.
+fn add_task(kind: Kind, routes: &Arc<Routes>, tasks: &mut Vec<Task>) -> Result<(), AllocError>
+    ensures { OnOk result (tasks.new.items ≡ tasks.old.items ++ (record { routing = routes.now.value; state = task_of kind }) ∷ []) }
+{
+    match routes.clone() {
+        Ok(routes) => {
+            tasks.push(Task::new(routes, kind))?;
+            Ok(())
+        }
+        Err(error) => {
+            drop(kind);
+            Err(error)
+        }
+    }
+}
+
 // Tasks of these kinds, which share what they know of devices.
 pub(crate) fn tasks_of(
     alloc: Global,
@@ -81,7 +98,7 @@ pub(crate) fn tasks_of(
 {
     let mut tasks = Vec::with_capacity(alloc, kinds.len())?;
     'sharing: for kind in kinds {
-        tasks.push(Task::new(routes.clone()?, kind))?;
+        add_task(kind, routes, &mut tasks)?;
     }
     Ok(tasks)
 }

@@ -1,8 +1,9 @@
 use Rattle.std.proofs.Common.{◌≡◌, ◌<◌, ◌^◌, ◌++◌, ◌∙◌, ℕ, List, ap, arith, length, subst, sym}
 use Rattle.std.specs.List.{range_with_len}
 use Rattle.task_core.specs.Leaving.{HasRoom}
-use Rattle.task_core.specs.NewTasks.{others_in, shown, with_routing, writers_of}
-use Rattle.task_core.specs.Routed.{setup}
+use Rattle.task_core.specs.NewTasks.{others_in, reserves_in, shown, tally_in, with_routing, writers_of}
+use Rattle.task_core.specs.Openings.{AreOpened}
+use Rattle.task_core.specs.Routed.{Routing, setup}
 use Rattle.task_core.proofs.Behind.{rounds_few}
 use Rattle.task_core.proofs.Opens.{opened_of}
 use Rattle.task_core.proofs.opened.open.Goals as goal
@@ -23,6 +24,9 @@ returns-clause-opened c =
     let len = c.len.ensures in
     let ok = work.writes.ok in
     let many : c.len.result ≡ length work.writes.items = omega (arith, len, ok) in
+    let objects =
+    subst (λ (r : Routing). AreOpened r c.args.accepted.now.scripts.items (reserves_in work.resizes.items) (tally_in work.rounds.items work.writes.items) c.in_ok-open_plain.field-0)
+    (c.deref-3.ensures ∙ shared) c.in_ok-open_plain.ensures in
     let room = subst (λ writes. HasRoom c.args.accepted.now.stack writes c.in_ok-room.room) many c.in_ok-room.ensures in
-    opened_of _ c.open_others.new.kinds.items routing c.args.accepted.now work c.of.ensures c.of-2.ensures (c.in_ok-tasks_of.ensures ∙ ap (λ r. with_routing r (shown c.open_others.new.kinds.items)) shared) shared
-    (c.requires.read, c.in_ok-routes.ensures.routes.0, c.in_ok-routes.ensures.routes.1, c.in_ok-objects.ensures, kinds, room)
+    opened_of _ c.open_others.new.kinds.items routing c.args.accepted.now work c.of.ensures c.of-2.ensures (c.in_ok-tasks.ensures ∙ ap (λ r. with_routing r (shown c.open_others.new.kinds.items)) shared) shared
+    (c.requires.read, c.in_ok-routes.ensures.routes.0, c.in_ok-routes.ensures.routes.1, objects, kinds, room)
