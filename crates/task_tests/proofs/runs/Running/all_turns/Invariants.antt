@@ -1,0 +1,5 @@
+use Rattle.task_core.specs.OfOne.{AreOfOne}
+use Rattle.task_tests.proofs.runs.Running.all_turns.Given as goal
+
+abbrev pub invariant-turning : goal.invariant-turning
+invariant-turning g l = AreOfOne l.self.objects l.self.tasks.items

@@ -1,0 +1,5 @@
+use Rattle.task_core.specs.OfOne.{AreOfOne}
+use Rattle.task_tests.proofs.runs.Running.ends.Given as goal
+
+abbrev pub invariant-ending : goal.invariant-ending
+invariant-ending g l = AreOfOne l.self.objects l.self.tasks.items

@@ -1,0 +1,8 @@
+use Rattle.task_tests.proofs.Kept.{stays_of_one}
+use Rattle.task_tests.proofs.runs.Running.step.Goals as goal
+
+pub returns : goal.returns
+returns c =
+    let there = c.in_ok-task.ensures.item in
+    stays_of_one c.args.self.now.objects c.step.new.objects c.args.self.now.tasks.items c.args.place there.3.0 c.in_ok-task.task.now c.step.new.self there.1
+    c.requires c.step.result c.step.ensures.kept c.step.ensures.same c.step.ensures.turns
