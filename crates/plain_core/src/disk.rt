@@ -13,6 +13,7 @@ use crate::part::Part;
 use bio_records::Bio;
 use stack_base::{Bad, DevId, Range, Status};
 use std::alloc::{AllocError, Global};
+use std::collections::VecDeque;
 use std::marker::Model;
 
 // Whether two ranges share a sector.
@@ -93,13 +94,13 @@ fn end(firsts: &mut Vec<Option<u64>>, bio: Bio, status: Status)
     }
 }
 
-// Takes the bio at a place out of those that wait.
-fn take_at(pending: &mut Vec<Part>, index: u64) -> Part
+// Takes the bio at a place out of those that wait. The side that has fewer of them moves.
+fn take_at(pending: &mut VecDeque<Part>, index: u64) -> Part
     requires { index < length pending.old.items }
     ensures taken { slice_get pending.old.items index ≡ Some result }
     ensures rest { pending.new.items ≡ remove pending.old.items index }
 {
-    pending.remove(index as usize)
+    pending.remove(index as usize).unwrap()
 }
 
 // So many sectors, to none of which anything was written.
@@ -118,7 +119,7 @@ pub struct Disk {
     bad: Vec<Bad>,
     // The first word of each sector that was written.
     firsts: Vec<Option<u64>>,
-    pending: Vec<Part>,
+    pending: VecDeque<Part>,
 }
 
 impl Model for Disk {
@@ -148,7 +149,7 @@ impl Disk {
             dev,
             bad,
             firsts: unwritten(alloc, sectors)?,
-            pending: Vec::new(alloc),
+            pending: VecDeque::new(alloc),
         })
     }
 
@@ -161,7 +162,7 @@ impl Disk {
         ensures ok { OnOk result (self.new ≡ pushed part self.old) }
         ensures err { OnErr result (self.new ≡ self.old) }
     {
-        self.pending.push(part)?;
+        self.pending.push_back(part)?;
         Ok(())
     }
 
