@@ -2,6 +2,7 @@ pub mod Sectors
 pub mod Sifted
 pub mod Places
 pub mod Updated
+pub mod Booked
 pub mod Served
 pub mod Steps
 pub mod Tasks

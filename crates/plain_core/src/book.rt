@@ -1,6 +1,6 @@
 //! Books of nodes that hold plain elements.
-ghost use Rattle.std.specs.Prelude.{◌≡◌, ℕ, ◌^◌, ◌-◌, ◌<◌, IfOk, MatchBool, MatchOption, None, Some, replicate};
-ghost use Rattle.bio_books.specs.Books.{BookState, parent_of, first_failing, any_well, by_mark, kept_with, closing, told, lowered, raised, keeping, child_node, leg_node, top_node, master_node, node_at};
+ghost use Rattle.std.specs.Prelude.{◌≡◌, ℕ, ◌^◌, ◌-◌, ◌<◌, IfOk, IsSome, MatchBool, MatchOption, None, Some, replicate};
+ghost use Rattle.bio_books.specs.Books.{BookState, Node as Open, parent_of, first_failing, any_well, by_mark, kept_with, closing, told, lowered, raised, keeping, child_node, leg_node, top_node, master_node, node_at, with_node};
 ghost use Rattle.bio_books.specs.Links.{Made, IsVacant, Opens, Chains, Masters, Legs};
 ghost use Rattle.bio_books.specs.Drops.{Drops, closed_of};
 ghost use Rattle.plain_core.specs.Books.{IsTold};
@@ -188,59 +188,36 @@ impl Node {
         }
     }
 
-    // The same node with another count.
-    fn counting(&self, count: u64) -> Node
-        ensures { result ≡ record self.now { count = count } }
+    // It waits for one end more.
+    fn raise(&mut self)
+        ensures { self.old.count < 2 ^ 64 - 1 → self.new ≡ raised self.old }
     {
-        Node {
-            role: self.role,
-            write: self.write,
-            count,
-            status: self.status,
-            held: self.held.again(),
-        }
-    }
-
-    // The same node once more.
-    fn again(&self) -> Node
-        ensures { result ≡ self.now }
-    {
-        self.counting(self.count)
+        self.count = self.count.wrapping_add(1);
     }
 
     // The node keeps this part.
-    fn keeping(self, part: &Part) -> Node
-        ensures { result ≡ keeping part.now self }
+    fn keep(&mut self, part: &Part)
+        ensures { self.new ≡ keeping part.now self.old }
     {
-        let Node {
-            role,
-            write,
-            count,
-            status,
-            held,
-        } = self;
-        Node {
-            role,
-            write,
-            count,
-            status,
-            held: Holding {
-                bio: Some(part.again()),
-                ..held
-            },
+        self.held.bio = Some(part.again());
+    }
+
+    // One of its ends is told (`__bio_chain_endio`, `block/bio.c`).
+    fn tell(&mut self, status: Status, part: Option<Part>)
+        ensures { self.new ≡ told self.old status part }
+    {
+        self.status = kept_with(self.role, self.status, status);
+        if part.is_some() {
+            self.held.bio = part;
         }
     }
 
-    // The node with one of its ends told (`__bio_chain_endio`, `block/bio.c`).
-    fn told(self, status: Status, part: Option<Part>) -> Node
+    // The node with one of its ends told.
+    fn told(mut self, status: Status, part: Option<Part>) -> Node
         ensures { result ≡ told self status part }
     {
-        let mut node = self;
-        node.status = kept_with(node.role, node.status, status);
-        match part {
-            None => node,
-            Some(part) => node.keeping(&part),
-        }
+        self.tell(status, part);
+        self
     }
 
     // What is left of it as it closes.
@@ -294,13 +271,64 @@ impl Book {
     }
 
     // The node at a place, if one is open there.
-    fn node(&self, place: u32) -> Option<Node>
-        ensures { result ≡ node_at self.now place }
+    fn node(&self, place: u32) -> Option<&Node>
+        ensures { MatchOption result (node_at self.now place ≡ None) (λ node. node_at self.now place ≡ Some node.now) }
     {
         match self.nodes.get(place as usize) {
-            Some(Some(node)) => Some(node.again()),
+            Some(Some(node)) => Some(node),
             _ => None,
         }
+    }
+
+    // The node at a place waits for one end more.
+    fn raise(&mut self, place: u32)
+        requires { IsSome (node_at self.old place) }
+        ensures { (node : Open) → node_at self.old place ≡ Some node → node.count < 2 ^ 64 - 1 → self.new ≡ with_node self.old place (Some (raised node)) }
+    {
+        let Some(slot) = self.nodes.get_mut(place as usize) else {
+            unreachable!()
+        };
+        let Some(node) = slot else { unreachable!() };
+        node.raise();
+    }
+
+    // The node at a place is told of an end, and waits for others.
+    fn lower(&mut self, place: u32, status: Status, part: Option<Part>)
+        requires { IsSome (node_at self.old place) }
+        ensures { (node : Open) → node_at self.old place ≡ Some node → 1 < node.count → self.new ≡ with_node self.old place (Some (lowered (told node status part))) }
+    {
+        let Some(slot) = self.nodes.get_mut(place as usize) else {
+            unreachable!()
+        };
+        let Some(node) = slot else { unreachable!() };
+        node.tell(status, part);
+        node.count = node.count.saturating_sub(1);
+    }
+
+    // The node at a place is told of its last end, and closes.
+    fn close(&mut self, place: u32, status: Status, part: Option<Part>) -> Closed
+        requires { IsSome (node_at self.old place) }
+        ensures { (node : Open) → node_at self.old place ≡ Some node → (result ≡ closed_of (told node status part)) × (self.new ≡ with_node self.old place None) }
+    {
+        let Some(slot) = self.nodes.get_mut(place as usize) else {
+            unreachable!()
+        };
+        let Some(node) = slot.take() else {
+            unreachable!()
+        };
+        node.told(status, part).close()
+    }
+
+    // The node at a place keeps this part.
+    fn keep(&mut self, place: u32, part: &Part)
+        requires { IsSome (node_at self.old place) }
+        ensures { (node : Open) → node_at self.old place ≡ Some node → self.new ≡ with_node self.old place (Some (keeping part.now node)) }
+    {
+        let Some(slot) = self.nodes.get_mut(place as usize) else {
+            unreachable!()
+        };
+        let Some(node) = slot else { unreachable!() };
+        node.keep(part);
     }
 
     /// How many ends the node at a place waits for, if one is open there.
@@ -340,6 +368,7 @@ impl Book {
     }
 
     /// Opens a child of an open node, which waits for it (`bio_chain`, `block/bio.c`).
+    #[tactic(auto, using(crate::proofs::Booked::stays))]
     pub fn open_chain(&mut self, parent: u32, place: u32) -> bool
         ensures { MatchBool result (Chains self.old parent (Made place) self.new)
             ((self.new ≡ self.old) × ((new : BookState) → Chains self.old parent (Made place) new → ⊥)) }
@@ -347,16 +376,18 @@ impl Book {
         let Some(node) = self.node(parent) else {
             return false;
         };
-        if node.count == u64::MAX || !self.is_vacant(place) {
+        let (count, write) = (node.count, node.write);
+        if count == u64::MAX || !self.is_vacant(place) {
             return false;
         }
-        self.nodes[place as usize] = Some(Node::new(Role::Chain { parent }, node.write, None));
-        self.nodes[parent as usize] = Some(node.counting(node.count + 1));
+        self.nodes[place as usize] = Some(Node::new(Role::Chain { parent }, write, None));
+        self.raise(parent);
         true
     }
 
     /// Opens a master, which stands for the own part of an open node, and which keeps that part (`raid1_write_request`,
     /// `drivers/md/raid1.c`).
+    #[tactic(auto, using(crate::proofs::Booked::stays))]
     pub fn open_master(
         &mut self,
         parent: u32,
@@ -371,11 +402,12 @@ impl Book {
         let Some(node) = self.node(parent) else {
             return false;
         };
+        let write = node.write;
         if !self.is_vacant(place) {
             return false;
         }
-        self.nodes[place as usize] = Some(Node::master(parent, node.write, slip, legs));
-        self.nodes[parent as usize] = Some(node.keeping(part));
+        self.nodes[place as usize] = Some(Node::master(parent, write, slip, legs));
+        self.keep(parent, part);
         true
     }
 
@@ -387,11 +419,12 @@ impl Book {
         let Some(node) = self.node(master) else {
             return false;
         };
+        let write = node.write;
         if !self.is_vacant(place) {
             return false;
         }
         let leg = Role::Leg { parent: master };
-        self.nodes[place as usize] = Some(Node::new(leg, node.write, None));
+        self.nodes[place as usize] = Some(Node::new(leg, write, None));
         true
     }
 
@@ -406,29 +439,26 @@ impl Book {
         ensures { IsTold self.old place status part end result self.new }
     {
         let node = self.node(place)?;
-        let count = node.count;
-        let told = node.told(status, part);
+        let (count, role) = (node.count, node.role);
         match end {
             End::Left => {
                 if count < 2 {
                     return None;
                 }
-                self.nodes[place as usize] = Some(told.counting(count - 1));
+                self.lower(place, status, part);
                 Some(Ended::Left)
             }
             End::Up => {
-                if count != 1 || parent_of(told.role).is_none() {
+                if count != 1 || parent_of(role).is_none() {
                     return None;
                 }
-                self.nodes[place as usize] = None;
-                Some(Ended::Up(told.close()))
+                Some(Ended::Up(self.close(place, status, part)))
             }
             End::Top => {
-                if count != 1 || parent_of(told.role).is_some() {
+                if count != 1 || parent_of(role).is_some() {
                     return None;
                 }
-                self.nodes[place as usize] = None;
-                Some(Ended::Top(told.close()))
+                Some(Ended::Top(self.close(place, status, part)))
             }
         }
     }
