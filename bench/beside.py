@@ -1,12 +1,15 @@
 #!/usr/bin/env python3
 """Times calls of crates of this repository, and prints nanoseconds a call beside those of a twin in plain Rust. It is no test.
 
-usage: bench/beside.py [NAME ..]      a NAME is a folder beside this script (pools, lists, books, lanes, disks, locks, pieces); each of them if left out
+usage: bench/beside.py [NAME ..]      a NAME is a folder beside this script (pools, lists, books, lanes, disks, locks, pieces, cores, steps); each of them if left out
 
 It needs `rt`, which proves and builds each measured program in a throw-away repository, and `rustc`. That takes a few minutes a program.
 A folder has the program in main.rt.txt and the twin in twin.rs, and of the program's proof the invariants of a function F in F.antt.txt, or
 what else there is in proofs/ or specs/, each file with .txt behind its name. Both programs get a number of calls as their argument, and
 write a line for each row: its name, the nanoseconds that all calls took, and how many of the calls were served.
+
+The programs of cores and steps read the text of a run, and write one line. There the rows are texts, a call is an event, and both go on to
+the end of the run in which the number is reached.
 """
 import os
 import re
@@ -18,10 +21,20 @@ import tempfile
 
 BENCH = os.path.dirname(os.path.abspath(__file__))
 TOP = os.path.dirname(BENCH)
+sys.path.insert(0, BENCH)
+import run  # noqa: E402
+
 ROUNDS = 9
 CALLS = 1000000
-# of disks a call is a sector, and each of their disks has as many as a disk may have
-CALLS_OF = {"disks": 4 * 262144}
+# in place of that number; of disks a call is a sector, and each of their disks has as many as a disk may have
+CALLS_OF = {"disks": 4 * 262144, "steps": 10000000}
+
+TEXTS = {
+    "single": run.writes(131072),
+    "limit": run.limited("", 64),
+    "none": run.limited("memory none\n", 64),
+    "mirror": run.mirrored("memory none\n", 16384),
+}
 
 
 def names():
@@ -97,7 +110,7 @@ def build_measured(name, folder):
         file.write(f"measure: {' '.join(copied + of_kit)}\n")
     # the measured program may use the handles that this repository may
     shutil.copyfile(os.path.join(TOP, "HANDLES"), os.path.join(folder, "HANDLES"))
-    run = subprocess.run(["rt", "run", "--", "0"], cwd=measure, stdout=subprocess.DEVNULL, stderr=subprocess.PIPE, text=True)
+    run = subprocess.run(["rt", "run", "--", "0"], cwd=measure, stdin=subprocess.DEVNULL, stdout=subprocess.DEVNULL, stderr=subprocess.PIPE, text=True)
     if run.returncode != 0:
         sys.exit(run.stderr)
     return os.path.join(measure, "out", "measure")
@@ -111,16 +124,46 @@ def build_twin(name, folder):
     return twin
 
 
-def once(program, calls):
+def build_machine(folder):
+    """Builds the twin of the whole program, and answers its path."""
+    path = os.path.join(folder, "machine")
+    subprocess.run(["rustc", "--edition", "2024", "-C", "opt-level=3", "-A", "warnings", "-o", path, os.path.join(BENCH, "runs", "twin.rs")], check=True)
+    return path
+
+
+def with_events(text, program):
+    """The text, and the lines of the events of its run."""
+    trace = subprocess.run([program, "run", "--trace"], input=text, stdout=subprocess.PIPE, text=True).stdout
+    return text + "# events\n" + "".join(line for line in trace.splitlines(True) if line.startswith("event "))
+
+
+def inputs(name, folder):
+    """What the programs of a folder read, by rows, if they read anything."""
+    if name == "steps":
+        return TEXTS
+    if name == "cores":
+        program = build_machine(folder)
+        return {row: with_events(text, program) for row, text in TEXTS.items()}
+    return {}
+
+
+def once(program, calls, text=None):
     """Runs the program once: nanoseconds a call, by row."""
-    output = subprocess.run([program, str(calls)], check=True, stdout=subprocess.PIPE, text=True).stdout
+    output = subprocess.run([program, str(calls)], input=text, check=True, stdout=subprocess.PIPE, text=True).stdout
     rows = {}
     for line in output.splitlines():
         name, nanoseconds, served = line.split()
-        if int(served) != calls:
+        if int(served) < calls or text is None and int(served) > calls:
             sys.exit(f"{program}: {served} of {calls} calls were served at {name}")
-        rows[name] = int(nanoseconds) / calls
+        rows[name] = int(nanoseconds) / int(served)
     return rows
+
+
+def all_rows(program, calls, texts):
+    """The same, with a row for each text, if there are any."""
+    if not texts:
+        return once(program, calls)
+    return {row: min(once(program, calls, text).values()) for row, text in texts.items()}
 
 
 def measure(name):
@@ -128,8 +171,9 @@ def measure(name):
     calls = CALLS_OF.get(name, CALLS)
     with tempfile.TemporaryDirectory() as folder:
         measured, twin = build_measured(name, folder), build_twin(name, folder)
+        texts = inputs(name, folder)
         # in turn, so that what else the machine does falls on both
-        runs = [(once(measured, calls), once(twin, calls)) for _ in range(ROUNDS)]
+        runs = [(all_rows(measured, calls, texts), all_rows(twin, calls, texts)) for _ in range(ROUNDS)]
     print(f"{name:10} {'Rattle ns':>10} {'Rust ns':>10} {'ratio':>6} {'Rattle mid':>10} {'Rust mid':>10} {'ratio':>6}")
     for row in runs[0][0]:
         words = [f"{row:10}"]

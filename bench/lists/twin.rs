@@ -133,6 +133,8 @@ fn main() {
     println!("alone {alone} {served}");
     let (waiting, served) = time_rounds(100, count / 2);
     println!("waiting {waiting} {served}");
-    let (merge, merged) = time_merges(100_000, count / 2);
+    let (few, merged) = time_merges(100, count);
+    println!("few {few} {merged}");
+    let (merge, merged) = time_merges(100_000, count);
     println!("merge {merge} {merged}");
 }

@@ -3,9 +3,10 @@
 use std::collections::VecDeque;
 use std::env;
 use std::io::{self, BufWriter, Read, Write as _};
+use std::time::Instant;
 
 #[derive(Clone, Copy, PartialEq, Eq)]
-enum Status {
+pub enum Status {
     Ok,
     Io,
     Medium,
@@ -23,7 +24,8 @@ impl Status {
     }
 }
 
-enum Kind {
+#[derive(Clone)]
+pub enum Kind {
     Disk,
     Linear,
     Stripe(u64),
@@ -32,18 +34,19 @@ enum Kind {
     Mirror,
 }
 
-struct Device {
-    name: String,
-    kind: Kind,
-    members: Vec<usize>,
-    size: u64,
-    rescuer: bool,
-    bads: Vec<(u64, u64, Status)>,
-    bios: u32,
-    records: u32,
+#[derive(Clone)]
+pub struct Device {
+    pub name: String,
+    pub kind: Kind,
+    pub members: Vec<usize>,
+    pub size: u64,
+    pub rescuer: bool,
+    pub bads: Vec<(u64, u64, Status)>,
+    pub bios: u32,
+    pub records: u32,
 }
 
-const FS: u32 = u32::MAX;
+pub const FS: u32 = u32::MAX;
 
 struct Bio {
     write: u32,
@@ -171,13 +174,13 @@ impl<T> Pool<T> {
 }
 
 #[derive(Clone, Copy)]
-struct Todo {
-    number: u32,
-    round: u32,
-    dev: u32,
-    start: u64,
-    count: u64,
-    tag: u64,
+pub struct Todo {
+    pub number: u32,
+    pub round: u32,
+    pub dev: u32,
+    pub start: u64,
+    pub count: u64,
+    pub tag: u64,
 }
 
 #[derive(Default)]
@@ -442,7 +445,7 @@ impl Pcg {
 }
 
 /// The first piece of a run at a device that cuts: its length, the member, and where it starts there.
-fn piece(devices: &[Device], dev: u32, start: u64, len: u64) -> (u64, usize, u64) {
+pub fn piece(devices: &[Device], dev: u32, start: u64, len: u64) -> (u64, usize, u64) {
     let device = &devices[dev as usize];
     match device.kind {
         Kind::Linear => {
@@ -501,7 +504,7 @@ fn piece(devices: &[Device], dev: u32, start: u64, len: u64) -> (u64, usize, u64
     }
 }
 
-fn cuts(devices: &[Device], dev: u32) -> bool {
+pub fn cuts(devices: &[Device], dev: u32) -> bool {
     !matches!(devices[dev as usize].kind, Kind::Disk | Kind::Mirror)
 }
 
@@ -1142,18 +1145,18 @@ impl Objects {
     }
 }
 
-struct Text {
-    devices: Vec<Device>,
-    fs_bios: u32,
-    fs_vecs: u32,
-    scripts: Vec<(String, Vec<bool>, bool)>,
-    none: bool,
-    writes: Vec<(u32, Todo)>,
-    resizes: Vec<(u32, String, u32)>,
-    entries: u64,
+pub struct Text {
+    pub devices: Vec<Device>,
+    pub fs_bios: u32,
+    pub fs_vecs: u32,
+    pub scripts: Vec<(String, Vec<bool>, bool)>,
+    pub none: bool,
+    pub writes: Vec<(u32, Todo)>,
+    pub resizes: Vec<(u32, String, u32)>,
+    pub entries: u64,
 }
 
-fn read(text: &str) -> Text {
+pub fn read(text: &str) -> Text {
     let mut t = Text {
         devices: Vec::new(),
         fs_bios: 2,
@@ -1323,46 +1326,8 @@ fn generate(number: u64) -> String {
     }
 }
 
-fn main() {
-    let words: Vec<String> = env::args().skip(1).collect();
-    let mut seed = 0;
-    let (mut trace, mut made) = (false, None);
-    let mut i = 1;
-    if words[0] == "gen" {
-        let n = words[1].parse().unwrap();
-        made = Some(n);
-        seed = n;
-        i = 2;
-    }
-    while i < words.len() {
-        if words[i] == "--trace" {
-            trace = true;
-        } else if words[i] == "--seed" {
-            i += 1;
-            seed = words[i].parse().unwrap();
-        } else if let Some(v) = words[i].strip_prefix("--seed=") {
-            seed = v.parse().unwrap();
-        }
-        i += 1;
-    }
-    let text = match made {
-        Some(n) => generate(n),
-        None => {
-            let mut t = String::new();
-            io::stdin().read_to_string(&mut t).unwrap();
-            t
-        }
-    };
-    let t = read(&text);
-    if !stands(&t) {
-        std::process::exit(3);
-    }
-    let script = |pool: &str| {
-        t.scripts
-            .iter()
-            .find(|s| s.0 == pool)
-            .map_or((Vec::new(), !t.none), |s| (s.1.clone(), s.2))
-    };
+/// The elements and the fragments of all writes, and how many places the book of each writer has.
+pub fn needs_of(t: &Text) -> (u64, u64, [u64; 8]) {
     let (mut e, mut g) = (0, 0);
     let mut places = [0u64; 8];
     for (task, w) in &t.writes {
@@ -1371,13 +1336,18 @@ fn main() {
         e += 1 + a + u64::from(w.count > 32);
         g += b;
     }
+    (e, g, places)
+}
+
+/// The objects and the tasks of a text, as its run begins.
+fn open(t: &Text, places: &[u64; 8], trace: bool) -> (Objects, Vec<Task>) {
+    let script = |pool: &str| {
+        t.scripts
+            .iter()
+            .find(|s| s.0 == pool)
+            .map_or((Vec::new(), !t.none), |s| (s.1.clone(), s.2))
+    };
     let last = t.writes.last().map_or(0, |w| w.1.round);
-    let z = t.entries + u64::from(last) + t.resizes.len() as u64;
-    match words[0].as_str() {
-        "check" => return check(&t, (e, g, z)),
-        "layout" => return layout(&t),
-        _ => {}
-    }
     let numbered = |name: &str| match name {
         "fs.bios" => 65,
         "fs.vecs" => 64,
@@ -1487,8 +1457,7 @@ fn main() {
     let (va, vb) = script("fs.vecs");
     let count = t.devices.len();
     let all = t.writes.len() as u32;
-    let stdout = io::stdout();
-    let mut o = Objects {
+    let o = Objects {
         fs: Pool::new(t.fs_bios, fa, fb, Bio::clear),
         vecs: Pool::new(
             t.fs_vecs,
@@ -1508,12 +1477,17 @@ fn main() {
         all,
         statuses: vec![Status::Ok; t.writes.len()],
         trace: if trace {
-            Some(BufWriter::with_capacity(8192, stdout.lock()))
+            Some(BufWriter::with_capacity(8192, io::stdout().lock()))
         } else {
             None
         },
-        devices: t.devices,
+        devices: t.devices.clone(),
     };
+    (o, tasks)
+}
+
+/// Runs the tasks to the end, by the words of a number. Answers how many events there were.
+fn run(o: &mut Objects, tasks: &mut [Task], seed: u64) -> u64 {
     let mut pcg = Pcg::new(seed);
     let mut steps = 0u64;
     let n = tasks.len();
@@ -1527,6 +1501,76 @@ fn main() {
         }
         steps += 1;
     }
+    steps
+}
+
+/// The nanoseconds of as many runs of a text as have so many events at least, from the first event to the last, and how many events they had.
+/// Images are set to zeros before, so that their memory is there.
+pub fn time_runs(text: &str, count: u64) -> (u128, u64) {
+    let t = read(text);
+    let (_, _, places) = needs_of(&t);
+    let (mut spent, mut steps) = (0, 0);
+    while steps < count {
+        let (mut o, mut tasks) = open(&t, &places, false);
+        for disk in o.disks.iter_mut().flatten() {
+            disk.image.fill(0);
+            disk.written.fill(false);
+        }
+        let start = Instant::now();
+        let more = run(&mut o, &mut tasks, 0);
+        drop((o.fs, o.vecs, o.bios, o.records, o.books, tasks));
+        spent += start.elapsed().as_nanos();
+        steps += more;
+    }
+    (spent, steps)
+}
+
+fn main() {
+    let words: Vec<String> = env::args().skip(1).collect();
+    let mut seed = 0;
+    let (mut trace, mut made) = (false, None);
+    let mut i = 1;
+    if words[0] == "gen" {
+        let n = words[1].parse().unwrap();
+        made = Some(n);
+        seed = n;
+        i = 2;
+    }
+    while i < words.len() {
+        if words[i] == "--trace" {
+            trace = true;
+        } else if words[i] == "--seed" {
+            i += 1;
+            seed = words[i].parse().unwrap();
+        } else if let Some(v) = words[i].strip_prefix("--seed=") {
+            seed = v.parse().unwrap();
+        }
+        i += 1;
+    }
+    let text = match made {
+        Some(n) => generate(n),
+        None => {
+            let mut t = String::new();
+            io::stdin().read_to_string(&mut t).unwrap();
+            t
+        }
+    };
+    let t = read(&text);
+    if !stands(&t) {
+        std::process::exit(3);
+    }
+    let (e, g, places) = needs_of(&t);
+    let last = t.writes.last().map_or(0, |w| w.1.round);
+    let z = t.entries + u64::from(last) + t.resizes.len() as u64;
+    match words[0].as_str() {
+        "check" => return check(&t, (e, g, z)),
+        "layout" => return layout(&t),
+        _ => {}
+    }
+    let count = t.devices.len();
+    let (mut o, mut tasks) = open(&t, &places, trace);
+    let steps = run(&mut o, &mut tasks, seed);
+    let stdout = io::stdout();
     let mut out = o
         .trace
         .take()
