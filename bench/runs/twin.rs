@@ -1505,17 +1505,13 @@ fn run(o: &mut Objects, tasks: &mut [Task], seed: u64) -> u64 {
 }
 
 /// The nanoseconds of as many runs of a text as have so many events at least, from the first event to the last, and how many events they had.
-/// Images are set to zeros before, so that their memory is there.
+/// Memory of images is touched first as it is written, as the program's is.
 pub fn time_runs(text: &str, count: u64) -> (u128, u64) {
     let t = read(text);
     let (_, _, places) = needs_of(&t);
     let (mut spent, mut steps) = (0, 0);
     while steps < count {
         let (mut o, mut tasks) = open(&t, &places, false);
-        for disk in o.disks.iter_mut().flatten() {
-            disk.image.fill(0);
-            disk.written.fill(false);
-        }
         let start = Instant::now();
         let more = run(&mut o, &mut tasks, 0);
         drop((o.fs, o.vecs, o.bios, o.records, o.books, tasks));
