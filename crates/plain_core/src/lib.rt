@@ -31,7 +31,7 @@ pub use disk::Disk;
 pub use fault::CoreFault;
 pub use lists::{Lists, Rescue};
 pub use objects::{Objects, Tally};
-pub use part::{Data, Part, Slip, Vector};
+pub use part::{Data, Hand, Part, Slip, Vector};
 pub use pool::Pool;
 pub use state::Core;
 pub use task::{

@@ -14,7 +14,7 @@ ghost use Rattle.plain_core.specs.Steps.{LineSteps, LineMoves, cuts_for, drives_
 use crate::fault::CoreFault;
 use crate::lists::Lists;
 use crate::objects::Objects;
-use crate::part::{Part, Slip};
+use crate::part::{Hand, Part, Slip};
 use crate::task::{Ask, Copying, Doing, Line, Want};
 use bio_records::{Bio, Pad, advance};
 use stack_base::{DevId, PoolId, Range, SetId};
@@ -73,7 +73,7 @@ pub fn take_part(
     set: SetId,
     waits: bool,
     what: &What,
-) -> Result<Option<Part>, CoreFault>
+) -> Result<Option<Hand>, CoreFault>
     requires { pool_number (bios_of set) < 66 }
     ensures { TakesPart objects.old set waits what.now result objects.new }
 {
@@ -81,8 +81,8 @@ pub fn take_part(
     match objects.take(pool, waits, what) {
         Err(fault) => Err(fault),
         Ok(Got::Missed) => Ok(None),
-        Ok(Got::Ordinary) => Ok(Some(Part::clear(pool.no()))),
-        Ok(Got::Spare) => Ok(Some(Part::clear(pool.no()))),
+        Ok(Got::Ordinary) => Ok(Some(Hand::of(pool.no()))),
+        Ok(Got::Spare) => Ok(Some(Hand::of(pool.no()))),
     }
 }
 
@@ -124,7 +124,7 @@ fn take_for(objects: &mut Objects, dev: DevId, waits: bool, what: &What) -> Resu
 }
 
 // A bio is split: its first piece goes to its member, and the rest comes again (`bio_split`, `block/bio.c`).
-fn cut(routes: &Routes, part: &Part, hand: &Part, node: u32, lists: &mut Lists) -> Doing
+fn cut(routes: &Routes, part: &Part, hand: &Hand, node: u32, lists: &mut Lists) -> Doing
     requires room { HasRoom 2 lists.old }
     requires within { IsWithin routes.now.stack part.now.bio }
     requires cut { is_cut (tree routes.now.stack part.now.bio.dev.0) part.now.bio.range ≡ true }
@@ -242,7 +242,7 @@ fn copy(
     bio: Bio,
     master: u32,
     leg: u32,
-    hand: &Part,
+    hand: &Hand,
     node: u32,
     lists: &mut Lists,
 ) -> Doing

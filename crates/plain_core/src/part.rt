@@ -4,8 +4,7 @@ ghost use Rattle.bio_records.specs.Segments.{segments_of};
 ghost use Rattle.task_core.specs.Objects.{clear_bio, clear_vector, clear_slip};
 ghost use Rattle.plain_core.specs.Ledgers.{ledger_of};
 
-use bio_records::{Bio, Iter, Pad};
-use stack_base::{DevId, Range, SetId};
+use bio_records::{Bio, Pad};
 use std::marker::Model;
 
 /// The data of a write, whose segments follow from them: the first word, and how many sectors there are, or none.
@@ -40,31 +39,6 @@ impl Model for Part {
 }
 
 impl Part {
-    /// A bio as the pool of this number hands it out.
-    pub fn clear(pool: u32) -> Part
-        requires { pool < 66 }
-        ensures { result ≡ clear_bio (ledger_of pool) }
-    {
-        Part {
-            bio: Bio {
-                write: 0,
-                writer: 0,
-                node: 0,
-                dev: DevId(0),
-                range: Range { start: 0, len: 0 },
-                word: 0,
-                at: Iter {
-                    segment: 0,
-                    done: 0,
-                },
-                set: SetId::Fs,
-            },
-            pad: Pad { leg: 0 },
-            data: Data { first: 0, count: 0 },
-            pool,
-        }
-    }
-
     /// The same once more.
     pub fn again(&self) -> Part
         ensures { result ≡ self.now }
@@ -110,8 +84,57 @@ impl Part {
             pool: self.pool,
         }
     }
+}
 
-    /// The same element with a write's bio in it, and with the write's segments.
+/// A bio as its pool hands it out, with nothing in it yet.
+#[derive(Drop)]
+pub struct Hand {
+    pool: u32,
+}
+
+impl Model for Hand {
+    ghost use Rattle.std.specs.Prelude.{◌<◌};
+    ghost use Rattle.bio_records.specs.declared.bio.Pad.{Pad};
+    ghost use Rattle.bio_records.specs.Items.{Item};
+    ghost use Rattle.task_core.specs.Objects.{clear_bio};
+    ghost use Rattle.plain_core.specs.Ledgers.{ledger_of};
+
+    ghost Value = { Item Pad };
+
+    ghost view = { λ h. clear_bio (ledger_of h.pool) };
+
+    ghost invariant = { λ h. h.pool < 66 };
+}
+
+impl Hand {
+    /// What the pool of this number hands out.
+    pub fn of(pool: u32) -> Hand
+        requires { pool < 66 }
+        ensures { result ≡ clear_bio (ledger_of pool) }
+    {
+        Hand { pool }
+    }
+
+    /// The same once more.
+    pub fn again(&self) -> Hand
+        ensures { result ≡ self.now }
+    {
+        Hand { pool: self.pool }
+    }
+
+    /// The element with a bio in it.
+    pub fn with(&self, bio: Bio, pad: Pad) -> Part
+        ensures { result ≡ record self.now { bio = bio; pad = pad } }
+    {
+        Part {
+            bio,
+            pad,
+            data: Data { first: 0, count: 0 },
+            pool: self.pool,
+        }
+    }
+
+    /// The element with a write's bio in it, and with the write's segments.
     pub fn with_data(&self, bio: Bio, run: Data) -> Part
         ensures { result ≡ record self.now { bio = bio; pad = record { leg = 0 }; short = segments_of run.first run.count } }
     {

@@ -17,7 +17,7 @@ use crate::book::{Closed, Ended, Holding};
 use crate::fault::CoreFault;
 use crate::line::{drive, line_step, take_part};
 use crate::objects::Objects;
-use crate::part::{Data, Part, Slip, Vector};
+use crate::part::{Data, Hand, Part, Slip, Vector};
 use crate::task::{
     Carried, Completer, Doing, Duty, Keeper, Line, Rescuer, Taken, Task, Todo, Writer,
 };
@@ -314,8 +314,8 @@ fn take_step(
     match take_part(objects, SetId::Fs, true, what) {
         Err(fault) => Err(fault),
         Ok(None) => Ok(()),
-        Ok(Some(part)) => {
-            writer.taken = Taken::HasBio(part);
+        Ok(Some(hand)) => {
+            writer.taken = Taken::HasBio(hand);
             Ok(())
         }
     }
@@ -352,11 +352,11 @@ pub fn rescuer_step(
 fn vector_step(
     objects: &mut Objects,
     writer: &mut Writer,
-    part: &Part,
+    hand: &Hand,
     what: &What,
 ) -> Result<(), CoreFault>
     requires rests { doing_of writer.old.line.doing ≡ AtRest }
-    requires taken { taken_of writer.old.taken ≡ HasBio part.now }
+    requires taken { taken_of writer.old.taken ≡ HasBio hand.now }
     ensures { (r : Routing) (next : Later) (later : List Later) → drop writer.old.begun writer.old.todo.items ≡ next ∷ later → needs_vector next.write ≡ true
         → TaskMoves r objects.old (writer_of writer.old) what.now result objects.new (writer_of writer.new) }
 {
@@ -364,7 +364,7 @@ fn vector_step(
         Err(fault) => Err(fault),
         Ok(None) => Ok(()),
         Ok(Some(vector)) => {
-            writer.taken = Taken::HasBoth(part.again(), vector);
+            writer.taken = Taken::HasBoth(hand.again(), vector);
             Ok(())
         }
     }
@@ -376,11 +376,11 @@ fn short_step(
     objects: &mut Objects,
     writer: &mut Writer,
     next: &Todo,
-    part: &Part,
+    hand: &Hand,
     what: &What,
 ) -> Result<(), CoreFault>
     requires rests { doing_of writer.old.line.doing ≡ AtRest }
-    requires taken { taken_of writer.old.taken ≡ HasBio part.now }
+    requires taken { taken_of writer.old.taken ≡ HasBio hand.now }
     requires next { drop writer.old.begun writer.old.todo.items ≡ next.now ∷ drop (writer.old.begun + 1) writer.old.todo.items }
     requires write { IsWrite routes.now.stack next.now.write }
     requires needs { needs_vector next.now.write ≡ false }
@@ -390,7 +390,7 @@ fn short_step(
         Err(fault) => Err(fault),
         Ok(node) => {
             let bio = first_bio(writer.number, next, node);
-            begin(routes, writer, part.with_data(bio, data_of(&next.write)));
+            begin(routes, writer, hand.with_data(bio, data_of(&next.write)));
             Ok(())
         }
     }
@@ -402,12 +402,12 @@ fn long_step(
     objects: &mut Objects,
     writer: &mut Writer,
     next: &Todo,
-    part: &Part,
+    hand: &Hand,
     vector: &Vector,
     what: &What,
 ) -> Result<(), CoreFault>
     requires rests { doing_of writer.old.line.doing ≡ AtRest }
-    requires taken { taken_of writer.old.taken ≡ HasBoth part.now vector.now }
+    requires taken { taken_of writer.old.taken ≡ HasBoth hand.now vector.now }
     requires next { drop writer.old.begun writer.old.todo.items ≡ next.now ∷ drop (writer.old.begun + 1) writer.old.todo.items }
     requires write { IsWrite routes.now.stack next.now.write }
     ensures { TaskMoves routes.now objects.old (writer_of writer.old) what.now result objects.new (writer_of writer.new) }
@@ -417,7 +417,7 @@ fn long_step(
         Err(fault) => Err(fault),
         Ok(node) => {
             let bio = first_bio(writer.number, next, node);
-            begin(routes, writer, part.with(bio, Pad { leg: 0 }));
+            begin(routes, writer, hand.with(bio, Pad { leg: 0 }));
             Ok(())
         }
     }
@@ -440,15 +440,15 @@ fn write_step(
     let next = next.again();
     match writer.taken.again() {
         Taken::NoBio => take_step(objects, writer, next.round, what),
-        Taken::HasBio(part) => {
+        Taken::HasBio(hand) => {
             if needs_vector(&next.write) {
-                vector_step(objects, writer, &part, what)
+                vector_step(objects, writer, &hand, what)
             } else {
-                short_step(routes, objects, writer, &next, &part, what)
+                short_step(routes, objects, writer, &next, &hand, what)
             }
         }
-        Taken::HasBoth(part, vector) => {
-            long_step(routes, objects, writer, &next, &part, &vector, what)
+        Taken::HasBoth(hand, vector) => {
+            long_step(routes, objects, writer, &next, &hand, &vector, what)
         }
     }
 }

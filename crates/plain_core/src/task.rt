@@ -8,7 +8,7 @@ ghost use Rattle.task_core.specs.Tasks.{later_of};
 
 use crate::book::Closed;
 use crate::lists::Lists;
-use crate::part::{Part, Slip, Vector};
+use crate::part::{Hand, Part, Slip, Vector};
 use bio_records::Bio;
 use layout_model::Write;
 use stack_base::{DevId, PoolId, Status};
@@ -23,7 +23,7 @@ pub enum Want {
     /// An attempt that did not wait missed: the bios of the set that wait go to the rescuer.
     Punts,
     /// It has one, and links a node.
-    Links(Part),
+    Links(Hand),
 }
 
 /// What a driver does with the bio that it has.
@@ -93,8 +93,8 @@ impl Model for Todo {
 #[derive(Drop)]
 pub enum Taken {
     NoBio,
-    HasBio(Part),
-    HasBoth(Part, Vector),
+    HasBio(Hand),
+    HasBoth(Hand, Vector),
 }
 
 impl Todo {
@@ -117,8 +117,8 @@ impl Taken {
     {
         match self {
             Taken::NoBio => Taken::NoBio,
-            Taken::HasBio(part) => Taken::HasBio(part.again()),
-            Taken::HasBoth(part, vector) => Taken::HasBoth(part.again(), vector.again()),
+            Taken::HasBio(hand) => Taken::HasBio(hand.again()),
+            Taken::HasBoth(hand, vector) => Taken::HasBoth(hand.again(), vector.again()),
         }
     }
 }

@@ -12,10 +12,10 @@ returns-in-Ok-Missed c =
 
 pub returns-in-Ok-Ordinary : goal.returns-in-Ok-Ordinary
 returns-in-Ok-Ordinary c =
-    part_had c.args.objects.now c.take.new.self c.args.set c.args.waits c.args.what.now c.bios_of-pool.result c.take.result c.no.result c.clear.result
-    c.bios_of-pool.ensures c.no.ensures c.clear.ensures (inl (c.in-Ok-Ordinary.is ∙ ap Ok c.in-Ok-Ordinary.field-0-is)) c.take.ensures
+    part_had c.args.objects.now c.take.new.self c.args.set c.args.waits c.args.what.now c.bios_of-pool.result c.take.result c.no.result c.of.result
+    c.bios_of-pool.ensures c.no.ensures c.of.ensures (inl (c.in-Ok-Ordinary.is ∙ ap Ok c.in-Ok-Ordinary.field-0-is)) c.take.ensures
 
 pub returns-in-Ok-Spare : goal.returns-in-Ok-Spare
 returns-in-Ok-Spare c =
-    part_had c.args.objects.now c.take.new.self c.args.set c.args.waits c.args.what.now c.bios_of-pool.result c.take.result c.no-in-Ok-Spare.result c.clear-in-Ok-Spare.result
-    c.bios_of-pool.ensures c.no-in-Ok-Spare.ensures c.clear-in-Ok-Spare.ensures (inr (c.in-Ok-Spare.is ∙ ap Ok c.in-Ok-Spare.field-0-is)) c.take.ensures
+    part_had c.args.objects.now c.take.new.self c.args.set c.args.waits c.args.what.now c.bios_of-pool.result c.take.result c.no-in-Ok-Spare.result c.of-in-Ok-Spare.result
+    c.bios_of-pool.ensures c.no-in-Ok-Spare.ensures c.of-in-Ok-Spare.ensures (inr (c.in-Ok-Spare.is ∙ ap Ok c.in-Ok-Spare.field-0-is)) c.take.ensures

@@ -11,7 +11,7 @@ use Rattle.plain_core.proofs.step.long_step.Goals as goal
 pub returns-in-Ok : goal.returns-in-Ok
 returns-in-Ok c =
     let w = c.args.writer.now in
-    let part = c.args.part.now in
+    let part = c.args.hand.now in
     let vector = c.args.vector.now in
     let full : c.filled-full.result ≡ filled_vector c.args.next.now vector =
     c.filled-full.ensures

@@ -11,7 +11,7 @@ use Rattle.plain_core.proofs.step.short_step.Goals as goal
 pub returns-in-Ok : goal.returns-in-Ok
 returns-in-Ok c =
     let w = c.args.writer.now in
-    let part = c.args.part.now in
+    let part = c.args.hand.now in
     let filled : c.with_data.result ≡ filled_short w.number c.args.next.now c.in-Ok.node part =
     c.with_data.ensures
     ∙ (λ k. record part { pad = record { leg = 0 }; bio = c.first_bio-bio.ensures k; short = segments_of (c.data_of.ensures k).first (c.data_of.ensures k).count })

@@ -15,6 +15,6 @@ returns-in-Ok-None c = λ r next later is same.
 pub returns-in-Ok-Some : goal.returns-in-Ok-Some
 returns-in-Ok-Some c = λ r next later is same.
     let w = c.args.writer.now in
-    bio_taken r c.args.objects.now c.take_part.new.objects w.number (drop w.begun w.todo.items) later next (taken_of w.taken) (line_of w.line) c.args.what.now c.in-Ok-Some.part
+    bio_taken r c.args.objects.now c.take_part.new.objects w.number (drop w.begun w.todo.items) later next (taken_of w.taken) (line_of w.line) c.args.what.now c.in-Ok-Some.hand
     c.requires.rests c.requires.taken is (come_by next.round c.args.round c.round.result c.args.objects.now.tally.round same c.round.ensures c.if-round.false)
     (subst (λ q. TakesPart c.args.objects.now Fs true c.args.what.now q c.take_part.new.objects) (c.in-Ok-Some.is ∙ ap Ok c.in-Ok-Some.field-0-is) c.take_part.ensures)

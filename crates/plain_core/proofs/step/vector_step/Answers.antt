@@ -11,7 +11,7 @@ pub returns-in-Ok-None : goal.returns-in-Ok-None
 returns-in-Ok-None c = λ r next later is needs.
     let w = c.args.writer.now in
     vector_missed r c.args.objects.now c.take_vector.new.objects w.number (drop w.begun w.todo.items) later next (taken_of w.taken) (line_of w.line) c.args.what.now c.requires.rests is
-    c.args.part.now c.requires.taken needs
+    c.args.hand.now c.requires.taken needs
     (subst (λ q. TakesVector c.args.objects.now c.args.what.now q c.take_vector.new.objects) (c.in-Ok-None.is ∙ ap Ok c.in-Ok-None.field-0-is) c.take_vector.ensures)
 
 pub returns-in-Ok-Some : goal.returns-in-Ok-Some
@@ -20,5 +20,5 @@ returns-in-Ok-Some c = λ r next later is needs.
     subst (λ (p : Item Pad). TaskMoves r c.args.objects.now (writer_of w) c.args.what.now (Ok (tt {0})) c.take_vector.new.objects (task.Writer w.number (drop w.begun w.todo.items) (task.HasBoth p c.in-Ok-Some.vector) (line_of w.line)))
     (sym c.again.ensures)
     (vector_taken r c.args.objects.now c.take_vector.new.objects w.number (drop w.begun w.todo.items) later next (taken_of w.taken) (line_of w.line) c.args.what.now c.requires.rests is
-    c.args.part.now c.in-Ok-Some.vector c.requires.taken needs
+    c.args.hand.now c.in-Ok-Some.vector c.requires.taken needs
     (subst (λ q. TakesVector c.args.objects.now c.args.what.now q c.take_vector.new.objects) (c.in-Ok-Some.is ∙ ap Ok c.in-Ok-Some.field-0-is) c.take_vector.ensures))
