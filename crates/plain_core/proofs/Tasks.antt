@@ -27,7 +27,7 @@ use Rattle.plain_core.specs.declared.task.Carried.{Carried}
 use Rattle.plain_core.specs.declared.task.Carried.TheVariants as carried
 use Rattle.plain_core.specs.Plain.{Plain, objects_of}
 use Rattle.plain_core.specs.Views.{carried_of}
-use Rattle.plain_core.specs.Steps.{IsAnswer, Refuses, Fails, Answers, IsBusy, TakesPart, TakesVector, LineMoves, TaskMoves, IsCarried, Closes, duty_reply}
+use Rattle.plain_core.specs.Steps.{IsAnswer, Refuses, Fails, Answers, IsBusy, TakesPart, TakesVector, LineMoves, TaskMoves, IsCarried, GivesFirst, PassesOn, ClosesOn, bare, duty_reply}
 
 -- the keeper's duty is done
 duty_done : (duty : task.Duty) (rest : List task.Duty) → task.Keeper (task.Keeps rest) ≡ task.Keeper (task.keeper_answered (task.Keeps (duty ∷ rest)) (duty_reply duty))
@@ -45,55 +45,55 @@ keeper_done r old new ds rest duty what is ready answer =
     subst (λ l. TaskMoves r old (task.Keeper (task.Keeps l)) what (Ok (tt {0})) new (task.Keeper (task.Keeps rest))) (sym is)
     (duty_reply duty, (LeftOver (sum old.tally.left), (refl, refl), ready), duty_asked r old new duty rest what answer, duty_done duty rest)
 
--- a closed node goes on
-pub closed_done : (old new : Plain) (writer : ℕ) (closed : Closed) (what : What) → closed.parent ≡ None
-    → IsAnswer old (Done closed.write closed.status) what Did new → Closes old writer closed None None None what (Ok carried.Empty) new
-closed_done old new writer closed what is answer =
-    (Did, subst (λ p. IsAnswer old (task.closed_request writer closed None None None p) what Did new) (sym is) answer, refl)
+-- a closed node that holds nothing is passed on
+pub passed_done : (old new : Plain) (writer : ℕ) (closed : Closed) (what : What) → closed.parent ≡ None
+    → IsAnswer old (Done closed.write closed.status) what Did new → PassesOn old writer closed what (Ok carried.Empty) new
+passed_done old new writer closed what is answer =
+    (Did, subst (λ p. IsAnswer old (task.closed_request writer (bare closed) None None None p) what Did new) (sym is) answer, refl)
 
-pub closed_told : (old new : Plain) (writer parent : ℕ) (closed : Closed) (what : What) (e : Ended) (after : Carried) → closed.parent ≡ Some parent
+pub passed_told : (old new : Plain) (writer parent : ℕ) (closed : Closed) (what : What) (e : Ended) (after : Carried) → closed.parent ≡ Some parent
     → IsAnswer old (Drop writer parent closed.status None) what (DroppedTo (ended_of e)) new → ((node : ℕ) → carried_of after ≡ task.after_drop writer node (ended_of e))
-    → Closes old writer closed None None None what (Ok after) new
-closed_told old new writer parent closed what e after is answer carries = (
+    → PassesOn old writer closed what (Ok after) new
+passed_told old new writer parent closed what e after is answer carries = (
   DroppedTo (ended_of e),
-  subst (λ p. IsAnswer old (task.closed_request writer closed None None None p) what (DroppedTo (ended_of e)) new) (sym is) answer,
+  subst (λ p. IsAnswer old (task.closed_request writer (bare closed) None None None p) what (DroppedTo (ended_of e)) new) (sym is) answer,
   carries (task.parent_or closed.parent),
 )
 
-pub closed_slip : (old new : Plain) (writer : ℕ) (closed after : Closed) (s : SlipItem) (slip : Option SlipItem) (what : What) → slip ≡ Some s
-    → after ≡ record closed { held = record { vector = None; bio = None; slip = None } } → IsAnswer old (GiveSlip s) what Did new
-    → Closes old writer closed None None slip what (Ok (carried.Carries writer after)) new
-closed_slip old new writer closed after s slip what is is_after answer =
-    subst (λ v. Closes old writer closed None None v what (Ok (carried.Carries writer after)) new) (sym is) (Did, answer, ap (task.Carries writer) is_after)
+-- the first of what it holds went back
+pub gave_slip : (old new : Plain) (s : SlipItem) (slip : Option SlipItem) (what : What) → slip ≡ Some s → IsAnswer old (GiveSlip s) what Did new
+    → GivesFirst old None None slip what (Ok true) new None None None
+gave_slip old new s slip what is answer =
+    subst (λ v. GivesFirst old None None v what (Ok true) new None None None) (sym is) (λ writer closed parent. (answer, refl))
 
-pub closed_part : (old new : Plain) (writer : ℕ) (closed after : Closed) (p : Item Pad) (part : Option (Item Pad)) (slip : Option SlipItem) (what : What) → part ≡ Some p
-    → after ≡ record closed { held = record { vector = None; bio = None; slip = slip } } → IsAnswer old (GiveBio p) what Did new
-    → Closes old writer closed None part slip what (Ok (carried.Carries writer after)) new
-closed_part old new writer closed after p part slip what is is_after answer =
-    subst (λ v. Closes old writer closed None v slip what (Ok (carried.Carries writer after)) new) (sym is) (Did, answer, ap (task.Carries writer) is_after)
+pub gave_part : (old new : Plain) (p : Item Pad) (part : Option (Item Pad)) (slip : Option SlipItem) (what : What) → part ≡ Some p → IsAnswer old (GiveBio p) what Did new
+    → GivesFirst old None part slip what (Ok true) new None None slip
+gave_part old new p part slip what is answer =
+    subst (λ v. GivesFirst old None v slip what (Ok true) new None None slip) (sym is) (λ writer closed parent. (answer, refl))
 
-pub closed_vector : (old new : Plain) (disk : DevId) (writer : ℕ) (closed after : Closed) (v : VectorItem) (bio : Option (Item Pad)) (slip : Option SlipItem) (what : What)
-    → closed.held ≡ record { bio = bio; vector = Some v; slip = slip }
-    → after ≡ record closed { held = record { vector = None; bio = bio; slip = slip } } → IsAnswer old (GiveVec v) what Did new
-    → IsCarried old disk (task.Carries writer closed) what (Ok (carried.Carries writer after)) new
-closed_vector old new disk writer closed after v bio slip what is is_after answer = (
-  Did,
-  subst (λ (h : Holding). IsAnswer old (task.closed_request writer closed h.vector h.bio h.slip closed.parent) what Did new) (sym is) answer,
-  subst (λ (h : Holding). task.Carries writer after ≡ task.given writer closed h.vector h.bio h.slip) (sym is) (ap (task.Carries writer) is_after),
-)
+pub gave_vector : (old new : Plain) (v : VectorItem) (vector : Option VectorItem) (bio : Option (Item Pad)) (slip : Option SlipItem) (what : What) → vector ≡ Some v
+    → IsAnswer old (GiveVec v) what Did new → GivesFirst old vector bio slip what (Ok true) new None bio slip
+gave_vector old new v vector bio slip what is answer =
+    subst (λ w. GivesFirst old w bio slip what (Ok true) new None bio slip) (sym is) (λ writer closed parent. (answer, refl))
+
+-- it goes on
+pub closed_gave : (old new : Plain) (writer : ℕ) (closed : Closed) (held : Holding) (what : What)
+    → GivesFirst old closed.held.vector closed.held.bio closed.held.slip what (Ok true) new held.vector held.bio held.slip
+    → ClosesOn old writer closed what (Ok None) new (record closed { held = held })
+closed_gave old new writer closed held what gives = let gave = gives writer closed closed.parent in (Did, gave.0, gave.1)
 
 -- a completer goes on
 pub carried_completed : (old new : Plain) (disk : DevId) (b : Carried) (what : What) (index : ℕ) (part : Item Pad) (status : Status) → b ≡ carried.Empty
-    → IsAnswer old (Complete disk) what (Completed index part status) new → IsCarried old disk (carried_of b) what (Ok (carried.Brings part status)) new
+    → IsAnswer old (Complete disk) what (Completed index part status) new → IsCarried old disk (carried_of b) what (Ok (tt {0})) new (task.Brings part status)
 carried_completed old new disk b what index part status is answer =
-    subst (λ v. IsCarried old disk (carried_of v) what (Ok (carried.Brings part status)) new) (sym is) (Completed index part status, answer, refl)
+    subst (λ v. IsCarried old disk (carried_of v) what (Ok (tt {0})) new (task.Brings part status)) (sym is) (Completed index part status, answer, refl)
 
 pub carried_told : (old new : Plain) (disk : DevId) (b : Carried) (what : What) (part again : Item Pad) (bio : Bio) (status : Status) (e : Ended) (after : Carried)
     → b ≡ carried.Brings part status → bio ≡ part.bio → again ≡ part
     → IsAnswer old (Drop bio.writer bio.node status (Some again)) what (DroppedTo (ended_of e)) new
-    → ((node : ℕ) → carried_of after ≡ task.after_drop bio.writer node (ended_of e)) → IsCarried old disk (carried_of b) what (Ok after) new
+    → ((node : ℕ) → carried_of after ≡ task.after_drop bio.writer node (ended_of e)) → IsCarried old disk (carried_of b) what (Ok (tt {0})) new (carried_of after)
 carried_told old new disk b what part again bio status e after is is_bio is_again answer carries =
-    subst (λ v. IsCarried old disk (carried_of v) what (Ok after) new) (sym is) (
+    subst (λ v. IsCarried old disk (carried_of v) what (Ok (tt {0})) new (carried_of after)) (sym is) (
       DroppedTo (ended_of e),
       subst (λ (i : Bio). IsAnswer old (Drop i.writer i.node status (Some part)) what (DroppedTo (ended_of e)) new) is_bio
           (subst (λ q. IsAnswer old (Drop bio.writer bio.node status (Some q)) what (DroppedTo (ended_of e)) new) is_again answer),

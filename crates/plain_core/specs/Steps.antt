@@ -1,5 +1,5 @@
 -- What a step of a task makes of plain objects, and where there is none.
-use Rattle.std.specs.Prelude.{◌≡◌, ℕ, Bool, Option, Some, None, Result, Ok, Err}
+use Rattle.std.specs.Prelude.{◌≡◌, ℕ, Bool, true, false, Option, Some, None, Result, Ok, Err}
 use Rattle.stack_base.specs.declared.ids.SetId.{SetId}
 use Rattle.stack_base.specs.declared.ids.SetId.TheVariants.{Of}
 use Rattle.stack_base.specs.declared.ids.DevId.{DevId}
@@ -117,28 +117,60 @@ duty_reply (task.Resizes pool min later) = OutIs 0
 duty_reply (task.Starts round later) = Did
 
 -- a completer goes on
-abbrev pub IsCarried : Plain → DevId → task.Carried → What → Result Carried CoreFault → Plain → Type 0
-IsCarried old disk before what (Ok after) new =
+abbrev pub IsCarried : Plain → DevId → task.Carried → What → Result (Unit {0}) CoreFault → Plain → task.Carried → Type 0
+IsCarried old disk before what (Ok done) new after =
     (reply : Reply)
     × IsAnswer old (task.carried_request disk before) what reply new
-    × (carried_of after ≡ task.carried_answered before reply)
-IsCarried old disk before what (Err fault.NotEnabled) new = (new ≡ old) × Refuses old (task.carried_request disk before) what
-IsCarried old disk before what (Err fault.Memory) new = new ≡ old
+    × (after ≡ task.carried_answered before reply)
+IsCarried old disk before what (Err fault.NotEnabled) new after = (new ≡ old) × (after ≡ before) × Refuses old (task.carried_request disk before) what
+IsCarried old disk before what (Err fault.Memory) new after = (new ≡ old) × (after ≡ before)
 
--- it does so with a closed node that holds these elements
-abbrev pub close_answered : ℕ → Closed → Option VectorItem → Option (Item Pad) → Option SlipItem → Reply → task.Carried
-close_answered writer closed vector bio slip Did = task.given writer closed vector bio slip
-close_answered writer closed vector bio slip (DroppedTo ended) = task.after_drop writer (task.parent_or closed.parent) ended
-close_answered writer closed vector bio slip reply = task.Carries writer closed
+-- the first of the elements that a closed node holds went back, or it holds none
+abbrev pub GivesFirst : Plain → Option VectorItem → Option (Item Pad) → Option SlipItem → What → Result Bool CoreFault → Plain
+    → Option VectorItem → Option (Item Pad) → Option SlipItem → Type 0
+GivesFirst old vector bio slip what (Ok true) new vector1 bio1 slip1 =
+    (writer : ℕ) (closed : Closed) (parent : Option ℕ)
+    → IsAnswer old (task.closed_request writer closed vector bio slip parent) what Did new
+    × (task.Carries writer (record closed { held = record { vector = vector1; bio = bio1; slip = slip1 } }) ≡ task.given writer closed vector bio slip)
+GivesFirst old vector bio slip what (Ok false) new vector1 bio1 slip1 =
+    (new ≡ old) × (vector ≡ None) × (bio ≡ None) × (slip ≡ None) × (vector1 ≡ None) × (bio1 ≡ None) × (slip1 ≡ None)
+GivesFirst old vector bio slip what (Err fault.NotEnabled) new vector1 bio1 slip1 =
+    (new ≡ old) × (vector1 ≡ vector) × (bio1 ≡ bio) × (slip1 ≡ slip)
+    × ((writer : ℕ) (closed : Closed) (parent : Option ℕ) → Refuses old (task.closed_request writer closed vector bio slip parent) what)
+GivesFirst old vector bio slip what (Err fault.Memory) new vector1 bio1 slip1 = (new ≡ old) × (vector1 ≡ vector) × (bio1 ≡ bio) × (slip1 ≡ slip)
 
-abbrev pub Closes : Plain → ℕ → Closed → Option VectorItem → Option (Item Pad) → Option SlipItem → What → Result Carried CoreFault → Plain → Type 0
-Closes old writer closed vector bio slip what (Ok after) new =
+-- what a closed node asks for, and what is carried once it is answered
+abbrev pub closed_asks : ℕ → Closed → Request
+closed_asks writer closed = task.closed_request writer closed closed.held.vector closed.held.bio closed.held.slip closed.parent
+
+abbrev pub closed_becomes : ℕ → Closed → Reply → task.Carried
+closed_becomes writer closed reply = task.carried_answered (task.Carries writer closed) reply
+
+-- one that holds nothing
+abbrev pub bare : Closed → Closed
+bare closed = record closed { held = record { vector = None; bio = None; slip = None } }
+
+-- it is passed on
+abbrev pub PassesOn : Plain → ℕ → Closed → What → Result Carried CoreFault → Plain → Type 0
+PassesOn old writer closed what (Ok after) new =
     (reply : Reply)
-    × IsAnswer old (task.closed_request writer closed vector bio slip closed.parent) what reply new
-    × (carried_of after ≡ close_answered writer closed vector bio slip reply)
-Closes old writer closed vector bio slip what (Err fault.NotEnabled) new =
-    (new ≡ old) × Refuses old (task.closed_request writer closed vector bio slip closed.parent) what
-Closes old writer closed vector bio slip what (Err fault.Memory) new = new ≡ old
+    × IsAnswer old (closed_asks writer (bare closed)) what reply new
+    × (carried_of after ≡ closed_becomes writer (bare closed) reply)
+PassesOn old writer closed what (Err fault.NotEnabled) new = (new ≡ old) × Refuses old (closed_asks writer (bare closed)) what
+PassesOn old writer closed what (Err fault.Memory) new = new ≡ old
+
+-- it goes on, and is still carried or no more
+abbrev pub ClosesOn : Plain → ℕ → Closed → What → Result (Option Carried) CoreFault → Plain → Closed → Type 0
+ClosesOn old writer closed what (Ok None) new after =
+    (reply : Reply)
+    × IsAnswer old (closed_asks writer closed) what reply new
+    × (task.Carries writer after ≡ closed_becomes writer closed reply)
+ClosesOn old writer closed what (Ok (Some carried)) new after =
+    (reply : Reply)
+    × IsAnswer old (closed_asks writer closed) what reply new
+    × (carried_of carried ≡ closed_becomes writer closed reply)
+ClosesOn old writer closed what (Err fault.NotEnabled) new after = (new ≡ old) × (after ≡ closed) × Refuses old (closed_asks writer closed) what
+ClosesOn old writer closed what (Err fault.Memory) new after = (new ≡ old) × (after ≡ closed)
 
 -- an attempt at a vector
 abbrev pub TakesVector : Plain → What → Result (Option VectorItem) CoreFault → Plain → Type 0

@@ -10,7 +10,7 @@ ghost use Rattle.stack_base.specs.declared.ids.DevId.{DevId as Device};
 ghost use Rattle.task_core.specs.Tasks.{Carries as CarriesOn, duty_request, later_of, after_drop};
 ghost use Rattle.task_core.specs.Routed.{Routing};
 ghost use Rattle.plain_core.specs.Books.{ended_of};
-ghost use Rattle.plain_core.specs.Steps.{TaskMoves, TakesVector, Answers, Closes, IsCarried, duty_reply};
+ghost use Rattle.plain_core.specs.Steps.{TaskMoves, TakesVector, Answers, GivesFirst, PassesOn, ClosesOn, IsCarried, duty_reply};
 
 use crate::asks;
 use crate::book::{Closed, Ended, Holding};
@@ -122,22 +122,6 @@ fn after_drop(writer: u32, ended: Ended) -> Carried
     }
 }
 
-// What is left of a closed node where it holds only this still.
-fn holding(closed: &Closed, bio: Option<Part>, slip: Option<Slip>) -> Closed
-    ensures { result ≡ record closed.now { held = record { vector = None; bio = bio; slip = slip } } }
-{
-    Closed {
-        held: Holding {
-            bio,
-            vector: None,
-            slip,
-        },
-        parent: closed.parent,
-        write: closed.write,
-        status: closed.status,
-    }
-}
-
 // A closed node that holds nothing is told to its parent, or its write is done.
 fn pass_on(
     objects: &mut Objects,
@@ -145,7 +129,7 @@ fn pass_on(
     closed: &Closed,
     what: &What,
 ) -> Result<Carried, CoreFault>
-    ensures { Closes objects.old writer closed.now None None None what.now result objects.new }
+    ensures { PassesOn objects.old writer closed.now what.now result objects.new }
 {
     match closed.parent {
         None => match asks::done(objects, closed.write, closed.status, what) {
@@ -159,60 +143,76 @@ fn pass_on(
     }
 }
 
-// A closed node that holds a record at most.
-fn close_slip(
-    objects: &mut Objects,
-    writer: u32,
-    closed: &Closed,
-    slip: Option<Slip>,
-    what: &What,
-) -> Result<Carried, CoreFault>
-    ensures { Closes objects.old writer closed.now None None slip what.now result objects.new }
+// The record that a closed node holds goes back. It answers whether there was one.
+fn give_slip(objects: &mut Objects, slip: &mut Option<Slip>, what: &What) -> Result<bool, CoreFault>
+    ensures { GivesFirst objects.old None None slip.old what.now result objects.new None None slip.new }
 {
     match slip {
-        None => pass_on(objects, writer, closed, what),
-        Some(slip) => match asks::give_slip(objects, &slip, what) {
+        None => Ok(false),
+        Some(held) => match asks::give_slip(objects, held, what) {
             Err(fault) => Err(fault),
-            Ok(()) => Ok(Carried::Carries(writer, holding(closed, None, None))),
+            Ok(()) => {
+                *slip = None;
+                Ok(true)
+            }
         },
     }
 }
 
-// A closed node that holds no vector.
-fn close_part(
+// The bio that a closed node holds goes back, or the record where there is none.
+fn give_part(
     objects: &mut Objects,
-    writer: u32,
-    closed: &Closed,
-    part: Option<Part>,
-    slip: Option<Slip>,
+    bio: &mut Option<Part>,
+    slip: &mut Option<Slip>,
     what: &What,
-) -> Result<Carried, CoreFault>
-    ensures { Closes objects.old writer closed.now None part slip what.now result objects.new }
+) -> Result<bool, CoreFault>
+    ensures { GivesFirst objects.old None bio.old slip.old what.now result objects.new None bio.new slip.new }
 {
-    match part {
-        None => close_slip(objects, writer, closed, slip, what),
-        Some(part) => match asks::give_part(objects, &part, what) {
+    match bio {
+        None => give_slip(objects, slip, what),
+        Some(held) => match asks::give_part(objects, held, what) {
             Err(fault) => Err(fault),
-            Ok(()) => Ok(Carried::Carries(writer, holding(closed, None, slip))),
+            Ok(()) => {
+                *bio = None;
+                Ok(true)
+            }
         },
     }
 }
 
-// What a closed node holds goes back first, vector, bio or record (`bio_free`, `block/bio.c`, and `free_r1bio`, `drivers/md/raid1.c`).
+// The first of what a closed node holds goes back, vector, bio or record (`bio_free`, `block/bio.c`, and `free_r1bio`,
+// `drivers/md/raid1.c`). It answers whether there was anything.
+fn give_first(objects: &mut Objects, held: &mut Holding, what: &What) -> Result<bool, CoreFault>
+    ensures { GivesFirst objects.old held.old.vector held.old.bio held.old.slip what.now result objects.new held.new.vector held.new.bio held.new.slip }
+{
+    match &held.vector {
+        None => give_part(objects, &mut held.bio, &mut held.slip, what),
+        Some(vector) => match asks::give_vector(objects, vector, what) {
+            Err(fault) => Err(fault),
+            Ok(()) => {
+                held.vector = None;
+                Ok(true)
+            }
+        },
+    }
+}
+
+// A closed node gives what it holds, one element at a time, and is passed on once it holds nothing. It answers what is carried then, where
+// it is no more the node.
 fn close(
     objects: &mut Objects,
     writer: u32,
-    closed: &Closed,
+    closed: &mut Closed,
     what: &What,
-) -> Result<Carried, CoreFault>
-    ensures { (disk : Device) → IsCarried objects.old disk (CarriesOn writer closed.now) what.now result objects.new }
+) -> Result<Option<Carried>, CoreFault>
+    ensures { ClosesOn objects.old writer closed.old what.now result objects.new closed.new }
 {
-    let Holding { bio, vector, slip } = closed.held.again();
-    match vector {
-        None => close_part(objects, writer, closed, bio, slip, what),
-        Some(vector) => match asks::give_vector(objects, &vector, what) {
+    match give_first(objects, &mut closed.held, what) {
+        Err(fault) => Err(fault),
+        Ok(true) => Ok(None),
+        Ok(false) => match pass_on(objects, writer, closed, what) {
             Err(fault) => Err(fault),
-            Ok(()) => Ok(Carried::Carries(writer, holding(closed, bio, slip))),
+            Ok(after) => Ok(Some(after)),
         },
     }
 }
@@ -221,25 +221,38 @@ fn close(
 fn carry(
     objects: &mut Objects,
     disk: DevId,
-    carried: &Carried,
+    carried: &mut Carried,
     what: &What,
-) -> Result<Carried, CoreFault>
-    ensures { IsCarried objects.old disk (carried_of carried.now) what.now result objects.new }
+) -> Result<(), CoreFault>
+    ensures { IsCarried objects.old disk (carried_of carried.old) what.now result objects.new (carried_of carried.new) }
 {
     match carried {
         Carried::Empty => match asks::complete(objects, disk, what) {
             Err(fault) => Err(fault),
-            Ok((_, part, status)) => Ok(Carried::Brings(part, status)),
+            Ok((_, part, status)) => {
+                *carried = Carried::Brings(part, status);
+                Ok(())
+            }
         },
         Carried::Brings(part, status) => {
             let bio = part.bio();
             let told = Some(part.again());
             match asks::tell(objects, bio.writer, bio.node, *status, told, what) {
                 Err(fault) => Err(fault),
-                Ok(ended) => Ok(after_drop(bio.writer, ended)),
+                Ok(ended) => {
+                    *carried = after_drop(bio.writer, ended);
+                    Ok(())
+                }
             }
         }
-        Carried::Carries(writer, closed) => close(objects, *writer, closed, what),
+        Carried::Carries(writer, closed) => match close(objects, *writer, closed, what) {
+            Err(fault) => Err(fault),
+            Ok(None) => Ok(()),
+            Ok(Some(after)) => {
+                *carried = after;
+                Ok(())
+            }
+        },
     }
 }
 
@@ -254,13 +267,7 @@ pub fn completer_step(
 ) -> Result<(), CoreFault>
     ensures { (r : Routing) → TaskMoves r objects.old (completer_of completer.old) what.now result objects.new (completer_of completer.new) }
 {
-    match carry(objects, completer.disk, &completer.carried, what) {
-        Err(fault) => Err(fault),
-        Ok(carried) => {
-            completer.carried = carried;
-            Ok(())
-        }
-    }
+    carry(objects, completer.disk, &mut completer.carried, what)
 }
 
 // An attempt at a vector.
