@@ -1,5 +1,5 @@
 -- Steps of submissions, of what their calls answered.
-use Rattle.std.proofs.Common.{◌≡◌, ◌+◌, ℕ, true, sym, ap, ◌∙◌, subst, None, Some, Ok}
+use Rattle.std.proofs.Common.{◌≡◌, ◌+◌, ℕ, true, refl, sym, ap, ◌∙◌, subst, None, Some, Ok}
 use Rattle.stack_base.specs.declared.ids.DevId.{DevId}
 use Rattle.stack_base.specs.Tree.{tree}
 use Rattle.bio_records.specs.declared.bio.Bio.{Bio}
@@ -17,12 +17,13 @@ use Rattle.plain_core.specs.declared.task.Ask.{Ask}
 use Rattle.plain_core.specs.declared.task.Ask.TheVariants as ask
 use Rattle.plain_core.specs.declared.task.Want.{Want}
 use Rattle.plain_core.specs.declared.task.Want.TheVariants as want
-use Rattle.plain_core.specs.declared.task.Doing.{Doing}
+use Rattle.plain_core.specs.declared.line.Next.{Next}
+use Rattle.plain_core.specs.declared.line.Next.TheVariants as next
 use Rattle.plain_core.specs.declared.task.Copying.{Copying}
 use Rattle.plain_core.specs.Plain.{Plain}
 use Rattle.plain_core.specs.Told.{Punts, Pushes, Links}
-use Rattle.plain_core.specs.Views.{want_of, ask_of, doing_of}
-use Rattle.plain_core.specs.Steps.{IsAnswer, TakesSlip, LineSteps, cuts_for, drives_for, copies_for}
+use Rattle.plain_core.specs.Views.{want_of, ask_of}
+use Rattle.plain_core.specs.Steps.{IsAnswer, TakesSlip, LineSteps, turned, cuts_for, drives_for, copies_for}
 use Rattle.plain_core.proofs.Served.{push, link, punt_answer}
 
 -- a punt, as an answer
@@ -32,67 +33,75 @@ punted_to old new lists rest dev other what is p =
     let q = subst (λ d. Punts old lists d what (Ok (tt {0})) new rest) is p in
     (punt_answer old new other lists what q.0 q.1 q.2, q.3)
 
-pub cut_punted : (r : Routing) (old new : Plain) (part : Item Pad) (w : Want) (lists rest : TaskLists) (what : What) (after : Doing) (dev : DevId)
-    → w ≡ want.Punts → dev ≡ part.bio.dev → doing_of after ≡ cuts_for part (line.Takes true) → Punts old lists dev what (Ok (tt {0})) new rest
-    → LineSteps r old (cuts_for part (want_of w)) lists what (Ok after) new rest
-cut_punted r old new part w lists rest what after dev is_want is_dev is_after p =
+pub cut_punted : (r : Routing) (old new : Plain) (part : Item Pad) (w : Want) (lists rest : TaskLists) (what : What) (dev : DevId) (n : Next) (after : line.Want)
+    → w ≡ want.Punts → dev ≡ part.bio.dev → Punts old lists dev what (Ok (tt {0})) new rest → n ≡ next.Stays → after ≡ line.Takes true
+    → LineSteps r old (cuts_for part (want_of w)) lists what (Ok n) new (cuts_for part after) rest
+cut_punted r old new part w lists rest what dev n after is_want is_dev p stays takes =
     let q = punted_to old new lists rest dev part.bio.dev what is_dev p in
-    subst (λ v. LineSteps r old (cuts_for part (want_of v)) lists what (Ok after) new rest) (sym is_want)
-    (Did, q.0, λ k. record { doing = sym is_after k; lists = sym q.1 k })
+    subst (λ m. LineSteps r old (cuts_for part (want_of w)) lists what (Ok m) new (cuts_for part after) rest) (sym stays)
+    (subst (λ v. LineSteps r old (cuts_for part (want_of v)) lists what (Ok next.Stays) new (cuts_for part after) rest) (sym is_want)
+    (Did, q.0, λ k. record { doing = cuts_for part (sym takes k); lists = sym q.1 k }))
 
-pub copy_punted : (r : Routing) (old new : Plain) (copying : Copying) (w : Want) (lists rest : TaskLists) (what : What) (after : Doing) (dev : DevId)
-    → w ≡ want.Punts → dev ≡ copying.bio.dev → doing_of after ≡ copies_for copying (line.Takes true) → Punts old lists dev what (Ok (tt {0})) new rest
-    → LineSteps r old (copies_for copying (want_of w)) lists what (Ok after) new rest
-copy_punted r old new copying w lists rest what after dev is_want is_dev is_after p =
-    let q = punted_to old new lists rest dev copying.bio.dev what is_dev p in
-    subst (λ v. LineSteps r old (copies_for copying (want_of v)) lists what (Ok after) new rest) (sym is_want)
-    (Did, q.0, λ k. record { doing = sym is_after k; lists = sym q.1 k })
+pub copy_punted : (r : Routing) (old new : Plain) (copying : Copying) (w : Want) (lists rest : TaskLists) (what : What) (n : Next) (after : line.Want)
+    → w ≡ want.Punts → Punts old lists copying.bio.dev what (Ok (tt {0})) new rest → n ≡ next.Stays → after ≡ line.Takes true
+    → LineSteps r old (copies_for copying (want_of w)) lists what (Ok n) new (copies_for copying after) rest
+copy_punted r old new copying w lists rest what n after is_want p stays takes =
+    let q = punted_to old new lists rest copying.bio.dev copying.bio.dev what refl p in
+    subst (λ m. LineSteps r old (copies_for copying (want_of w)) lists what (Ok m) new (copies_for copying after) rest) (sym stays)
+    (subst (λ v. LineSteps r old (copies_for copying (want_of v)) lists what (Ok next.Stays) new (copies_for copying after) rest) (sym is_want)
+    (Did, q.0, λ k. record { doing = copies_for copying (sym takes k); lists = sym q.1 k }))
 
 -- a link
-pub cut_linked : (r : Routing) (old new : Plain) (part hand : Item Pad) (w : Want) (lists rest : TaskLists) (what : What) (after : Doing) (bio : Bio) (node : ℕ)
+pub cut_linked : (r : Routing) (old new : Plain) (part hand : Item Pad) (w : Want) (lists rest : TaskLists) (what : What) (after : line.Doing) (bio : Bio) (node : ℕ)
     → w ≡ want.Links hand → bio ≡ part.bio
-    → line.cut_at (setup r) lists part hand node (tree r.stack part.bio.dev.0) ≡ record { doing = doing_of after; lists = rest }
-    → Links old bio.writer (Chain bio.node) what (Ok node) new → LineSteps r old (cuts_for part (want_of w)) lists what (Ok after) new rest
+    → line.cut_at (setup r) lists part hand node (tree r.stack part.bio.dev.0) ≡ line.goes_on (setup r) part.bio.dev rest
+    → Links old bio.writer (Chain bio.node) what (Ok node) new
+    → LineSteps r old (cuts_for part (want_of w)) lists what (Ok (next.Returns bio.dev)) new after rest
 cut_linked r old new part hand w lists rest what after bio node is_want is_bio is_after l =
     let m = subst (λ (b : Bio). Links old b.writer (Chain b.node) what (Ok node) new) is_bio l in
-    subst (λ v. LineSteps r old (cuts_for part (want_of v)) lists what (Ok after) new rest) (sym is_want)
-    (LinkedTo (Made node), link old new part.bio.writer (Chain part.bio.node) what (Ok node) m, is_after)
+    subst (λ v. LineSteps r old (cuts_for part (want_of v)) lists what (Ok (next.Returns bio.dev)) new after rest) (sym is_want)
+    (LinkedTo (Made node), link old new part.bio.writer (Chain part.bio.node) what (Ok node) m, is_after ∙ ap (λ (b : Bio). line.goes_on (setup r) b.dev rest) (sym is_bio))
 
-pub copy_linked : (r : Routing) (old new : Plain) (copying : Copying) (hand : Item Pad) (w : Want) (lists rest : TaskLists) (what : What) (after : Doing) (node : ℕ)
-    → w ≡ want.Links hand
-    → line.copies (setup r) (submitted (line.leg_at copying.bio hand copying.leg node (tree r.stack copying.bio.dev.0)) lists) copying.bio copying.master (copying.leg + 1)
-    ≡ record { doing = doing_of after; lists = rest }
-    → Links old copying.bio.writer (Leg copying.master) what (Ok node) new → LineSteps r old (copies_for copying (want_of w)) lists what (Ok after) new rest
-copy_linked r old new copying hand w lists rest what after node is_want is_after l =
-    subst (λ v. LineSteps r old (copies_for copying (want_of v)) lists what (Ok after) new rest) (sym is_want)
-    (LinkedTo (Made node), link old new copying.bio.writer (Leg copying.master) what (Ok node) l, is_after)
+pub copy_linked : (r : Routing) (old new : Plain) (copying : Copying) (hand : Item Pad) (w : Want) (lists rest : TaskLists) (what : What) (n : Next) (after : line.Doing) (node : ℕ)
+    → w ≡ want.Links hand → rest ≡ submitted (line.leg_at copying.bio hand copying.leg node (tree r.stack copying.bio.dev.0)) lists
+    → line.copies (setup r) rest copying.bio copying.master (copying.leg + 1) ≡ turned (setup r) after rest n
+    → Links old copying.bio.writer (Leg copying.master) what (Ok node) new → LineSteps r old (copies_for copying (want_of w)) lists what (Ok n) new after rest
+copy_linked r old new copying hand w lists rest what n after node is_want is_rest is_after l =
+    subst (λ v. LineSteps r old (copies_for copying (want_of v)) lists what (Ok n) new after rest) (sym is_want) (
+      LinkedTo (Made node),
+      link old new copying.bio.writer (Leg copying.master) what (Ok node) l,
+      ap (λ ls. line.copies (setup r) ls copying.bio copying.master (copying.leg + 1)) (sym is_rest) ∙ is_after,
+    )
 
-pub drive_pushed : (r : Routing) (old new : Plain) (part : Item Pad) (a : Ask) (lists rest : TaskLists) (what : What) (after : Doing) (dev : DevId)
-    → a ≡ ask.ToPush → dev ≡ part.bio.dev → line.goes_on (setup r) dev lists ≡ record { doing = doing_of after; lists = rest }
-    → Pushes old part what (Ok (tt {0})) new → LineSteps r old (drives_for part (ask_of a)) lists what (Ok after) new rest
-drive_pushed r old new part a lists rest what after dev is_ask is_dev is_after p =
-    subst (λ v. LineSteps r old (drives_for part (ask_of v)) lists what (Ok after) new rest) (sym is_ask)
-    (Did, push old new part what (Ok (tt {0})) p, ap (λ d. line.goes_on (setup r) d lists) (sym is_dev) ∙ is_after)
+pub drive_pushed : (r : Routing) (old new : Plain) (part : Item Pad) (a : Ask) (lists : TaskLists) (what : What) (after : line.Doing) (dev : DevId)
+    → a ≡ ask.ToPush → dev ≡ part.bio.dev → Pushes old part what (Ok (tt {0})) new
+    → LineSteps r old (drives_for part (ask_of a)) lists what (Ok (next.Returns dev)) new after lists
+drive_pushed r old new part a lists what after dev is_ask is_dev p =
+    subst (λ v. LineSteps r old (drives_for part (ask_of v)) lists what (Ok (next.Returns dev)) new after lists) (sym is_ask)
+    (Did, push old new part what (Ok (tt {0})) p, ap (λ d. line.goes_on (setup r) d lists) (sym is_dev))
 
-pub drive_mastered : (r : Routing) (old new : Plain) (part : Item Pad) (slip : SlipItem) (a : Ask) (lists rest : TaskLists) (what : What) (after : Doing) (legs node : ℕ)
-    → a ≡ ask.ToMaster slip → legs ≡ line.legs_of (tree r.stack part.bio.dev.0)
-    → line.copies (setup r) lists part.bio node 0 ≡ record { doing = doing_of after; lists = rest }
-    → Links old part.bio.writer (Master part.bio.node part slip legs) what (Ok node) new → LineSteps r old (drives_for part (ask_of a)) lists what (Ok after) new rest
-drive_mastered r old new part slip a lists rest what after legs node is_ask is_legs is_after l =
+pub drive_mastered : (r : Routing) (old new : Plain) (part : Item Pad) (slip : SlipItem) (a : Ask) (lists : TaskLists) (what : What) (after : line.Doing) (bio : Bio) (legs node : ℕ)
+    → a ≡ ask.ToMaster slip → bio ≡ part.bio → legs ≡ line.legs_of (tree r.stack part.bio.dev.0)
+    → Links old part.bio.writer (Master part.bio.node part slip legs) what (Ok node) new
+    → LineSteps r old (drives_for part (ask_of a)) lists what (Ok (next.Copies bio node)) new after lists
+drive_mastered r old new part slip a lists what after bio legs node is_ask is_bio is_legs l =
     let m = subst (λ n. Links old part.bio.writer (Master part.bio.node part slip n) what (Ok node) new) is_legs l in
-    subst (λ v. LineSteps r old (drives_for part (ask_of v)) lists what (Ok after) new rest) (sym is_ask)
-    (LinkedTo (Made node), link old new part.bio.writer (Master part.bio.node part slip (line.legs_of (tree r.stack part.bio.dev.0))) what (Ok node) m, is_after)
+    subst (λ v. LineSteps r old (drives_for part (ask_of v)) lists what (Ok (next.Copies bio node)) new after lists) (sym is_ask) (
+      LinkedTo (Made node),
+      link old new part.bio.writer (Master part.bio.node part slip (line.legs_of (tree r.stack part.bio.dev.0))) what (Ok node) m,
+      ap (λ (b : Bio). line.copies (setup r) lists b node 0) (sym is_bio),
+    )
 
-pub drive_missed : (r : Routing) (old new : Plain) (part : Item Pad) (a : Ask) (lists : TaskLists) (what : What) (after : Doing) (dev : DevId)
-    → a ≡ ask.ToRecord → dev ≡ part.bio.dev → doing_of after ≡ drives_for part line.ToRecord
-    → TakesSlip old dev what (Ok None) new → LineSteps r old (drives_for part (ask_of a)) lists what (Ok after) new lists
-drive_missed r old new part a lists what after dev is_ask is_dev is_after t =
-    subst (λ v. LineSteps r old (drives_for part (ask_of v)) lists what (Ok after) new lists) (sym is_ask)
-    (Missed t.0, subst (λ d. IsAnswer old (TakeSlip d) what (Missed t.0) new) is_dev t.1, λ k. record { doing = sym is_after k; lists = lists })
+pub drive_missed : (r : Routing) (old new : Plain) (part : Item Pad) (a : Ask) (lists : TaskLists) (what : What) (dev : DevId)
+    → a ≡ ask.ToRecord → dev ≡ part.bio.dev → TakesSlip old dev what (Ok None) new
+    → LineSteps r old (drives_for part (ask_of a)) lists what (Ok next.Stays) new (drives_for part (ask_of a)) lists
+drive_missed r old new part a lists what dev is_ask is_dev t =
+    subst (λ v. LineSteps r old (drives_for part (ask_of v)) lists what (Ok next.Stays) new (drives_for part (ask_of v)) lists) (sym is_ask)
+    (Missed t.0, subst (λ d. IsAnswer old (TakeSlip d) what (Missed t.0) new) is_dev t.1, refl)
 
-pub drive_recorded : (r : Routing) (old new : Plain) (part : Item Pad) (slip : SlipItem) (a : Ask) (lists : TaskLists) (what : What) (after : Doing) (dev : DevId)
-    → a ≡ ask.ToRecord → dev ≡ part.bio.dev → doing_of after ≡ drives_for part (line.ToMaster slip)
-    → TakesSlip old dev what (Ok (Some slip)) new → LineSteps r old (drives_for part (ask_of a)) lists what (Ok after) new lists
-drive_recorded r old new part slip a lists what after dev is_ask is_dev is_after t =
-    subst (λ v. LineSteps r old (drives_for part (ask_of v)) lists what (Ok after) new lists) (sym is_ask)
-    (HadSlip t.0 slip, subst (λ d. IsAnswer old (TakeSlip d) what (HadSlip t.0 slip) new) is_dev t.1, λ k. record { doing = sym is_after k; lists = lists })
+pub drive_recorded : (r : Routing) (old new : Plain) (part : Item Pad) (slip : SlipItem) (a : Ask) (lists : TaskLists) (what : What) (dev : DevId)
+    → a ≡ ask.ToRecord → dev ≡ part.bio.dev → TakesSlip old dev what (Ok (Some slip)) new
+    → LineSteps r old (drives_for part (ask_of a)) lists what (Ok next.Stays) new (drives_for part (line.ToMaster slip)) lists
+drive_recorded r old new part slip a lists what dev is_ask is_dev t =
+    subst (λ v. LineSteps r old (drives_for part (ask_of v)) lists what (Ok next.Stays) new (drives_for part (line.ToMaster slip)) lists) (sym is_ask)
+    (HadSlip t.0 slip, subst (λ d. IsAnswer old (TakeSlip d) what (HadSlip t.0 slip) new) is_dev t.1, refl)

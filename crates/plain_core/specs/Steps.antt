@@ -1,8 +1,9 @@
 -- What a step of a task makes of plain objects, and where there is none.
-use Rattle.std.specs.Prelude.{◌≡◌, ℕ, Bool, true, false, Option, Some, None, Result, Ok, Err}
+use Rattle.std.specs.Prelude.{◌≡◌, ◌<◌, ℕ, length, Bool, true, false, Option, Some, None, Result, Ok, Err}
 use Rattle.stack_base.specs.declared.ids.SetId.{SetId}
 use Rattle.stack_base.specs.declared.ids.SetId.TheVariants.{Of}
 use Rattle.stack_base.specs.declared.ids.DevId.{DevId}
+use Rattle.stack_base.specs.declared.stack.Stack.{Stack}
 use Rattle.bio_records.specs.declared.bio.Pad.{Pad}
 use Rattle.bio_records.specs.declared.tasks.TaskLists.{TaskLists}
 use Rattle.bio_records.specs.Items.{Item}
@@ -10,7 +11,7 @@ use Rattle.bio_books.specs.Books.{VectorItem, SlipItem}
 use Rattle.bio_books.specs.Drops.{Closed}
 use Rattle.task_core.specs.declared.event.Got.{Got}
 use Rattle.task_core.specs.declared.event.What.{What}
-use Rattle.task_core.specs.Requests.{Request, Reply, TakeBio, TakeVec, TakeSlip, HadBio, HadVec, HadSlip, Missed, Did, DroppedTo, OutIs}
+use Rattle.task_core.specs.Requests.{Request, Reply, TakeBio, TakeVec, TakeSlip, HadBio, HadVec, HadSlip, Missed, Did, OutIs}
 use Rattle.task_core.specs.Events.{what_of}
 use Rattle.task_core.specs.Objects.{Objects, Serves}
 use Rattle.task_core.specs.Lines as line
@@ -18,13 +19,18 @@ use Rattle.task_core.specs.Tasks as task
 use Rattle.task_core.specs.Tasks.{TaskState, request, answered, look_of}
 use Rattle.task_core.specs.Runs.{IsLet}
 use Rattle.task_core.specs.Routed.{Routing, setup}
-use Rattle.plain_core.specs.declared.task.Doing.{Doing}
+use Rattle.task_core.specs.Scene.{Setup}
+use Rattle.task_core.specs.Within.{ListsAreWithin}
+use Rattle.plain_core.specs.declared.line.Next.{Next}
+use Rattle.plain_core.specs.declared.line.Next.TheVariants as next
+use Rattle.plain_core.specs.declared.lists.Lists.{Lists}
 use Rattle.plain_core.specs.declared.task.Want.{Want}
 use Rattle.plain_core.specs.declared.task.Carried.{Carried}
 use Rattle.plain_core.specs.declared.task.Copying.{Copying}
 use Rattle.plain_core.specs.Ledgers.{ledger_of}
 use Rattle.plain_core.specs.Plain.{Plain, objects_of}
-use Rattle.plain_core.specs.Views.{doing_of, want_of, carried_of}
+use Rattle.plain_core.specs.Lists.{HasRoom, lists_of}
+use Rattle.plain_core.specs.Views.{want_of, carried_of}
 use Rattle.plain_core.specs.declared.fault.CoreFault.{CoreFault}
 use Rattle.plain_core.specs.declared.fault.CoreFault.TheVariants as fault
 
@@ -44,15 +50,27 @@ Answers old request what replied (Ok x) new = IsAnswer old request what (replied
 Answers old request what replied (Err fault.NotEnabled) new = (new ≡ old) × Refuses old request what
 Answers old request what replied (Err fault.Memory) new = new ≡ old
 
--- a submission goes on with an answer to what it asks for
-abbrev pub LineSteps : Routing → Plain → line.Doing → TaskLists → What → Result Doing CoreFault → Plain → TaskLists → Type 0
-LineSteps r old doing lists what (Ok after) new rest =
+-- what comes behind an answer makes this of a submission
+abbrev pub turned : Setup → line.Doing → TaskLists → Next → line.Line
+turned setup doing lists next.Stays = record { doing = doing; lists = lists }
+turned setup doing lists (next.Returns dev) = line.goes_on setup dev lists
+turned setup doing lists (next.Copies bio master) = line.copies setup lists bio master 0
+
+-- the lists of one that is not to stay can be gone through
+abbrev pub CanTurn : Stack → Lists → Next → Type 0
+CanTurn stack lists next.Stays = Unit {0}
+CanTurn stack lists (next.Returns dev) = HasRoom 0 lists × ListsAreWithin stack (lists_of lists)
+CanTurn stack lists (next.Copies bio master) = HasRoom 0 lists × ListsAreWithin stack (lists_of lists) × (bio.dev.0 < length stack.devices.items)
+
+-- a submission has an answer to what it asks for, and this comes next
+abbrev pub LineSteps : Routing → Plain → line.Doing → TaskLists → What → Result Next CoreFault → Plain → line.Doing → TaskLists → Type 0
+LineSteps r old doing lists what (Ok next) new after rest =
     (reply : Reply)
     × IsAnswer old (line.line_request (setup r) doing lists) what reply new
-    × (line.line_answered (setup r) doing lists reply ≡ record { doing = doing_of after; lists = rest })
-LineSteps r old doing lists what (Err fault.NotEnabled) new rest =
-    (new ≡ old) × (rest ≡ lists) × Refuses old (line.line_request (setup r) doing lists) what
-LineSteps r old doing lists what (Err fault.Memory) new rest = (new ≡ old) × (rest ≡ lists)
+    × (line.line_answered (setup r) doing lists reply ≡ turned (setup r) after rest next)
+LineSteps r old doing lists what (Err fault.NotEnabled) new after rest =
+    (new ≡ old) × (after ≡ doing) × (rest ≡ lists) × Refuses old (line.line_request (setup r) doing lists) what
+LineSteps r old doing lists what (Err fault.Memory) new after rest = (new ≡ old) × (after ≡ doing) × (rest ≡ lists)
 
 -- an attempt at a bio of a set had one, or missed
 abbrev pub TakesPart : Plain → SetId → Bool → What → Result (Option (Item Pad)) CoreFault → Plain → Type 0

@@ -1,15 +1,18 @@
 //! Steps of submissions.
-ghost use Rattle.std.specs.Prelude.{◌≡◌, ◌+◌, ◌<◌, length, true};
+ghost use Rattle.std.specs.Prelude.{◌≡◌, ◌+◌, ◌<◌, length, true, IfOk};
 ghost use Rattle.stack_base.specs.PoolId.{pool_number};
 ghost use Rattle.stack_base.specs.Tree.{tree};
+ghost use Rattle.bio_records.specs.declared.bio.Pad.{Pad as Padding};
+ghost use Rattle.bio_records.specs.Items.{Item};
 ghost use Rattle.bio_lists.specs.Submission.{submitted};
 ghost use Rattle.bioset_pools.specs.Sets.{bios_of};
-ghost use Rattle.task_core.specs.Lines.{first_waits, driven, goes_on, after_miss, cut_at, copies, leg_at, legs_of};
+ghost use Rattle.task_core.specs.Lines.{first_waits, asks_at, driven, goes_on, after_miss, cut_at, copies, leg_at, legs_of};
 ghost use Rattle.task_core.specs.Routed.{setup};
 ghost use Rattle.task_core.specs.Within.{IsWithin, ListsAreWithin, DoingFits, LineFits, is_cut};
 ghost use Rattle.plain_core.specs.Lists.{lists_of, HasRoom};
 ghost use Rattle.plain_core.specs.Views.{ask_of, doing_of, line_of, want_of};
-ghost use Rattle.plain_core.specs.Steps.{LineSteps, LineMoves, cuts_for, drives_for, copies_for, TakesPart, TakesSlip, TakesWant};
+ghost use Rattle.plain_core.specs.declared.line.Next.TheVariants as then;
+ghost use Rattle.plain_core.specs.Steps.{LineSteps, LineMoves, CanTurn, turned, cuts_for, drives_for, copies_for, TakesPart, TakesSlip, TakesWant};
 
 use crate::fault::CoreFault;
 use crate::lists::Lists;
@@ -28,32 +31,48 @@ fn first_waits(routes: &Routes, dev: DevId, lists: &Lists) -> bool
     !routes.rescuer(dev) || !lists.busy()
 }
 
-// What is done for a bio that is served next.
-pub fn drive(routes: &Routes, part: Part, lists: &Lists) -> Doing
-    requires { IsWithin routes.now.stack part.bio }
-    ensures { doing_of result ≡ driven (setup routes.now) (lists_of lists.now) part }
+/// What comes behind an answer to what a submission asked for.
+#[derive(Drop)]
+pub enum Next {
+    /// It goes on with what it does.
+    Stays,
+    /// The driver of this device has returned.
+    Returns(DevId),
+    /// A mirror copies this bio, for the master at this place.
+    Copies(Bio, u32),
+}
+
+// What the driver of a device does first with a bio.
+fn first_ask(routes: &Routes, dev: DevId, lists: &Lists) -> Ask
+    requires { dev.0 < length routes.now.stack.devices.items }
+    ensures { (part : Item Padding) → part.bio.dev ≡ dev → drives_for part (ask_of result) ≡ asks_at (setup routes.now) (lists_of lists.now) part (tree routes.now.stack dev.0) }
 {
-    let at = routes.land(part.bio());
-    let part = part.with(at, part.pad());
-    match routes.manner(at.dev) {
-        Manner::Keeps => Doing::Drives(part, Ask::ToPush),
-        Manner::Cuts => {
-            let waits = first_waits(routes, at.dev, lists);
-            Doing::Drives(part, Ask::ToCut(Want::Takes(waits)))
-        }
-        Manner::Copies => Doing::Drives(part, Ask::ToRecord),
+    match routes.manner(dev) {
+        Manner::Keeps => Ask::ToPush,
+        Manner::Cuts => Ask::ToCut(Want::Takes(first_waits(routes, dev, lists))),
+        Manner::Copies => Ask::ToRecord,
     }
 }
 
-// The driver of this device has returned: what is done next.
-fn go_on(routes: &Routes, dev: DevId, lists: &mut Lists) -> Doing
-    requires room { HasRoom 0 lists.old }
-    requires within { ListsAreWithin routes.now.stack (lists_of lists.old) }
-    ensures { goes_on (setup routes.now) dev (lists_of lists.old) ≡ record { doing = doing_of result; lists = lists_of lists.new } }
+// A bio is served next.
+pub fn drive(routes: &Routes, part: Part, line: &mut Line)
+    requires { IsWithin routes.now.stack part.bio }
+    ensures { line_of line.new ≡ record { doing = driven (setup routes.now) (lists_of line.old.lists) part; lists = lists_of line.old.lists } }
 {
-    match lists.next(dev) {
-        None => Doing::Rests,
-        Some(part) => drive(routes, part, lists),
+    let at = routes.land(part.bio());
+    let ask = first_ask(routes, at.dev, &line.lists);
+    line.doing = Doing::Drives(part.with(at, part.pad()), ask);
+}
+
+// The driver of this device has returned.
+fn go_on(routes: &Routes, dev: DevId, line: &mut Line)
+    requires room { HasRoom 0 line.old.lists }
+    requires within { ListsAreWithin routes.now.stack (lists_of line.old.lists) }
+    ensures { line_of line.new ≡ goes_on (setup routes.now) dev (lists_of line.old.lists) }
+{
+    match line.lists.next(dev) {
+        None => line.doing = Doing::Rests,
+        Some(part) => drive(routes, part, line),
     }
 }
 
@@ -124,13 +143,15 @@ fn take_for(objects: &mut Objects, dev: DevId, waits: bool, what: &What) -> Resu
 }
 
 // A bio is split: its first piece goes to its member, and the rest comes again (`bio_split`, `block/bio.c`).
-fn cut(routes: &Routes, part: &Part, hand: &Hand, node: u32, lists: &mut Lists) -> Doing
+fn cut(routes: &Routes, part: &Part, hand: &Hand, node: u32, lists: &mut Lists)
     requires room { HasRoom 2 lists.old }
     requires within { IsWithin routes.now.stack part.now.bio }
     requires cut { is_cut (tree routes.now.stack part.now.bio.dev.0) part.now.bio.range ≡ true }
     requires lists { ListsAreWithin routes.now.stack (lists_of lists.old) }
-    ensures { cut_at (setup routes.now) (lists_of lists.old) part.now hand.now node (tree routes.now.stack part.now.bio.dev.0)
-        ≡ record { doing = doing_of result; lists = lists_of lists.new } }
+    ensures cut { cut_at (setup routes.now) (lists_of lists.old) part.now hand.now node (tree routes.now.stack part.now.bio.dev.0)
+        ≡ goes_on (setup routes.now) part.now.bio.dev (lists_of lists.new) }
+    ensures room { HasRoom 0 lists.new }
+    ensures within { ListsAreWithin routes.now.stack (lists_of lists.new) }
 {
     let bio = part.bio();
     let first = routes.cut(&bio);
@@ -148,21 +169,15 @@ fn cut(routes: &Routes, part: &Part, hand: &Hand, node: u32, lists: &mut Lists) 
     advance(&mut rest, first.sectors);
     lists.submit(hand.with(front, Pad { leg: 0 }));
     lists.submit(part.with(rest, part.pad()));
-    go_on(routes, bio.dev, lists)
 }
 
-// The next leg of a mirror's bio, or what waits behind the last one.
-fn copy_on(routes: &Routes, bio: Bio, master: u32, leg: u32, lists: &mut Lists) -> Doing
-    requires room { HasRoom 0 lists.old }
-    requires device { bio.dev.0 < length routes.now.stack.devices.items }
-    requires lists { ListsAreWithin routes.now.stack (lists_of lists.old) }
-    ensures { copies (setup routes.now) (lists_of lists.old) bio master leg ≡ record { doing = doing_of result; lists = lists_of lists.new } }
+// A driver goes on with what it does, and wants this.
+fn stay(want: &mut Want, next: Want) -> Next
+    ensures want { want_of want.new ≡ want_of next }
+    ensures stays { result ≡ then.Stays }
 {
-    if leg == routes.legs(bio.dev) {
-        return go_on(routes, bio.dev, lists);
-    }
-    let waits = first_waits(routes, bio.dev, lists);
-    Doing::Copies(Copying { bio, master, leg }, Want::Takes(waits))
+    *want = next;
+    Next::Stays
 }
 
 // A driver that cuts goes on: it takes a bio, punts, or links a node for the first piece.
@@ -170,30 +185,34 @@ fn cut_step(
     routes: &Routes,
     objects: &mut Objects,
     part: &Part,
-    want: &Want,
+    want: &mut Want,
     lists: &mut Lists,
     what: &What,
-) -> Result<Doing, CoreFault>
+) -> Result<Next, CoreFault>
     requires stack { objects.old.stack ≡ routes.now.stack }
     requires room { HasRoom 2 lists.old }
-    requires fits { DoingFits routes.now.stack (cuts_for part.now (want_of want.now)) }
+    requires fits { DoingFits routes.now.stack (cuts_for part.now (want_of want.old)) }
     requires lists { ListsAreWithin routes.now.stack (lists_of lists.old) }
-    ensures { LineSteps routes.now objects.old (cuts_for part.now (want_of want.now)) (lists_of lists.old) what.now result objects.new (lists_of lists.new) }
+    ensures steps { LineSteps routes.now objects.old (cuts_for part.now (want_of want.old)) (lists_of lists.old) what.now result objects.new (cuts_for part.now (want_of want.new)) (lists_of lists.new) }
+    ensures turns { IfOk result (CanTurn routes.now.stack lists.new) }
 {
     routes.known();
     let bio = part.bio();
     match want {
         Want::Takes(waits) => match take_for(objects, bio.dev, *waits, what) {
             Err(fault) => Err(fault),
-            Ok(want) => Ok(Doing::Drives(part.again(), Ask::ToCut(want))),
+            Ok(next) => Ok(stay(want, next)),
         },
         Want::Punts => match objects.punt(bio.dev, lists, what) {
             Err(fault) => Err(fault),
-            Ok(()) => Ok(Doing::Drives(part.again(), Ask::ToCut(Want::Takes(true)))),
+            Ok(()) => Ok(stay(want, Want::Takes(true))),
         },
         Want::Links(hand) => match objects.open_chain(bio.writer, bio.node, what) {
             Err(fault) => Err(fault),
-            Ok(node) => Ok(cut(routes, part, hand, node, lists)),
+            Ok(node) => {
+                cut(routes, part, hand, node, lists);
+                Ok(Next::Returns(bio.dev))
+            }
         },
     }
 }
@@ -203,93 +222,165 @@ fn drive_step(
     routes: &Routes,
     objects: &mut Objects,
     part: &Part,
-    ask: &Ask,
+    ask: &mut Ask,
     lists: &mut Lists,
     what: &What,
-) -> Result<Doing, CoreFault>
+) -> Result<Next, CoreFault>
     requires stack { objects.old.stack ≡ routes.now.stack }
     requires room { HasRoom 2 lists.old }
-    requires fits { DoingFits routes.now.stack (drives_for part.now (ask_of ask.now)) }
+    requires fits { DoingFits routes.now.stack (drives_for part.now (ask_of ask.old)) }
     requires lists { ListsAreWithin routes.now.stack (lists_of lists.old) }
-    ensures { LineSteps routes.now objects.old (drives_for part.now (ask_of ask.now)) (lists_of lists.old) what.now result objects.new (lists_of lists.new) }
+    ensures steps { LineSteps routes.now objects.old (drives_for part.now (ask_of ask.old)) (lists_of lists.old) what.now result objects.new (drives_for part.now (ask_of ask.new)) (lists_of lists.new) }
+    ensures turns { IfOk result (CanTurn routes.now.stack lists.new) }
 {
     routes.known();
     let bio = part.bio();
     match ask {
         Ask::ToPush => match objects.push(part, what) {
             Err(fault) => Err(fault),
-            Ok(()) => Ok(go_on(routes, bio.dev, lists)),
+            Ok(()) => Ok(Next::Returns(bio.dev)),
         },
         Ask::ToCut(want) => cut_step(routes, objects, part, want, lists, what),
         Ask::ToRecord => match take_slip(objects, bio.dev, what) {
             Err(fault) => Err(fault),
-            Ok(None) => Ok(Doing::Drives(part.again(), Ask::ToRecord)),
-            Ok(Some(slip)) => Ok(Doing::Drives(part.again(), Ask::ToMaster(slip))),
+            Ok(None) => Ok(Next::Stays),
+            Ok(Some(slip)) => {
+                *ask = Ask::ToMaster(slip);
+                Ok(Next::Stays)
+            }
         },
         Ask::ToMaster(slip) => {
-            let legs = routes.legs(bio.dev);
-            match objects.open_master(part, slip, legs, what) {
+            match objects.open_master(part, slip, routes.legs(bio.dev), what) {
                 Err(fault) => Err(fault),
-                Ok(node) => Ok(copy_on(routes, bio, node, 0, lists)),
+                Ok(node) => Ok(Next::Copies(bio, node)),
             }
         }
     }
 }
 
-// A leg of a mirror's bio is submitted, and the next one is to be made.
-fn copy(
-    routes: &Routes,
-    bio: Bio,
-    master: u32,
-    leg: u32,
-    hand: &Hand,
-    node: u32,
-    lists: &mut Lists,
-) -> Doing
+// A leg of a mirror's bio is submitted.
+fn copy(routes: &Routes, copying: &Copying, hand: &Hand, node: u32, lists: &mut Lists)
     requires room { HasRoom 2 lists.old }
-    requires within { IsWithin routes.now.stack bio }
-    requires leg { leg < legs_of (tree routes.now.stack bio.dev.0) }
+    requires within { IsWithin routes.now.stack copying.now.bio }
+    requires leg { copying.now.leg < legs_of (tree routes.now.stack copying.now.bio.dev.0) }
     requires lists { ListsAreWithin routes.now.stack (lists_of lists.old) }
-    ensures { copies (setup routes.now) (submitted (leg_at bio hand.now leg node (tree routes.now.stack bio.dev.0)) (lists_of lists.old)) bio master (leg + 1)
-        ≡ record { doing = doing_of result; lists = lists_of lists.new } }
+    ensures copied { lists_of lists.new
+        ≡ submitted (leg_at copying.now.bio hand.now copying.now.leg node (tree routes.now.stack copying.now.bio.dev.0)) (lists_of lists.old) }
+    ensures room { HasRoom 0 lists.new }
+    ensures within { ListsAreWithin routes.now.stack (lists_of lists.new) }
 {
-    let legs = routes.legs(bio.dev);
-    prove!(leg < legs);
-    let (made, pad) = routes.leg(&bio, leg, node);
+    let (made, pad) = routes.leg(&copying.bio, copying.leg, node);
     lists.submit(hand.with(made, pad));
-    copy_on(routes, bio, master, leg + 1, lists)
+}
+
+// The next leg of a mirror's bio is to be made, or what waits behind the last one.
+fn copy_on(routes: &Routes, copying: &mut Copying, want: &mut Want, lists: &Lists) -> Next
+    requires room { HasRoom 0 lists.now }
+    requires leg { copying.old.leg < legs_of (tree routes.now.stack copying.old.bio.dev.0) }
+    requires device { copying.old.bio.dev.0 < length routes.now.stack.devices.items }
+    requires lists { ListsAreWithin routes.now.stack (lists_of lists.now) }
+    ensures copies { copies (setup routes.now) (lists_of lists.now) copying.old.bio copying.old.master (copying.old.leg + 1)
+        ≡ turned (setup routes.now) (copies_for copying.new (want_of want.new)) (lists_of lists.now) result }
+    ensures turns { CanTurn routes.now.stack lists.now result }
+{
+    let dev = copying.bio.dev;
+    let legs = routes.legs(dev);
+    prove!(copying.leg < legs);
+    copying.leg += 1;
+    if copying.leg == legs {
+        return Next::Returns(dev);
+    }
+    *want = Want::Takes(first_waits(routes, dev, lists));
+    Next::Stays
 }
 
 // A mirror goes on to copy a bio.
 fn copy_step(
     routes: &Routes,
     objects: &mut Objects,
-    copying: &Copying,
-    want: &Want,
+    copying: &mut Copying,
+    want: &mut Want,
     lists: &mut Lists,
     what: &What,
-) -> Result<Doing, CoreFault>
+) -> Result<Next, CoreFault>
     requires stack { objects.old.stack ≡ routes.now.stack }
     requires room { HasRoom 2 lists.old }
-    requires fits { DoingFits routes.now.stack (copies_for copying.now (want_of want.now)) }
+    requires fits { DoingFits routes.now.stack (copies_for copying.old (want_of want.old)) }
     requires lists { ListsAreWithin routes.now.stack (lists_of lists.old) }
-    ensures { LineSteps routes.now objects.old (copies_for copying.now (want_of want.now)) (lists_of lists.old) what.now result objects.new (lists_of lists.new) }
+    ensures steps { LineSteps routes.now objects.old (copies_for copying.old (want_of want.old)) (lists_of lists.old) what.now result objects.new (copies_for copying.new (want_of want.new)) (lists_of lists.new) }
+    ensures turns { IfOk result (CanTurn routes.now.stack lists.new) }
 {
     routes.known();
-    let Copying { bio, master, leg } = *copying;
+    let dev = copying.bio.dev;
     match want {
-        Want::Takes(waits) => match take_for(objects, bio.dev, *waits, what) {
+        Want::Takes(waits) => match take_for(objects, dev, *waits, what) {
             Err(fault) => Err(fault),
-            Ok(want) => Ok(Doing::Copies(*copying, want)),
+            Ok(next) => Ok(stay(want, next)),
         },
-        Want::Punts => match objects.punt(bio.dev, lists, what) {
+        Want::Punts => match objects.punt(dev, lists, what) {
             Err(fault) => Err(fault),
-            Ok(()) => Ok(Doing::Copies(*copying, Want::Takes(true))),
+            Ok(()) => Ok(stay(want, Want::Takes(true))),
         },
-        Want::Links(hand) => match objects.open_leg(bio.writer, master, what) {
+        Want::Links(hand) => match objects.open_leg(copying.bio.writer, copying.master, what) {
             Err(fault) => Err(fault),
-            Ok(node) => Ok(copy(routes, bio, master, leg, hand, node, lists)),
+            Ok(node) => {
+                copy(routes, copying, hand, node, lists);
+                Ok(copy_on(routes, copying, want, lists))
+            }
         },
+    }
+}
+
+// A mirror begins to copy a bio, or what waits behind it is next where it has no legs.
+fn begin_copy(routes: &Routes, bio: Bio, master: u32, line: &mut Line)
+    requires room { HasRoom 0 line.old.lists }
+    requires device { bio.dev.0 < length routes.now.stack.devices.items }
+    requires lists { ListsAreWithin routes.now.stack (lists_of line.old.lists) }
+    ensures { line_of line.new ≡ copies (setup routes.now) (lists_of line.old.lists) bio master 0 }
+{
+    if routes.legs(bio.dev) == 0 {
+        return go_on(routes, bio.dev, line);
+    }
+    let waits = first_waits(routes, bio.dev, &line.lists);
+    let copying = Copying {
+        bio,
+        master,
+        leg: 0,
+    };
+    line.doing = Doing::Copies(copying, Want::Takes(waits));
+}
+
+// What comes behind an answer is done.
+fn turn(routes: &Routes, next: Next, line: &mut Line)
+    requires { CanTurn routes.now.stack line.old.lists next }
+    ensures { line_of line.new ≡ turned (setup routes.now) (doing_of line.old.doing) (lists_of line.old.lists) next }
+{
+    match next {
+        Next::Stays => {}
+        Next::Returns(dev) => go_on(routes, dev, line),
+        Next::Copies(bio, master) => begin_copy(routes, bio, master, line),
+    }
+}
+
+// What a submission asks for is answered, and it is changed in its place where it goes on with what it does.
+fn answer(
+    routes: &Routes,
+    objects: &mut Objects,
+    doing: &mut Doing,
+    lists: &mut Lists,
+    what: &What,
+) -> Result<Next, CoreFault>
+    requires stack { objects.old.stack ≡ routes.now.stack }
+    requires room { HasRoom 2 lists.old }
+    requires fits { DoingFits routes.now.stack (doing_of doing.old) }
+    requires lists { ListsAreWithin routes.now.stack (lists_of lists.old) }
+    ensures steps { LineSteps routes.now objects.old (doing_of doing.old) (lists_of lists.old) what.now result objects.new (doing_of doing.new) (lists_of lists.new) }
+    ensures turns { IfOk result (CanTurn routes.now.stack lists.new) }
+{
+    match doing {
+        Doing::Rests => Err(CoreFault::NotEnabled),
+        Doing::Drives(part, ask) => drive_step(routes, objects, part, ask, lists, what),
+        Doing::Copies(copying, want) => copy_step(routes, objects, copying, want, lists, what),
     }
 }
 
@@ -308,15 +399,11 @@ pub fn line_step(
     ensures { LineMoves routes.now objects.old (line_of line.old) what.now result objects.new (line_of line.new) }
 {
     line.lists.reserve()?;
-    let doing = match &line.doing {
-        Doing::Rests => Err(CoreFault::NotEnabled),
-        Doing::Drives(part, ask) => {
-            drive_step(routes, objects, part, ask, &mut line.lists, what)
+    match answer(routes, objects, &mut line.doing, &mut line.lists, what) {
+        Err(fault) => Err(fault),
+        Ok(next) => {
+            turn(routes, next, line);
+            Ok(())
         }
-        Doing::Copies(copying, want) => {
-            copy_step(routes, objects, copying, want, &mut line.lists, what)
-        }
-    };
-    line.doing = doing?;
-    Ok(())
+    }
 }

@@ -62,7 +62,7 @@ fn start(routes: &Routes, part: Part, line: &mut Line)
     ensures { line_of line.new ≡ settled (setup routes.now) (part ∷ []) }
 {
     line.lists.clear();
-    line.doing = drive(routes, part, &line.lists);
+    drive(routes, part, line);
 }
 
 /// The next write, if one is still to begin.

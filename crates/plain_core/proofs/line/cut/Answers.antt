@@ -10,11 +10,11 @@ use Rattle.plain_core.proofs.line.cut.Goals as goal
 pub submit-requires-2 : goal.submit-requires-2
 submit-requires-2 c = c.submit.ensures.room 1 c.requires.room
 
-pub go_on-requires-clause-room : goal.go_on-requires-clause-room
-go_on-requires-clause-room c = c.submit-2.ensures.room 0 (c.submit.ensures.room 1 c.requires.room)
+pub returns-clause-room : goal.returns-clause-room
+returns-clause-room c = c.submit-2.ensures.room 0 (c.submit.ensures.room 1 c.requires.room)
 
-pub go_on-requires-clause-within : goal.go_on-requires-clause-within
-go_on-requires-clause-within c =
+pub returns-clause-within : goal.returns-clause-within
+returns-clause-within c =
     let stack = c.args.routes.now.stack in
     let front : IsWithin stack c.with.result.bio =
     same_place stack _ c.with.result.bio c.cut-first.ensures.within (ap (λ (i : Item Pad). i.bio.dev) c.with.ensures) (ap (λ (i : Item Pad). i.bio.range) c.with.ensures) in
