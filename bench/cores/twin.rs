@@ -325,7 +325,8 @@ impl Disk {
 enum Want {
     Takes(bool),
     Punts,
-    Links(Part),
+    /// It has one of this pool.
+    Links(u32),
 }
 
 enum Doing {
@@ -351,8 +352,8 @@ impl Line {
 
 enum Taken {
     NoBio,
-    HasBio(Part),
-    HasBoth(Part, Vector),
+    HasBio(u32),
+    HasBoth(u32, Vector),
 }
 
 struct Writer {
@@ -505,11 +506,12 @@ impl Objects {
     fn want(&mut self, dev: u32, waits: bool, what: &What) -> Option<Want> {
         Some(match self.take(2 * dev, waits, what)? {
             Got::Missed => if waits { Want::Takes(true) } else { Want::Punts },
-            _ => Want::Links(clear(2 * dev)),
+            _ => Want::Links(2 * dev),
         })
     }
 
-    fn cut(&mut self, mut part: Part, mut hand: Part, line: &mut Line, node: u32) {
+    fn cut(&mut self, mut part: Part, pool: u32, line: &mut Line, node: u32) {
+        let mut hand = clear(pool);
         let dev = part.bio.dev;
         let (len, member, start) = piece(&self.devices, dev, part.bio.start, part.bio.len);
         hand.bio = Bio { node, dev: member as u32, start, len, set: dev, ..part.bio };
@@ -557,11 +559,11 @@ impl Objects {
                 }
                 line.doing = Doing::Cut(part, Want::Takes(true));
             }
-            Doing::Cut(part, Want::Links(hand)) => match *what {
+            Doing::Cut(part, Want::Links(pool)) => match *what {
                 What::Link { writer, how: How::Chain, node }
                     if writer == part.bio.writer && self.books[writer as usize].chain(part.bio.node, node) =>
                 {
-                    self.cut(part, hand, line, node)
+                    self.cut(part, pool, line, node)
                 }
                 _ => return Err(doing),
             },
@@ -595,11 +597,12 @@ impl Objects {
                 }
                 line.doing = Doing::Copies(bio, master, leg, Want::Takes(true));
             }
-            Doing::Copies(bio, master, leg, Want::Links(mut hand)) => match *what {
+            Doing::Copies(bio, master, leg, Want::Links(pool)) => match *what {
                 What::Link { writer, how: How::Leg, node }
                     if writer == bio.writer && self.books[writer as usize].leg(master, node) =>
                 {
                     let member = self.devices[bio.dev as usize].members[leg as usize];
+                    let mut hand = clear(pool);
                     hand.bio = Bio { dev: member as u32, set: bio.dev, node, ..bio };
                     hand.leg = leg;
                     line.list0.push_back(hand);
@@ -612,7 +615,7 @@ impl Objects {
     }
 
     /// The next write of a writer at rest begins, if the event says so.
-    fn begin(&mut self, writer: &mut Writer, todo: Todo, mut part: Part, vector: Option<Vector>, what: &What) -> bool {
+    fn begin(&mut self, writer: &mut Writer, todo: Todo, pool: u32, vector: Option<Vector>, what: &What) -> bool {
         let data = (todo.tag, todo.count);
         let full = vector.map(|vector| Vector { data, ..vector });
         match *what {
@@ -620,6 +623,7 @@ impl Objects {
                 if named == writer.number && self.books[named as usize].write(todo.number, full, node) =>
             {
                 let Todo { number: write, dev, start, count: len, tag: word, .. } = todo;
+                let mut part = clear(pool);
                 part.bio = Bio { write, writer: named, node, dev, start, len, word, set: FS };
                 part.leg = 0;
                 if vector.is_none() {
@@ -649,20 +653,20 @@ impl Objects {
                 match self.take(65, true, what) {
                     None => return false,
                     Some(Got::Missed) => {}
-                    Some(_) => writer.taken = Taken::HasBio(clear(65)),
+                    Some(_) => writer.taken = Taken::HasBio(65),
                 }
                 true
             }
-            Taken::HasBio(part) if todo.count > 32 => {
+            Taken::HasBio(pool) if todo.count > 32 => {
                 match self.take(64, true, what) {
                     None => return false,
                     Some(Got::Missed) => {}
-                    Some(_) => writer.taken = Taken::HasBoth(part, Vector { data: (0, 0), pool: 64 }),
+                    Some(_) => writer.taken = Taken::HasBoth(pool, Vector { data: (0, 0), pool: 64 }),
                 }
                 true
             }
-            Taken::HasBio(part) => self.begin(writer, todo, part, None, what),
-            Taken::HasBoth(part, vector) => self.begin(writer, todo, part, Some(vector), what),
+            Taken::HasBio(pool) => self.begin(writer, todo, pool, None, what),
+            Taken::HasBoth(pool, vector) => self.begin(writer, todo, pool, Some(vector), what),
         }
     }
 
