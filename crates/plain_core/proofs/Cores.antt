@@ -197,8 +197,10 @@ applies_at old new rest event place (Err fault.NotEnabled) is s = (
       (subst (λ p. what_of (task.request (setup old.routing) (task_at old.tasks p)) happens.1.reply ≡ Some event.what) at happens.1.told)
       (subst (λ p. Serves ledger_of (objects_of old.objects) (task.request (setup old.routing) (task_at old.tasks p)) happens.1.reply next.objects) at happens.1.serves),
 )
-applies_at old new rest event place (Err fault.Memory) is s =
-    λ k. record { routing = old.routing; objects = s.moves.0 k; tasks = (s.others ∙ set_same old.tasks place (task_at rest place) no_task s.moves.1) k }
+applies_at old new rest event place (Err fault.Memory) is s = (
+  λ k. record { routing = old.routing; objects = s.moves.0 k; tasks = (s.others ∙ set_same old.tasks place (task_at rest place) no_task s.moves.1) k },
+  (place, is, s.moves.2),
+)
 
 pub applies_none : (old : CoreState) (event : Event) → HasNone old.tasks event.task → Applies old event (Err fault.NotEnabled) old
 applies_none old event none = (refl, λ next happens. none happens.0 happens.1.here happens.1.by)

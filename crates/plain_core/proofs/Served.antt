@@ -110,7 +110,7 @@ pub take_bio : (old new : Plain) (set : SetId) (waits : Bool) (what : What) (res
     → Answers old (TakeBio set waits) what (λ g. bio_reply (pool_number (bios_of set)) g (uses (pool_at old (pool_number (bios_of set))))) result new
 take_bio old new set waits what (Ok g) t = taken_bio old new set waits what g t.0 t.1 t.2
 take_bio old new set waits what (Err fault.NotEnabled) t = (t.0, not_taken_bio old set waits what t.1)
-take_bio old new set waits what (Err fault.Memory) t = t
+take_bio old new set waits what (Err fault.Memory) t = absurd t
 
 taken_vec : (old new : Plain) (what : What) (g : Got) → what ≡ take_of true FsVecs g → CanTake (pool_at old 64) true g
     → Moves old 64 (move_of (pool_at old 64) g) new → IsAnswer old TakeVec what (vec_reply 64 g (uses (pool_at old 64))) new
@@ -133,7 +133,7 @@ pub take_vec : (old new : Plain) (what : What) (result : Result Got CoreFault) �
     → Answers old TakeVec what (λ g. vec_reply 64 g (uses (pool_at old 64))) result new
 take_vec old new what (Ok g) t = taken_vec old new what g t.0 t.1 t.2
 take_vec old new what (Err fault.NotEnabled) t = (t.0, not_taken_vec old what t.1)
-take_vec old new what (Err fault.Memory) t = t
+take_vec old new what (Err fault.Memory) t = absurd t
 
 taken_slip : (old new : Plain) (dev : DevId) (what : What) (g : Got) → what ≡ take_of true (Records dev) g
     → CanTake (pool_at old (pool_number (Records dev))) true g → Moves old (pool_number (Records dev)) (move_of (pool_at old (pool_number (Records dev))) g) new
@@ -158,7 +158,7 @@ pub take_slip : (old new : Plain) (dev : DevId) (what : What) (result : Result G
     → Answers old (TakeSlip dev) what (λ g. slip_reply (pool_number (Records dev)) g (uses (pool_at old (pool_number (Records dev))))) result new
 take_slip old new dev what (Ok g) t = taken_slip old new dev what g t.0 t.1 t.2
 take_slip old new dev what (Err fault.NotEnabled) t = (t.0, not_taken_slip old dev what t.1)
-take_slip old new dev what (Err fault.Memory) t = t
+take_slip old new dev what (Err fault.Memory) t = absurd t
 
 -- gives
 not_given_bio : (old : Plain) (bio : Item Pad) (what : What) → (what ≡ told.Give (pool_of bio.share.no) → CanMove (pool_at old bio.share.no) gives → ⊥) → Refuses old (GiveBio bio) what
@@ -169,7 +169,7 @@ pub give_bio : (old new : Plain) (bio : Item Pad) (what : What) (result : Result
     → MovesAs old bio.share.no gives (told.Give (pool_of bio.share.no)) what result new → Answers old (GiveBio bio) what (λ d. Did) result new
 give_bio old new bio what (Ok d) t = record { stack = ap (λ (o : Plain). o.stack) t.1.2; told = ap Some (sym t.0); serves = moves old new _ gives t.1 }
 give_bio old new bio what (Err fault.NotEnabled) t = (t.0, not_given_bio old bio what t.1)
-give_bio old new bio what (Err fault.Memory) t = t
+give_bio old new bio what (Err fault.Memory) t = absurd t
 
 not_given_vec : (old : Plain) (vector : VectorItem) (what : What) → (what ≡ told.Give (pool_of vector.share.no) → CanMove (pool_at old vector.share.no) gives → ⊥) → Refuses old (GiveVec vector) what
 not_given_vec old vector what never Did new is serves = never (one is) serves.0
@@ -179,7 +179,7 @@ pub give_vec : (old new : Plain) (vector : VectorItem) (what : What) (result : R
     → MovesAs old vector.share.no gives (told.Give (pool_of vector.share.no)) what result new → Answers old (GiveVec vector) what (λ d. Did) result new
 give_vec old new vector what (Ok d) t = record { stack = ap (λ (o : Plain). o.stack) t.1.2; told = ap Some (sym t.0); serves = moves old new _ gives t.1 }
 give_vec old new vector what (Err fault.NotEnabled) t = (t.0, not_given_vec old vector what t.1)
-give_vec old new vector what (Err fault.Memory) t = t
+give_vec old new vector what (Err fault.Memory) t = absurd t
 
 not_given_slip : (old : Plain) (slip : SlipItem) (what : What) → (what ≡ told.Give (pool_of slip.share.no) → CanMove (pool_at old slip.share.no) gives → ⊥) → Refuses old (GiveSlip slip) what
 not_given_slip old slip what never Did new is serves = never (one is) serves.0
@@ -189,7 +189,7 @@ pub give_slip : (old new : Plain) (slip : SlipItem) (what : What) (result : Resu
     → MovesAs old slip.share.no gives (told.Give (pool_of slip.share.no)) what result new → Answers old (GiveSlip slip) what (λ d. Did) result new
 give_slip old new slip what (Ok d) t = record { stack = ap (λ (o : Plain). o.stack) t.1.2; told = ap Some (sym t.0); serves = moves old new _ gives t.1 }
 give_slip old new slip what (Err fault.NotEnabled) t = (t.0, not_given_slip old slip what t.1)
-give_slip old new slip what (Err fault.Memory) t = t
+give_slip old new slip what (Err fault.Memory) t = absurd t
 
 -- a reserve that changes: nothing is out of the pool
 no_more : (pool : PoolState) (min : ℕ) → CanMove pool (resizes min) → (pool.facts.out == 0) ≡ true
@@ -215,7 +215,7 @@ resize old new pool min what (Ok d) t = record {
   serves = (sym t.1.0, (moves old new _ (resizes min) t.1).1);
 }
 resize old new pool min what (Err fault.NotEnabled) t = (t.0, not_resized old pool min what t.1)
-resize old new pool min what (Err fault.Memory) t = t
+resize old new pool min what (Err fault.Memory) t = absurd t
 
 -- rescuers
 pub punt_answer : (old new : Plain) (dev : DevId) (lists : TaskLists) (what : What) → IsPunt lists dev what
@@ -240,7 +240,7 @@ not_popped old dev what never _ new is serves = absurd serves
 pub pop : (old new : Plain) (dev : DevId) (what : What) (result : Result (Item Pad) CoreFault) → Pops old dev what result new → Answers old (Pop dev) what Popped result new
 pop old new dev what (Ok part) t = record { stack = ap (λ (o : Plain). o.stack) t.2; told = ap Some (sym t.0); serves = (t.1, rescue_set old new dev.0 t.2) }
 pop old new dev what (Err fault.NotEnabled) t = (t.0, not_popped old dev what t.1)
-pop old new dev what (Err fault.Memory) t = t
+pop old new dev what (Err fault.Memory) t = absurd t
 
 -- disks
 pushed_at : (old new : Plain) (part : Item Pad) → PushesIn (kept_disk old part.bio.dev.0) part (kept_disk new part.bio.dev.0)
@@ -252,18 +252,16 @@ pushed_at old new part is = at (kept_disk old part.bio.dev.0) (kept_disk new par
     at None after is = absurd is
     at (Some disk) after is = rw is refl
 
-not_pushed : (old : Plain) (part : Item Pad) (what : What) → (IsPush part what → ⊥) → Refuses old (Push part) what
+pub not_pushed : (old : Plain) (part : Item Pad) (what : What) → (IsPush part what → ⊥) → Refuses old (Push part) what
 not_pushed old part what never Did new is serves = never (one is)
 not_pushed old part what never _ new is serves = absurd serves
 
-pub push : (old new : Plain) (part : Item Pad) (what : What) (result : Result (Unit {0}) CoreFault) → Pushes old part what result new → Answers old (Push part) what (λ d. Did) result new
-push old new part what (Ok d) t = record {
+pub push : (old new : Plain) (part : Item Pad) (what : What) → Pushes old part what (Ok (tt {0})) new → IsAnswer old (Push part) what Did new
+push old new part what t = record {
   stack = ap (λ (o : Plain). o.stack) t.2;
   told = ap Some (sym t.0);
   serves = disk_set old new part.bio.dev.0 t.2 ∙ ap (λ disk. record (objects_of old) { disk = upd (disk_at old) part.bio.dev.0 disk }) (pushed_at old new part t.1);
 }
-push old new part what (Err fault.NotEnabled) t = (t.0, not_pushed old part what t.1)
-push old new part what (Err fault.Memory) t = t
 
 completed_at : (old new : Plain) (dev : ℕ) (index : ℕ) (part : Item Pad) (status : Status) → CompletesIn (kept_disk old dev) index part status (kept_disk new dev)
     → Completes (disk_at old dev) index part status (disk_at new dev)
@@ -300,7 +298,7 @@ complete old new disk what (Ok done) t = record {
   serves = (completed_at old new disk.0 done.0 done.1 done.2 t.1, disk_set old new disk.0 t.2);
 }
 complete old new disk what (Err fault.NotEnabled) t = (t.0, not_completed old disk what t.1)
-complete old new disk what (Err fault.Memory) t = t
+complete old new disk what (Err fault.Memory) t = absurd t
 
 -- books
 not_linked : (old : Plain) (writer : ℕ) (opening : Opening) (what : What)
@@ -319,7 +317,7 @@ link old new writer opening what (Ok node) t = record {
   serves = (t.1, book_set old new writer t.2);
 }
 link old new writer opening what (Err fault.NotEnabled) t = (t.0, not_linked old writer opening what t.1)
-link old new writer opening what (Err fault.Memory) t = t
+link old new writer opening what (Err fault.Memory) t = absurd t
 
 not_dropped : (old : Plain) (writer place : ℕ) (status : Status) (part : Option (Item Pad)) (what : What)
     → ((end : End) (answer : drop.Ended) (book : BookState) → what ≡ told.Drop writer place status end → IsToldBy end answer
@@ -343,7 +341,7 @@ tell old new writer place status part what (Ok e) t = record {
   serves = (t.1, book_set old new writer t.2);
 }
 tell old new writer place status part what (Err fault.NotEnabled) t = (t.0, not_dropped old writer place status part what t.1)
-tell old new writer place status part what (Err fault.Memory) t = t
+tell old new writer place status part what (Err fault.Memory) t = absurd t
 
 -- the tally
 not_done : (old : Plain) (write : ℕ) (status : Status) (what : What) → (what ≡ told.Done write status → ⊥) → Refuses old (Done write status) what
@@ -355,7 +353,7 @@ pub done : (old new : Plain) (write : ℕ) (status : Status) (what : What) (resu
     → Answers old (Done write status) what (λ d. Did) result new
 done old new write status what (Ok d) t = record { stack = ap (λ (o : Plain). o.stack) t.1; told = ap Some (sym t.0); serves = ap objects_of t.1 }
 done old new write status what (Err fault.NotEnabled) t = (t.0, not_done old write status what t.1)
-done old new write status what (Err fault.Memory) t = t
+done old new write status what (Err fault.Memory) t = absurd t
 
 not_started : (old : Plain) (round : ℕ) (what : What) → (what ≡ told.Round round → old.tally.round + 1 < length old.tally.left → ⊥) → Refuses old (NextRound round) what
 not_started old round what never Did new is serves = never (one is) serves.0
@@ -368,23 +366,23 @@ pub next_round : (old new : Plain) (round : ℕ) (what : What) (result : Result 
     → Answers old (NextRound round) what (λ d. Did) result new
 next_round old new round what (Ok d) t = record { stack = ap (λ (o : Plain). o.stack) t.2; told = ap Some (sym t.0); serves = (t.1, ap objects_of t.2) }
 next_round old new round what (Err fault.NotEnabled) t = (t.0, not_started old round what t.1)
-next_round old new round what (Err fault.Memory) t = t
+next_round old new round what (Err fault.Memory) t = absurd t
 
 -- attempts, as a task sees them
 pub part_failed : (old new : Plain) (set : SetId) (waits : Bool) (what : What) (e : CoreFault)
     → Takes old (pool_number (bios_of set)) (bios_of set) waits what (Err e) new → TakesPart old set waits what (Err e) new
 part_failed old new set waits what fault.NotEnabled t = take_bio old new set waits what (Err fault.NotEnabled) t
-part_failed old new set waits what fault.Memory t = t
+part_failed old new set waits what fault.Memory t = absurd t
 
 pub slip_failed : (old new : Plain) (dev : DevId) (what : What) (e : CoreFault)
     → Takes old (pool_number (Records dev)) (Records dev) true what (Err e) new → TakesSlip old dev what (Err e) new
 slip_failed old new dev what fault.NotEnabled t = take_slip old new dev what (Err fault.NotEnabled) t
-slip_failed old new dev what fault.Memory t = t
+slip_failed old new dev what fault.Memory t = absurd t
 
 pub want_failed : (old new : Plain) (dev : DevId) (waits : Bool) (what : What) (e : CoreFault)
     → TakesPart old (Of dev) waits what (Err e) new → TakesWant old dev waits what (Err e) new
 want_failed old new dev waits what fault.NotEnabled t = t
-want_failed old new dev waits what fault.Memory t = t
+want_failed old new dev waits what fault.Memory t = absurd t
 
 -- a take of the pool of a set, by the name of the pool
 of_set : (old new : Plain) (set : SetId) (waits : Bool) (what : What) (pool : PoolId) (r s : Result Got CoreFault) → pool ≡ bios_of set → r ≡ s
@@ -444,7 +442,7 @@ slip_had old new dev what r n slip number clear (inr was) t = (
 
 pub vec_refused : (old new : Plain) (what : What) (r : Result Got CoreFault) (e : CoreFault) → r ≡ Err e → Takes old 64 FsVecs true what r new → TakesVector old what (Err e) new
 vec_refused old new what r fault.NotEnabled was t = take_vec old new what (Err fault.NotEnabled) (subst (λ q. Takes old 64 FsVecs true what q new) was t)
-vec_refused old new what r fault.Memory was t = subst (λ q. Takes old 64 FsVecs true what q new) was t
+vec_refused old new what r fault.Memory was t = absurd (subst (λ q. Takes old 64 FsVecs true what q new) was t)
 
 pub vec_missed : (old new : Plain) (what : What) (r : Result Got CoreFault) → r ≡ Ok got.Missed → Takes old 64 FsVecs true what r new → TakesVector old what (Ok None) new
 vec_missed old new what r was t = (uses (pool_at old 64), take_vec old new what (Ok got.Missed) (subst (λ q. Takes old 64 FsVecs true what q new) was t))

@@ -78,7 +78,7 @@ pub drive_pushed : (r : Routing) (old new : Plain) (part : Item Pad) (a : Ask) (
     → LineSteps r old (drives_for part (ask_of a)) lists what (Ok (next.Returns dev)) new after lists
 drive_pushed r old new part a lists what after dev is_ask is_dev p =
     subst (λ v. LineSteps r old (drives_for part (ask_of v)) lists what (Ok (next.Returns dev)) new after lists) (sym is_ask)
-    (Did, push old new part what (Ok (tt {0})) p, ap (λ d. line.goes_on (setup r) d lists) (sym is_dev))
+    (Did, push old new part what p, ap (λ d. line.goes_on (setup r) d lists) (sym is_dev))
 
 pub drive_mastered : (r : Routing) (old new : Plain) (part : Item Pad) (slip : SlipItem) (a : Ask) (lists : TaskLists) (what : What) (after : line.Doing) (bio : Bio) (legs node : ℕ)
     → a ≡ ask.ToMaster slip → bio ≡ part.bio → legs ≡ line.legs_of (tree r.stack part.bio.dev.0)

@@ -107,13 +107,13 @@ pub rescuer_line : (r : Routing) (old new : Plain) (dev : DevId) (doing : line.D
 rescuer_line r old new dev line.Rests lists after what result busy m = absurd busy
 rescuer_line r old new dev (line.Drives bio ask) lists after what (Ok d) busy m = (m.0, tt, m.1, ap (task.Rescuer dev) m.2)
 rescuer_line r old new dev (line.Drives bio ask) lists after what (Err fault.NotEnabled) busy m = (m.0, ap (task.Rescuer dev) m.1, λ let_it. m.2)
-rescuer_line r old new dev (line.Drives bio ask) lists after what (Err fault.Memory) busy m = (m.0, ap (task.Rescuer dev) m.1)
+rescuer_line r old new dev (line.Drives bio ask) lists after what (Err fault.Memory) busy m = (m.0, ap (task.Rescuer dev) m.1, busy)
 rescuer_line r old new dev (line.Copies bio master leg want) lists after what (Ok d) busy m = (m.0, tt, m.1, ap (task.Rescuer dev) m.2)
 rescuer_line r old new dev (line.Copies bio master leg want) lists after what (Err fault.NotEnabled) busy m = (m.0, ap (task.Rescuer dev) m.1, λ let_it. m.2)
-rescuer_line r old new dev (line.Copies bio master leg want) lists after what (Err fault.Memory) busy m = (m.0, ap (task.Rescuer dev) m.1)
+rescuer_line r old new dev (line.Copies bio master leg want) lists after what (Err fault.Memory) busy m = (m.0, ap (task.Rescuer dev) m.1, busy)
 rescuer_line r old new dev (line.Breaks breach) lists after what (Ok d) busy m = (m.0, tt, m.1, ap (task.Rescuer dev) m.2)
 rescuer_line r old new dev (line.Breaks breach) lists after what (Err fault.NotEnabled) busy m = (m.0, ap (task.Rescuer dev) m.1, λ let_it. m.2)
-rescuer_line r old new dev (line.Breaks breach) lists after what (Err fault.Memory) busy m = (m.0, ap (task.Rescuer dev) m.1)
+rescuer_line r old new dev (line.Breaks breach) lists after what (Err fault.Memory) busy m = (m.0, ap (task.Rescuer dev) m.1, busy)
 
 -- a writer's submission: it looks at nothing
 no_look : (todo : List task.Todo) (taken : task.Taken) (doing : line.Doing) → IsBusy doing → task.writer_look todo taken doing ≡ None
@@ -150,7 +150,7 @@ writer_line r old new n todo taken before after what (Ok d) busy m = (
 )
 writer_line r old new n todo taken before after what (Err fault.NotEnabled) busy m =
     (m.0, ap (task.Writer n todo taken) m.1, λ let_it. subst (λ q. Refuses old q what) (sym (asks_line r n todo taken before.doing before.lists busy)) m.2)
-writer_line r old new n todo taken before after what (Err fault.Memory) busy m = (m.0, ap (task.Writer n todo taken) m.1)
+writer_line r old new n todo taken before after what (Err fault.Memory) busy m = (m.0, ap (task.Writer n todo taken) m.1, busy)
 
 -- a writer at rest
 pub writer_ok : (r : Routing) (old new : Plain) (n : ℕ) (tds : List task.Todo) (taken : task.Taken) (before : line.Line) (what : What) (reply : Reply) (after : task.TaskState)
@@ -169,7 +169,7 @@ pub writer_failed : (r : Routing) (old new : Plain) (n : ℕ) (tds : List task.T
     → TaskMoves r old (task.Writer n tds taken before) what (Err e) new (task.Writer n tds taken before)
 writer_failed r old new n tds taken before what fault.NotEnabled rests f =
     (f.0, refl, λ let_it. subst (λ q. Refuses old q what) (ap (λ d. task.writer_request (setup r) n tds taken d before) (sym rests)) f.1)
-writer_failed r old new n tds taken before what fault.Memory rests f = (f, refl)
+writer_failed r old new n tds taken before what fault.Memory rests f = absurd f
 
 -- the next write's round has come
 pub round_come : (old : Plain) (n : ℕ) (next : task.Todo) (later : List task.Todo) (before : line.Line) → nat_le next.round old.tally.round ≡ true
@@ -221,7 +221,7 @@ pub rescuer_failed : (r : Routing) (old new : Plain) (dev : DevId) (before : lin
     → TaskMoves r old (task.Rescuer dev before) what (Err e) new (task.Rescuer dev before)
 rescuer_failed r old new dev before what fault.NotEnabled rests f =
     (f.0, refl, λ let_it. subst (λ q. Refuses old q what) (ap (λ d. task.rescuer_request (setup r) dev d before) (sym rests)) f.1)
-rescuer_failed r old new dev before what fault.Memory rests f = (f, refl)
+rescuer_failed r old new dev before what fault.Memory rests f = absurd f
 
 module _ (r : Routing) (old new : Plain) (n : ℕ) (tds later : List task.Todo) (next : task.Todo) (taken : task.Taken) (before : line.Line) (what : What) (rests : before.doing ≡ line.Rests) (is : tds ≡ next ∷ later) where
   -- with a bio, and with a vector too
@@ -298,11 +298,11 @@ writer_idle r old n tds taken before what rests none =
 -- a request that was answered or not, as a failure
 pub answers_fail : {X : Type 0} (old new : Plain) (request : Request) (what : What) (replied : X → Reply) (e : CoreFault) → Answers old request what replied (Err e) new → Fails old request what e new
 answers_fail old new request what replied fault.NotEnabled a = a
-answers_fail old new request what replied fault.Memory a = a
+answers_fail old new request what replied fault.Memory a = absurd a
 
 pub vector_fails : (old new : Plain) (what : What) (e : CoreFault) → TakesVector old what (Err e) new → Fails old TakeVec what e new
 vector_fails old new what fault.NotEnabled a = a
-vector_fails old new what fault.Memory a = a
+vector_fails old new what fault.Memory a = absurd a
 
 pub come_by : (mine wanted here present : ℕ) → mine ≡ wanted → here ≡ present → wanted ≤ here → nat_le mine present ≡ true
 come_by mine wanted here present same is le = grind (arith, nat_tests)

@@ -13,7 +13,7 @@ use Rattle.task_core.specs.Within.{TaskFits}
 use Rattle.task_core.specs.declared.event.What.{What}
 use Rattle.plain_core.specs.declared.task.Task.{Task}
 use Rattle.plain_core.specs.Views.{task_of}
-use Rattle.plain_core.specs.Steps.{TaskMoves}
+use Rattle.plain_core.specs.Steps.{Submits, TaskMoves}
 use Rattle.plain_core.specs.Ledgers.{ledger_of}
 use Rattle.plain_core.specs.Plain.{Plain, objects_of}
 use Rattle.plain_core.specs.declared.fault.CoreFault.{CoreFault}
@@ -67,11 +67,16 @@ pub record IsPlace (tasks : List TaskState) (name : TaskId) (place : ℕ) : Type
 abbrev pub HasNone : List TaskState → TaskId → Type 0
 HasNone tasks name = (place : ℕ) → place < length tasks → name ≡ id_of (task_at tasks place) → ⊥
 
+-- the event is one of a task with a submission under way
+abbrev pub IsOfSubmission : List TaskState → TaskId → Type 0
+IsOfSubmission tasks name = (place : ℕ) × IsPlace tasks name place × Submits (task_at tasks place)
+
 -- An event was applied: it is a step of the machine to the state afterwards. Where it is none, or where there is no memory, nothing is changed.
+-- A submission alone takes memory.
 abbrev pub Applies : CoreState → Event → Result (Unit {0}) CoreFault → CoreState → Type 0
 Applies old event (Ok done) new = Happens (scene_of old) (state_of old) event (state_of new) × (new.routing ≡ old.routing)
 Applies old event (Err fault.NotEnabled) new = (new ≡ old) × ((next : State) → Happens (scene_of old) (state_of old) event next → ⊥)
-Applies old event (Err fault.Memory) new = new ≡ old
+Applies old event (Err fault.Memory) new = (new ≡ old) × IsOfSubmission old.tasks event.task
 
 -- the task at this place goes on, and all others stay
 abbrev pub StepsFrom : Routing → Plain → List Task → ℕ → Option Task → What → Result (Unit {0}) CoreFault → Plain → Option Task → List Task → Type 0

@@ -84,8 +84,8 @@ pub record HasPlaces (stack : Stack) (pools : List PoolState) (rescues : List (L
       → HasSize (size (tree stack dev)) (slice_index_or disks dev None)
   pub within : (dev : ℕ) → AreWithin stack (slice_index_or rescues dev [])
 
--- A call answers so, and makes this of the objects. Where it can't, or where there is no memory, they are as they were.
+-- A call answers so, and makes this of the objects. Where it can't, they are as they were. It takes no memory, so it never lacks any.
 abbrev pub Gives : {X : Type 0} → Plain → (X → Plain → Type 0) → Type 0 → Result X CoreFault → Plain → Type 0
 Gives old Does Cannot (Ok x) new = Does x new
 Gives old Does Cannot (Err fault.NotEnabled) new = (new ≡ old) × Cannot
-Gives old Does Cannot (Err fault.Memory) new = new ≡ old
+Gives old Does Cannot (Err fault.Memory) new = ⊥

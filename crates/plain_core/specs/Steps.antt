@@ -44,11 +44,11 @@ pub record IsAnswer (old : Plain) (request : Request) (what : What) (reply : Rep
 abbrev pub Refuses : Plain → Request → What → Type 0
 Refuses old request what = (reply : Reply) (new : Objects) → what_of request reply ≡ Some what → Serves ledger_of (objects_of old) request reply new → ⊥
 
--- a request is answered, or it can't be so that the event tells it
+-- a request that takes no memory is answered, or it can't be so that the event tells it
 abbrev pub Answers : {X : Type 0} → Plain → Request → What → (X → Reply) → Result X CoreFault → Plain → Type 0
 Answers old request what replied (Ok x) new = IsAnswer old request what (replied x) new
 Answers old request what replied (Err fault.NotEnabled) new = (new ≡ old) × Refuses old request what
-Answers old request what replied (Err fault.Memory) new = new ≡ old
+Answers old request what replied (Err fault.Memory) new = ⊥
 
 -- what comes behind an answer makes this of a submission
 abbrev pub turned : Setup → line.Doing → TaskLists → Next → line.Line
@@ -77,14 +77,14 @@ abbrev pub TakesPart : Plain → SetId → Bool → What → Result (Option (Ite
 TakesPart old set waits what (Ok (Some part)) new = (got : Got) × IsAnswer old (TakeBio set waits) what (HadBio got part) new
 TakesPart old set waits what (Ok None) new = (used : Bool) × IsAnswer old (TakeBio set waits) what (Missed used) new
 TakesPart old set waits what (Err fault.NotEnabled) new = (new ≡ old) × Refuses old (TakeBio set waits) what
-TakesPart old set waits what (Err fault.Memory) new = new ≡ old
+TakesPart old set waits what (Err fault.Memory) new = ⊥
 
 -- an attempt at a record of a mirror
 abbrev pub TakesSlip : Plain → DevId → What → Result (Option SlipItem) CoreFault → Plain → Type 0
 TakesSlip old dev what (Ok (Some slip)) new = (got : Got) × IsAnswer old (TakeSlip dev) what (HadSlip got slip) new
 TakesSlip old dev what (Ok None) new = (used : Bool) × IsAnswer old (TakeSlip dev) what (Missed used) new
 TakesSlip old dev what (Err fault.NotEnabled) new = (new ≡ old) × Refuses old (TakeSlip dev) what
-TakesSlip old dev what (Err fault.Memory) new = new ≡ old
+TakesSlip old dev what (Err fault.Memory) new = ⊥
 
 -- what a driver wants behind its attempt at a bio
 abbrev pub IsWanted : Bool → Reply → line.Want → Type 0
@@ -96,7 +96,7 @@ abbrev pub TakesWant : Plain → DevId → Bool → What → Result Want CoreFau
 TakesWant old dev waits what (Ok want) new =
     (reply : Reply) × IsAnswer old (TakeBio (Of dev) waits) what reply new × IsWanted waits reply (want_of want)
 TakesWant old dev waits what (Err fault.NotEnabled) new = (new ≡ old) × Refuses old (TakeBio (Of dev) waits) what
-TakesWant old dev waits what (Err fault.Memory) new = new ≡ old
+TakesWant old dev waits what (Err fault.Memory) new = ⊥
 
 -- a driver that has a bio, one that cuts it, and a mirror that copies it
 abbrev pub drives_for : Item Pad → line.Ask → line.Doing
@@ -118,6 +118,17 @@ LineMoves r old before what (Err fault.NotEnabled) new after =
     (new ≡ old) × (after ≡ before) × Refuses old (line.line_request (setup r) before.doing before.lists) what
 LineMoves r old before what (Err fault.Memory) new after = (new ≡ old) × (after ≡ before)
 
+-- a submission is under way
+abbrev pub IsBusy : line.Doing → Type 0
+IsBusy line.Rests = ⊥
+IsBusy doing = Unit {0}
+
+-- a writer or a rescuer with a submission under way: these alone take memory
+abbrev pub Submits : TaskState → Type 0
+Submits (task.Writer number todo taken l) = IsBusy l.doing
+Submits (task.Rescuer dev l) = IsBusy l.doing
+Submits state = ⊥
+
 -- a task goes on with an answer to what it asks for, where what it looks at lets it ask
 abbrev pub TaskMoves : Routing → Plain → TaskState → What → Result (Unit {0}) CoreFault → Plain → TaskState → Type 0
 TaskMoves r old before what (Ok done) new after =
@@ -127,7 +138,7 @@ TaskMoves r old before what (Ok done) new after =
     × (after ≡ answered (setup r) before reply)
 TaskMoves r old before what (Err fault.NotEnabled) new after =
     (new ≡ old) × (after ≡ before) × (IsLet ledger_of (objects_of old) before (look_of before) → Refuses old (request (setup r) before) what)
-TaskMoves r old before what (Err fault.Memory) new after = (new ≡ old) × (after ≡ before)
+TaskMoves r old before what (Err fault.Memory) new after = (new ≡ old) × (after ≡ before) × Submits before
 
 -- what the keeper's duty is answered with
 abbrev pub duty_reply : task.Duty → Reply
@@ -141,7 +152,7 @@ IsCarried old disk before what (Ok done) new after =
     × IsAnswer old (task.carried_request disk before) what reply new
     × (after ≡ task.carried_answered before reply)
 IsCarried old disk before what (Err fault.NotEnabled) new after = (new ≡ old) × (after ≡ before) × Refuses old (task.carried_request disk before) what
-IsCarried old disk before what (Err fault.Memory) new after = (new ≡ old) × (after ≡ before)
+IsCarried old disk before what (Err fault.Memory) new after = ⊥
 
 -- the first of the elements that a closed node holds went back, or it holds none
 abbrev pub GivesFirst : Plain → Option VectorItem → Option (Item Pad) → Option SlipItem → What → Result Bool CoreFault → Plain
@@ -155,7 +166,7 @@ GivesFirst old vector bio slip what (Ok false) new vector1 bio1 slip1 =
 GivesFirst old vector bio slip what (Err fault.NotEnabled) new vector1 bio1 slip1 =
     (new ≡ old) × (vector1 ≡ vector) × (bio1 ≡ bio) × (slip1 ≡ slip)
     × ((writer : ℕ) (closed : Closed) (parent : Option ℕ) → Refuses old (task.closed_request writer closed vector bio slip parent) what)
-GivesFirst old vector bio slip what (Err fault.Memory) new vector1 bio1 slip1 = (new ≡ old) × (vector1 ≡ vector) × (bio1 ≡ bio) × (slip1 ≡ slip)
+GivesFirst old vector bio slip what (Err fault.Memory) new vector1 bio1 slip1 = ⊥
 
 -- what a closed node asks for, and what is carried once it is answered
 abbrev pub closed_asks : ℕ → Closed → Request
@@ -175,7 +186,7 @@ PassesOn old writer closed what (Ok after) new =
     × IsAnswer old (closed_asks writer (bare closed)) what reply new
     × (carried_of after ≡ closed_becomes writer (bare closed) reply)
 PassesOn old writer closed what (Err fault.NotEnabled) new = (new ≡ old) × Refuses old (closed_asks writer (bare closed)) what
-PassesOn old writer closed what (Err fault.Memory) new = new ≡ old
+PassesOn old writer closed what (Err fault.Memory) new = ⊥
 
 -- it goes on, and is still carried or no more
 abbrev pub ClosesOn : Plain → ℕ → Closed → What → Result (Option Carried) CoreFault → Plain → Closed → Type 0
@@ -188,21 +199,16 @@ ClosesOn old writer closed what (Ok (Some carried)) new after =
     × IsAnswer old (closed_asks writer closed) what reply new
     × (carried_of carried ≡ closed_becomes writer closed reply)
 ClosesOn old writer closed what (Err fault.NotEnabled) new after = (new ≡ old) × (after ≡ closed) × Refuses old (closed_asks writer closed) what
-ClosesOn old writer closed what (Err fault.Memory) new after = (new ≡ old) × (after ≡ closed)
+ClosesOn old writer closed what (Err fault.Memory) new after = ⊥
 
 -- an attempt at a vector
 abbrev pub TakesVector : Plain → What → Result (Option VectorItem) CoreFault → Plain → Type 0
 TakesVector old what (Ok (Some vector)) new = (got : Got) × IsAnswer old TakeVec what (HadVec got vector) new
 TakesVector old what (Ok None) new = (used : Bool) × IsAnswer old TakeVec what (Missed used) new
 TakesVector old what (Err fault.NotEnabled) new = (new ≡ old) × Refuses old TakeVec what
-TakesVector old what (Err fault.Memory) new = new ≡ old
+TakesVector old what (Err fault.Memory) new = ⊥
 
--- a submission is under way
-abbrev pub IsBusy : line.Doing → Type 0
-IsBusy line.Rests = ⊥
-IsBusy doing = Unit {0}
-
--- a request that was not answered
+-- a request that takes no memory was not answered
 abbrev pub Fails : Plain → Request → What → CoreFault → Plain → Type 0
 Fails old request what fault.NotEnabled new = (new ≡ old) × Refuses old request what
-Fails old request what fault.Memory new = new ≡ old
+Fails old request what fault.Memory new = ⊥

@@ -78,13 +78,12 @@ PushesIn None part after = ⊥
 PushesIn (Some disk) part after = after ≡ Some (pushed part disk)
 
 abbrev pub Pushes : Plain → Item Pad → What → Result (Unit {0}) CoreFault → Plain → Type 0
-Pushes old part what result new =
-    Gives old
-    (λ done next. IsPush part what
-    × PushesIn (kept_disk old part.bio.dev.0) part (kept_disk next part.bio.dev.0)
-    × (next ≡ with_disk old part.bio.dev.0 (kept_disk next part.bio.dev.0)))
-    (IsPush part what → ⊥)
-    result new
+Pushes old part what (Ok done) new =
+    IsPush part what
+    × PushesIn (kept_disk old part.bio.dev.0) part (kept_disk new part.bio.dev.0)
+    × (new ≡ with_disk old part.bio.dev.0 (kept_disk new part.bio.dev.0))
+Pushes old part what (Err fault.NotEnabled) new = (new ≡ old) × (IsPush part what → ⊥)
+Pushes old part what (Err fault.Memory) new = new ≡ old
 
 -- a disk ended a bio that waited in it
 abbrev pub CompletesIn : Option DiskState → ℕ → Item Pad → Status → Option DiskState → Type 0

@@ -160,6 +160,7 @@ impl Core {
     ///
     /// # Errors
     /// `NotEnabled` exactly where the event is no step of the machine from this state, and `Memory` where there was none. Nothing is changed then.
+    /// Only a task with a submission under way takes memory.
     pub fn apply(&mut self, event: &Event) -> Result<(), CoreFault>
         ensures { Applies self.old event.now result self.new }
     {
