@@ -109,7 +109,7 @@ CASES = [
     ("16,384 writes to a mirror, no memory", ["run"], run.mirrored("memory none\n", 16384)),
     ("two writers on a stripe", ["run"], run.two_writers()),
     ("gen 7", ["gen", "7"], ""),
-    ("a trace of half a million lines", ["run", "--trace"], run.limited("", 40)),
+    ("a trace of a million lines", ["run", "--trace"], run.limited("", 72)),
     ("128 MiB, written whole", ["run"], run.whole()),
     ("150,000 writes over 31 linear devices", ["check"], run.chain(150000)),
     ("a layout of these", ["layout"], run.chain(150000)),
