@@ -4,9 +4,9 @@
 usage: bench/beside.py [NAME ..]      a NAME is a folder beside this script (pools, lists, books, lanes, disks, locks, pieces, cores, steps); each of them if left out
 
 It needs `rt`, which proves and builds each measured program in a throw-away repository, and `rustc`. That takes a few minutes a program.
-A folder has the program in main.rt.txt and the twin in twin.rs, and of the program's proof the invariants of a function F in F.antt.txt, or
-what else there is in proofs/ or specs/, each file with .txt behind its name. Both programs get a number of calls as their argument, and
-write a line for each row: its name, the nanoseconds that all calls took, and how many of the calls were served.
+A folder has the program in main.rt.txt and the twin in twin.rs, perhaps others in twin_*.rs, and of the program's proof the invariants of a
+function F in F.antt.txt, or what else there is in proofs/ or specs/, each file with .txt behind its name. Each program gets a number of calls as its argument, and
+writes a line for each row: its name, the nanoseconds that all calls took, and how many of the calls were served.
 
 The programs of cores and steps read the text of a run, and write one line. There the rows are texts, a call is an event, and both go on to
 the end of the run in which the number is reached.
@@ -116,12 +116,15 @@ def build_measured(name, folder):
     return os.path.join(measure, "out", "measure")
 
 
-def build_twin(name, folder):
-    """Builds the twin for the processor that the measured program is built for, and answers its path."""
-    twin = os.path.join(folder, "twin")
-    words = ["--edition", "2024", "-C", "opt-level=3", "-C", "target-cpu=x86-64-v2", "-o", twin]
-    subprocess.run(["rustc", *words, os.path.join(BENCH, name, "twin.rs")], check=True)
-    return twin
+def build_twins(name, folder):
+    """Builds each twin for the processor that the measured program is built for, and answers their paths, by their files."""
+    twins = {}
+    for file in sorted(os.listdir(os.path.join(BENCH, name))):
+        if file.startswith("twin") and file.endswith(".rs"):
+            twins[file] = os.path.join(folder, file.removesuffix(".rs"))
+            words = ["--edition", "2024", "-C", "opt-level=3", "-C", "target-cpu=x86-64-v2", "-o", twins[file]]
+            subprocess.run(["rustc", *words, os.path.join(BENCH, name, file)], check=True)
+    return twins
 
 
 def build_machine(folder):
@@ -167,21 +170,24 @@ def all_rows(program, calls, texts):
 
 
 def measure(name):
-    """Prints the table of one folder, under its name: the least of the runs, and the middle one, which tells more where threads meet."""
+    """Prints the tables of one folder, one for each twin, under its name: the least of the runs, and the middle one, which tells more where
+    threads meet."""
     calls = CALLS_OF.get(name, CALLS)
     with tempfile.TemporaryDirectory() as folder:
-        measured, twin = build_measured(name, folder), build_twin(name, folder)
+        measured, twins = build_measured(name, folder), build_twins(name, folder)
         texts = inputs(name, folder)
-        # in turn, so that what else the machine does falls on both
-        runs = [(all_rows(measured, calls, texts), all_rows(twin, calls, texts)) for _ in range(ROUNDS)]
-    print(f"{name:10} {'Rattle ns':>10} {'Rust ns':>10} {'ratio':>6} {'Rattle mid':>10} {'Rust mid':>10} {'ratio':>6}")
-    for row in runs[0][0]:
-        words = [f"{row:10}"]
-        for pick in (min, statistics.median):
-            ours = pick(run[0][row] for run in runs)
-            theirs = pick(run[1][row] for run in runs)
-            words.append(f"{ours:10.2f} {theirs:10.2f} {ours / theirs:6.2f}")
-        print(" ".join(words), flush=True)
+        # in turn, so that what else the machine does falls on each
+        programs = {"": measured, **twins}
+        runs = [{file: all_rows(program, calls, texts) for file, program in programs.items()} for _ in range(ROUNDS)]
+    for file in twins:
+        print(f"{name:10} {'Rattle ns':>10} {'Rust ns':>10} {'ratio':>6} {'Rattle mid':>10} {'Rust mid':>10} {'ratio':>6} {file}")
+        for row in runs[0][""]:
+            words = [f"{row:10}"]
+            for pick in (min, statistics.median):
+                ours = pick(run[""][row] for run in runs)
+                theirs = pick(run[file][row] for run in runs)
+                words.append(f"{ours:10.2f} {theirs:10.2f} {ours / theirs:6.2f}")
+            print(" ".join(words), flush=True)
 
 
 def main():

@@ -33,6 +33,7 @@ impl Submission for TaskLists {
         self.list0.push(element);
     }
 
+    #[inline(always)]
     #[tactic(auto, using(crate::proofs::Orders::goes_on))]
     fn next(&mut self, served: DevId) -> Option<BioElement> {
         self.list1.sort_before(&mut self.list0, served);

@@ -7,9 +7,18 @@ use crate::bio::Pad;
 use crate::body::BioBody;
 use elem_ledger::{Element, Share};
 use stack_base::{DevId, SetId};
+use std::mem;
 
 /// The first element of a chain, by its two parts.
 pub type Link<F> = Option<(Box<BioBody<F>>, Share)>;
+
+/// Puts what there is, if anything, in a place where nothing is. An assignment would have code that drops what was there.
+pub fn put<T: Drop>(place: &mut Option<T>, value: Option<T>)
+    requires { place.old ≡ None }
+    ensures { place.new ≡ value }
+{
+    mem::forget(mem::replace(place, value));
+}
 
 /// Puts an element before a chain.
 pub fn attach<F: Drop>(link: &mut Link<F>, element: Element<BioBody<F>>)
@@ -17,10 +26,10 @@ pub fn attach<F: Drop>(link: &mut Link<F>, element: Element<BioBody<F>>)
     ensures { items link.new ≡ item_of element ∷ items link.old }
 {
     let Element { mut body, share } = element;
-    if link.is_some() {
-        body.next = link.take();
+    if let Some((next, of)) = link.take() {
+        put(&mut body.next, Some((next, of)));
     }
-    *link = Some((body, share));
+    put(link, Some((body, share)));
 }
 
 /// Takes the first element off a chain.
@@ -29,7 +38,9 @@ pub fn detach<F: Drop>(link: &mut Link<F>) -> Option<Element<BioBody<F>>>
         (λ element. (items link.old ≡ item_of element ∷ items link.new) × IsAlone element) }
 {
     let (mut body, share) = link.take()?;
-    *link = body.next.take();
+    if let Some((next, of)) = body.next.take() {
+        put(link, Some((next, of)));
+    }
     Some(Element { body, share })
 }
 
@@ -37,8 +48,9 @@ pub fn detach<F: Drop>(link: &mut Link<F>) -> Option<Element<BioBody<F>>>
 pub fn reverse_onto<F: Drop>(mut from: Link<F>, mut onto: Link<F>) -> Link<F>
     ensures { items result ≡ reverse (items from) ++ items onto }
 {
-    'moving: while let Some(element) = detach(&mut from) {
-        attach(&mut onto, element);
+    'moving: while let Some((mut body, share)) = from {
+        from = mem::replace(&mut body.next, onto);
+        onto = Some((body, share));
     }
     onto
 }
@@ -64,11 +76,13 @@ pub fn part(
     ensures lower { items result.0 ≡ reverse (filter (is_lower dev) (items from)) ++ items lower }
     ensures same { items result.1 ≡ reverse (filter (is_same dev) (items from)) ++ items same }
 {
-    'parting: while let Some(element) = detach(&mut from) {
-        if element.body.bio.dev == dev {
-            attach(&mut same, element);
+    'parting: while let Some((mut body, share)) = from {
+        if body.bio.dev == dev {
+            from = mem::replace(&mut body.next, same);
+            same = Some((body, share));
         } else {
-            attach(&mut lower, element);
+            from = mem::replace(&mut body.next, lower);
+            lower = Some((body, share));
         }
     }
     (lower, same)
@@ -94,11 +108,13 @@ pub fn part_by_set(
     ensures chosen { items result.0 ≡ reverse (filter (is_of set) (items from)) ++ items chosen }
     ensures others { items result.1 ≡ reverse (filter (is_of_other set) (items from)) ++ items others }
 {
-    'parting: while let Some(element) = detach(&mut from) {
-        if same_set(element.body.bio.set, set) {
-            attach(&mut chosen, element);
+    'parting: while let Some((mut body, share)) = from {
+        if same_set(body.bio.set, set) {
+            from = mem::replace(&mut body.next, chosen);
+            chosen = Some((body, share));
         } else {
-            attach(&mut others, element);
+            from = mem::replace(&mut body.next, others);
+            others = Some((body, share));
         }
     }
     (chosen, others)
@@ -164,7 +180,7 @@ pub fn bring_round<F: Drop>(front: &mut Link<F>, back: &mut Link<F>)
     ensures emptied { items front.new ≡ [] → items back.new ≡ [] }
 {
     if front.is_none() {
-        *front = reverse_onto(back.take(), None);
+        put(front, reverse_onto(back.take(), None));
     }
 }
 
@@ -180,7 +196,7 @@ fn detach_to<F: Drop>(link: &mut Link<F>, index: u64, taken: &mut Option<Element
         (λ element. (slice_get (items link.old) index ≡ Some (item_of element)) × (items link.new ≡ remove (items link.old) index) × IsAlone element) }
 {
     if index == 0 {
-        *taken = detach(link);
+        put(taken, detach(link));
         return;
     }
     if let Some((body, _)) = link {
@@ -211,7 +227,8 @@ fn take_far<F: Drop>(front: &mut Link<F>, back: &mut Link<F>, index: u64) -> Ele
     bring_round(front, back);
     let _none = pass(front, lacking, &mut passed);
     let element = detach(front).unwrap();
-    *front = reverse_onto(passed, front.take());
+    let rest = front.take();
+    put(front, reverse_onto(passed, rest));
     element
 }
 

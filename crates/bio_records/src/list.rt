@@ -70,6 +70,7 @@ impl BioList {
     }
 
     /// Takes the first bio off, if there is one (`bio_list_pop`).
+    #[inline(always)]
     pub fn pop(&mut self) -> Option<BioElement>
         ensures { MatchOption result ((self.old ≡ []) × (self.new ≡ []))
             (λ element. (self.old ≡ item_of element ∷ self.new) × IsAlone element) }
@@ -86,7 +87,8 @@ impl BioList {
     {
         let BioList { front, back, count } = other;
         let behind = chain::reverse_onto(front, self.back.take());
-        self.back = chain::reverse_onto(chain::reverse_onto(back, None), behind);
+        let whole = chain::reverse_onto(chain::reverse_onto(back, None), behind);
+        chain::put(&mut self.back, whole);
         self.count = self.count.saturating_add(count);
     }
 
@@ -96,7 +98,8 @@ impl BioList {
     {
         let BioList { front, back, count } = other;
         let before = chain::reverse_onto(back, self.front.take());
-        self.front = chain::reverse_onto(chain::reverse_onto(front, None), before);
+        let whole = chain::reverse_onto(chain::reverse_onto(front, None), before);
+        chain::put(&mut self.front, whole);
         self.count = self.count.saturating_add(count);
     }
 
@@ -112,19 +115,29 @@ impl BioList {
         }
     }
 
+    // Sorts the bios of another list before those of this one. It is long, and has a call of its own, so that what calls it stays short.
+    #[inline(never)]
+    fn sort_in(&mut self, other: &mut BioList, dev: DevId)
+        ensures moved { other.new ≡ [] }
+        ensures order { self.new ≡ filter (is_lower dev) other.old ++ (filter (is_same dev) other.old ++ self.old) }
+    {
+        let own = self.front.take();
+        let sorted = chain::sorted(other.front.take(), other.back.take(), dev, own);
+        chain::put(&mut self.front, sorted);
+        self.count = self.count.saturating_add(other.count);
+        other.count = 0;
+    }
+
     /// Puts the bios of another list at the front: first those for other devices than this one, and then those for it, each in their order
     /// (`__submit_bio_noacct`, `block/blk-core.c`). None is left there.
+    #[inline(always)]
     pub fn sort_before(&mut self, other: &mut BioList, dev: DevId)
         ensures moved { other.new ≡ [] }
         ensures order { self.new ≡ filter (is_lower dev) other.old ++ (filter (is_same dev) other.old ++ self.old) }
     {
-        if other.count == 0 {
-            return;
+        if other.count > 0 {
+            self.sort_in(other, dev);
         }
-        let own = self.front.take();
-        self.front = chain::sorted(other.front.take(), other.back.take(), dev, own);
-        self.count = self.count.saturating_add(other.count);
-        other.count = 0;
     }
 
     /// Takes the bios of a set out of the list. They and the others each keep their order (`punt_bios_to_rescuer`, `block/bio.c`).
@@ -134,7 +147,7 @@ impl BioList {
     {
         let (chosen, others) = chain::set_apart(self.front.take(), self.back.take(), set);
         self.count = chain::count_of(&others);
-        self.front = others;
+        chain::put(&mut self.front, others);
         let count = chain::count_of(&chosen);
         BioList {
             front: chosen,

@@ -6,7 +6,7 @@ use Rattle.bio_records.proofs.Places.{TakenOut, taken_out}
 use Rattle.bio_records.proofs.chain.take_far.Given
 use Rattle.bio_records.proofs.chain.take_far.Goals as goal
 
-out : (g : Given.Over) (c : goal.Joined-front-reverse_onto g)
+out : (g : Given.Over) (c : goal.After-put g)
     → TakenOut (items c.args.front.now ++ reverse (items c.args.back.now)) (items c.pass-none.new.passed) (item_of c.unwrap-element.result)
     (items c.detach.new.link) (reverse (items c.bring_round.new.back)) c.args.index
 out g c =
@@ -22,13 +22,13 @@ returns-clause-taken g c = (out g c).taken
 pub returns-clause-rest : goal.returns-clause-rest
 returns-clause-rest g c =
     let end = out g c in
-    ap (λ l. l ++ reverse (items c.bring_round.new.back)) (c.reverse_onto.ensures ∙ ap (λ link. reverse (items c.pass-none.new.passed) ++ items link) c.take.ensures.value)
+    ap (λ l. l ++ reverse (items c.bring_round.new.back)) (ap items c.put.ensures ∙ c.reverse_onto.ensures ∙ ap (λ link. reverse (items c.pass-none.new.passed) ++ items link) c.take-rest.ensures.value)
     ∙ end.rest
 
 pub returns-clause-counted : goal.returns-clause-counted
 returns-clause-counted g c =
     let end = out g c in
-    let front = c.reverse_onto.ensures ∙ ap (λ link. reverse (items c.pass-none.new.passed) ++ items link) c.take.ensures.value in
+    let front = ap items c.put.ensures ∙ c.reverse_onto.ensures ∙ ap (λ link. reverse (items c.pass-none.new.passed) ++ items link) c.take-rest.ensures.value in
     omega (
       arith,
       end.counted,
