@@ -128,7 +128,7 @@ module _ (scene : Scene) (s : State) (i : Kept scene s) (level : ℕ → ℕ →
     of_doing Rests lists h fits = tt
     of_doing (Drives bio ask) lists h fits = of_driven bio ask lists h
     of_doing (Copies bio master leg want) lists h fits = of_copied bio master leg want lists h fits
-    of_doing (Breaks breach) lists h fits = tt
+    of_doing (Breaks breach kept) lists h fits = tt
 
     -- or in a list
     of_list : (doing : Doing) (lists : TaskLists) (items : List (Item Pad)) → HasLine x doing lists
@@ -178,7 +178,7 @@ module _ (scene : Scene) (s : State) (i : Kept scene s) (level : ℕ → ℕ →
               task_part scene (strays write_of) s place (Completer disk (Carries writer closed)) here is,
             ) in
             subst P write (of_node writer parent up.0 up.1)
-    of_carried place disk (Fails breach) here is = tt
+    of_carried place disk (Fails breach kept) here is = tt
 
     of_task : (place : ℕ) (x : TaskState) → place < scene.tasks → s.task place ≡ x → TaskFits scene x → TaskIs P x
     of_task place (Writer number todo taken line) here is fits = of_line place (Writer number todo taken line) here is line.doing line.lists refl fits.1

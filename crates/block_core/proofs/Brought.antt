@@ -37,7 +37,7 @@ silent _ h index bio status = refl
 
 line_other : (setup : Setup) (doing : Doing) (lists : TaskLists) → IsOther (line_request setup doing lists)
 line_other setup Rests lists = tt
-line_other setup (Breaks breach) lists = tt
+line_other setup (Breaks breach kept) lists = tt
 line_other setup (Drives bio ToPush) lists = tt
 line_other setup (Drives bio (ToCut (Takes waits))) lists = tt
 line_other setup (Drives bio (ToCut WantsPunt)) lists = tt
@@ -62,13 +62,13 @@ writer_other : (setup : Setup) (writer : ℕ) (todos : List Todo) (taken : Taken
 writer_other setup writer todos taken Rests line = write_other writer todos taken
 writer_other setup writer todos taken (Drives bio ask) line = line_other setup (Drives bio ask) line.lists
 writer_other setup writer todos taken (Copies bio master leg want) line = line_other setup (Copies bio master leg want) line.lists
-writer_other setup writer todos taken (Breaks breach) line = tt
+writer_other setup writer todos taken (Breaks breach kept) line = tt
 
 rescuer_other : (setup : Setup) (dev : DevId) (doing : Doing) (lists : TaskLists) → IsOther (request setup (Rescuer dev (record { doing = doing; lists = lists })))
 rescuer_other setup dev Rests lists = tt
 rescuer_other setup dev (Drives bio ask) lists = line_other setup (Drives bio ask) lists
 rescuer_other setup dev (Copies bio master leg want) lists = line_other setup (Copies bio master leg want) lists
-rescuer_other setup dev (Breaks breach) lists = tt
+rescuer_other setup dev (Breaks breach kept) lists = tt
 
 closed_other : (writer : ℕ) (closed : Closed) (vector : Option VectorItem) (bio : Option (Item Pad)) (slip : Option SlipItem) (parent : Option ℕ)
     → IsOther (closed_request writer closed vector bio slip parent)
@@ -106,7 +106,7 @@ module _ (setup : Setup) where
   reply_brings (Completer disk (Brings bio status)) reply what told = other_brings (Completer disk (Brings bio status)) reply what tt (λ y. refl) told
   reply_brings (Completer disk (Carries writer closed)) reply what told =
       other_brings (Completer disk (Carries writer closed)) reply what (closed_other writer closed closed.held.vector closed.held.bio closed.held.slip closed.parent) (λ y. refl) told
-  reply_brings (Completer disk (Fails breach)) reply what told = other_brings (Completer disk (Fails breach)) reply what tt (λ y. refl) told
+  reply_brings (Completer disk (Fails breach kept)) reply what told = other_brings (Completer disk (Fails breach kept)) reply what tt (λ y. refl) told
   reply_brings (Writer number todos taken line) reply what told =
       other_brings (Writer number todos taken line) reply what (writer_other setup number todos taken line.doing line) (λ y. refl) told
   reply_brings (Rescuer dev line) reply what told = other_brings (Rescuer dev line) reply what (rescuer_other setup dev line.doing line.lists) (λ y. refl) told
@@ -124,7 +124,7 @@ same_brings (Rescuer dev line) = refl
 same_brings (Completer disk Empty) = refl
 same_brings (Completer disk (Brings bio status)) = refl
 same_brings (Completer disk (Carries writer closed)) = refl
-same_brings (Completer disk (Fails breach)) = refl
+same_brings (Completer disk (Fails breach kept)) = refl
 same_brings (Keeper keeping) = refl
 
 tells_brings : (disk : DevId) (carried : Carried) (writer key : ℕ) (status : Status) (part : Option (Item Pad)) (y : TaskState)
@@ -132,7 +132,7 @@ tells_brings : (disk : DevId) (carried : Carried) (writer key : ℕ) (status : S
 tells_brings disk (Brings bio ending) writer key status part y t = refl
 tells_brings disk (Carries of closed) writer key status part y t = refl
 tells_brings disk Empty writer key status part y t = absurd t
-tells_brings disk (Fails breach) writer key status part y t = absurd t
+tells_brings disk (Fails breach kept) writer key status part y t = absurd t
 
 module _ (scene : Scene) (s : State) where
   here : (place : ℕ) (x y : TaskState) → s.task place ≡ x → brought (s.task place) (upd s.task place y place) ≡ brought x y

@@ -45,7 +45,7 @@ StillDoing s (Drives bio (ToCut want)) = StillWant s bio.bio.dev.0 want
 StillDoing s (Drives bio ToRecord) = spares s (2 * bio.bio.dev.0 + 1) ≡ 0
 StillDoing s (Drives bio (ToMaster slip)) = ⊥
 StillDoing s (Copies bio master leg want) = StillWant s bio.dev.0 want
-StillDoing s (Breaks breach) = ⊥
+StillDoing s (Breaks breach kept) = ⊥
 
 abbrev pub StillFirst : State → List Todo → Type 0
 StillFirst s [] = Unit {0}
@@ -70,7 +70,7 @@ IsStill s (Rescuer dev line) = StillRescuer s dev.0 line.doing
 IsStill s (Completer disk Empty) = (s.objects.disk disk.0).pending ≡ []
 IsStill s (Completer disk (Brings bio status)) = ⊥
 IsStill s (Completer disk (Carries writer closed)) = ⊥
-IsStill s (Completer disk (Fails breach)) = ⊥
+IsStill s (Completer disk (Fails breach kept)) = ⊥
 IsStill s (Keeper keeping) = Unit {0}
 
 pub record Calm (scene : Scene) (s : State) : Type 0 where
@@ -190,7 +190,7 @@ module _ (scene : Scene) (s : State) (g : Ground scene.setup) (u v : Weight) whe
   line_found limit (Copies bio master leg (Takes false)) lists fits d w still some none = absurd still
   line_found limit (Copies bio master leg WantsPunt) lists fits d w still some none = absurd still
   line_found limit (Copies bio master leg (Links hand)) lists fits d w still some none = absurd still
-  line_found limit (Breaks breach) lists fits d w still some none = absurd still
+  line_found limit (Breaks breach kept) lists fits d w still some none = absurd still
 
   -- a task that submits waits below its limit, where it has something
   pub line_below : (limit : ℕ) (doing : Doing) (lists : TaskLists) → DoingFits setup doing lists → DoingPlaced setup limit doing lists → IsBusy doing → StillDoing s doing
@@ -219,4 +219,4 @@ module _ (scene : Scene) (s : State) (g : Ground scene.setup) (u v : Weight) whe
   line_below limit (Copies bio master leg (Takes false)) lists fits d busy still = absurd still
   line_below limit (Copies bio master leg WantsPunt) lists fits d busy still = absurd still
   line_below limit (Copies bio master leg (Links hand)) lists fits d busy still = absurd still
-  line_below limit (Breaks breach) lists fits d busy still = absurd still
+  line_below limit (Breaks breach kept) lists fits d busy still = absurd still

@@ -128,7 +128,7 @@ want_spends (Drives bio ToPush) dev want h = absurd h
 want_spends (Drives bio ToRecord) dev want h = absurd h
 want_spends (Drives bio (ToMaster slip)) dev want h = absurd h
 want_spends Rests dev want h = absurd h
-want_spends (Breaks breach) dev want h = absurd h
+want_spends (Breaks breach kept) dev want h = absurd h
 
 new_spends : (doing : Doing) (dev : DevId) (old new : Want) → Wants doing dev old → doing_spent (with_want doing new) ≡ want_spent new
 new_spends (Drives bio (ToCut has)) dev old new h = refl
@@ -137,7 +137,7 @@ new_spends (Drives bio ToPush) dev old new h = absurd h
 new_spends (Drives bio ToRecord) dev old new h = absurd h
 new_spends (Drives bio (ToMaster slip)) dev old new h = absurd h
 new_spends Rests dev old new h = absurd h
-new_spends (Breaks breach) dev old new h = absurd h
+new_spends (Breaks breach kept) dev old new h = absurd h
 
 -- the device of what is wanted is below the task's limit
 wants_below : (setup : Setup) (limit : ℕ) (doing : Doing) (dev : DevId) (want : Want) (lists : TaskLists) → Wants doing dev want → DoingPlaced setup limit doing lists → dev.0 < limit
@@ -147,7 +147,7 @@ wants_below setup limit (Drives bio ToPush) dev want lists h d = absurd h
 wants_below setup limit (Drives bio ToRecord) dev want lists h d = absurd h
 wants_below setup limit (Drives bio (ToMaster slip)) dev want lists h d = absurd h
 wants_below setup limit Rests dev want lists h d = absurd h
-wants_below setup limit (Breaks breach) dev want lists h d = absurd h
+wants_below setup limit (Breaks breach kept) dev want lists h d = absurd h
 
 -- the entries that are left of a pool's script
 next_up : (pool : PoolState) → pool.facts.pos ≤ next_pos pool.script pool.facts.pos
@@ -224,7 +224,7 @@ tells_charge : (setup : Setup) (place : ℕ) (carried : Carried) (writer key : �
 tells_charge setup place (Brings bio ending) writer key status part t = omega arith
 tells_charge setup place (Carries of closed) writer key status part t = omega arith
 tells_charge setup place Empty writer key status part t = absurd t
-tells_charge setup place (Fails breach) writer key status part t = absurd t
+tells_charge setup place (Fails breach kept) writer key status part t = absurd t
 
 there_one : {X : Type 0} (held : Option X) → there held ≤ 1
 there_one None = omega arith
@@ -520,7 +520,7 @@ module _ (scene : Scene) (s : State) (g : Ground scene.setup) (p : Priced scene.
 
   doing_covers : (limit : ℕ) (doing : Doing) (lists : TaskLists) → DoingPlaced scene.setup limit doing lists → DoingFits scene.setup doing lists → doing_spent doing ≤ doing_weight w limit doing
   doing_covers limit Rests lists d f = omega arith
-  doing_covers limit (Breaks breach) lists d f = omega arith
+  doing_covers limit (Breaks breach kept) lists d f = omega arith
   doing_covers limit (Drives bio ToPush) lists d f = omega arith
   doing_covers limit (Drives bio (ToCut want)) lists d f =
       omega (arith, want_covers want, cut_needs scene.setup p bio want (tree_at scene.setup bio.bio.dev) refl d.1.0.0 d.3)

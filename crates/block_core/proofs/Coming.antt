@@ -94,7 +94,7 @@ pub carried_none : (setup : Setup) (value : Fragment → ℕ) (task : ℕ) (carr
 carried_none setup value task Empty = refl
 carried_none setup value task (Brings bio status) = refl
 carried_none setup value task (Carries writer closed) = refl
-carried_none setup value task (Fails breach) = refl
+carried_none setup value task (Fails breach kept) = refl
 
 module _ (scene : Scene) (s : State) (value : Fragment → ℕ) (g : Ground scene.setup) (v : Divided scene.setup value) (i : Kept scene s) (a : Placed scene.setup s)
     (counted : total scene (misfits over) s ≡ 0) where

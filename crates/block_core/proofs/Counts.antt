@@ -47,7 +47,7 @@ pub tells_refs : (setup : Setup) (w k writer key : ℕ) (status : Status) (part 
 tells_refs setup w k writer key status part (Brings bio ending) t = rw (t.0, t.1) refl
 tells_refs setup w k writer key status part (Carries of closed) t = rw (t.1, t.0) refl
 tells_refs setup w k writer key status part Empty t = absurd t
-tells_refs setup w k writer key status part (Fails breach) t = absurd t
+tells_refs setup w k writer key status part (Fails breach kept) t = absurd t
 
 same_number : (i j : ℕ) → (i == j) ≡ true → i ≡ j
 same_number i j is = grind (arith, nat_tests)

@@ -106,7 +106,7 @@ told_done w requests.Rest reply what told = none_told what told
 -- no submission tells a write done
 line_asks_none : (w : ℕ) (setup : Setup) (doing : Doing) (lists : TaskLists) → asked w (line_request setup doing lists) ≡ 0
 line_asks_none w setup Rests lists = refl
-line_asks_none w setup (Breaks breach) lists = refl
+line_asks_none w setup (Breaks breach kept) lists = refl
 line_asks_none w setup (Drives bio ToPush) lists = refl
 line_asks_none w setup (Drives bio (ToCut (Takes waits))) lists = refl
 line_asks_none w setup (Drives bio (ToCut WantsPunt)) lists = refl
@@ -130,7 +130,7 @@ tells_asks_none w disk (Carries of closed) writer key status part setup t =
     ap (λ (held : Holding). asked w (closed_request of closed held.vector held.bio held.slip closed.parent)) t.4
     ∙ ap (λ parent. asked w (closed_request of closed None None None parent)) t.1
 tells_asks_none w disk Empty writer key status part setup t = absurd t
-tells_asks_none w disk (Fails breach) writer key status part setup t = absurd t
+tells_asks_none w disk (Fails breach kept) writer key status part setup t = absurd t
 
 hands_asks_none : (w : ℕ) (disk : DevId) (writer number : ℕ) (closed : Closed) (held : Holding) (setup : Setup) → Hands closed.held number held
     → asked w (request setup (Completer disk (Carries writer closed))) ≡ 0
@@ -249,7 +249,7 @@ line_zero w limit line = omega (arith, doing_zero line.doing, zeros w line.lists
     doing_zero (Copies bio master leg (Takes waits)) = refl
     doing_zero (Copies bio master leg WantsPunt) = refl
     doing_zero (Copies bio master leg (Links hand)) = refl
-    doing_zero (Breaks breach) = refl
+    doing_zero (Breaks breach kept) = refl
 
 -- what is carried of a child tells no top
 carried_child : (w task : ℕ) (carried : Carried) (writer key : ℕ) (status : Status) (part : Option (Item Pad)) → Tells carried writer key status part
@@ -257,7 +257,7 @@ carried_child : (w task : ℕ) (carried : Carried) (writer key : ℕ) (status : 
 carried_child w task (Brings bio ending) writer key status part t = refl
 carried_child w task (Carries of closed) writer key status part t = ap (λ parent. top_parent parent * one closed.write w) t.1 ∙ omega arith
 carried_child w task Empty writer key status part t = absurd t
-carried_child w task (Fails breach) writer key status part t = absurd t
+carried_child w task (Fails breach kept) writer key status part t = absurd t
 
 -- an event takes a write's stage away exactly where it tells it done
 pub staged : (scene : Scene) (s : State) (w : ℕ) (m : Move) → Can scene s m → total scene (stage w) (after scene s m) + done_by w m ≡ total scene (stage w) s

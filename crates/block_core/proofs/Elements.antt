@@ -111,7 +111,7 @@ tells_worth : (setup : Setup) (place : ℕ) (carried : Carried) (writer key : �
 tells_worth setup place (Brings bio ending) writer key status part t = let same : there part ≡ 1 = ap there t.3 in omega (arith, same)
 tells_worth setup place (Carries of closed) writer key status part t = let same : there part ≡ 0 = ap there t.3 in omega (arith, same)
 tells_worth setup place Empty writer key status part t = absurd t
-tells_worth setup place (Fails breach) writer key status part t = absurd t
+tells_worth setup place (Fails breach kept) writer key status part t = absurd t
 
 module _ (scene : Scene) (s : State) (g : Ground scene.setup) (n : Needs scene.setup) (i : Kept scene s) (a : Placed scene.setup s) where
   -- no event needs more elements than it had
@@ -222,7 +222,7 @@ module _ (scene : Scene) (s : State) (g : Ground scene.setup) (n : Needs scene.s
   doing_out : (q limit : ℕ) (doing : Doing) (lists : TaskLists) → DoingFits scene.setup doing lists → DoingPlaced scene.setup limit doing lists
       → doing_weight (elements q) limit doing ≤ doing_weight (worth scene.setup) limit doing
   doing_out q limit Rests lists fit d = omega arith
-  doing_out q limit (Breaks breach) lists fit d = omega arith
+  doing_out q limit (Breaks breach kept) lists fit d = omega arith
   doing_out q limit (Drives bio ToPush) lists fit d = omega (arith, few bio.share q)
   doing_out q limit (Drives bio (ToCut (Takes waits))) lists fit d = omega (arith, few bio.share q)
   doing_out q limit (Drives bio (ToCut Punts)) lists fit d = omega (arith, few bio.share q)
@@ -275,7 +275,7 @@ module _ (scene : Scene) (s : State) (g : Ground scene.setup) (n : Needs scene.s
   task_out q place (Completer disk Empty) fit t = omega arith
   task_out q place (Completer disk (Brings bio status)) fit t = omega (arith, few bio.share q)
   task_out q place (Completer disk (Carries writer closed)) fit t = held_out q closed.held
-  task_out q place (Completer disk (Fails breach)) fit t = omega arith
+  task_out q place (Completer disk (Fails breach kept)) fit t = omega arith
   task_out q place (Keeper keeping) fit t = omega arith
 
   node_out : (q writer place : ℕ) (node : Option Node) → weigh_option ((elements q).node writer place) node ≤ weigh_option ((worth scene.setup).node writer place) node

@@ -76,7 +76,7 @@ writer_none (t ∷ todo) (HasBoth item vector) doing busy = refl
 writer_none (t ∷ todo) NoBio Rests busy = absurd busy
 writer_none (t ∷ todo) NoBio (Drives bio ask) busy = refl
 writer_none (t ∷ todo) NoBio (Copies bio master leg want) busy = refl
-writer_none (t ∷ todo) NoBio (Breaks breach) busy = refl
+writer_none (t ∷ todo) NoBio (Breaks breach kept) busy = refl
 
 no_look : (x : TaskState) (doing : Doing) (lists : TaskLists) → HasLine x doing lists → IsBusy doing → look_of x ≡ None
 no_look (Writer number todo taken line) doing lists h busy = ap (λ (l : Line). writer_look todo taken l.doing) h ∙ writer_none todo taken doing busy
@@ -204,7 +204,7 @@ module _ (scene : Scene) (s : State) (f : Fair scene) (worth : Worth scene.setup
   pub line_free : (place : ℕ) → place < scene.tasks → (x : TaskState) → s.task place ≡ x → (doing : Doing) (lists : TaskLists) → HasLine x doing lists → IsBusy doing
       → DoingFits setup doing lists → DoingPlaced setup (limit_of x) doing lists → HasFree scene s ⊎ StillDoing s doing
   line_free place here x at Rests lists h busy fits d = absurd busy
-  line_free place here x at (Breaks breach) lists h busy fits d = absurd fits
+  line_free place here x at (Breaks breach kept) lists h busy fits d = absurd fits
   line_free place here x at (Drives bio ToPush) lists h busy fits d =
       inl (free_line place here x at (Drives bio ToPush) lists h busy requests.Did (what.Push bio.bio.dev bio.bio.range.start bio.bio.range.len bio.pad.leg) refl refl
       (record s.objects { disk = upd s.objects.disk bio.bio.dev.0 (pushed bio (s.objects.disk bio.bio.dev.0)) }) refl)
@@ -430,7 +430,7 @@ module _ (scene : Scene) (s : State) (f : Fair scene) (worth : Worth scene.setup
       by_doing Rests = inl refl
       by_doing (Drives bio ask) = inr tt
       by_doing (Copies bio master leg want) = inr tt
-      by_doing (Breaks breach) = inr tt
+      by_doing (Breaks breach kept) = inr tt
 
   at_rest : (line : Line) → line.doing ≡ Rests → LineFits setup line → line ≡ rests
   at_rest line is fits =
@@ -441,13 +441,13 @@ module _ (scene : Scene) (s : State) (f : Fair scene) (worth : Worth scene.setup
   busy_writer todo taken Rests busy still = absurd busy
   busy_writer todo taken (Drives bio ask) busy still = still
   busy_writer todo taken (Copies bio master leg want) busy still = still
-  busy_writer todo taken (Breaks breach) busy still = still
+  busy_writer todo taken (Breaks breach kept) busy still = still
 
   busy_rescuer : (dev : ℕ) (doing : Doing) → IsBusy doing → StillDoing s doing → StillRescuer s dev doing
   busy_rescuer dev Rests busy still = absurd busy
   busy_rescuer dev (Drives bio ask) busy still = still
   busy_rescuer dev (Copies bio master leg want) busy still = still
-  busy_rescuer dev (Breaks breach) busy still = still
+  busy_rescuer dev (Breaks breach kept) busy still = still
 
   or_map : {X Y Z : Type 0} → (Y → Z) → X ⊎ Y → X ⊎ Z
   or_map more (inl x) = inl x
@@ -477,5 +477,5 @@ module _ (scene : Scene) (s : State) (f : Fair scene) (worth : Worth scene.setup
           inl (drop_free place here disk (Brings bio status) at bio.bio.writer bio.bio.node status (Some bio) refl (omega (arith, part, both_one)))
       by_task (Completer disk (Carries w closed)) at fits t post =
           inl (carries_free place here disk w closed.held.vector closed.held.bio closed.held.slip closed.parent closed.write closed.status at)
-      by_task (Completer disk (Fails breach)) at fits t post = absurd post.1
+      by_task (Completer disk (Fails breach kept)) at fits t post = absurd post.1
       by_task (Keeper keeping) at fits t post = inr tt

@@ -37,7 +37,7 @@ no_items (x ∷ xs) none = absurd (omega (arith, none x.share.no, sum_by-cons (�
 
 want_named : (w k : ℕ) (limit : ℕ) (doing : Doing) → ((p : ℕ) → doing_weight (elements p) limit doing ≡ 0) → doing_weight (named w k) limit doing ≡ 0
 want_named w k limit Rests none = refl
-want_named w k limit (Breaks breach) none = refl
+want_named w k limit (Breaks breach kept) none = refl
 want_named w k limit (Copies bio master leg (Takes waits)) none = refl
 want_named w k limit (Copies bio master leg WantsPunt) none = refl
 want_named w k limit (Copies bio master leg (Links hand)) none = refl
@@ -61,7 +61,7 @@ task_named w k place (Rescuer dev line) none = line_named w k dev.0 line none
 task_named w k place (Completer disk Empty) none = refl
 task_named w k place (Completer disk (Brings bio status)) none = absurd (omega (arith, none bio.share.no, one-same bio.share.no))
 task_named w k place (Completer disk (Carries writer closed)) none = refl
-task_named w k place (Completer disk (Fails breach)) none = refl
+task_named w k place (Completer disk (Fails breach kept)) none = refl
 task_named w k place (Keeper keeping) none = refl
 
 held_some : (node : Node) → bare_node node.role node.held.slip ≡ 0 → own_part node.role node.held.bio ≡ 0 → ((p : ℕ) → holding_elements p node.held ≡ 0) → ⊥
@@ -153,7 +153,7 @@ module _ (scene : Scene) (s : State) (i : Kept scene s) (slips : total scene bar
 
       by_doing : (doing : Doing) → line.doing ≡ doing → DoingFits scene.setup line.doing line.lists → line ≡ rests
       by_doing Rests q f = let lists = subst (λ d. DoingFits scene.setup d line.lists) q f in λ j. record { doing = q j; lists = lists j }
-      by_doing (Breaks breach) q f = absurd (subst (λ d. DoingFits scene.setup d line.lists) q f)
+      by_doing (Breaks breach kept) q f = absurd (subst (λ d. DoingFits scene.setup d line.lists) q f)
       by_doing (Drives bio ask) q f =
           let a = weighs (elements bio.share.no) in
           let b : doing_weight (elements bio.share.no) limit line.doing ≡ doing_weight (elements bio.share.no) limit (Drives bio ask) = ap (doing_weight (elements bio.share.no) limit) q in

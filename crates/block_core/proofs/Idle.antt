@@ -113,7 +113,7 @@ module _ (scene : Scene) (s : State) (i : Kept scene s) (level : ℕ → ℕ →
   no_line : (place : ℕ) (x : TaskState) (doing : Doing) (lists : TaskLists) → place < scene.tasks → s.task place ≡ x → HasLine x doing lists → DoingFits scene.setup doing lists
       → (doing ≡ Rests) × (lists ≡ no_lists)
   no_line place x Rests lists here is h fits = (refl, fits)
-  no_line place x (Breaks breach) lists here is h fits = absurd fits
+  no_line place x (Breaks breach kept) lists here is h fits = absurd fits
   no_line place x (Drives bio ask) lists here is h fits =
       let w = refs scene.setup bio.bio.writer bio.bio.node in
       absurd (omega (arith, names_one bio, no_ref bio.bio.writer bio.bio.node, task_part scene w s place x here is, line_part w place x (Drives bio ask) lists h))
@@ -149,7 +149,7 @@ module _ (scene : Scene) (s : State) (i : Kept scene s) (level : ℕ → ℕ →
           let refers : under writer parent writer closed.parent ≡ 1 =
           ap (under writer parent writer) same ∙ (ap (λ n. n * one parent parent) (one-same writer) ∙ ap (λ n. 1 * n) (one-same parent)) in
           omega (arith, refers, no_ref writer parent, task_part scene (refs scene.setup writer parent) s place (Completer disk (Carries writer closed)) here is)
-  task_home q place (Completer disk (Fails breach)) here is fits = refl
+  task_home q place (Completer disk (Fails breach kept)) here is fits = refl
   task_home q place (Keeper keeping) here is fits = refl
 
   -- no bio waits for a rescuer, or at a disk

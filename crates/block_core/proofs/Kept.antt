@@ -55,7 +55,7 @@ abbrev pub DoingFits : Setup → Doing → TaskLists → Type 0
 DoingFits setup Rests lists = lists ≡ no_lists
 DoingFits setup (Drives bio ask) lists = Suits (tree_at setup bio.bio.dev) ask
 DoingFits setup (Copies bio master leg want) lists = leg < legs_of (tree_at setup bio.dev)
-DoingFits setup (Breaks breach) lists = ⊥
+DoingFits setup (Breaks breach kept) lists = ⊥
 
 abbrev pub LineFits : Setup → Line → Type 0
 LineFits setup line = DoingFits setup line.doing line.lists
@@ -82,7 +82,7 @@ abbrev pub DoingIsIn : Setup → Doing → Type 0
 DoingIsIn setup Rests = Unit {0}
 DoingIsIn setup (Drives bio ask) = bio.bio.dev.0 < setup.count
 DoingIsIn setup (Copies bio master leg want) = bio.dev.0 < setup.count
-DoingIsIn setup (Breaks breach) = Unit {0}
+DoingIsIn setup (Breaks breach kept) = Unit {0}
 
 abbrev pub IsIn : Setup → TaskState → Type 0
 IsIn setup (Writer number todo taken line) = DoingIsIn setup line.doing

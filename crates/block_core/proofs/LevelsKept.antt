@@ -56,7 +56,7 @@ told_on level writer key status part (Carries of closed) node t off =
     ap (λ p. held_off (level writer key) (record node.held { bio = later_part node.held.bio p })) t.3 in
     omega (arith, is)
 told_on level writer key status part Empty node t off = absurd t
-told_on level writer key status part (Fails breach) node t off = absurd t
+told_on level writer key status part (Fails breach kept) node t off = absurd t
 
 -- the vector of a write is on the level of its top
 vector_on : (level : ℕ → ℕ → ℕ) (writer key : ℕ) (todo : Todo) (item : Item Pad) (vector : Option VectorItem) → HandHome (taken_of item vector) → level writer key ≡ 64

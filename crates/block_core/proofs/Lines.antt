@@ -60,7 +60,7 @@ module _ (setup : Setup) where
   wants_fit (Drives bio ToRecord) dev old new lists more h fits = absurd h
   wants_fit (Drives bio (ToMaster slip)) dev old new lists more h fits = absurd h
   wants_fit Rests dev old new lists more h fits = absurd h
-  wants_fit (Breaks breach) dev old new lists more h fits = absurd h
+  wants_fit (Breaks breach kept) dev old new lists more h fits = absurd h
 
 -- something is done
 abbrev pub IsBusy : Doing → Type 0
@@ -74,7 +74,7 @@ wants_busy (Drives bio ToPush) dev want h = tt
 wants_busy (Drives bio ToRecord) dev want h = tt
 wants_busy (Drives bio (ToMaster slip)) dev want h = tt
 wants_busy Rests dev want h = h
-wants_busy (Breaks breach) dev want h = tt
+wants_busy (Breaks breach kept) dev want h = tt
 
 -- the line of a task is in order
 pub line_fits : (scene : Scene) (x : TaskState) (doing : Doing) (lists : TaskLists) → TaskFits scene x → HasLine x doing lists → DoingFits scene.setup doing lists

@@ -81,7 +81,7 @@ want_changes w limit (Drives bio ToPush) dev old new h = absurd h
 want_changes w limit (Drives bio ToRecord) dev old new h = absurd h
 want_changes w limit (Drives bio (ToMaster slip)) dev old new h = absurd h
 want_changes w limit Rests dev old new h = absurd h
-want_changes w limit (Breaks breach) dev old new h = absurd h
+want_changes w limit (Breaks breach kept) dev old new h = absurd h
 
 -- lists are what is punted and what is not
 pub punted_weight : (g : Item Pad → ℕ) (dev : DevId) (lists : TaskLists)

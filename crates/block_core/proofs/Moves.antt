@@ -112,7 +112,7 @@ Tells (Brings bio ending) writer key status part =
 Tells (Carries of closed) writer key status part =
     (writer ≡ of) × (closed.parent ≡ Some key) × (status ≡ closed.status) × (part ≡ None) × (closed.held ≡ nothing_held)
 Tells Empty writer key status part = ⊥
-Tells (Fails breach) writer key status part = ⊥
+Tells (Fails breach kept) writer key status part = ⊥
 
 -- the first of what is held, by its pool, and what is held without it
 abbrev pub Hands : Holding → ℕ → Holding → Type 0

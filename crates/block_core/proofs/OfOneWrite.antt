@@ -45,7 +45,7 @@ abbrev pub write_in : Carried → ℕ
 write_in Empty = 0
 write_in (Brings bio status) = bio.bio.write
 write_in (Carries writer closed) = closed.write
-write_in (Fails breach) = 0
+write_in (Fails breach kept) = 0
 
 -- what names another place than a vacant one stays with its write
 module _ (write_of : ℕ → ℕ → ℕ) (writer key n : ℕ) where
@@ -228,7 +228,7 @@ module _ (scene : Scene) (s : State) (i : Kept scene s) (write_of : ℕ → ℕ 
           let up : parent_strays write_of of closed.parent closed.write ≡ apart (write_of of key) closed.write = ap (λ p. parent_strays write_of of p closed.write) t.1 in
           let same : write_of of key ≡ write_of writer key = ap (λ v. write_of v key) (sym t.0) in
           omega (arith, up, same, off, of_node)
-      by_carried (Fails breach) t off of_node = absurd t
+      by_carried (Fails breach kept) t off of_node = absurd t
 
   -- and a node is of the write of the one that it is under
   pub child_of_write : (writer key parent : ℕ) (child node : Node) → node_at (s.objects.book writer) key ≡ Some child → parent_of child.role ≡ Some parent

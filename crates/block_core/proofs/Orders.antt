@@ -66,7 +66,7 @@ DoingPlaced setup limit (Drives bio ask) lists =
 DoingPlaced setup limit (Copies bio master leg want) lists =
     IsThere setup bio × (bio.dev.0 < limit) × Each (IsOwn setup bio.dev.0 limit) lists.list0 × Each (IsPlaced setup limit) lists.list1 × Above bio.dev.0 lists.list1
     × Ordered lists.list1 × WantFits bio.dev.0 want
-DoingPlaced setup limit (Breaks breach) lists = Unit {0}
+DoingPlaced setup limit (Breaks breach kept) lists = Unit {0}
 
 abbrev pub LinePlaced : Setup → ℕ → Line → Type 0
 LinePlaced setup limit line = DoingPlaced setup limit line.doing line.lists
@@ -262,7 +262,7 @@ module _ (setup : Setup) (g : Ground setup) where
   wants_placed limit (Drives bio ToRecord) dev old new lists h fits d = absurd h
   wants_placed limit (Drives bio (ToMaster slip)) dev old new lists h fits d = absurd h
   wants_placed limit Rests dev old new lists h fits d = absurd h
-  wants_placed limit (Breaks breach) dev old new lists h fits d = absurd h
+  wants_placed limit (Breaks breach kept) dev old new lists h fits d = absurd h
 
   pub punts_placed : (limit : ℕ) (doing : Doing) (dev set : DevId) (want : Want) (lists : TaskLists) → Wants doing dev want → DoingPlaced setup limit doing lists → DoingPlaced setup limit doing (not_punted set lists)
   punts_placed limit (Drives bio (ToCut has)) dev set want lists h d =
@@ -286,7 +286,7 @@ module _ (setup : Setup) (g : Ground setup) where
   punts_placed limit (Drives bio ToRecord) dev set want lists h d = absurd h
   punts_placed limit (Drives bio (ToMaster slip)) dev set want lists h d = absurd h
   punts_placed limit Rests dev set want lists h d = absurd h
-  punts_placed limit (Breaks breach) dev set want lists h d = absurd h
+  punts_placed limit (Breaks breach kept) dev set want lists h d = absurd h
 
   -- what waits in the lists of one that wants something
   pub waiting_placed : (limit : ℕ) (doing : Doing) (dev : DevId) (want : Want) (lists : TaskLists) → Wants doing dev want → DoingPlaced setup limit doing lists
@@ -298,4 +298,4 @@ module _ (setup : Setup) (g : Ground setup) where
   waiting_placed limit (Drives bio ToRecord) dev want lists h d = absurd h
   waiting_placed limit (Drives bio (ToMaster slip)) dev want lists h d = absurd h
   waiting_placed limit Rests dev want lists h d = absurd h
-  waiting_placed limit (Breaks breach) dev want lists h d = absurd h
+  waiting_placed limit (Breaks breach kept) dev want lists h d = absurd h

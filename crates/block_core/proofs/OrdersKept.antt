@@ -168,13 +168,13 @@ placed_in setup (Writer number todo taken line) t = doing_in line.doing line.lis
     doing_in Rests lists d = tt
     doing_in (Drives bio ask) lists d = d.1.0.0.device
     doing_in (Copies bio master leg want) lists d = d.0.device
-    doing_in (Breaks breach) lists d = tt
+    doing_in (Breaks breach kept) lists d = tt
 placed_in setup (Rescuer dev line) t = doing_in line.doing line.lists t
   where
     doing_in : (doing : Doing) (lists : TaskLists) → DoingPlaced setup dev.0 doing lists → DoingIsIn setup doing
     doing_in Rests lists d = tt
     doing_in (Drives bio ask) lists d = d.1.0.0.device
     doing_in (Copies bio master leg want) lists d = d.0.device
-    doing_in (Breaks breach) lists d = tt
+    doing_in (Breaks breach kept) lists d = tt
 placed_in setup (Completer disk carried) t = tt
 placed_in setup (Keeper keeping) t = tt

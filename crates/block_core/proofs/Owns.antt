@@ -43,7 +43,7 @@ module _ (setup : Setup) (w k : ℕ) where
   doing_le limit (Drives bio ToRecord) = omega arith
   doing_le limit (Drives bio (ToMaster slip)) = omega arith
   doing_le limit (Copies bio master leg want) = omega (arith, want_le want)
-  doing_le limit (Breaks breach) = omega arith
+  doing_le limit (Breaks breach kept) = omega arith
 
   taken_le : (taken : Taken) → taken_weight (named w k) taken ≤ taken_weight (refs setup w k) taken
   taken_le NoBio = omega arith
@@ -56,7 +56,7 @@ module _ (setup : Setup) (w k : ℕ) where
   task_le place (Completer disk Empty) = omega arith
   task_le place (Completer disk (Brings bio status)) = omega arith
   task_le place (Completer disk (Carries writer closed)) = omega arith
-  task_le place (Completer disk (Fails breach)) = omega arith
+  task_le place (Completer disk (Fails breach kept)) = omega arith
   task_le place (Keeper keeping) = omega arith
 
   node_le : (writer place : ℕ) (x : Option Node) → weigh_option ((named w k).node writer place) x ≤ weigh_option ((refs setup w k).node writer place) x
@@ -89,14 +89,14 @@ abbrev brought : Carried → ℕ
 brought Empty = 0
 brought (Brings bio ending) = 1
 brought (Carries writer closed) = 0
-brought (Fails breach) = 0
+brought (Fails breach kept) = 0
 
 tells_named : (w k writer key : ℕ) (status : Status) (part : Option (Item Pad)) (carried : Carried) → Tells carried writer key status part
     → carried_weight (named w k) 0 carried ≡ one writer w * (one key k * brought carried)
 tells_named w k writer key status part (Brings bio ending) t = rw (t.0, t.1) (omega arith)
 tells_named w k writer key status part (Carries of closed) t = omega arith
 tells_named w k writer key status part Empty t = absurd t
-tells_named w k writer key status part (Fails breach) t = absurd t
+tells_named w k writer key status part (Fails breach kept) t = absurd t
 
 -- a part that has come is away no more
 own_some : (r : Role) (bio : Item Pad) → own_part r (Some bio) ≡ 0
@@ -117,7 +117,7 @@ told_own writer key status part (Carries of closed) node t none =
     let c : own_part node.role (told node status part).held.bio ≡ own_part node.role node.held.bio = ap (λ p. own_part node.role (later_part node.held.bio p)) t.3 in
     omega (arith, c)
 told_own writer key status part Empty node t none = absurd t
-told_own writer key status part (Fails breach) node t none = absurd t
+told_own writer key status part (Fails breach kept) node t none = absurd t
 
 module _ (scene : Scene) (s : State) (f : Fair scene) (i : Kept scene s) where
   same : (m : Move) → Can scene s m → (w k : ℕ) → (after scene s m).objects.book ≡ s.objects.book → lost scene (named w k) s m ≡ gained scene (named w k) s m

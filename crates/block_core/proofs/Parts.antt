@@ -82,7 +82,7 @@ module _ (scene : Scene) (s : State) (i : Kept scene s) (u v : Weight) (le : IsU
       by_doing Rests fits part = omega arith
       by_doing (Drives bio ask) fits part = omega (arith, le.bio (Lined limit) bio (λ w. omega (arith, part w)), ask_under ask)
       by_doing (Copies bio master leg want) fits part = omega (arith, le.copy bio master leg fits (λ w. omega (arith, part w)), want_under want)
-      by_doing (Breaks breach) fits part = omega arith
+      by_doing (Breaks breach kept) fits part = omega arith
 
   taken_under : (taken : Taken) → taken_weight u taken ≤ taken_weight v taken
   taken_under NoBio = omega arith
@@ -93,7 +93,7 @@ module _ (scene : Scene) (s : State) (i : Kept scene s) (u v : Weight) (le : IsU
   carried_under place Empty part = omega arith
   carried_under place (Brings bio status) part = le.bio Brought bio part
   carried_under place (Carries writer closed) part = le.closed place writer closed part
-  carried_under place (Fails breach) part = omega arith
+  carried_under place (Fails breach kept) part = omega arith
 
   task_under : (place : ℕ) (x : TaskState) → TaskFits scene x → IsPart scene s (λ w. task_weight w place x) → task_weight u place x ≤ task_weight v place x
   task_under place (Writer number todos taken line) fits part =

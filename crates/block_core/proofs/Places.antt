@@ -150,7 +150,7 @@ told_elements q writer key status part (Brings bio ending) node t none =
     let a : node.held.bio ≡ None = none bio ending refl in rw (a, t.3) (omega arith)
 told_elements q writer key status part (Carries of closed) node t none = rw (t.3, t.4) (omega arith)
 told_elements q writer key status part Empty node t none = absurd t
-told_elements q writer key status part (Fails breach) node t none = absurd t
+told_elements q writer key status part (Fails breach kept) node t none = absurd t
 
 pub is_away : (scene : Scene) (s : State) (place : ℕ) (disk : DevId) (carried : Carried) (writer key : ℕ) (status : Status) (part : Option (Item Pad)) (node : Node) → Kept scene s
     → place < scene.tasks → s.task place ≡ Completer disk carried → Tells carried writer key status part → node_at (s.objects.book writer) key ≡ Some node

@@ -51,7 +51,7 @@ abbrev pub Carrying : Carried → Type 0
 Carrying Empty = Unit {0}
 Carrying (Brings bio status) = Unit {0}
 Carrying (Carries writer closed) = Unit {0}
-Carrying (Fails breach) = ⊥
+Carrying (Fails breach kept) = ⊥
 
 -- each change of a reserve leaves one, and how many rounds are still to start
 abbrev pub Mins : List Duty → Type 0

@@ -47,19 +47,19 @@ module _ (scene : Scene) (s : State) (level : ℕ → ℕ → ℕ) (known : Know
   still_line s todo taken Rests busy still = absurd busy
   still_line s todo taken (Drives bio ask) busy still = still
   still_line s todo taken (Copies bio master leg want) busy still = still
-  still_line s todo taken (Breaks breach) busy still = still
+  still_line s todo taken (Breaks breach kept) busy still = still
 
   still_rescuer : (s : State) (dev : ℕ) (doing : Doing) → IsBusy doing → StillRescuer s dev doing → StillDoing s doing
   still_rescuer s dev Rests busy still = absurd busy
   still_rescuer s dev (Drives bio ask) busy still = still
   still_rescuer s dev (Copies bio master leg want) busy still = still
-  still_rescuer s dev (Breaks breach) busy still = still
+  still_rescuer s dev (Breaks breach kept) busy still = still
 
   rests_or_busy : (doing : Doing) → (doing ≡ Rests) ⊎ IsBusy doing
   rests_or_busy Rests = inl refl
   rests_or_busy (Drives bio ask) = inr tt
   rests_or_busy (Copies bio master leg want) = inr tt
-  rests_or_busy (Breaks breach) = inr tt
+  rests_or_busy (Breaks breach kept) = inr tt
 
   -- at rest the lists are empty
   rests_zero : (u : Weight) (limit : ℕ) (line : Line) → line.doing ≡ Rests → LineFits setup line → line_weight u limit line ≡ 0
@@ -98,7 +98,7 @@ module _ (scene : Scene) (s : State) (level : ℕ → ℕ → ℕ) (known : Know
   task_found u todos place (Completer disk Empty) fits t w still some none = absurd (omega (arith, some))
   task_found u todos place (Completer disk (Brings bio status)) fits t w still some none = absurd still
   task_found u todos place (Completer disk (Carries writer closed)) fits t w still some none = absurd still
-  task_found u todos place (Completer disk (Fails breach)) fits t w still some none = absurd still
+  task_found u todos place (Completer disk (Fails breach kept)) fits t w still some none = absurd still
   task_found u todos place (Keeper keeping) fits t w still some none = absurd (omega (arith, some))
 
   -- the rescuer of a list that is not empty waits below its set

@@ -292,7 +292,7 @@ module _ (scene : Scene) (s : State) (n : Needs scene.setup) (small : IsSmall sc
   -- a submission
   ready_line : (x : TaskState) (doing : Doing) (lists : TaskLists) → s.task place ≡ x → HasLine x doing lists → IsReady s.objects (line_request scene.setup doing lists)
   ready_line x Rests lists is h = tt
-  ready_line x (Breaks breach) lists is h = tt
+  ready_line x (Breaks breach kept) lists is h = tt
   ready_line x (Drives bio ToPush) lists is h = tt
   ready_line x (Drives bio (ToCut (Takes waits))) lists is h = tt
   ready_line x (Drives bio (ToCut Punts)) lists is h = tt
@@ -351,14 +351,14 @@ module _ (scene : Scene) (s : State) (n : Needs scene.setup) (small : IsSmall sc
   ready_writer number (todo ∷ later) (HasBoth bio vector) Rests lists is lt = begins number todo later (HasBoth bio vector) _ is lt
   ready_writer number todos taken (Drives bio ask) lists is lt = ready_line _ (Drives bio ask) lists is refl
   ready_writer number todos taken (Copies bio master leg want) lists is lt = ready_line _ (Copies bio master leg want) lists is refl
-  ready_writer number todos taken (Breaks breach) lists is lt = tt
+  ready_writer number todos taken (Breaks breach kept) lists is lt = tt
 
   ready_rescuer : (dev : DevId) (doing : Doing) (lists : TaskLists) → s.task place ≡ Rescuer dev (record { doing = doing; lists = lists })
       → IsReady s.objects (request scene.setup (Rescuer dev (record { doing = doing; lists = lists })))
   ready_rescuer dev Rests lists is = tt
   ready_rescuer dev (Drives bio ask) lists is = ready_line _ (Drives bio ask) lists is refl
   ready_rescuer dev (Copies bio master leg want) lists is = ready_line _ (Copies bio master leg want) lists is refl
-  ready_rescuer dev (Breaks breach) lists is = tt
+  ready_rescuer dev (Breaks breach kept) lists is = tt
 
   -- a completer tells an end
   ready_carried : (disk : DevId) (carried : Carried) → s.task place ≡ Completer disk carried → IsReady s.objects (request scene.setup (Completer disk carried))
@@ -380,7 +380,7 @@ module _ (scene : Scene) (s : State) (n : Needs scene.setup) (small : IsSmall sc
           let names_it : one writer writer * one parent parent ≡ 1 = ap (λ k. k * one parent parent) (one-same writer) ∙ (ap (λ k. 1 * k) (one-same parent)) in
           is_open _ writer parent is (omega (arith, names_it))
       by_held None None None None write status is = tt
-  ready_carried disk (Fails breach) is = tt
+  ready_carried disk (Fails breach kept) is = tt
 
   ready_keeper : (keeping : Keeping) → IsReady s.objects (request scene.setup (Keeper keeping))
   ready_keeper (Keeps []) = tt

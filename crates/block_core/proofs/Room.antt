@@ -95,7 +95,7 @@ module _ (scene : Scene) (s : State) (g : Worth scene.setup) (ground : Ground sc
   carried_none place (Brings bio ending) writer key status part t = refl
   carried_none place (Carries of closed) writer key status part t = refl
   carried_none place Empty writer key status part t = absurd t
-  carried_none place (Fails breach) writer key status part t = absurd t
+  carried_none place (Fails breach kept) writer key status part t = absurd t
 
   -- what an event takes and gives
   room : (m : Move) → Can scene s m → total scene (places setup w) (after scene s m) ≤ total scene (places setup w) s

@@ -67,7 +67,7 @@ module _ (f : List Todo → Taken → ℕ) (worth : ℕ → ℕ) where
       doing_zero (Copies bio master leg (Takes waits)) = refl
       doing_zero (Copies bio master leg WantsPunt) = refl
       doing_zero (Copies bio master leg (Links hand)) = refl
-      doing_zero (Breaks breach) = refl
+      doing_zero (Breaks breach kept) = refl
 
   -- what is carried of a child tells no top
   carried_child : (task : ℕ) (carried : Carried) (writer key : ℕ) (status : Status) (part : Option (Item Pad)) → Tells carried writer key status part
@@ -75,7 +75,7 @@ module _ (f : List Todo → Taken → ℕ) (worth : ℕ → ℕ) where
   carried_child task (Brings bio ending) writer key status part t = refl
   carried_child task (Carries of closed) writer key status part t = ap (λ parent. tops_left parent * worth closed.write) t.1 ∙ omega arith
   carried_child task Empty writer key status part t = absurd t
-  carried_child task (Fails breach) writer key status part t = absurd t
+  carried_child task (Fails breach kept) writer key status part t = absurd t
 
   -- what writes in stage are worth changes where one is told done, and as what is to come does
   pub staged : (scene : Scene) (s : State) (m : Move) → Can scene s m

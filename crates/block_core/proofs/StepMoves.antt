@@ -67,7 +67,7 @@ wants_in setup (Drives bio ToPush) dev want h isin = absurd h
 wants_in setup (Drives bio ToRecord) dev want h isin = absurd h
 wants_in setup (Drives bio (ToMaster slip)) dev want h isin = absurd h
 wants_in setup Rests dev want h isin = absurd h
-wants_in setup (Breaks breach) dev want h isin = absurd h
+wants_in setup (Breaks breach kept) dev want h isin = absurd h
 
 record IsSplit (t : Tree) : Type 0 where
   pub number : ℕ
@@ -102,7 +102,7 @@ asks_sub_in setup (Drives bio ToPush) lists dev waits h = absurd h
 asks_sub_in setup (Drives bio ToRecord) lists dev waits h = absurd h
 asks_sub_in setup (Drives bio (ToMaster slip)) lists dev waits h = absurd h
 asks_sub_in setup Rests lists dev waits h = absurd h
-asks_sub_in setup (Breaks breach) lists dev waits h = absurd h
+asks_sub_in setup (Breaks breach kept) lists dev waits h = absurd h
 
 -- a task that submits asks for what its submission does
 pub asks_line : (setup : Setup) (x : TaskState) (doing : Doing) (lists : TaskLists) → HasLine x doing lists → IsBusy doing → request setup x ≡ line_request setup doing lists
@@ -112,14 +112,14 @@ asks_line setup (Writer number todo taken line) doing lists h busy = ap (λ l. r
     busy_writer Rests busy = absurd busy
     busy_writer (Drives bio ask) busy = refl
     busy_writer (Copies bio master leg want) busy = refl
-    busy_writer (Breaks breach) busy = refl
+    busy_writer (Breaks breach kept) busy = refl
 asks_line setup (Rescuer dev line) doing lists h busy = ap (λ l. request setup (Rescuer dev l)) h ∙ busy_rescuer doing busy
   where
     busy_rescuer : (doing : Doing) → IsBusy doing → request setup (Rescuer dev (record { doing = doing; lists = lists })) ≡ line_request setup doing lists
     busy_rescuer Rests busy = absurd busy
     busy_rescuer (Drives bio ask) busy = refl
     busy_rescuer (Copies bio master leg want) busy = refl
-    busy_rescuer (Breaks breach) busy = refl
+    busy_rescuer (Breaks breach kept) busy = refl
 asks_line setup (Completer disk carried) doing lists h busy = absurd h
 asks_line setup (Keeper keeping) doing lists h busy = absurd h
 
@@ -304,7 +304,7 @@ module _ (scene : Scene) (s : State) (f : Fair scene) (i : Kept scene s) (place 
 
   submits : (x : TaskState) (doing : Doing) (lists : TaskLists) → s.task place ≡ x → HasLine x doing lists → TaskFits scene x → (reply : Reply) → Submits x doing lists reply
   submits x Rests lists is h fits reply told serves goes = absurd serves
-  submits x (Breaks breach) lists is h fits reply told serves goes = absurd serves
+  submits x (Breaks breach kept) lists is h fits reply told serves goes = absurd serves
   submits x (Drives bio ToPush) lists is h fits reply told serves goes = pushes x bio lists is h reply serves goes
   submits x (Drives bio (ToCut (Takes waits))) lists is h fits reply told serves goes =
       takes_sub x (Drives bio (ToCut (Takes waits))) lists bio.bio.dev waits is h (refl, refl) refl reply told serves (had_line reply goes) (missed_line reply goes)
@@ -434,7 +434,7 @@ module _ (scene : Scene) (s : State) (f : Fair scene) (i : Kept scene s) (place 
       submits (Writer number todo taken (record { doing = Drives bio ask; lists = lists })) (Drives bio ask) lists is refl fits reply told serves goes
   writes number todo taken (Copies bio master leg want) lists is fits see reply told serves goes =
       submits (Writer number todo taken (record { doing = Copies bio master leg want; lists = lists })) (Copies bio master leg want) lists is refl fits reply told serves goes
-  writes number todo taken (Breaks breach) lists is fits see reply told serves goes = absurd fits.1
+  writes number todo taken (Breaks breach kept) lists is fits see reply told serves goes = absurd fits.1
 
   pops : (dev : DevId) → s.task place ≡ Rescuer dev rests → dev.0 < scene.setup.count → (reply : Reply) → Moved (Rescuer dev rests) reply
   pops dev is lt (requests.Popped bio) told serves goes =
@@ -452,7 +452,7 @@ module _ (scene : Scene) (s : State) (f : Fair scene) (i : Kept scene s) (place 
       submits (Rescuer dev (record { doing = Drives bio ask; lists = lists })) (Drives bio ask) lists is refl fits reply told serves goes
   rescues dev (Copies bio master leg want) lists is fits reply told serves goes =
       submits (Rescuer dev (record { doing = Copies bio master leg want; lists = lists })) (Copies bio master leg want) lists is refl fits reply told serves goes
-  rescues dev (Breaks breach) lists is fits reply told serves goes = absurd fits.1
+  rescues dev (Breaks breach kept) lists is fits reply told serves goes = absurd fits.1
 
   -- an end is told
   tells : (disk : DevId) (carried : Carried) (writer key : ℕ) (status : Status) (part : Option (Item Pad)) (ended : Ended) → s.task place ≡ Completer disk carried → Tells carried writer key status part
@@ -575,7 +575,7 @@ module _ (scene : Scene) (s : State) (f : Fair scene) (i : Kept scene s) (place 
   moved (Completer disk (Brings bio status)) is fits see reply told serves goes = brings disk bio status is reply told serves goes
   moved (Completer disk (Carries writer closed)) is fits see reply told serves goes =
       carries disk writer closed.held.vector closed.held.bio closed.held.slip closed.parent closed.write closed.status is reply told serves goes
-  moved (Completer disk (Fails breach)) is fits see reply told serves goes = absurd serves
+  moved (Completer disk (Fails breach kept)) is fits see reply told serves goes = absurd serves
   moved (Keeper keeping) is fits see reply told serves goes = keeps_on keeping is fits see reply told serves goes
 
 pub step_is_move : (scene : Scene) (s : State) → Fair scene → Kept scene s → (place : ℕ) (event : Event) (new : State)

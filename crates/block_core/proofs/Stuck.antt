@@ -106,7 +106,7 @@ module _ (scene : Scene) (s : State) (level : ℕ → ℕ → ℕ) (known : Know
           by_carried Empty none = none
           by_carried (Brings bio status) none = absurd none
           by_carried (Carries w closed) none = absurd none
-          by_carried (Fails breach) none = absurd none
+          by_carried (Fails breach kept) none = absurd none
 
   module _ (still : (place : ℕ) → place < scene.tasks → IsStill s (s.task place)) where
     all_calm : Calm scene s
@@ -138,7 +138,7 @@ module _ (scene : Scene) (s : State) (level : ℕ → ℕ → ℕ) (known : Know
     writer_later number todo taken Rests lists fits d h by = writer_rests todo taken h by
     writer_later number todo taken (Drives bio ask) lists fits d h by = absurd (busy_none 32 (Drives bio ask) lists fits d tt h)
     writer_later number todo taken (Copies bio master leg want) lists fits d h by = absurd (busy_none 32 (Copies bio master leg want) lists fits d tt h)
-    writer_later number todo taken (Breaks breach) lists fits d h by = absurd h
+    writer_later number todo taken (Breaks breach kept) lists fits d h by = absurd h
 
     none_now : (todo : List Todo) → Each (λ (t : Todo). now < t.round) todo → TodosFit rounds todo → all_worth (is_of_round rounds now) todo ≡ 0
     none_now [] later own = refl
@@ -163,7 +163,7 @@ module _ (scene : Scene) (s : State) (level : ℕ → ℕ → ℕ) (known : Know
     task_none place (Completer disk Empty) fits t r post h = refl
     task_none place (Completer disk (Brings bio status)) fits t r post h = refl
     task_none place (Completer disk (Carries w closed)) fits t r post h = absurd h
-    task_none place (Completer disk (Fails breach)) fits t r post h = absurd h
+    task_none place (Completer disk (Fails breach kept)) fits t r post h = absurd h
     task_none place (Keeper keeping) fits t r post h = refl
 
     -- no write of the present round is unfinished

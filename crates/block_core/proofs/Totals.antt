@@ -86,7 +86,7 @@ module _ (u v x y : Weight) (le : IsWithin u v x y) where
   doing_within limit Rests = omega arith
   doing_within limit (Drives bio ask) = omega (arith, le.bio (Lined limit) bio, ask_within ask)
   doing_within limit (Copies bio master leg want) = omega (arith, le.copy bio master leg, want_within want)
-  doing_within limit (Breaks breach) = omega arith
+  doing_within limit (Breaks breach kept) = omega arith
 
   line_within : (limit : ℕ) (line : Line) → line_weight u limit line ≤ line_weight v limit line + line_weight x limit line + line_weight y limit line
   line_within limit line =
@@ -106,7 +106,7 @@ module _ (u v x y : Weight) (le : IsWithin u v x y) where
   carried_within place Empty = omega arith
   carried_within place (Brings bio status) = le.bio Brought bio
   carried_within place (Carries writer closed) = le.closed place writer closed
-  carried_within place (Fails breach) = omega arith
+  carried_within place (Fails breach kept) = omega arith
 
   task_within : (place : ℕ) (task : TaskState) → task_weight u place task ≤ task_weight v place task + task_weight x place task + task_weight y place task
   task_within place (Writer number todo taken line) = omega (arith, le.todo number todo taken, taken_within taken, line_within 32 line)
@@ -174,7 +174,7 @@ line_carries limit line = omega (arith, by_doing line.doing, nothing_in line.lis
     by_doing (Drives bio ToRecord) = refl
     by_doing (Drives bio (ToMaster slip)) = refl
     by_doing (Copies bio master leg want) = omega (arith, by_want want)
-    by_doing (Breaks breach) = refl
+    by_doing (Breaks breach kept) = refl
 
 task_carries : (place : ℕ) (task : TaskState) → task_weight carrying place task ≤ 1
 task_carries place (Writer number todo taken line) = omega (arith, by_taken taken, line_carries 32 line)
@@ -187,7 +187,7 @@ task_carries place (Rescuer dev line) = omega (arith, line_carries dev.0 line)
 task_carries place (Completer disk Empty) = omega arith
 task_carries place (Completer disk (Brings bio status)) = omega arith
 task_carries place (Completer disk (Carries writer closed)) = omega arith
-task_carries place (Completer disk (Fails breach)) = omega arith
+task_carries place (Completer disk (Fails breach kept)) = omega arith
 task_carries place (Keeper keeping) = omega arith
 
 one_each : {X : Type 0} (w : ℕ → X → ℕ) (n : ℕ) (f : ℕ → X) → ((i : ℕ) (x : X) → w i x ≤ 1) → sum_at w n f ≤ n

@@ -39,14 +39,14 @@ unbroken scene (Writer number todo taken line) fits on = by_doing line.doing lin
     by_doing Rests lists fits = refl
     by_doing (Drives bio ask) lists fits = refl
     by_doing (Copies bio master leg want) lists fits = refl
-    by_doing (Breaks breach) lists fits = absurd fits
+    by_doing (Breaks breach kept) lists fits = absurd fits
 unbroken scene (Rescuer dev line) fits on = by_doing line.doing line.lists fits.1
   where
     by_doing : (doing : Doing) (lists : TaskLists) → DoingFits scene.setup doing lists → broke_in doing ≡ false
     by_doing Rests lists fits = refl
     by_doing (Drives bio ask) lists fits = refl
     by_doing (Copies bio master leg want) lists fits = refl
-    by_doing (Breaks breach) lists fits = absurd fits
+    by_doing (Breaks breach kept) lists fits = absurd fits
 unbroken scene (Completer disk carried) fits on = on
 unbroken scene (Keeper (Keeps duties)) fits on = refl
 unbroken scene (Keeper (Stops breach)) fits on = absurd fits

@@ -273,7 +273,7 @@ module _ (scene : Scene) (ends : Fragment → Status) (written : ℕ → Status 
         let may_come : 1 ≤ allowed (mark of key) closed.status = omega (arith, off, is_itself closed.status) in
         subst (λ w. 1 ≤ allowed (mark w key) status) (sym t.0) (subst (λ end. 1 ≤ allowed (mark of key) end) (sym t.2) may_come)
     told_may place disk Empty writer key status part here at t = absurd t
-    told_may place disk (Fails breach) writer key status part here at t = absurd t
+    told_may place disk (Fails breach kept) writer key status part here at t = absurd t
 
     -- and decides as what it is
     told_weight : (master : Bool) (w k : ℕ) (place : ℕ) (disk : DevId) (carried : Carried) (writer key : ℕ) (status : Status) (part : Option (Item Pad)) → place < scene.tasks
@@ -289,7 +289,7 @@ module _ (scene : Scene) (ends : Fragment → Status) (written : ℕ → Status 
         ap (λ p. under w k of p * decides master (is Ok closed.status)) t.1 ∙ ap (λ n. one n w * one key k * decides master (is Ok closed.status)) (sym t.0)
         ∙ ap (λ end. one writer w * one key k * decides master (is Ok end)) (sym t.2)
     told_weight master w k place disk Empty writer key status part here at t = absurd t
-    told_weight master w k place disk (Fails breach) writer key status part here at t = absurd t
+    told_weight master w k place disk (Fails breach kept) writer key status part here at t = absurd t
 
     -- a node that is told of its last end ends as its run may
     closes : (place : ℕ) (disk : DevId) (carried : Carried) (writer key : ℕ) (status : Status) (part : Option (Item Pad)) (node : Node)

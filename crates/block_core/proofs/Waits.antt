@@ -45,7 +45,7 @@ DoingWaits setup (Drives bio (ToCut want)) lists = WantWaits (setup.rescuer bio.
 DoingWaits setup (Drives bio ToRecord) lists = Unit {0}
 DoingWaits setup (Drives bio (ToMaster slip)) lists = Unit {0}
 DoingWaits setup (Copies bio master leg want) lists = WantWaits (setup.rescuer bio.dev.0) want lists
-DoingWaits setup (Breaks breach) lists = Unit {0}
+DoingWaits setup (Breaks breach kept) lists = Unit {0}
 
 abbrev pub TaskWaits : Setup → TaskState → Type 0
 TaskWaits setup (Writer number todo taken line) = DoingWaits setup line.doing line.lists
@@ -112,7 +112,7 @@ module _ (setup : Setup) (r : AreRescued setup) where
   links_wait (Drives bio ToRecord) dev old hand lists h = absurd h
   links_wait (Drives bio (ToMaster slip)) dev old hand lists h = absurd h
   links_wait Rests dev old hand lists h = absurd h
-  links_wait (Breaks breach) dev old hand lists h = absurd h
+  links_wait (Breaks breach kept) dev old hand lists h = absurd h
 
   -- an attempt missed
   punts_wait : (doing : Doing) (dev : DevId) (lists : TaskLists) → Wants doing dev (Takes false) → DoingWaits setup doing lists → DoingWaits setup (with_want doing WantsPunt) lists
@@ -122,7 +122,7 @@ module _ (setup : Setup) (r : AreRescued setup) where
   punts_wait (Drives bio ToRecord) dev lists h d = absurd h
   punts_wait (Drives bio (ToMaster slip)) dev lists h d = absurd h
   punts_wait Rests dev lists h d = absurd h
-  punts_wait (Breaks breach) dev lists h d = absurd h
+  punts_wait (Breaks breach kept) dev lists h d = absurd h
 
   -- one that punts is at a device with a rescuer
   punts_rescued : (doing : Doing) (dev : DevId) (lists : TaskLists) → Wants doing dev WantsPunt → DoingWaits setup doing lists → setup.rescuer dev.0 ≡ true
@@ -134,7 +134,7 @@ module _ (setup : Setup) (r : AreRescued setup) where
   punts_rescued (Drives bio ToRecord) dev lists h d = absurd h
   punts_rescued (Drives bio (ToMaster slip)) dev lists h d = absurd h
   punts_rescued Rests dev lists h d = absurd h
-  punts_rescued (Breaks breach) dev lists h d = absurd h
+  punts_rescued (Breaks breach kept) dev lists h d = absurd h
 
 -- all bios of a device's own set go to its rescuer
 own_is : (setup : Setup) (dev : DevId) (limit : ℕ) (item : Item Pad) → IsOwn setup dev.0 limit item → is_of dev item ≡ true
@@ -163,7 +163,7 @@ punted_wait setup limit (Drives bio ToPush) dev lists h d = absurd h
 punted_wait setup limit (Drives bio ToRecord) dev lists h d = absurd h
 punted_wait setup limit (Drives bio (ToMaster slip)) dev lists h d = absurd h
 punted_wait setup limit Rests dev lists h d = absurd h
-punted_wait setup limit (Breaks breach) dev lists h d = absurd h
+punted_wait setup limit (Breaks breach kept) dev lists h d = absurd h
 
 pub line_waits : (setup : Setup) (x : TaskState) (doing : Doing) (lists : TaskLists) → TaskWaits setup x → HasLine x doing lists → DoingWaits setup doing lists
 line_waits setup (Writer number todo taken line) doing lists t h = subst (λ (l : Line). DoingWaits setup l.doing l.lists) h t
@@ -284,7 +284,7 @@ module _ (setup : Setup) (limit : ℕ) where
   doing_behind (Drives bio ToRecord) lists w d = tt
   doing_behind (Drives bio (ToMaster slip)) lists w d = tt
   doing_behind (Copies bio master leg want) lists w d = waits_behind bio.dev want lists w d.4 d.3
-  doing_behind (Breaks breach) lists w d = tt
+  doing_behind (Breaks breach kept) lists w d = tt
 
 task_behind : (setup : Setup) (x : TaskState) → TaskWaits setup x → TaskPlaced setup x → TaskDoesNotWait setup x
 task_behind setup (Writer number todo taken line) w t = doing_behind setup 32 line.doing line.lists w t.1

@@ -44,13 +44,13 @@ abbrev pub broke_in : Doing → Bool
 broke_in Rests = false
 broke_in (Drives bio ask) = false
 broke_in (Copies bio master leg want) = false
-broke_in (Breaks breach) = true
+broke_in (Breaks breach kept) = true
 
 abbrev pub failed : Carried → Bool
 failed Empty = false
 failed (Brings bio status) = false
 failed (Carries writer closed) = false
-failed (Fails breach) = true
+failed (Fails breach kept) = true
 
 abbrev pub stopped : Keeping → Bool
 stopped (Keeps duties) = false

@@ -103,7 +103,7 @@ doing_spent (Drives bio (ToCut want)) = want_spent want
 doing_spent (Drives bio ToRecord) = 0
 doing_spent (Drives bio (ToMaster slip)) = 1
 doing_spent (Copies bio master leg want) = want_spent want
-doing_spent (Breaks breach) = 0
+doing_spent (Breaks breach kept) = 0
 
 abbrev pub task_spent : TaskState → ℕ
 task_spent (Writer number todo taken line) = doing_spent line.doing

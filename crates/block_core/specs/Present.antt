@@ -21,7 +21,7 @@ abbrev pub DoingIs : (ℕ → Type 0) → Doing → Type 0
 DoingIs IsSuch Rests = Unit {0}
 DoingIs IsSuch (Drives bio ask) = IsSuch bio.bio.write
 DoingIs IsSuch (Copies bio master leg want) = IsSuch bio.write
-DoingIs IsSuch (Breaks breach) = Unit {0}
+DoingIs IsSuch (Breaks breach kept) = Unit {0}
 
 abbrev pub LineIs : (ℕ → Type 0) → Line → Type 0
 LineIs IsSuch line = DoingIs IsSuch line.doing × AreSuch IsSuch line.lists.list0 × AreSuch IsSuch line.lists.list1
@@ -30,7 +30,7 @@ abbrev pub CarriedIs : (ℕ → Type 0) → Carried → Type 0
 CarriedIs IsSuch Empty = Unit {0}
 CarriedIs IsSuch (Brings bio status) = IsSuch bio.bio.write
 CarriedIs IsSuch (Carries writer closed) = IsSuch closed.write
-CarriedIs IsSuch (Fails breach) = Unit {0}
+CarriedIs IsSuch (Fails breach kept) = Unit {0}
 
 abbrev pub TaskIs : (ℕ → Type 0) → TaskState → Type 0
 TaskIs IsSuch (Writer number todo taken line) = LineIs IsSuch line

@@ -22,7 +22,7 @@ DoesNotWaitForItself setup (Drives bio (ToCut want)) lists = NoneBehind setup bi
 DoesNotWaitForItself setup (Drives bio ToRecord) lists = Unit {0}
 DoesNotWaitForItself setup (Drives bio (ToMaster slip)) lists = Unit {0}
 DoesNotWaitForItself setup (Copies bio master leg want) lists = NoneBehind setup bio.dev want lists
-DoesNotWaitForItself setup (Breaks breach) lists = Unit {0}
+DoesNotWaitForItself setup (Breaks breach kept) lists = Unit {0}
 
 abbrev pub TaskDoesNotWait : Setup → TaskState → Type 0
 TaskDoesNotWait setup (Writer number todo taken line) = DoesNotWaitForItself setup line.doing line.lists

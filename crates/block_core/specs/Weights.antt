@@ -59,7 +59,7 @@ abbrev pub doing_weight : Weight → ℕ → Doing → ℕ
 doing_weight w limit Rests = 0
 doing_weight w limit (Drives bio ask) = w.bio (Lined limit) bio + ask_weight w ask
 doing_weight w limit (Copies bio master leg want) = w.copy bio master leg + want_weight w want
-doing_weight w limit (Breaks breach) = 0
+doing_weight w limit (Breaks breach kept) = 0
 
 abbrev pub line_weight : Weight → ℕ → Line → ℕ
 line_weight w limit line =
@@ -74,7 +74,7 @@ abbrev pub carried_weight : Weight → ℕ → Carried → ℕ
 carried_weight w task Empty = 0
 carried_weight w task (Brings bio status) = w.bio Brought bio
 carried_weight w task (Carries writer closed) = w.closed task writer closed
-carried_weight w task (Fails breach) = 0
+carried_weight w task (Fails breach kept) = 0
 
 -- a writer submits at any device, of which there are at most 32, and the rescuer of a device's set below that device
 abbrev pub task_weight : Weight → ℕ → TaskState → ℕ

@@ -34,19 +34,19 @@ use Rattle.plain_core.proofs.Places.{at_set, head_within}
 use Rattle.plain_core.proofs.Updated.{upd_is}
 
 -- a task stays the one that it is
-begun_id : (s : Setup) (n : ℕ) (later : List task.Todo) (bio : ℕ → Item Pad) (taken : task.Taken) (todo : task.Todo) (answer : Linked)
-    → id_of (task.begins s n later bio taken todo answer) ≡ id_of (task.Writer n [] task.NoBio line.rests)
-begun_id s n later bio taken todo (Made node) = refl
-begun_id s n later bio taken todo (NoRoom back) = refl
-begun_id s n later bio taken todo (Stray back) = refl
+begun_id : (s : Setup) (n : ℕ) (later : List task.Todo) (bio : ℕ → Item Pad) (taken : task.Taken) (todo : task.Todo) (l : line.Line) (answer : Linked)
+    → id_of (task.begins s n later bio taken todo l answer) ≡ id_of (task.Writer n [] task.NoBio line.rests)
+begun_id s n later bio taken todo l (Made node) = refl
+begun_id s n later bio taken todo l (NoRoom back) = refl
+begun_id s n later bio taken todo l (Stray back) = refl
 
 write_id : (s : Setup) (n : ℕ) (todo : List task.Todo) (taken : task.Taken) (l : line.Line) (reply : Reply)
     → id_of (task.write_answered s n todo taken l reply) ≡ id_of (task.Writer n [] task.NoBio line.rests)
 write_id s n todo taken l Spent = refl
 write_id s n (t ∷ later) task.NoBio l (HadBio got bio) = refl
 write_id s n (t ∷ later) (task.HasBio bio) l (HadVec got vector) = refl
-write_id s n (t ∷ later) (task.HasBio bio) l (LinkedTo answer) = begun_id s n later (λ node. task.filled_short n t node bio) (task.HasBio bio) t answer
-write_id s n (t ∷ later) (task.HasBoth bio vector) l (LinkedTo answer) = begun_id s n later (λ node. task.filled n t node bio) (task.HasBoth bio vector) t answer
+write_id s n (t ∷ later) (task.HasBio bio) l (LinkedTo answer) = begun_id s n later (λ node. task.filled_short n t node bio) (task.HasBio bio) t l answer
+write_id s n (t ∷ later) (task.HasBoth bio vector) l (LinkedTo answer) = begun_id s n later (λ node. task.filled n t node bio) (task.HasBoth bio vector) t l answer
 write_id s n todo taken l reply = refl
 
 writer_id : (s : Setup) (n : ℕ) (todo : List task.Todo) (taken : task.Taken) (doing : line.Doing) (l : line.Line) (reply : Reply)
@@ -54,7 +54,7 @@ writer_id : (s : Setup) (n : ℕ) (todo : List task.Todo) (taken : task.Taken) (
 writer_id s n todo taken line.Rests l reply = write_id s n todo taken l reply
 writer_id s n todo taken (line.Drives bio ask) l reply = refl
 writer_id s n todo taken (line.Copies bio master leg want) l reply = refl
-writer_id s n todo taken (line.Breaks breach) l reply = refl
+writer_id s n todo taken (line.Breaks breach kept) l reply = refl
 
 rescuer_id : (s : Setup) (dev : DevId) (doing : line.Doing) (l : line.Line) (reply : Reply) → id_of (task.rescuer_answered s dev doing l reply) ≡ id_of (task.Rescuer dev line.rests)
 rescuer_id s dev line.Rests l (Popped bio) = refl
@@ -62,7 +62,7 @@ rescuer_id s dev line.Rests l Spent = refl
 rescuer_id s dev line.Rests l reply = refl
 rescuer_id s dev (line.Drives bio ask) l reply = refl
 rescuer_id s dev (line.Copies bio master leg want) l reply = refl
-rescuer_id s dev (line.Breaks breach) l reply = refl
+rescuer_id s dev (line.Breaks breach kept) l reply = refl
 
 pub id_stays : (s : Setup) (t : task.TaskState) (reply : Reply) → id_of (task.answered s t reply) ≡ id_of t
 id_stays s (task.Writer n todo taken l) reply = writer_id s n todo taken l.doing l reply
@@ -199,6 +199,24 @@ applies_at old new rest event place (Err fault.NotEnabled) is s = (
 )
 applies_at old new rest event place (Err fault.Memory) is s = (
   λ k. record { routing = old.routing; objects = s.moves.0 k; tasks = (s.others ∙ set_same old.tasks place (task_at rest place) no_task s.moves.1) k },
+  (
+    record {
+      objects = s.moves.4.new;
+      task = upd (task_at old.tasks) place (task.answered (setup old.routing) (task_at old.tasks place) s.moves.4.reply);
+    },
+    (
+      place,
+      record {
+        here = is.within;
+        by = is.named;
+        is_let = s.moves.3;
+        reply = s.moves.4.reply;
+        told = s.moves.4.told;
+        serves = s.moves.4.serves;
+        goes_on = refl;
+      },
+    ),
+  ),
   (place, is, s.moves.2),
 )
 

@@ -17,14 +17,14 @@ pub busy_writer : (s : Setup) (n : ℕ) (todo : List task.Todo) (taken : task.Ta
 busy_writer s n todo taken line.Rests l busy = absurd busy
 busy_writer s n todo taken (line.Drives part ask) l busy = refl
 busy_writer s n todo taken (line.Copies bio master leg want) l busy = refl
-busy_writer s n todo taken (line.Breaks breach) l busy = refl
+busy_writer s n todo taken (line.Breaks breach kept) l busy = refl
 
 pub busy_rescuer : (s : Setup) (dev : DevId) (doing : line.Doing) (l : line.Line) → IsBusy doing
     → task.rescuer_request s dev doing l ≡ line.line_request s doing l.lists
 busy_rescuer s dev line.Rests l busy = absurd busy
 busy_rescuer s dev (line.Drives part ask) l busy = refl
 busy_rescuer s dev (line.Copies bio master leg want) l busy = refl
-busy_rescuer s dev (line.Breaks breach) l busy = refl
+busy_rescuer s dev (line.Breaks breach kept) l busy = refl
 
 -- the look of a writer whose next write has no bio yet
 round_let : (old : Plain) (n : ℕ) (next : task.Todo) (later : List task.Todo) (lists : _) (answer : Bool) → nat_le next.round old.tally.round ≡ answer

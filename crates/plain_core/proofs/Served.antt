@@ -1,4 +1,4 @@
--- Each call of plain objects answers a request of the machine, and where it can't, nothing does.
+-- Each call of plain objects answers a request of the machine, and where it can't, nothing does. Where it lacks memory, something does.
 use Rattle.std.proofs.Common.{◌≡◌, ◌+◌, ◌<◌, ◌==◌, ◌⊎◌, ◌∷◌, ◌++◌, inl, inr, ℕ, Bool, true, false, List, length, refl, sym, ap, ◌∙◌, subst, Option, None, Some, Result, Ok, Err, arith}
 use Rattle.std.specs.Prelude.{slice_set}
 use Rattle.std.proofs.lemmas.Bool.Decides.{nat_tests}
@@ -37,11 +37,11 @@ use Rattle.plain_core.specs.Books.{ended_of, end_of, IsToldBy}
 use Rattle.plain_core.specs.declared.book.Ended.{Ended}
 use Rattle.plain_core.specs.declared.book.Ended.TheVariants as ended
 use Rattle.plain_core.specs.Plain.{Plain, Gives, pool_at, rescue_at, kept_disk, disk_at, disk_or, opened_disk, book_at, objects_of}
-use Rattle.plain_core.specs.Told.{Moves, Takes, MovesAs, IsPunt, Pops, IsPush, PushesIn, Pushes, CompletesIn, IsComplete, Links, IsDrop}
-use Rattle.plain_core.specs.Steps.{IsAnswer, Refuses, Answers, TakesPart, TakesSlip, TakesVector, TakesWant}
+use Rattle.plain_core.specs.Told.{Moves, Takes, MovesAs, IsPunt, Punts, Pops, IsPush, PushesIn, Pushes, CompletesIn, IsComplete, Links, Joins, IsDrop}
+use Rattle.plain_core.specs.Steps.{IsAnswer, Refuses, HasAnswer, Answers, Lacks, TakesPart, TakesSlip, TakesVector, TakesWant}
 use Rattle.plain_core.specs.declared.fault.CoreFault.{CoreFault}
 use Rattle.plain_core.specs.declared.fault.CoreFault.TheVariants as fault
-use Rattle.plain_core.proofs.Updated.{moves, rescue_set, book_set, disk_set}
+use Rattle.plain_core.proofs.Updated.{moves, rescue_set, book_set, disk_set, upd_here}
 
 -- what is told is one thing
 one : {X : Type 0} {x y : X} → Some x ≡ Some y → y ≡ x
@@ -231,6 +231,22 @@ pub not_punted : (old : Plain) (dev : DevId) (lists : TaskLists) (what : What) �
 not_punted old dev lists what never Did new is serves = never (one is)
 not_punted old dev lists what never _ new is serves = absurd serves
 
+can_punt : (old : Plain) (dev : DevId) (lists : TaskLists) (what : What) → IsPunt lists dev what → HasAnswer old (Punt dev (punted dev lists)) what
+can_punt old dev lists what is = record {
+  reply = Did;
+  new = record (objects_of old) { rescue = upd (rescue_at old) dev.0 (rescue_at old dev.0 ++ punted dev lists) };
+  told = ap Some (sym is);
+  serves = refl;
+}
+
+pub punt_failed : (old new : Plain) (dev other : DevId) (lists rest : TaskLists) (what : What) (e : CoreFault) → dev ≡ other → Punts old lists dev what (Err e) new rest
+    → Lacks old (Punt other (punted other lists)) what e new × (rest ≡ lists)
+punt_failed old new dev other lists rest what e is p = by e (subst (λ d. Punts old lists d what (Err e) new rest) is p)
+  where
+    by : (e : CoreFault) → Punts old lists other what (Err e) new rest → Lacks old (Punt other (punted other lists)) what e new × (rest ≡ lists)
+    by fault.NotEnabled p = ((p.0, not_punted old other lists what p.2), p.1)
+    by fault.Memory p = ((p.0, can_punt old other lists what p.2), p.1)
+
 not_popped : (old : Plain) (dev : DevId) (what : What)
     → ((part : Item Pad) (rest : List (Item Pad)) → what ≡ told.Pop dev → rescue_at old dev.0 ≡ part ∷ rest → ⊥) → Refuses old (Pop dev) what
 not_popped old dev what never (Popped bio) new is serves = never bio (new.rescue dev.0) (one is) serves.0
@@ -262,6 +278,18 @@ push old new part what t = record {
   told = ap Some (sym t.0);
   serves = disk_set old new part.bio.dev.0 t.2 ∙ ap (λ disk. record (objects_of old) { disk = upd (disk_at old) part.bio.dev.0 disk }) (pushed_at old new part t.1);
 }
+
+can_push : (old : Plain) (part : Item Pad) (what : What) → IsPush part what → HasAnswer old (Push part) what
+can_push old part what is = record {
+  reply = Did;
+  new = record (objects_of old) { disk = upd (disk_at old) part.bio.dev.0 (pushed part (disk_at old part.bio.dev.0)) };
+  told = ap Some (sym is);
+  serves = refl;
+}
+
+pub push_failed : (old new : Plain) (part : Item Pad) (what : What) (e : CoreFault) → Pushes old part what (Err e) new → Lacks old (Push part) what e new
+push_failed old new part what fault.NotEnabled p = (p.0, not_pushed old part what p.1)
+push_failed old new part what fault.Memory p = (p.0, can_push old part what p.1)
 
 completed_at : (old new : Plain) (dev : ℕ) (index : ℕ) (part : Item Pad) (status : Status) → CompletesIn (kept_disk old dev) index part status (kept_disk new dev)
     → Completes (disk_at old dev) index part status (disk_at new dev)
@@ -318,6 +346,26 @@ link old new writer opening what (Ok node) t = record {
 }
 link old new writer opening what (Err fault.NotEnabled) t = (t.0, not_linked old writer opening what t.1)
 link old new writer opening what (Err fault.Memory) t = absurd t
+
+pub joined : (old new : Plain) (writer node : ℕ) (opening : Opening) (what : What) → Joins old writer opening what (Ok node) new
+    → IsAnswer old (Link writer opening) what (LinkedTo (Made node)) new
+joined old new writer node opening what t = link old new writer opening what (Ok node) t
+
+can_link : (old : Plain) (writer : ℕ) (opening : Opening) (what : What) (node : ℕ) (book : BookState) → what ≡ told.Link writer (how_of opening) node
+    → Opened (book_at old writer) opening (Made node) book → HasAnswer old (Link writer opening) what
+can_link old writer opening what node book is opened =
+    let here = sym (upd_here (book_at old) writer book) in
+    record {
+      reply = LinkedTo (Made node);
+      new = record (objects_of old) { book = upd (book_at old) writer book };
+      told = ap Some (sym is);
+      serves = (subst (Opened (book_at old writer) opening (Made node)) here opened, ap (λ b. record (objects_of old) { book = upd (book_at old) writer b }) here);
+    }
+
+pub join_failed : (old new : Plain) (writer : ℕ) (opening : Opening) (what : What) (e : CoreFault) → Joins old writer opening what (Err e) new
+    → Lacks old (Link writer opening) what e new
+join_failed old new writer opening what fault.NotEnabled t = link old new writer opening what (Err fault.NotEnabled) t
+join_failed old new writer opening what fault.Memory t = (t.0, can_link old writer opening what t.1 t.2 t.3 t.4)
 
 not_dropped : (old : Plain) (writer place : ℕ) (status : Status) (part : Option (Item Pad)) (what : What)
     → ((end : End) (answer : drop.Ended) (book : BookState) → what ≡ told.Drop writer place status end → IsToldBy end answer

@@ -27,7 +27,7 @@ use Rattle.plain_core.specs.declared.task.Carried.{Carried}
 use Rattle.plain_core.specs.declared.task.Carried.TheVariants as carried
 use Rattle.plain_core.specs.Plain.{Plain, objects_of}
 use Rattle.plain_core.specs.Views.{carried_of}
-use Rattle.plain_core.specs.Steps.{IsAnswer, Refuses, Fails, Answers, IsBusy, TakesPart, TakesVector, LineMoves, TaskMoves, IsCarried, GivesFirst, PassesOn, ClosesOn, bare, duty_reply}
+use Rattle.plain_core.specs.Steps.{IsAnswer, Refuses, HasAnswer, Fails, Answers, IsBusy, TakesPart, TakesVector, LineMoves, TaskMoves, IsCarried, GivesFirst, PassesOn, ClosesOn, bare, duty_reply}
 
 -- the keeper's duty is done
 duty_done : (duty : task.Duty) (rest : List task.Duty) → task.Keeper (task.Keeps rest) ≡ task.Keeper (task.keeper_answered (task.Keeps (duty ∷ rest)) (duty_reply duty))
@@ -107,13 +107,13 @@ pub rescuer_line : (r : Routing) (old new : Plain) (dev : DevId) (doing : line.D
 rescuer_line r old new dev line.Rests lists after what result busy m = absurd busy
 rescuer_line r old new dev (line.Drives bio ask) lists after what (Ok d) busy m = (m.0, tt, m.1, ap (task.Rescuer dev) m.2)
 rescuer_line r old new dev (line.Drives bio ask) lists after what (Err fault.NotEnabled) busy m = (m.0, ap (task.Rescuer dev) m.1, λ let_it. m.2)
-rescuer_line r old new dev (line.Drives bio ask) lists after what (Err fault.Memory) busy m = (m.0, ap (task.Rescuer dev) m.1, busy)
+rescuer_line r old new dev (line.Drives bio ask) lists after what (Err fault.Memory) busy m = (m.0, ap (task.Rescuer dev) m.1, busy, tt, m.2)
 rescuer_line r old new dev (line.Copies bio master leg want) lists after what (Ok d) busy m = (m.0, tt, m.1, ap (task.Rescuer dev) m.2)
 rescuer_line r old new dev (line.Copies bio master leg want) lists after what (Err fault.NotEnabled) busy m = (m.0, ap (task.Rescuer dev) m.1, λ let_it. m.2)
-rescuer_line r old new dev (line.Copies bio master leg want) lists after what (Err fault.Memory) busy m = (m.0, ap (task.Rescuer dev) m.1, busy)
-rescuer_line r old new dev (line.Breaks breach) lists after what (Ok d) busy m = (m.0, tt, m.1, ap (task.Rescuer dev) m.2)
-rescuer_line r old new dev (line.Breaks breach) lists after what (Err fault.NotEnabled) busy m = (m.0, ap (task.Rescuer dev) m.1, λ let_it. m.2)
-rescuer_line r old new dev (line.Breaks breach) lists after what (Err fault.Memory) busy m = (m.0, ap (task.Rescuer dev) m.1, busy)
+rescuer_line r old new dev (line.Copies bio master leg want) lists after what (Err fault.Memory) busy m = (m.0, ap (task.Rescuer dev) m.1, busy, tt, m.2)
+rescuer_line r old new dev (line.Breaks breach kept) lists after what (Ok d) busy m = (m.0, tt, m.1, ap (task.Rescuer dev) m.2)
+rescuer_line r old new dev (line.Breaks breach kept) lists after what (Err fault.NotEnabled) busy m = (m.0, ap (task.Rescuer dev) m.1, λ let_it. m.2)
+rescuer_line r old new dev (line.Breaks breach kept) lists after what (Err fault.Memory) busy m = (m.0, ap (task.Rescuer dev) m.1, busy, tt, m.2)
 
 -- a writer's submission: it looks at nothing
 no_look : (todo : List task.Todo) (taken : task.Taken) (doing : line.Doing) → IsBusy doing → task.writer_look todo taken doing ≡ None
@@ -121,7 +121,7 @@ no_look [] taken doing busy = refl
 no_look (t ∷ todo) task.NoBio line.Rests busy = absurd busy
 no_look (t ∷ todo) task.NoBio (line.Drives bio ask) busy = refl
 no_look (t ∷ todo) task.NoBio (line.Copies bio master leg want) busy = refl
-no_look (t ∷ todo) task.NoBio (line.Breaks breach) busy = refl
+no_look (t ∷ todo) task.NoBio (line.Breaks breach kept) busy = refl
 no_look (t ∷ todo) (task.HasBio bio) doing busy = refl
 no_look (t ∷ todo) (task.HasBoth bio vector) doing busy = refl
 
@@ -130,14 +130,14 @@ asks_line : (r : Routing) (n : ℕ) (todo : List task.Todo) (taken : task.Taken)
 asks_line r n todo taken line.Rests lists busy = absurd busy
 asks_line r n todo taken (line.Drives bio ask) lists busy = refl
 asks_line r n todo taken (line.Copies bio master leg want) lists busy = refl
-asks_line r n todo taken (line.Breaks breach) lists busy = refl
+asks_line r n todo taken (line.Breaks breach kept) lists busy = refl
 
 answers_line : (r : Routing) (n : ℕ) (todo : List task.Todo) (taken : task.Taken) (doing : line.Doing) (lists : TaskLists) (reply : Reply) → IsBusy doing
     → task.Writer n todo taken (line.line_answered (setup r) doing lists reply) ≡ task.answered (setup r) (task.Writer n todo taken (record { doing = doing; lists = lists })) reply
 answers_line r n todo taken line.Rests lists reply busy = absurd busy
 answers_line r n todo taken (line.Drives bio ask) lists reply busy = refl
 answers_line r n todo taken (line.Copies bio master leg want) lists reply busy = refl
-answers_line r n todo taken (line.Breaks breach) lists reply busy = refl
+answers_line r n todo taken (line.Breaks breach kept) lists reply busy = refl
 
 pub writer_line : (r : Routing) (old new : Plain) (n : ℕ) (todo : List task.Todo) (taken : task.Taken) (before after : line.Line) (what : What) (result : Result (Unit {0}) CoreFault)
     → IsBusy before.doing → LineMoves r old before what result new after
@@ -150,7 +150,13 @@ writer_line r old new n todo taken before after what (Ok d) busy m = (
 )
 writer_line r old new n todo taken before after what (Err fault.NotEnabled) busy m =
     (m.0, ap (task.Writer n todo taken) m.1, λ let_it. subst (λ q. Refuses old q what) (sym (asks_line r n todo taken before.doing before.lists busy)) m.2)
-writer_line r old new n todo taken before after what (Err fault.Memory) busy m = (m.0, ap (task.Writer n todo taken) m.1, busy)
+writer_line r old new n todo taken before after what (Err fault.Memory) busy m = (
+  m.0,
+  ap (task.Writer n todo taken) m.1,
+  busy,
+  subst (IsLet ledger_of (objects_of old) (task.Writer n todo taken before)) (sym (no_look todo taken before.doing busy)) tt,
+  subst (λ q. HasAnswer old q what) (sym (asks_line r n todo taken before.doing before.lists busy)) m.2,
+)
 
 -- a writer at rest
 pub writer_ok : (r : Routing) (old new : Plain) (n : ℕ) (tds : List task.Todo) (taken : task.Taken) (before : line.Line) (what : What) (reply : Reply) (after : task.TaskState)

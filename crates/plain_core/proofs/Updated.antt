@@ -19,6 +19,11 @@ upd_is {X} f g i other = λ p k. at k p
       | inr ne ↦ rw (ne_eqb k i ne) (other k ne)
     ]
 
+-- at that place
+pub upd_here : {X : Type 0} (f : ℕ → X) (i : ℕ) (x : X) → upd f i x i ≡ x
+unfolding upd
+upd_here f i x = rw (eq-eqb i i refl) refl
+
 pub pool_set : (old new : Plain) (n : ℕ) → new ≡ with_pool old n (pool_at new n) → objects_of new ≡ record (objects_of old) { pool = upd (pool_at old) n (pool_at new n) }
 pool_set old new n is =
     ap objects_of is

@@ -1,5 +1,5 @@
 -- What an event tells of a node that was told of an end.
-use Rattle.std.specs.Prelude.{◌≡◌, ℕ, Option, None, Some}
+use Rattle.std.specs.Prelude.{◌≡◌, ℕ, Option, None, Some, Result, Ok, Err}
 use Rattle.stack_base.specs.declared.ids.Status.{Status}
 use Rattle.bio_records.specs.declared.bio.Pad.{Pad}
 use Rattle.bio_records.specs.Items.{Item}
@@ -10,6 +10,8 @@ use Rattle.task_core.specs.declared.event.End.{End}
 use Rattle.task_core.specs.declared.event.End.TheVariants as told
 use Rattle.plain_core.specs.declared.book.Ended.{Ended}
 use Rattle.plain_core.specs.declared.book.Ended.TheVariants as ended
+use Rattle.plain_core.specs.declared.fault.CoreFault.{CoreFault}
+use Rattle.plain_core.specs.declared.fault.CoreFault.TheVariants as fault
 
 -- what an end left of a node, and how an event tells it
 abbrev pub ended_of : Ended → drop.Ended
@@ -33,3 +35,9 @@ abbrev pub IsTold : BookState → ℕ → Status → Option (Item Pad) → End �
 IsTold old place status part end None new =
     (new ≡ old) × ((answer : drop.Ended) (new : BookState) → IsToldBy end answer → Drops old place status part answer new → ⊥)
 IsTold old place status part end (Some ended) new = IsToldBy end (ended_of ended) × Drops old place status part (ended_of ended) new
+
+-- A node was opened so, or none can be, or one could be but for memory.
+abbrev pub OpensSo : BookState → (BookState → Type 0) → Result (Unit {0}) CoreFault → BookState → Type 0
+OpensSo old Does (Ok done) new = Does new
+OpensSo old Does (Err fault.NotEnabled) new = (new ≡ old) × ((next : BookState) → Does next → ⊥)
+OpensSo old Does (Err fault.Memory) new = (new ≡ old) × (next : BookState) × Does next

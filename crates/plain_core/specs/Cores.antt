@@ -6,7 +6,7 @@ use Rattle.task_core.specs.declared.event.Event.{Event}
 use Rattle.task_core.specs.Scene.{Scene}
 use Rattle.task_core.specs.Tasks.{TaskState}
 use Rattle.task_core.specs.Events.{id_of}
-use Rattle.task_core.specs.Runs.{State, Happens}
+use Rattle.task_core.specs.Runs.{State, Happens, IsEnabled}
 use Rattle.task_core.specs.Opened.{most_writers, no_task}
 use Rattle.task_core.specs.Routed.{Routing, setup}
 use Rattle.task_core.specs.Within.{TaskFits}
@@ -71,12 +71,12 @@ HasNone tasks name = (place : ℕ) → place < length tasks → name ≡ id_of (
 abbrev pub IsOfSubmission : List TaskState → TaskId → Type 0
 IsOfSubmission tasks name = (place : ℕ) × IsPlace tasks name place × Submits (task_at tasks place)
 
--- An event was applied: it is a step of the machine to the state afterwards. Where it is none, or where there is no memory, nothing is changed.
--- A submission alone takes memory.
+-- An event was applied: it is a step of the machine to the state afterwards. Where it is none, or where it is one for which there is no memory,
+-- nothing is changed. A submission alone takes memory.
 abbrev pub Applies : CoreState → Event → Result (Unit {0}) CoreFault → CoreState → Type 0
 Applies old event (Ok done) new = Happens (scene_of old) (state_of old) event (state_of new) × (new.routing ≡ old.routing)
 Applies old event (Err fault.NotEnabled) new = (new ≡ old) × ((next : State) → Happens (scene_of old) (state_of old) event next → ⊥)
-Applies old event (Err fault.Memory) new = (new ≡ old) × IsOfSubmission old.tasks event.task
+Applies old event (Err fault.Memory) new = (new ≡ old) × IsEnabled (scene_of old) (state_of old) event × IsOfSubmission old.tasks event.task
 
 -- the task at this place goes on, and all others stay
 abbrev pub StepsFrom : Routing → Plain → List Task → ℕ → Option Task → What → Result (Unit {0}) CoreFault → Plain → Option Task → List Task → Type 0

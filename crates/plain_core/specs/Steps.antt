@@ -44,6 +44,13 @@ pub record IsAnswer (old : Plain) (request : Request) (what : What) (reply : Rep
 abbrev pub Refuses : Plain → Request → What → Type 0
 Refuses old request what = (reply : Reply) (new : Objects) → what_of request reply ≡ Some what → Serves ledger_of (objects_of old) request reply new → ⊥
 
+-- some reply does
+pub record HasAnswer (old : Plain) (request : Request) (what : What) : Type 0 where
+  pub reply : Reply
+  pub new : Objects
+  pub told : what_of request reply ≡ Some what
+  pub serves : Serves ledger_of (objects_of old) request reply new
+
 -- a request that takes no memory is answered, or it can't be so that the event tells it
 abbrev pub Answers : {X : Type 0} → Plain → Request → What → (X → Reply) → Result X CoreFault → Plain → Type 0
 Answers old request what replied (Ok x) new = IsAnswer old request what (replied x) new
@@ -62,7 +69,7 @@ CanTurn stack lists next.Stays = Unit {0}
 CanTurn stack lists (next.Returns dev) = HasRoom 0 lists × ListsAreWithin stack (lists_of lists)
 CanTurn stack lists (next.Copies bio master) = HasRoom 0 lists × ListsAreWithin stack (lists_of lists) × (bio.dev.0 < length stack.devices.items)
 
--- a submission has an answer to what it asks for, and this comes next
+-- a submission has an answer to what it asks for, and this comes next; it lacks memory only where there is an answer
 abbrev pub LineSteps : Routing → Plain → line.Doing → TaskLists → What → Result Next CoreFault → Plain → line.Doing → TaskLists → Type 0
 LineSteps r old doing lists what (Ok next) new after rest =
     (reply : Reply)
@@ -70,7 +77,8 @@ LineSteps r old doing lists what (Ok next) new after rest =
     × (line.line_answered (setup r) doing lists reply ≡ turned (setup r) after rest next)
 LineSteps r old doing lists what (Err fault.NotEnabled) new after rest =
     (new ≡ old) × (after ≡ doing) × (rest ≡ lists) × Refuses old (line.line_request (setup r) doing lists) what
-LineSteps r old doing lists what (Err fault.Memory) new after rest = (new ≡ old) × (after ≡ doing) × (rest ≡ lists)
+LineSteps r old doing lists what (Err fault.Memory) new after rest =
+    (new ≡ old) × (after ≡ doing) × (rest ≡ lists) × HasAnswer old (line.line_request (setup r) doing lists) what
 
 -- an attempt at a bio of a set had one, or missed
 abbrev pub TakesPart : Plain → SetId → Bool → What → Result (Option (Item Pad)) CoreFault → Plain → Type 0
@@ -116,7 +124,8 @@ LineMoves r old before what (Ok done) new after =
     × (after ≡ line.line_answered (setup r) before.doing before.lists reply)
 LineMoves r old before what (Err fault.NotEnabled) new after =
     (new ≡ old) × (after ≡ before) × Refuses old (line.line_request (setup r) before.doing before.lists) what
-LineMoves r old before what (Err fault.Memory) new after = (new ≡ old) × (after ≡ before)
+LineMoves r old before what (Err fault.Memory) new after =
+    (new ≡ old) × (after ≡ before) × HasAnswer old (line.line_request (setup r) before.doing before.lists) what
 
 -- a submission is under way
 abbrev pub IsBusy : line.Doing → Type 0
@@ -129,7 +138,7 @@ Submits (task.Writer number todo taken l) = IsBusy l.doing
 Submits (task.Rescuer dev l) = IsBusy l.doing
 Submits state = ⊥
 
--- a task goes on with an answer to what it asks for, where what it looks at lets it ask
+-- a task goes on with an answer to what it asks for, where what it looks at lets it ask; it lacks memory only where it could go on so
 abbrev pub TaskMoves : Routing → Plain → TaskState → What → Result (Unit {0}) CoreFault → Plain → TaskState → Type 0
 TaskMoves r old before what (Ok done) new after =
     (reply : Reply)
@@ -138,7 +147,12 @@ TaskMoves r old before what (Ok done) new after =
     × (after ≡ answered (setup r) before reply)
 TaskMoves r old before what (Err fault.NotEnabled) new after =
     (new ≡ old) × (after ≡ before) × (IsLet ledger_of (objects_of old) before (look_of before) → Refuses old (request (setup r) before) what)
-TaskMoves r old before what (Err fault.Memory) new after = (new ≡ old) × (after ≡ before) × Submits before
+TaskMoves r old before what (Err fault.Memory) new after =
+    (new ≡ old)
+    × (after ≡ before)
+    × Submits before
+    × IsLet ledger_of (objects_of old) before (look_of before)
+    × HasAnswer old (request (setup r) before) what
 
 -- what the keeper's duty is answered with
 abbrev pub duty_reply : task.Duty → Reply
@@ -212,3 +226,8 @@ TakesVector old what (Err fault.Memory) new = ⊥
 abbrev pub Fails : Plain → Request → What → CoreFault → Plain → Type 0
 Fails old request what fault.NotEnabled new = (new ≡ old) × Refuses old request what
 Fails old request what fault.Memory new = ⊥
+
+-- one that takes some was not answered: it can't be, or it could be but for memory
+abbrev pub Lacks : Plain → Request → What → CoreFault → Plain → Type 0
+Lacks old request what fault.NotEnabled new = (new ≡ old) × Refuses old request what
+Lacks old request what fault.Memory new = (new ≡ old) × HasAnswer old request what

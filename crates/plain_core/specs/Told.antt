@@ -59,7 +59,7 @@ Punts old lists dev what (Ok done) new rest =
     × (new ≡ with_rescue old dev.0 (rescue_at new dev.0))
     × (rest ≡ not_punted dev lists)
 Punts old lists dev what (Err fault.NotEnabled) new rest = (new ≡ old) × (rest ≡ lists) × (IsPunt lists dev what → ⊥)
-Punts old lists dev what (Err fault.Memory) new rest = (new ≡ old) × (rest ≡ lists)
+Punts old lists dev what (Err fault.Memory) new rest = (new ≡ old) × (rest ≡ lists) × IsPunt lists dev what
 
 -- the first bio that waits for a rescuer was taken
 abbrev pub Pops : Plain → DevId → What → Result (Item Pad) CoreFault → Plain → Type 0
@@ -83,7 +83,7 @@ Pushes old part what (Ok done) new =
     × PushesIn (kept_disk old part.bio.dev.0) part (kept_disk new part.bio.dev.0)
     × (new ≡ with_disk old part.bio.dev.0 (kept_disk new part.bio.dev.0))
 Pushes old part what (Err fault.NotEnabled) new = (new ≡ old) × (IsPush part what → ⊥)
-Pushes old part what (Err fault.Memory) new = new ≡ old
+Pushes old part what (Err fault.Memory) new = (new ≡ old) × IsPush part what
 
 -- a disk ended a bio that waited in it
 abbrev pub CompletesIn : Option DiskState → ℕ → Item Pad → Status → Option DiskState → Type 0
@@ -109,6 +109,17 @@ Links old writer opening what result new =
     × (next ≡ with_book old writer (book_at next writer)))
     ((node : ℕ) (book : BookState) → what ≡ told.Link writer (how_of opening) node → Opened (book_at old writer) opening (Made node) book → ⊥)
     result new
+
+-- the same where room is made for what comes of it: that can lack memory, and then a node could be opened else
+abbrev pub Joins : Plain → ℕ → Opening → What → Result ℕ CoreFault → Plain → Type 0
+Joins old writer opening what (Ok node) new = Links old writer opening what (Ok node) new
+Joins old writer opening what (Err fault.NotEnabled) new = Links old writer opening what (Err fault.NotEnabled) new
+Joins old writer opening what (Err fault.Memory) new =
+    (new ≡ old)
+    × (node : ℕ)
+    × (book : BookState)
+    × (what ≡ told.Link writer (how_of opening) node)
+    × Opened (book_at old writer) opening (Made node) book
 
 -- a node of a writer's book was told of an end
 abbrev pub IsDrop : Plain → ℕ → ℕ → Status → Option (Item Pad) → What → Result Ended CoreFault → Plain → Type 0

@@ -1,11 +1,14 @@
 //! Books of nodes that hold plain elements.
-ghost use Rattle.std.specs.Prelude.{◌≡◌, ℕ, ◌^◌, ◌-◌, ◌<◌, IfOk, IsSome, MatchBool, MatchOption, None, Some, replicate};
+ghost use Rattle.std.specs.Prelude.{◌≡◌, ℕ, ◌^◌, ◌-◌, ◌<◌, IfOk, OnOk, IsSome, MatchBool, MatchOption, None, Some, replicate};
 ghost use Rattle.bio_books.specs.Books.{BookState, Node as Open, parent_of, first_failing, any_well, by_mark, kept_with, closing, told, lowered, raised, keeping, child_node, leg_node, top_node, master_node, node_at, with_node};
 ghost use Rattle.bio_books.specs.Links.{Made, IsVacant, Opens, Chains, Masters, Legs};
 ghost use Rattle.bio_books.specs.Drops.{Drops, closed_of};
-ghost use Rattle.plain_core.specs.Books.{IsTold};
+ghost use Rattle.plain_core.specs.Books.{IsTold, OpensSo};
+ghost use Rattle.plain_core.specs.Lists.{lists_of, HasRoom};
 ghost use Rattle.plain_core.specs.Free.{IsCountAt, Tells};
 
+use crate::fault::CoreFault;
+use crate::lists::Lists;
 use crate::part::{Part, Slip, Vector};
 use bio_books::Role;
 use stack_base::Status;
@@ -367,26 +370,39 @@ impl Book {
         true
     }
 
-    /// Opens a child of an open node, which waits for it (`bio_chain`, `block/bio.c`).
-    #[tactic(auto, using(crate::proofs::Booked::stays))]
-    pub fn open_chain(&mut self, parent: u32, place: u32) -> bool
-        ensures { MatchBool result (Chains self.old parent (Made place) self.new)
-            ((self.new ≡ self.old) × ((new : BookState) → Chains self.old parent (Made place) new → ⊥)) }
+    /// Opens a child of an open node, which waits for it (`bio_chain`, `block/bio.c`), and makes room in the lists for what comes of it.
+    ///
+    /// # Errors
+    /// `NotEnabled` where it can't be opened, and `Memory` where only room lacks. Nothing is changed then.
+    #[tactic(auto, using(crate::proofs::Booked::stays, crate::proofs::Booked::chained))]
+    pub fn open_chain(
+        &mut self,
+        parent: u32,
+        place: u32,
+        lists: &mut Lists,
+    ) -> Result<(), CoreFault>
+        ensures opens { OpensSo self.old (Chains self.old parent (Made place)) result self.new }
+        ensures same { lists_of lists.new ≡ lists_of lists.old }
+        ensures room { OnOk result (HasRoom 2 lists.new) }
     {
         let Some(node) = self.node(parent) else {
-            return false;
+            return Err(CoreFault::NotEnabled);
         };
         let (count, write) = (node.count, node.write);
         if count == u64::MAX || !self.is_vacant(place) {
-            return false;
+            return Err(CoreFault::NotEnabled);
         }
+        lists.reserve()?;
         self.nodes[place as usize] = Some(Node::new(Role::Chain { parent }, write, None));
         self.raise(parent);
-        true
+        Ok(())
     }
 
     /// Opens a master, which stands for the own part of an open node, and which keeps that part (`raid1_write_request`,
-    /// `drivers/md/raid1.c`).
+    /// `drivers/md/raid1.c`), and makes room in the lists for what comes of it.
+    ///
+    /// # Errors
+    /// `NotEnabled` where it can't be opened, and `Memory` where only room lacks. Nothing is changed then.
     #[tactic(auto, using(crate::proofs::Booked::stays))]
     pub fn open_master(
         &mut self,
@@ -395,37 +411,46 @@ impl Book {
         slip: &Slip,
         legs: u32,
         place: u32,
-    ) -> bool
-        ensures { MatchBool result (Masters self.old parent part.now slip.now legs (Made place) self.new)
-            ((self.new ≡ self.old) × ((new : BookState) → Masters self.old parent part.now slip.now legs (Made place) new → ⊥)) }
+        lists: &mut Lists,
+    ) -> Result<(), CoreFault>
+        ensures opens { OpensSo self.old (Masters self.old parent part.now slip.now legs (Made place)) result self.new }
+        ensures same { lists_of lists.new ≡ lists_of lists.old }
+        ensures room { OnOk result (HasRoom 2 lists.new) }
     {
         let Some(node) = self.node(parent) else {
-            return false;
+            return Err(CoreFault::NotEnabled);
         };
         let write = node.write;
         if !self.is_vacant(place) {
-            return false;
+            return Err(CoreFault::NotEnabled);
         }
+        lists.reserve()?;
         self.nodes[place as usize] = Some(Node::master(parent, write, slip, legs));
         self.keep(parent, part);
-        true
+        Ok(())
     }
 
-    /// Opens a leg of an open node, which has counted it already.
-    pub fn open_leg(&mut self, master: u32, place: u32) -> bool
-        ensures { MatchBool result (Legs self.old master (Made place) self.new)
-            ((self.new ≡ self.old) × ((new : BookState) → Legs self.old master (Made place) new → ⊥)) }
+    /// Opens a leg of an open node, which has counted it already, and makes room in the lists for what comes of it.
+    ///
+    /// # Errors
+    /// `NotEnabled` where it can't be opened, and `Memory` where only room lacks. Nothing is changed then.
+    #[tactic(auto, using(crate::proofs::Booked::legged))]
+    pub fn open_leg(&mut self, master: u32, place: u32, lists: &mut Lists) -> Result<(), CoreFault>
+        ensures opens { OpensSo self.old (Legs self.old master (Made place)) result self.new }
+        ensures same { lists_of lists.new ≡ lists_of lists.old }
+        ensures room { OnOk result (HasRoom 2 lists.new) }
     {
         let Some(node) = self.node(master) else {
-            return false;
+            return Err(CoreFault::NotEnabled);
         };
         let write = node.write;
         if !self.is_vacant(place) {
-            return false;
+            return Err(CoreFault::NotEnabled);
         }
+        lists.reserve()?;
         let leg = Role::Leg { parent: master };
         self.nodes[place as usize] = Some(Node::new(leg, write, None));
-        true
+        Ok(())
     }
 
     /// Tells an open node of an end, where that leaves this of it (`bio_endio`, `block/bio.c`).

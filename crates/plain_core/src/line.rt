@@ -190,7 +190,6 @@ fn cut_step(
     what: &What,
 ) -> Result<Next, CoreFault>
     requires stack { objects.old.stack ≡ routes.now.stack }
-    requires room { HasRoom 2 lists.old }
     requires fits { DoingFits routes.now.stack (cuts_for part.now (want_of want.old)) }
     requires lists { ListsAreWithin routes.now.stack (lists_of lists.old) }
     ensures steps { LineSteps routes.now objects.old (cuts_for part.now (want_of want.old)) (lists_of lists.old) what.now result objects.new (cuts_for part.now (want_of want.new)) (lists_of lists.new) }
@@ -207,7 +206,7 @@ fn cut_step(
             Err(fault) => Err(fault),
             Ok(()) => Ok(stay(want, Want::Takes(true))),
         },
-        Want::Links(hand) => match objects.open_chain(bio.writer, bio.node, what) {
+        Want::Links(hand) => match objects.open_chain(bio.writer, bio.node, lists, what) {
             Err(fault) => Err(fault),
             Ok(node) => {
                 cut(routes, part, hand, node, lists);
@@ -227,7 +226,6 @@ fn drive_step(
     what: &What,
 ) -> Result<Next, CoreFault>
     requires stack { objects.old.stack ≡ routes.now.stack }
-    requires room { HasRoom 2 lists.old }
     requires fits { DoingFits routes.now.stack (drives_for part.now (ask_of ask.old)) }
     requires lists { ListsAreWithin routes.now.stack (lists_of lists.old) }
     ensures steps { LineSteps routes.now objects.old (drives_for part.now (ask_of ask.old)) (lists_of lists.old) what.now result objects.new (drives_for part.now (ask_of ask.new)) (lists_of lists.new) }
@@ -236,7 +234,7 @@ fn drive_step(
     routes.known();
     let bio = part.bio();
     match ask {
-        Ask::ToPush => match objects.push(part, what) {
+        Ask::ToPush => match objects.push(part, lists, what) {
             Err(fault) => Err(fault),
             Ok(()) => Ok(Next::Returns(bio.dev)),
         },
@@ -250,7 +248,7 @@ fn drive_step(
             }
         },
         Ask::ToMaster(slip) => {
-            match objects.open_master(part, slip, routes.legs(bio.dev), what) {
+            match objects.open_master(part, slip, routes.legs(bio.dev), lists, what) {
                 Err(fault) => Err(fault),
                 Ok(node) => Ok(Next::Copies(bio, node)),
             }
@@ -304,7 +302,6 @@ fn copy_step(
     what: &What,
 ) -> Result<Next, CoreFault>
     requires stack { objects.old.stack ≡ routes.now.stack }
-    requires room { HasRoom 2 lists.old }
     requires fits { DoingFits routes.now.stack (copies_for copying.old (want_of want.old)) }
     requires lists { ListsAreWithin routes.now.stack (lists_of lists.old) }
     ensures steps { LineSteps routes.now objects.old (copies_for copying.old (want_of want.old)) (lists_of lists.old) what.now result objects.new (copies_for copying.new (want_of want.new)) (lists_of lists.new) }
@@ -321,7 +318,12 @@ fn copy_step(
             Err(fault) => Err(fault),
             Ok(()) => Ok(stay(want, Want::Takes(true))),
         },
-        Want::Links(hand) => match objects.open_leg(copying.bio.writer, copying.master, what) {
+        Want::Links(hand) => match objects.open_leg(
+            copying.bio.writer,
+            copying.master,
+            lists,
+            what,
+        ) {
             Err(fault) => Err(fault),
             Ok(node) => {
                 copy(routes, copying, hand, node, lists);
@@ -371,7 +373,6 @@ fn answer(
     what: &What,
 ) -> Result<Next, CoreFault>
     requires stack { objects.old.stack ≡ routes.now.stack }
-    requires room { HasRoom 2 lists.old }
     requires fits { DoingFits routes.now.stack (doing_of doing.old) }
     requires lists { ListsAreWithin routes.now.stack (lists_of lists.old) }
     ensures steps { LineSteps routes.now objects.old (doing_of doing.old) (lists_of lists.old) what.now result objects.new (doing_of doing.new) (lists_of lists.new) }
@@ -387,7 +388,7 @@ fn answer(
 /// A submission goes on with what the event tells, where its next request can be answered so.
 ///
 /// # Errors
-/// Where it can't, or where there is no memory. Then nothing is changed.
+/// Where it can't, or where it can, but there is no memory for it. Then nothing is changed.
 pub fn line_step(
     routes: &Routes,
     objects: &mut Objects,
@@ -398,7 +399,6 @@ pub fn line_step(
     requires fits { LineFits routes.now.stack (line_of line.old) }
     ensures { LineMoves routes.now objects.old (line_of line.old) what.now result objects.new (line_of line.new) }
 {
-    line.lists.reserve()?;
     match answer(routes, objects, &mut line.doing, &mut line.lists, what) {
         Err(fault) => Err(fault),
         Ok(next) => {

@@ -15,9 +15,9 @@ ghost use Rattle.task_core.specs.Within.{IsWithin, ListsAreWithin};
 ghost use Rattle.bio_books.specs.Books.{node_at};
 ghost use Rattle.bio_books.specs.Links.{IsVacant};
 ghost use Rattle.plain_core.specs.Free.{IsCountAt, IsShort, Tells};
-ghost use Rattle.plain_core.specs.Lists.{lists_of};
+ghost use Rattle.plain_core.specs.Lists.{lists_of, HasRoom};
 ghost use Rattle.plain_core.specs.Plain.{Gives, HasSize, HasPlaces, book_at, disk_at, pool_at, rescue_at};
-ghost use Rattle.plain_core.specs.Told.{Takes, MovesAs, Punts, Pops, Pushes, PushesIn, IsComplete, CompletesIn, Links, IsDrop};
+ghost use Rattle.plain_core.specs.Told.{Takes, MovesAs, Punts, Pops, Pushes, PushesIn, IsComplete, CompletesIn, Links, Joins, IsDrop};
 
 use crate::book::{Book, Ended};
 use crate::disk::Disk;
@@ -36,20 +36,33 @@ use task_core::{Got, How, Routes, What};
 #[derive(Drop)]
 pub struct Tally {
     round: u32,
-    // How many writes of each round are unfinished.
+    // How many writes of each round are unfinished, and how many of all.
     left: Vec<u64>,
+    all: u128,
     statuses: Vec<Status>,
 }
 
 impl Model for Tally {
-    ghost use Rattle.std.specs.Prelude.{◌<◌, ◌^◌, length};
+    ghost use Rattle.std.specs.Prelude.{◌≡◌, ◌<◌, ◌^◌, length, sum};
     ghost use Rattle.task_core.specs.Objects.{TallyState};
 
     ghost Value = { TallyState };
 
     ghost view = { λ t. record { round = t.round; left = t.left.items; statuses = t.statuses.items } };
 
-    ghost invariant = { λ t. length t.left.items < 2 ^ 32 };
+    ghost invariant = { λ t. (length t.left.items < 2 ^ 32) × (sum t.left.items ≡ t.all) };
+}
+
+// The sum of some numbers.
+fn total(numbers: &[u64]) -> u128
+    requires { length numbers.now < 2 ^ 32 }
+    ensures { result ≡ sum numbers.now }
+{
+    let mut total = 0;
+    'adding: for number in numbers {
+        total += u128::from(*number);
+    }
+    total
 }
 
 impl Tally {
@@ -58,9 +71,11 @@ impl Tally {
         requires { length left.items < 2 ^ 32 }
         ensures { result ≡ record { round = 0; left = left.items; statuses = statuses.items } }
     {
+        let all = total(&left);
         Tally {
             round: 0,
             left,
+            all,
             statuses,
         }
     }
@@ -77,6 +92,7 @@ impl Tally {
         ensures { self.new ≡ done_one write status self.old }
     {
         if let Some(left) = self.left.get_mut(self.round as usize) {
+            self.all -= u128::from((*left).min(1));
             *left = left.saturating_sub(1);
         }
         if let Some(known) = self.statuses.get_mut(write as usize) {
@@ -88,14 +104,7 @@ impl Tally {
     pub fn leaves(&self, count: u64) -> bool
         ensures { result ≡ (sum self.now.left == count) }
     {
-        let mut rest = count;
-        for left in &self.left {
-            if *left > rest {
-                return false;
-            }
-            rest -= *left;
-        }
-        rest == 0
+        self.all == u128::from(count)
     }
 
     /// Whether a round is behind the present one.
@@ -370,11 +379,13 @@ impl Objects {
         Ok(part)
     }
 
-    /// A bio comes to the disk that it is at.
-    pub fn push(&mut self, part: &Part, what: &What) -> Result<(), CoreFault>
+    /// A bio comes to the disk that it is at. Where it does, the lists have room for what comes next.
+    pub fn push(&mut self, part: &Part, lists: &mut Lists, what: &What) -> Result<(), CoreFault>
         requires within { IsWithin self.old.stack part.now.bio }
         requires disk { keeps_data (tree self.old.stack part.now.bio.dev.0) ≡ true }
-        ensures { Pushes self.old part.now what.now result self.new }
+        ensures pushes { Pushes self.old part.now what.now result self.new }
+        ensures same { lists_of lists.new ≡ lists_of lists.old }
+        ensures room { OnOk result (HasRoom 2 lists.new) }
     {
         let bio = part.bio();
         if !told::pushes(
@@ -386,6 +397,7 @@ impl Objects {
         ) {
             return Err(CoreFault::NotEnabled);
         }
+        lists.reserve()?;
         let Some(slot) = self.disks.get_mut(bio.dev.0 as usize) else {
             unreachable!()
         };
@@ -431,9 +443,17 @@ impl Objects {
         Ok(place)
     }
 
-    /// The node of the front of a bio that is split is opened (`bio_chain`, `block/bio.c`).
-    pub fn open_chain(&mut self, writer: u32, parent: u32, what: &What) -> Result<u32, CoreFault>
-        ensures { Links self.old writer (Chain parent) what.now result self.new }
+    /// The node of the front of a bio that is split is opened (`bio_chain`, `block/bio.c`). Where it is, the lists have room for what comes of it.
+    pub fn open_chain(
+        &mut self,
+        writer: u32,
+        parent: u32,
+        lists: &mut Lists,
+        what: &What,
+    ) -> Result<u32, CoreFault>
+        ensures joins { Joins self.old writer (Chain parent) what.now result self.new }
+        ensures same { lists_of lists.new ≡ lists_of lists.old }
+        ensures room { OnOk result (HasRoom 2 lists.new) }
     {
         let Some(place) = told::linked_of(what, writer, How::Chain) else {
             return Err(CoreFault::NotEnabled);
@@ -441,21 +461,24 @@ impl Objects {
         let Some(book) = self.books.get_mut(writer as usize) else {
             return Err(CoreFault::NotEnabled);
         };
-        if !book.open_chain(parent, place) {
-            return Err(CoreFault::NotEnabled);
+        match book.open_chain(parent, place, lists) {
+            Err(fault) => Err(fault),
+            Ok(()) => Ok(place),
         }
-        Ok(place)
     }
 
-    /// A mirror's master is opened for a bio (`alloc_r1bio`, `drivers/md/raid1.c`).
+    /// A mirror's master is opened for a bio (`alloc_r1bio`, `drivers/md/raid1.c`). Where it is, the lists have room for what comes of it.
     pub fn open_master(
         &mut self,
         part: &Part,
         slip: &Slip,
         legs: u32,
+        lists: &mut Lists,
         what: &What,
     ) -> Result<u32, CoreFault>
-        ensures { Links self.old part.now.bio.writer (Master part.now.bio.node part.now slip.now legs) what.now result self.new }
+        ensures joins { Joins self.old part.now.bio.writer (Master part.now.bio.node part.now slip.now legs) what.now result self.new }
+        ensures same { lists_of lists.new ≡ lists_of lists.old }
+        ensures room { OnOk result (HasRoom 2 lists.new) }
     {
         let bio = part.bio();
         let Some(place) = told::linked_of(what, bio.writer, How::Master) else {
@@ -464,15 +487,23 @@ impl Objects {
         let Some(book) = self.books.get_mut(bio.writer as usize) else {
             return Err(CoreFault::NotEnabled);
         };
-        if !book.open_master(bio.node, part, slip, legs, place) {
-            return Err(CoreFault::NotEnabled);
+        match book.open_master(bio.node, part, slip, legs, place, lists) {
+            Err(fault) => Err(fault),
+            Ok(()) => Ok(place),
         }
-        Ok(place)
     }
 
-    /// The node of a leg is opened.
-    pub fn open_leg(&mut self, writer: u32, master: u32, what: &What) -> Result<u32, CoreFault>
-        ensures { Links self.old writer (Leg master) what.now result self.new }
+    /// The node of a leg is opened. Where it is, the lists have room for what comes of it.
+    pub fn open_leg(
+        &mut self,
+        writer: u32,
+        master: u32,
+        lists: &mut Lists,
+        what: &What,
+    ) -> Result<u32, CoreFault>
+        ensures joins { Joins self.old writer (Leg master) what.now result self.new }
+        ensures same { lists_of lists.new ≡ lists_of lists.old }
+        ensures room { OnOk result (HasRoom 2 lists.new) }
     {
         let Some(place) = told::linked_of(what, writer, How::Leg) else {
             return Err(CoreFault::NotEnabled);
@@ -480,10 +511,10 @@ impl Objects {
         let Some(book) = self.books.get_mut(writer as usize) else {
             return Err(CoreFault::NotEnabled);
         };
-        if !book.open_leg(master, place) {
-            return Err(CoreFault::NotEnabled);
+        match book.open_leg(master, place, lists) {
+            Err(fault) => Err(fault),
+            Ok(()) => Ok(place),
         }
-        Ok(place)
     }
 
     /// The node at this place is told of an end (`bio_endio`, `block/bio.c`).

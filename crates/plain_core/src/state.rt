@@ -159,8 +159,8 @@ impl Core {
     /// Applies an event: the state is that after the step of the machine then, which is the only one that the event tells.
     ///
     /// # Errors
-    /// `NotEnabled` exactly where the event is no step of the machine from this state, and `Memory` where there was none. Nothing is changed then.
-    /// Only a task with a submission under way takes memory.
+    /// `NotEnabled` exactly where the event is no step of the machine from this state, whether there is memory or not, and `Memory` where it is a
+    /// step, but there is no memory for it. Nothing is changed then. Only a task with a submission under way takes memory.
     pub fn apply(&mut self, event: &Event) -> Result<(), CoreFault>
         ensures { Applies self.old event.now result self.new }
     {

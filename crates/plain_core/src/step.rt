@@ -331,7 +331,7 @@ fn take_step(
 /// The rescuer of a device's set goes on with what the event tells (`bio_alloc_rescue`, `block/bio.c`).
 ///
 /// # Errors
-/// Where it can't, or where there is no memory. Then nothing is changed.
+/// Where it can't, or where it can, but there is no memory for it. Then nothing is changed.
 pub fn rescuer_step(
     routes: &Routes,
     objects: &mut Objects,
@@ -463,7 +463,7 @@ fn write_step(
 /// A writer goes on with what the event tells.
 ///
 /// # Errors
-/// Where it can't, or where there is no memory. Then nothing is changed.
+/// Where it can't, or where it can, but there is no memory for it. Then nothing is changed.
 pub fn writer_step(
     routes: &Routes,
     objects: &mut Objects,
@@ -483,7 +483,7 @@ pub fn writer_step(
 /// A task goes on with what the event tells, where its next request can be answered so.
 ///
 /// # Errors
-/// Where it can't, or where there is no memory. Then nothing is changed.
+/// Where it can't, or where it can, but there is no memory for it. Then nothing is changed.
 pub fn task_step(
     routes: &Routes,
     objects: &mut Objects,

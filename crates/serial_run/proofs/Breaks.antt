@@ -107,18 +107,18 @@ whole (Writer number todo taken line) fine = by_doing line.doing fine
     by_doing Rests fine = refl
     by_doing (Drives bio ask) fine = refl
     by_doing (Copies bio master leg want) fine = refl
-    by_doing (Breaks breach) fine = absurd (true≢false fine)
+    by_doing (Breaks breach kept) fine = absurd (true≢false fine)
 whole (Rescuer dev line) fine = by_doing line.doing fine
   where
     by_doing : (doing : Doing) → broke_in doing ≡ false → doing_breach doing ≡ None
     by_doing Rests fine = refl
     by_doing (Drives bio ask) fine = refl
     by_doing (Copies bio master leg want) fine = refl
-    by_doing (Breaks breach) fine = absurd (true≢false fine)
+    by_doing (Breaks breach kept) fine = absurd (true≢false fine)
 whole (Completer disk Empty) fine = refl
 whole (Completer disk (Brings bio status)) fine = refl
 whole (Completer disk (Carries writer closed)) fine = refl
-whole (Completer disk (Fails breach)) fine = absurd (true≢false fine)
+whole (Completer disk (Fails breach kept)) fine = absurd (true≢false fine)
 whole (Keeper (Keeps duties)) fine = refl
 whole (Keeper (Stops breach)) fine = absurd (true≢false fine)
 

@@ -89,7 +89,7 @@ told_other requests.Rest reply others = refl
 module _ (setup : Setup) where
   line_completes : (doing : Doing) (lists : TaskLists) → completes (line_request setup doing lists) ≡ false
   line_completes Rests lists = refl
-  line_completes (Breaks breach) lists = refl
+  line_completes (Breaks breach kept) lists = refl
   line_completes (Drives bio ToPush) lists = refl
   line_completes (Drives bio (ToCut (Takes waits))) lists = refl
   line_completes (Drives bio (ToCut Punts)) lists = refl
@@ -112,13 +112,13 @@ module _ (setup : Setup) where
   writer_completes writer (todo ∷ later) (HasBoth bio vector) Rests line = refl
   writer_completes writer todos taken (Drives bio ask) line = line_completes (Drives bio ask) line.lists
   writer_completes writer todos taken (Copies bio master leg want) line = line_completes (Copies bio master leg want) line.lists
-  writer_completes writer todos taken (Breaks breach) line = refl
+  writer_completes writer todos taken (Breaks breach kept) line = refl
 
   rescuer_completes : (dev : DevId) (doing : Doing) (line : Line) → completes (rescuer_request setup dev doing line) ≡ false
   rescuer_completes dev Rests line = refl
   rescuer_completes dev (Drives bio ask) line = line_completes (Drives bio ask) line.lists
   rescuer_completes dev (Copies bio master leg want) line = line_completes (Copies bio master leg want) line.lists
-  rescuer_completes dev (Breaks breach) line = refl
+  rescuer_completes dev (Breaks breach kept) line = refl
 
   asks_other : (task : TaskState) → IsNoCompleter task → completes (request setup task) ≡ false
   asks_other (Writer number todos taken line) none = writer_completes number todos taken line.doing line
@@ -141,7 +141,7 @@ module _ (setup : Setup) where
     where
       by_line : (doing : Doing) (lists : TaskLists) → HasRound objects (line_request setup doing lists)
       by_line Rests lists = tt
-      by_line (Breaks breach) lists = tt
+      by_line (Breaks breach kept) lists = tt
       by_line (Drives bio ToPush) lists = tt
       by_line (Drives bio (ToCut (Takes waits))) lists = tt
       by_line (Drives bio (ToCut Punts)) lists = tt
@@ -163,12 +163,12 @@ module _ (setup : Setup) where
       by_writer (todo ∷ later) (HasBoth bio vector) Rests = tt
       by_writer todos taken (Drives bio ask) = by_line (Drives bio ask) line.lists
       by_writer todos taken (Copies bio master leg want) = by_line (Copies bio master leg want) line.lists
-      by_writer todos taken (Breaks breach) = tt
+      by_writer todos taken (Breaks breach kept) = tt
   has_round objects (Rescuer dev line) ahead = by_rescuer line.doing
     where
       by_line : (doing : Doing) (lists : TaskLists) → HasRound objects (line_request setup doing lists)
       by_line Rests lists = tt
-      by_line (Breaks breach) lists = tt
+      by_line (Breaks breach kept) lists = tt
       by_line (Drives bio ToPush) lists = tt
       by_line (Drives bio (ToCut (Takes waits))) lists = tt
       by_line (Drives bio (ToCut Punts)) lists = tt
@@ -183,7 +183,7 @@ module _ (setup : Setup) where
       by_rescuer Rests = tt
       by_rescuer (Drives bio ask) = by_line (Drives bio ask) line.lists
       by_rescuer (Copies bio master leg want) = by_line (Copies bio master leg want) line.lists
-      by_rescuer (Breaks breach) = tt
+      by_rescuer (Breaks breach kept) = tt
   has_round objects (Completer disk Empty) ahead = tt
   has_round objects (Completer disk (Brings bio status)) ahead = tt
   has_round objects (Completer disk (Carries writer closed)) ahead = by_held closed.held.vector closed.held.bio closed.held.slip closed.parent
@@ -194,7 +194,7 @@ module _ (setup : Setup) where
       by_held None None (Some slip) parent = tt
       by_held None None None (Some parent) = tt
       by_held None None None None = tt
-  has_round objects (Completer disk (Fails breach)) ahead = tt
+  has_round objects (Completer disk (Fails breach kept)) ahead = tt
   has_round objects (Keeper (Keeps [])) ahead = tt
   has_round objects (Keeper (Keeps (Resizes pool min later ∷ duties))) ahead = tt
   has_round objects (Keeper (Keeps (Starts round later ∷ duties))) ahead = ahead round later duties refl

@@ -1,5 +1,5 @@
 -- An attempt at a bio for a piece or a leg is what its submission asks for.
-use Rattle.std.proofs.Common.{◌≡◌, Bool, true, false, Option, Some, None, refl, sym, ap, subst}
+use Rattle.std.proofs.Common.{◌≡◌, ◌≢◌, ℕ, [], Bool, true, false, Option, Some, None, refl, sym, ap, subst}
 use Rattle.std.proofs.Common.{true≢false}
 use Rattle.std.specs.Option.{option_map_or}
 use Rattle.stack_base.specs.declared.ids.DevId.{DevId}
@@ -10,7 +10,10 @@ use Rattle.task_core.specs.declared.event.TaskId.{TaskId}
 use Rattle.task_core.specs.declared.step.Step.TheVariants.{Broken}
 use Rattle.task_core.specs.Scene.{Setup}
 use Rattle.task_core.specs.Requests.{Request, Reply, TakeBio, Spent}
-use Rattle.task_core.specs.Lines.{Takes, Punts, Links, ToPush, ToCut, ToRecord, ToMaster, Doing, Rests, Drives, Copies, Breaks}
+use Rattle.bio_records.specs.declared.bio.Bio.{Bio}
+use Rattle.bio_records.specs.declared.bio.Pad.{Pad}
+use Rattle.bio_records.specs.Items.{Item}
+use Rattle.task_core.specs.Lines.{Want, Takes, Punts, Links, Ask, ToPush, ToCut, ToRecord, ToMaster, Doing, Rests, Drives, Copies, Breaks, want_kept, ask_kept, at_hand}
 use Rattle.task_core.specs.LineViews.{attempt_of}
 use Rattle.task_core.specs.Answers.{Answers, IsSpent}
 
@@ -20,11 +23,25 @@ none_there {A = A} there none = true≢false (sym (ap (λ (o : Option A). option
 same_there : {A : Type 0} (one there : A) → Some one ≡ Some there → one ≡ there
 same_there {A = A} one there same = ap (λ (o : Option A). option_map_or (λ (x : A). x) o there) same
 
+-- where a driver takes a bio, it has none at hand for a piece or a leg
+pub cuts_for_none : (bio : Item Pad) (ask : Ask) → attempt_of (Drives bio ask) ≢ None → ask_kept ask ≡ []
+cuts_for_none bio ToPush takes = absurd (takes refl)
+cuts_for_none bio (ToCut (Takes waits)) takes = refl
+cuts_for_none bio (ToCut Punts) takes = absurd (takes refl)
+cuts_for_none bio (ToCut (Links hand)) takes = absurd (takes refl)
+cuts_for_none bio ToRecord takes = absurd (takes refl)
+cuts_for_none bio (ToMaster slip) takes = absurd (takes refl)
+
+pub copies_for_none : (bio : Bio) (master leg : ℕ) (want : Want) → attempt_of (Copies bio master leg want) ≢ None → want_kept want ≡ []
+copies_for_none bio master leg (Takes waits) takes = refl
+copies_for_none bio master leg Punts takes = absurd (takes refl)
+copies_for_none bio master leg (Links hand) takes = absurd (takes refl)
+
 module _ {S : Type 0} (serves : S → Request → Reply → S → Type 0) (owes : Request → Reply → Type 0) (setup : Setup) (task : TaskId) where
   -- where there was no ticket for an attempt, the submission has broken off
   pub attempt_spent : (doing : Doing) (lists : TaskLists) (dev : DevId) (waits : Bool) (old new : S) → attempt_of doing ≡ Some (dev, waits)
       → IsSpent serves owes (TakeBio (Of dev) waits) old new
-      → Answers serves owes setup task doing lists old (record { doing = Breaks breach.Spent; lists = lists }) new (Broken breach.Spent)
+      → Answers serves owes setup task doing lists old (record { doing = Breaks breach.Spent (at_hand doing); lists = lists }) new (Broken breach.Spent)
   attempt_spent (Drives bio (ToCut (Takes waiting))) lists dev waits old new attempts spent =
       let same = same_there (bio.bio.dev, waiting) (dev, waits) attempts in
       record {
@@ -46,7 +63,7 @@ module _ {S : Type 0} (serves : S → Request → Reply → S → Type 0) (owes 
         tells = refl;
       }
   attempt_spent Rests lists dev waits old new attempts spent = absurd (none_there (dev, waits) attempts)
-  attempt_spent (Breaks why) lists dev waits old new attempts spent = absurd (none_there (dev, waits) attempts)
+  attempt_spent (Breaks why kept) lists dev waits old new attempts spent = absurd (none_there (dev, waits) attempts)
   attempt_spent (Drives bio ToPush) lists dev waits old new attempts spent = absurd (none_there (dev, waits) attempts)
   attempt_spent (Drives bio (ToCut Punts)) lists dev waits old new attempts spent = absurd (none_there (dev, waits) attempts)
   attempt_spent (Drives bio (ToCut (Links hand))) lists dev waits old new attempts spent = absurd (none_there (dev, waits) attempts)

@@ -9,7 +9,7 @@ use Rattle.task_core.specs.Objects.{Objects}
 use Rattle.task_core.specs.Opened.{no_task, start, scene, most_writers}
 use Rattle.task_core.specs.Opened as opened
 use Rattle.task_core.specs.PlainSteps.{scene_of}
-use Rattle.task_core.specs.Plains.{objects_of, stage_of}
+use Rattle.task_core.specs.Plains.{stage_of}
 use Rattle.task_core.specs.Runs.{State}
 use Rattle.task_core.specs.Scene.{Scene, Setup}
 use Rattle.task_core.specs.TaskViews.{TaskOf}

@@ -1,5 +1,5 @@
 -- Submissions of bios within their devices stay so.
-use Rattle.std.proofs.Common.{◌≡◌, ◌≢◌, inl, inr, ℕ, ◌+◌, ◌<◌, ◌≤◌, ◌==◌, Bool, true, false, List, [], ◌∷◌, refl, sym, ap, ◌∙◌, subst, arith}
+use Rattle.std.proofs.Common.{◌≡◌, ◌≢◌, inl, inr, ℕ, ◌+◌, ◌<◌, ◌≤◌, ◌==◌, Bool, true, false, List, [], ◌∷◌, Option, None, Some, refl, sym, ap, ◌∙◌, subst, arith}
 use Rattle.std.specs.Prelude.{not}
 use Rattle.std.proofs.lemmas.List.Elements.{All-head, All-tail, All-nil}
 use Rattle.stack_base.specs.declared.ids.DevId.{DevId}
@@ -16,7 +16,8 @@ use Rattle.bio_lists.specs.Submission.{submitted, order}
 use Rattle.bio_books.specs.Links.{Linked, Made, NoRoom, Stray}
 use Rattle.task_core.specs.declared.routes.Cut.{Cut}
 use Rattle.task_core.specs.Scene.{Setup, setup_of, keeps_data, is_mirror}
-use Rattle.task_core.specs.Lines.{Takes, Punts, Links, ToPush, ToCut, ToRecord, ToMaster, Doing, Rests, Drives, Copies, Breaks, Line, landed, asks_at, settled, goes_on, cut_at, legs_of, leg_at, copies, line_request, after_chain, after_master, after_leg, line_answered}
+use Rattle.task_core.specs.Kept.{Kept}
+use Rattle.task_core.specs.Lines.{Takes, Punts, Links, ToPush, ToCut, ToRecord, ToMaster, Doing, Rests, Drives, Copies, Breaks, Line, landed, asks_at, settled, goes_on, cut_at, legs_of, leg_at, copies, line_request, after_chain, after_master, after_leg, at_hand, punts_of, spent, line_answered}
 use Rattle.task_core.specs.Requests.{Reply, HadBio, HadSlip, Missed, Did, LinkedTo, Spent}
 use Rattle.task_core.specs.Within.{IsWithin, IsItemWithin, AreWithin, ListsAreWithin, is_handed_on, is_cut, DoingFits, LineFits, AskedFits, LinesStayWithin}
 use Rattle.task_core.specs.Routed.{sent, IsLanded, IsCutAt}
@@ -119,10 +120,15 @@ module _ (stack : Stack) (good : IsStack stack) (places : ℕ → ℕ) where
   leg_fits lists bio master leg hand (NoRoom back) all within lt = record { doing = tt; lists = all }
   leg_fits lists bio master leg hand (Stray back) all within lt = record { doing = tt; lists = all }
 
+  -- where there was no ticket
+  spent_fits : (kept : List Kept) (lists : TaskLists) (punts : Option DevId) → ListsAreWithin stack lists → LineFits stack (spent kept lists punts)
+  spent_fits kept lists None all = record { doing = tt; lists = all }
+  spent_fits kept lists (Some dev) all = record { doing = tt; lists = all_not_punted (IsItemWithin stack) lists all dev }
+
   -- so whatever is replied
   pub line_fits : (doing : Doing) (lists : TaskLists) (reply : Reply) → DoingFits stack doing → ListsAreWithin stack lists
       → LineFits stack (line_answered (setup_of stack places) doing lists reply)
-  line_fits doing lists Spent fits all = record { doing = tt; lists = all }
+  line_fits doing lists Spent fits all = spent_fits (at_hand doing) lists (punts_of doing) all
   line_fits (Drives bio ToPush) lists Did fits all = goes_on_fits bio.bio.dev lists all
   line_fits (Drives bio (ToCut (Takes waits))) lists (HadBio got hand) fits all = record { doing = fits; lists = all }
   line_fits (Drives bio (ToCut (Takes true))) lists (Missed used) fits all = record { doing = fits; lists = all }
@@ -142,7 +148,7 @@ module _ (stack : Stack) (good : IsStack stack) (places : ℕ → ℕ) where
 -- what is handed to a rescuer waited
 pub line_asks : (stack : Stack) (places : ℕ → ℕ) (doing : Doing) (lists : TaskLists) → ListsAreWithin stack lists → AskedFits stack (line_request (setup_of stack places) doing lists)
 line_asks stack places Rests lists all = tt
-line_asks stack places (Breaks breach) lists all = tt
+line_asks stack places (Breaks breach kept) lists all = tt
 line_asks stack places (Drives bio ToPush) lists all = tt
 line_asks stack places (Drives bio (ToCut (Takes waits))) lists all = tt
 line_asks stack places (Drives bio (ToCut Punts)) lists all = all_punted (IsItemWithin stack) lists all bio.bio.dev

@@ -74,7 +74,7 @@ module _ (setup : Setup) where
   line_stays : (doing : Doing) (lists : TaskLists) (reply : Reply) → IsIdle (line_request setup doing lists) reply
       → line_answered setup doing lists reply ≡ record { doing = doing; lists = lists }
   line_stays Rests lists reply idle = absurd idle
-  line_stays (Breaks breach) lists reply idle = absurd idle
+  line_stays (Breaks breach kept) lists reply idle = absurd idle
   line_stays (Drives bio ToPush) lists reply idle = absurd idle
   line_stays (Drives bio (ToCut (Takes true))) lists (requests.Missed used) idle = refl
   line_stays (Drives bio (ToCut (Takes true))) lists _ idle = absurd idle
@@ -109,7 +109,7 @@ module _ (setup : Setup) where
   writer_stays number (todo ∷ later) (HasBoth bio vector) Rests lists reply idle = absurd idle
   writer_stays number todos taken (Drives bio ask) lists reply idle = ap (Writer number todos taken) (line_stays (Drives bio ask) lists reply idle)
   writer_stays number todos taken (Copies bio master leg want) lists reply idle = ap (Writer number todos taken) (line_stays (Copies bio master leg want) lists reply idle)
-  writer_stays number todos taken (Breaks breach) lists reply idle = absurd idle
+  writer_stays number todos taken (Breaks breach kept) lists reply idle = absurd idle
 
   rescuer_stays : (dev : DevId) (doing : Doing) (lists : TaskLists) (reply : Reply) → IsIdle (request setup (Rescuer dev (record { doing = doing; lists = lists }))) reply
       → answered setup (Rescuer dev (record { doing = doing; lists = lists })) reply ≡ Rescuer dev (record { doing = doing; lists = lists })
@@ -117,7 +117,7 @@ module _ (setup : Setup) where
   rescuer_stays dev Rests lists _ idle = absurd idle
   rescuer_stays dev (Drives bio ask) lists reply idle = ap (Rescuer dev) (line_stays (Drives bio ask) lists reply idle)
   rescuer_stays dev (Copies bio master leg want) lists reply idle = ap (Rescuer dev) (line_stays (Copies bio master leg want) lists reply idle)
-  rescuer_stays dev (Breaks breach) lists reply idle = absurd idle
+  rescuer_stays dev (Breaks breach kept) lists reply idle = absurd idle
 
   held_moves : (writer : ℕ) (closed : Closed) (vector : Option VectorItem) (bio : Option (Item Pad)) (slip : Option SlipItem) (parent : Option ℕ) (reply : Reply)
       → IsIdle (closed_request writer closed vector bio slip parent) reply → ⊥
@@ -135,7 +135,7 @@ module _ (setup : Setup) where
   task_stays (Completer disk (Brings bio status)) reply idle = absurd idle
   task_stays (Completer disk (Carries writer closed)) reply idle =
       absurd (held_moves writer closed closed.held.vector closed.held.bio closed.held.slip closed.parent reply idle)
-  task_stays (Completer disk (Fails breach)) reply idle = absurd idle
+  task_stays (Completer disk (Fails breach kept)) reply idle = absurd idle
   task_stays (Keeper (Keeps [])) reply idle = absurd idle
   task_stays (Keeper (Keeps (Resizes pool min later ∷ duties))) reply idle = absurd idle
   task_stays (Keeper (Keeps (Starts round later ∷ duties))) reply idle = absurd idle
@@ -144,7 +144,7 @@ module _ (setup : Setup) where
   -- what a task asks for is fair
   fair_line : (objects : Objects) (doing : Doing) (lists : TaskLists) → IsFair objects (line_request setup doing lists)
   fair_line objects Rests lists = tt
-  fair_line objects (Breaks breach) lists = tt
+  fair_line objects (Breaks breach kept) lists = tt
   fair_line objects (Drives bio ToPush) lists = tt
   fair_line objects (Drives bio (ToCut (Takes waits))) lists = tt
   fair_line objects (Drives bio (ToCut Punts)) lists = tt
@@ -167,13 +167,13 @@ module _ (setup : Setup) where
   fair_writer objects number (todo ∷ later) (HasBoth bio vector) Rests lists = tt
   fair_writer objects number todos taken (Drives bio ask) lists = fair_line objects (Drives bio ask) lists
   fair_writer objects number todos taken (Copies bio master leg want) lists = fair_line objects (Copies bio master leg want) lists
-  fair_writer objects number todos taken (Breaks breach) lists = tt
+  fair_writer objects number todos taken (Breaks breach kept) lists = tt
 
   fair_rescuer : (objects : Objects) (dev : DevId) (doing : Doing) (lists : TaskLists) → IsFair objects (request setup (Rescuer dev (record { doing = doing; lists = lists })))
   fair_rescuer objects dev Rests lists = tt
   fair_rescuer objects dev (Drives bio ask) lists = fair_line objects (Drives bio ask) lists
   fair_rescuer objects dev (Copies bio master leg want) lists = fair_line objects (Copies bio master leg want) lists
-  fair_rescuer objects dev (Breaks breach) lists = tt
+  fair_rescuer objects dev (Breaks breach kept) lists = tt
 
   fair_held : (objects : Objects) (writer : ℕ) (closed : Closed) (vector : Option VectorItem) (bio : Option (Item Pad)) (slip : Option SlipItem) (parent : Option ℕ)
       → IsFair objects (closed_request writer closed vector bio slip parent)
@@ -190,7 +190,7 @@ module _ (setup : Setup) where
   fair_task objects (Completer disk Empty) home = tt
   fair_task objects (Completer disk (Brings bio status)) home = tt
   fair_task objects (Completer disk (Carries writer closed)) home = fair_held objects writer closed closed.held.vector closed.held.bio closed.held.slip closed.parent
-  fair_task objects (Completer disk (Fails breach)) home = tt
+  fair_task objects (Completer disk (Fails breach kept)) home = tt
   fair_task objects (Keeper (Keeps [])) home = tt
   fair_task objects (Keeper (Keeps (Resizes pool min later ∷ duties))) home = home pool min later duties refl
   fair_task objects (Keeper (Keeps (Starts round later ∷ duties))) home = tt

@@ -1,5 +1,5 @@
 -- Where a bio comes to, device by device.
-use Rattle.std.proofs.Common.{◌≡◌, ◌≢◌, ◌⊎◌, inl, inr, ℕ, zero, suc, ◌<◌, ◌≤◌, ◌==◌, true, false, cond, List, length, map, Option, None, Some, refl, sym, ap, ◌∙◌, subst, get_or, add-one, arith}
+use Rattle.std.proofs.Common.{◌≡◌, ◌≢◌, ◌⊎◌, inl, inr, ℕ, zero, suc, ◌<◌, ◌≤◌, ◌==◌, true, false, cond, List, length, map, IsSomeAnd, Option, None, Some, refl, sym, ap, ◌∙◌, subst, get_or, add-one, arith}
 use Rattle.std.specs.Prelude.{slice_get}
 use Rattle.std.specs.Option.{option_map_or}
 use Rattle.std.proofs.lemmas.Bool.{cases_lt}
@@ -115,6 +115,7 @@ module _ (stack : Stack) (bio : Bio) (within : IsWithin stack bio) (cut : Cut) (
   lands_below whole =
       let len : cut.sectors ≡ bio.range.len = omega (arith, is.most) in
       record {
+        next_is = subst (λ o. IsSomeAnd o (λ cut'. handed cut bio ≡ handed cut' bio)) (sym is.first) refl;
         lands = is.lands len;
         below = is.below;
         within = record { device = is.within.device; some = within.some; within = omega (arith, is.within.within) };

@@ -32,6 +32,8 @@ pub mod KeeperLemmas
 pub mod Turned
 pub mod TurnLemmas
 pub mod Attempting
+pub mod KeptLemmas
+mod KeptCases
 pub mod Filling
 pub mod NewPools
 pub mod Idle

@@ -1,5 +1,5 @@
 -- Submissions whose bios can all be served ask for what fits the objects, and stay such.
-use Rattle.std.proofs.Common.{◌≡◌, ◌≢◌, ◌<◌, ◌≤◌, ◌==◌, ◌&&◌, ◌||◌, ℕ, Bool, true, false, IsTrue, All, List, [], ◌∷◌, length, Some, true≢false, slice_get, ◌+◌, inl, inr, refl, sym, ap, ◌∙◌, subst, arith}
+use Rattle.std.proofs.Common.{◌≡◌, ◌≢◌, ◌<◌, ◌≤◌, ◌==◌, ◌&&◌, ◌||◌, ℕ, Bool, true, false, IsTrue, All, List, [], ◌∷◌, length, Option, None, Some, true≢false, slice_get, ◌+◌, inl, inr, refl, sym, ap, ◌∙◌, subst, arith}
 use Rattle.std.specs.Prelude.{not}
 use Rattle.std.proofs.lemmas.Bool.{lt-ltb}
 use Rattle.std.proofs.lemmas.List.Elements.{All-head, All-tail, All-nil}
@@ -25,7 +25,8 @@ use Rattle.bio_split.specs.Split.{split_front, split_rest}
 use Rattle.bio_books.specs.Links.{Linked, Made, NoRoom, Stray}
 use Rattle.task_core.specs.Scene.{is_device, has_set, keeps_data, is_mirror}
 use Rattle.task_core.specs.Requests.{Reply, HadBio, HadSlip, Missed, Did, LinkedTo, Spent}
-use Rattle.task_core.specs.Lines.{Takes, Punts, Links, ToPush, ToCut, ToRecord, ToMaster, Doing, Rests, Drives, Copies, Breaks, first_length, first_waits, is_empty, mapped, landed, asks_at, driven, settled, goes_on, cut_at, legs_of, leg_at, copies, line_request, after_chain, after_master, after_leg, line_answered}
+use Rattle.task_core.specs.Kept.{Kept}
+use Rattle.task_core.specs.Lines.{Takes, Punts, Links, ToPush, ToCut, ToRecord, ToMaster, Doing, Rests, Drives, Copies, Breaks, first_length, first_waits, is_empty, mapped, landed, asks_at, driven, settled, goes_on, cut_at, legs_of, leg_at, copies, line_request, after_chain, after_master, after_leg, at_hand, punts_of, spent, line_answered}
 use Rattle.task_core.specs.Routed.{setup, places_at, sent}
 use Rattle.task_core.specs.Routed.{copies as copies_shape}
 use Rattle.task_core.specs.Within.{IsWithin, IsItemWithin, ListsAreWithin, is_cut, DoingFits}
@@ -129,7 +130,7 @@ module _ (stage : Stage) (lists : TaskLists) (within : ListsAreWithin stage.rout
 pub line_asks : (stage : Stage) → IsStack stage.routing.stack → (doing : Doing) (lists : TaskLists) → DoingFits stage.routing.stack doing → DoingIsHome stage doing
     → ListsAreWithin stage.routing.stack lists → BothHave (IsOwned stage) lists → Fits stage (line_request (setup stage.routing) doing lists)
 line_asks stage good Rests lists fits home within owned = tt
-line_asks stage good (Breaks breach) lists fits home within owned = tt
+line_asks stage good (Breaks breach kept) lists fits home within owned = tt
 line_asks stage good (Drives bio ToPush) lists fits home within owned =
     (record { within = fits.0; writer = home.0.writer; home = home.0.home }, both_true _ _ (device_is stage bio.bio fits.0) fits.1)
 line_asks stage good (Drives bio (ToCut (Takes waits))) lists fits home within owned =
@@ -266,11 +267,18 @@ module _ (stage : Stage) (good : IsStack stage.routing.stack) where
   copied_home lists bio master leg hand (NoRoom back) within owned inside lt writer home = stays _ lists tt tt within owned
   copied_home lists bio master leg hand (Stray back) within owned inside lt writer home = stays _ lists tt tt within owned
 
+  -- where there was no ticket
+  spent_home : (kept : List Kept) (lists : TaskLists) (punts : Option DevId) → ListsAreWithin stage.routing.stack lists → BothHave (IsOwned stage) lists
+      → IsLineOf stage (spent kept lists punts)
+  spent_home kept lists None within owned = stays _ lists tt tt within owned
+  spent_home kept lists (Some dev) within owned =
+      stays _ _ tt tt (all_not_punted (IsItemWithin stage.routing.stack) lists within dev) (all_not_punted (IsOwned stage) lists owned dev)
+
   -- whatever is replied
   pub line_home : (doing : Doing) (lists : TaskLists) (reply : Reply) → DoingFits stage.routing.stack doing → DoingIsHome stage doing
       → ListsAreWithin stage.routing.stack lists → BothHave (IsOwned stage) lists → Owes stage (line_request (setup stage.routing) doing lists) reply
       → IsLineOf stage (line_answered (setup stage.routing) doing lists reply)
-  line_home doing lists Spent fits home within owned owes = stays _ lists tt tt within owned
+  line_home doing lists Spent fits home within owned owes = spent_home (at_hand doing) lists (punts_of doing) within owned
   line_home (Drives bio ToPush) lists Did fits home within owned owes = goes_on_home bio.bio.dev lists within owned
   line_home (Drives bio (ToCut (Takes waits))) lists (HadBio got hand) fits home within owned owes =
       stays _ lists fits (home.0, owes.home) within owned

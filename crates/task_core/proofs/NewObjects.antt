@@ -1,6 +1,6 @@
 -- What was opened, as the objects of a run.
-use Rattle.std.proofs.Common.{◌≡◌, ◌≢◌, ◌⊎◌, inl, inr, ◌+◌, ◌*◌, ◌/◌, ◌%◌, ◌^◌, ◌<◌, ◌≤◌, ◌==◌, ◌&&◌, ◌||◌, if◌then◌else◌, ℕ, zero, suc, Bool, true, false, List, [], ◌∷◌, length, map, filter, replicate, get_or, Option, Some, None, refl, sym, ap, subst, ◌∙◌, arith, find}
-use Rattle.std.specs.Prelude.{IsTrue, IfSome, All, nat_lt, sum}
+use Rattle.std.proofs.Common.{◌≡◌, ◌≢◌, ◌⊎◌, inl, inr, ◌+◌, ◌*◌, ◌/◌, ◌%◌, ◌^◌, ◌<◌, ◌≤◌, ◌==◌, ◌&&◌, ◌||◌, if◌then◌else◌, ℕ, zero, suc, Bool, true, false, List, [], ◌∷◌, length, map, filter, replicate, get_or, Option, None, refl, sym, ap, subst, ◌∙◌, arith}
+use Rattle.std.specs.Prelude.{IfSome, nat_lt, sum}
 use Rattle.std.specs.List.{range_with_len}
 use Rattle.std.specs.Option.{option_map_or}
 use Rattle.std.proofs.lemmas.Bool.Decides.{nat_tests}
@@ -10,7 +10,7 @@ use Rattle.elem_ledger.specs.Ledger.{LedgerId}
 use Rattle.fail_script.specs.Script.{Answers, only_tail}
 use Rattle.stack_base.specs.declared.ids.DevId.{DevId}
 use Rattle.stack_base.specs.declared.ids.PoolId.{PoolId}
-use Rattle.stack_base.specs.declared.ids.PoolId.TheVariants.{FsBios, FsVecs, Bios, Records}
+use Rattle.stack_base.specs.declared.ids.PoolId.TheVariants.{FsVecs, Records}
 use Rattle.stack_base.specs.declared.ids.SetId.{SetId}
 use Rattle.stack_base.specs.declared.stack.Stack.{Stack}
 use Rattle.stack_base.specs.PoolId.{pool_number, IsOfStack}
@@ -29,14 +29,14 @@ use Rattle.task_core.specs.declared.plain.Plain.{Plain}
 use Rattle.task_core.specs.Events.{pool_of}
 use Rattle.task_core.specs.Filled.{AreMade}
 use Rattle.task_core.specs.Objects.{Objects, TallyState}
-use Rattle.task_core.specs.ObjectsOf.{AreObjectsOf, IsDiskOf, IsBookOf, IsNodeOf}
+use Rattle.task_core.specs.ObjectsOf.{AreObjectsOf, IsNodeOf}
 use Rattle.task_core.specs.Opened.{at, reserve_of, script_at}
 use Rattle.task_core.specs.Openings.{has_pool, opened_objects, widest, AreOpened, IsNewPool, set_at, set_index, uses_set, IsNewSet, AreSets, slip_index, uses_slips, IsNewRecords, AreRecords, itself, uses_disk, IsNewDisk, AreDisks, uses_list, IsNewList, AreLists, uses_book, IsNewBook, AreBooks}
-use Rattle.task_core.specs.Plains.{set_number, records_number, no_pool, list_number, disk_number, book_number, no_disk, no_book, by_kind, bios_at, records_at, pool_at, tally_of, objects_of, stage_of, AreSeated, Holds}
+use Rattle.task_core.specs.Plains.{set_number, records_number, no_pool, list_number, disk_number, book_number, no_disk, no_book, by_kind, pool_at, tally_of, objects_of, stage_of, AreSeated}
 use Rattle.task_core.specs.Routed.{Routing, places_at, setup}
 use Rattle.task_core.specs.Scene.{has_set}
-use Rattle.task_core.specs.Stage.{Stage, IsServed, is_bios, is_slips}
-use Rattle.task_core.specs.Tables.{has_number, look_up, IsAt, AreAt}
+use Rattle.task_core.specs.Stage.{Stage, IsServed}
+use Rattle.task_core.specs.Tables.{look_up, IsAt, AreAt}
 use Rattle.task_core.proofs.Frames.{pools_are_numbered}
 
 is_left : (a b : Bool) → (a && b) ≡ true → a ≡ true

@@ -4,7 +4,7 @@ use Rattle.std.specs.Prelude.{slice_get}
 use Rattle.std.proofs.lemmas.List.{length-map}
 use Rattle.stack_base.specs.declared.ids.DevId.{DevId}
 use Rattle.stack_base.specs.declared.stack.Device.{Device}
-use Rattle.stack_base.specs.declared.stack.Kind.TheVariants.{Stripe, Limit}
+use Rattle.stack_base.specs.declared.stack.Kind.TheVariants.{Stripe, Limit, Mirror}
 use Rattle.stack_base.specs.declared.stack.Stack.{Stack}
 use Rattle.stack_base.specs.Mapping.{size_of, smallest}
 use Rattle.stack_base.specs.Stack.{HasShape, IsStack}
@@ -24,6 +24,10 @@ lone_smallest (size ∷ other ∷ sizes) one = absurd (omega arith)
 limit_size_of : (longest chunk : ℕ) (sizes : List ℕ) → size_of (Limit longest chunk) sizes ≡ smallest sizes
 unfolding size_of
 limit_size_of longest chunk sizes = refl
+
+mirror_size_of : (records : ℕ) (sizes : List ℕ) → size_of (Mirror records) sizes ≡ smallest sizes
+unfolding size_of
+mirror_size_of records sizes = refl
 
 module _ (stack : Stack) (good : IsStack stack) (number : ℕ) (device : Device) (found : slice_get stack.devices.items number ≡ Some device) where
   -- a stripe over as many members of the smallest size is no larger than the device
@@ -46,6 +50,12 @@ module _ (stack : Stack) (good : IsStack stack) (number : ℕ) (device : Device)
       let wide : size (tree stack number) ≡ smallest sizes =
       size-tree stack good number device found ∙ ap (λ k. size_of k sizes) kind ∙ limit_size_of longest chunk sizes in
       ap (λ n. n ∷ []) wide ∙ lone_smallest sizes (length-map device.members.items (λ (m : DevId). size (tree stack m.0)) ∙ shape.1)
+
+  -- a mirror has the size of its smallest member
+  pub mirror_size : (records : ℕ) → device.kind ≡ Mirror records → size (tree stack number) ≡ smallest (sizes_at stack device)
+  mirror_size records kind =
+      let sizes = sizes_at stack device in
+      size-tree stack good number device found ∙ ap (λ k. size_of k sizes) kind ∙ mirror_size_of records sizes
 
 -- the last of some elements, or one before it
 at_or_last : {X : Type 0} (xs : List X) (x : X) (i : ℕ) (y : X) → slice_get (xs ++ x ∷ []) i ≡ Some y

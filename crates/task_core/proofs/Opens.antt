@@ -1,6 +1,6 @@
 -- What was opened of a text of which no line is refused.
-use Rattle.std.proofs.Common.{◌≡◌, ◌⊎◌, inl, inr, ◌+◌, ◌-◌, ◌<◌, ◌≤◌, ◌^◌, ◌==◌, ◌++◌, ◌&&◌, if◌then◌else◌, ℕ, zero, suc, Bool, true, false, List, [], ◌∷◌, length, map, filter, get_or, max, replicate, None, refl, sym, ap, subst, ◌∙◌, arith}
-use Rattle.std.specs.Prelude.{All, IsTrue, nat_lt, sum_by, flat_map}
+use Rattle.std.proofs.Common.{◌≡◌, ◌⊎◌, inl, inr, ◌-◌, ◌<◌, ◌≤◌, ◌==◌, ◌++◌, ◌&&◌, if◌then◌else◌, ℕ, Bool, true, false, List, [], ◌∷◌, length, map, filter, get_or, max, replicate, None, refl, sym, ap, subst, ◌∙◌, arith}
+use Rattle.std.specs.Prelude.{All, IsTrue, nat_lt, sum_by}
 use Rattle.std.specs.List.{list_any, range_with_len}
 use Rattle.std.proofs.lemmas.Bool.Decides.{nat_tests}
 use Rattle.std.proofs.lemmas.List.{get_or_past, length-replicate}
@@ -9,7 +9,6 @@ use Rattle.std.proofs.lemmas.List.FromFn.{get_or-range_with_len, length-range_wi
 use Rattle.std.proofs.lemmas.List.Sums.{sum_by-cons}
 use Rattle.fail_script.specs.Script.{Answers}
 use Rattle.stack_base.specs.declared.ids.PoolId.{PoolId}
-use Rattle.stack_base.specs.declared.ids.PoolId.TheVariants.{FsBios, FsVecs, Bios, Records}
 use Rattle.stack_base.specs.declared.stack.Stack.{Stack}
 use Rattle.stack_base.specs.PoolId.{pool_number}
 use Rattle.stack_base.specs.Stack.{IsStack}
@@ -26,26 +25,25 @@ use Rattle.work_text.specs.Fit.{IsPoolIn}
 use Rattle.work_text.specs.declared.Resize.{Resize}
 use Rattle.work_text.specs.declared.Work.{Work}
 use Rattle.task_core.specs.declared.opened.Opened.{Opened}
-use Rattle.task_core.specs.declared.plain.Plain.{Plain}
 use Rattle.task_core.specs.declared.task.Kind.{Kind}
 use Rattle.task_core.specs.Events.{pool_of}
 use Rattle.task_core.specs.Homes.{TodoFits, IsLineOf, IsOwned, DutyFits, IsTaskOf}
 use Rattle.task_core.specs.Leaving.{HasRoom}
 use Rattle.task_core.specs.Lines.{rests}
-use Rattle.task_core.specs.NewTasks.{numbered, share_of, nodes_of, AreShared, ArePlaced, writers_of, others_in, tally_in, reserves_in, shown, with_routing}
+use Rattle.task_core.specs.NewTasks.{AreShared, ArePlaced, writers_of, others_in, tally_in, reserves_in, shown, with_routing}
 use Rattle.task_core.specs.Objects.{Objects, TallyState}
 use Rattle.task_core.specs.OfOne.{states, AreOfOne, IsOpened, IsReadBehind, scenario_in}
 use Rattle.task_core.specs.Opened.{Change, Scenario, at, is_by, todos, todos_of, writers, places_of, reserve_of, script_at, keepers, duties, duties_of, writes_from, round_count, tasks}
 use Rattle.task_core.specs.Opened as opened
-use Rattle.task_core.specs.Openings.{widest, has_pool, opened_objects, AreOpened}
+use Rattle.task_core.specs.Openings.{widest, AreOpened}
 use Rattle.task_core.specs.Plains.{objects_of, stage_of}
 use Rattle.task_core.specs.Routed.{Routing, places_at, setup}
-use Rattle.task_core.specs.Scenario.{change_of, scenario_of}
+use Rattle.task_core.specs.Scenario.{change_of}
 use Rattle.task_core.specs.Scene.{Setup, setup_of, is_disk}
-use Rattle.task_core.specs.Stage.{Stage, has_book, has_rescuer, has_disk, is_pool}
+use Rattle.task_core.specs.Stage.{Stage, has_book, is_pool}
 use Rattle.task_core.specs.TaskViews.{TaskOf}
 use Rattle.task_core.specs.Tasks.{Todo, NoBio, Empty, Duty, Resizes, Starts, TaskState, Writer, Rescuer, Completer, Keeper, Keeps}
-use Rattle.task_core.specs.Within.{IsItemWithin, LineFits}
+use Rattle.task_core.specs.Within.{IsItemWithin}
 use Rattle.task_core.proofs.Behind.{all_flat, fit_work, is_below, pool_known, pool_there, shared}
 use Rattle.task_core.proofs.NewPools.{widest_least}
 use Rattle.task_core.proofs.Sharing.{any_some, numbered_all, numbers_below}

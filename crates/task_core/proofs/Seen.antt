@@ -52,7 +52,7 @@ writer_looks : (todos : List Todo) (taken : Taken) (doing : Doing) (look : Reque
 writer_looks (todo ∷ later) NoBio Rests look e = look_at look requests.LookRound e tt
 writer_looks (todo ∷ later) NoBio (Drives bio ask) look e = absurd (none_is look e)
 writer_looks (todo ∷ later) NoBio (Copies bio master leg want) look e = absurd (none_is look e)
-writer_looks (todo ∷ later) NoBio (Breaks breach) look e = absurd (none_is look e)
+writer_looks (todo ∷ later) NoBio (Breaks breach kept) look e = absurd (none_is look e)
 writer_looks (todo ∷ later) (HasBio bio) doing look e = absurd (none_is look e)
 writer_looks (todo ∷ later) (HasBoth bio vector) doing look e = absurd (none_is look e)
 writer_looks [] taken doing look e = absurd (none_is look e)

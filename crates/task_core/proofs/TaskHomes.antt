@@ -12,13 +12,14 @@ use Rattle.bio_books.specs.Drops as end
 use Rattle.bio_books.specs.Links.{Linked, Made, NoRoom, Stray}
 use Rattle.task_core.specs.declared.event.Breach.{Breach}
 use Rattle.task_core.specs.declared.event.Breach.TheVariants as breach
+use Rattle.task_core.specs.Kept.{Kept}
 use Rattle.task_core.specs.Requests.{Reply, HadBio, HadVec, Popped, Completed, LinkedTo, DroppedTo, OutIs, Did, Spent}
-use Rattle.task_core.specs.Lines.{Doing, Rests, Breaks, Line, rests, settled, line_request, line_answered}
-use Rattle.task_core.specs.Tasks.{Todo, Taken, NoBio, HasBio, HasBoth, Carried, Empty, Brings, Carries, Fails, Duty, Resizes, Starts, Keeping, Keeps, Stops, TaskState, Writer, Rescuer, Completer, Keeper, needs_vector, filled, filled_short, with_bio, write_request, writer_request, rescuer_request, closed_request, carried_request, keeper_request, duty_request, request, begins, write_answered, writer_answered, rescuer_answered, given, after_drop, parent_or, carried_answered, after_resize, keeper_answered, answered}
+use Rattle.task_core.specs.Lines.{Doing, Rests, Breaks, Line, settled, line_request, line_answered}
+use Rattle.task_core.specs.Tasks.{Todo, Taken, NoBio, HasBio, HasBoth, besides, Carried, Empty, Brings, Carries, Fails, Duty, Resizes, Starts, Keeping, Keeps, Stops, TaskState, Writer, Rescuer, Completer, Keeper, needs_vector, filled, filled_short, with_bio, write_request, writer_request, rescuer_request, closed_request, carried_request, keeper_request, duty_request, request, begins, write_answered, writer_answered, rescuer_answered, given, after_drop, parent_or, carried_answered, after_resize, keeper_answered, answered}
 use Rattle.task_core.specs.Routed.{setup}
-use Rattle.task_core.specs.Within.{IsItemWithin, DoingFits}
+use Rattle.task_core.specs.Within.{IsItemWithin}
 use Rattle.task_core.specs.Stage.{Stage, has_book, is_vecs, IsHome, IsBioHome, IsVecHome, IsSlipHome, TopFits, DropFits, Fits, Owes, has_rescuer, has_disk}
-use Rattle.task_core.specs.Homes.{IsOwned, DoingIsHome, IsLineOf, TodoFits, TakenIsHome, CarriedFits, DutyFits, KeepingFits, IsTaskOf, TasksStayHome}
+use Rattle.task_core.specs.Homes.{IsOwned, IsLineOf, TodoFits, TakenIsHome, CarriedFits, DutyFits, KeepingFits, IsTaskOf, TasksStayHome}
 use Rattle.task_core.proofs.LineHomes.{settled_home, line_asks, line_home}
 
 -- what a writer asks for outside of a submission
@@ -63,7 +64,7 @@ carried_asks stage disk Empty there fits = there
 carried_asks stage disk (Brings bio status) there fits = (fits.writer, fits.home)
 carried_asks stage disk (Carries writer closed) there fits =
     closed_asks stage writer closed closed.held.vector closed.held.bio closed.held.slip closed.parent fits.0 fits.1.held.vector fits.1.held.bio fits.1.held.slip fits.1.top
-carried_asks stage disk (Fails breach) there fits = tt
+carried_asks stage disk (Fails breach kept) there fits = tt
 
 duty_asks : (stage : Stage) (duty : Duty) → DutyFits stage duty → Fits stage (duty_request duty)
 duty_asks stage (Resizes pool min later) fits = fits
@@ -86,17 +87,9 @@ task_asks stage (Completer disk carried) good is = carried_asks stage disk carri
 task_asks stage (Keeper keeping) good is = keeper_asks stage keeping is
 
 module _ (stage : Stage) (good : IsStack stage.routing.stack) where
-  nothing_waits : (doing : Doing) → DoingIsHome stage doing → DoingFits stage.routing.stack doing → IsLineOf stage (record rests { doing = doing })
-  nothing_waits doing home fits = record {
-    fits = record { doing = fits; lists = (All-nil (IsItemWithin stage.routing.stack), All-nil (IsItemWithin stage.routing.stack)) };
-    doing = home;
-    list0 = All-nil (IsOwned stage);
-    list1 = All-nil (IsOwned stage);
-  }
-
   -- with these lists a submission broke off
-  broken : (line : Line) (breach : Breach) → IsLineOf stage line → IsLineOf stage (record line { doing = Breaks breach })
-  broken line breach is = record { fits = record { doing = tt; lists = is.fits.lists }; doing = tt; list0 = is.list0; list1 = is.list1 }
+  broken : (line : Line) (breach : Breach) (kept : List Kept) → IsLineOf stage line → IsLineOf stage (record line { doing = Breaks breach kept })
+  broken line breach kept is = record { fits = record { doing = tt; lists = is.fits.lists }; doing = tt; list0 = is.list0; list1 = is.list1 }
 
   one : (item : Item Pad) → IsItemWithin stage.routing.stack item → IsOwned stage item → IsLineOf stage (settled (setup stage.routing) (item ∷ []))
   one item within owned =
@@ -104,19 +97,25 @@ module _ (stage : Stage) (good : IsStack stage.routing.stack) where
       (All-cons (IsItemWithin stage.routing.stack) item [] within (All-nil (IsItemWithin stage.routing.stack)))
       (All-cons (IsOwned stage) item [] owned (All-nil (IsOwned stage)))
 
-  begins_home : (writer : ℕ) (later : List Todo) (bio : ℕ → Item Pad) (taken : Taken) (todo : Todo) (answer : Linked)
-      → IsTrue (has_book stage writer) → All (TodoFits stage) (todo ∷ later) → TakenIsHome stage taken
+  -- what is left of what was taken is at home
+  besides_home : (taken : Taken) → TakenIsHome stage taken → TakenIsHome stage (besides taken)
+  besides_home NoBio home = tt
+  besides_home (HasBio bio) home = home
+  besides_home (HasBoth bio vector) home = home.0
+
+  begins_home : (writer : ℕ) (later : List Todo) (bio : ℕ → Item Pad) (taken : Taken) (todo : Todo) (line : Line) (answer : Linked)
+      → IsTrue (has_book stage writer) → All (TodoFits stage) (todo ∷ later) → TakenIsHome stage taken → IsLineOf stage line
       → ((node : ℕ) → IsItemWithin stage.routing.stack (bio node) × IsOwned stage (bio node))
-      → IsTaskOf stage (begins (setup stage.routing) writer later bio taken todo answer)
-  begins_home writer later bio taken todo (Made node) book all home bios =
+      → IsTaskOf stage (begins (setup stage.routing) writer later bio taken todo line answer)
+  begins_home writer later bio taken todo line (Made node) book all home is bios =
       (book, All-tail (TodoFits stage) todo later all, tt, one (bio node) (bios node).0 (bios node).1)
-  begins_home writer later bio taken todo (NoRoom back) book all home bios = (book, all, home, nothing_waits _ tt tt)
-  begins_home writer later bio taken todo (Stray back) book all home bios = (book, all, home, nothing_waits _ tt tt)
+  begins_home writer later bio taken todo line (NoRoom back) book all home is bios = (book, all, besides_home taken home, broken line _ _ is)
+  begins_home writer later bio taken todo line (Stray back) book all home is bios = (book, all, besides_home taken home, broken line _ _ is)
 
   write_home : (writer : ℕ) (todos : List Todo) (taken : Taken) (line : Line) (reply : Reply) → IsTrue (has_book stage writer)
       → All (TodoFits stage) todos → TakenIsHome stage taken → IsLineOf stage line → Owes stage (write_request writer todos taken) reply
       → IsTaskOf stage (write_answered (setup stage.routing) writer todos taken line reply)
-  write_home writer todos taken line Spent book all home is owes = (book, all, home, broken line breach.Spent is)
+  write_home writer todos taken line Spent book all home is owes = (book, all, besides_home taken home, broken line breach.Spent _ is)
   write_home writer (todo ∷ later) NoBio line (HadBio got bio) book all home is owes = (book, all, owes.home, is)
   write_home writer (todo ∷ later) (HasBio bio) line (HadVec got vector) book all home is owes =
       (book, all, (home, vec_home (needs_vector todo.write) owes), is)
@@ -126,11 +125,11 @@ module _ (stage : Stage) (good : IsStack stage.routing.stack) where
       vec_home false owes = absurd owes
   write_home writer (todo ∷ later) (HasBio bio) line (LinkedTo answer) book all home is owes =
       let w = (All-head (TodoFits stage) todo later all).write in
-      begins_home writer later (λ node. filled_short writer todo node bio) (HasBio bio) todo answer book all home
+      begins_home writer later (λ node. filled_short writer todo node bio) (HasBio bio) todo line answer book all home is
       (λ node. (record { device = w.known; some = w.some; within = w.within }, record { writer = book; home = home }))
   write_home writer (todo ∷ later) (HasBoth bio vector) line (LinkedTo answer) book all home is owes =
       let w = (All-head (TodoFits stage) todo later all).write in
-      begins_home writer later (λ node. filled writer todo node bio) (HasBoth bio vector) todo answer book all home
+      begins_home writer later (λ node. filled writer todo node bio) (HasBoth bio vector) todo line answer book all home is
       (λ node. (record { device = w.known; some = w.some; within = w.within }, record { writer = book; home = home.0 }))
   write_home writer todos taken line _ book all home is owes = (book, all, home, is)
 
@@ -150,7 +149,7 @@ module _ (stage : Stage) (good : IsStack stage.routing.stack) where
       → IsTaskOf stage (rescuer_answered (setup stage.routing) dev doing line reply)
   rescuer_home dev Rests line (Popped bio) rescuer is on owes =
       (rescuer, one bio owes.within (record { writer = owes.writer; home = owes.home }))
-  rescuer_home dev Rests line Spent rescuer is on owes = (rescuer, broken line breach.Spent is)
+  rescuer_home dev Rests line Spent rescuer is on owes = (rescuer, broken line breach.Spent [] is)
   rescuer_home dev Rests line _ rescuer is on owes = (rescuer, is)
   rescuer_home dev doing line reply rescuer is on owes = (rescuer, on owes)
 

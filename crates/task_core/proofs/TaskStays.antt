@@ -27,17 +27,15 @@ write_within stack writer todo node is = record { device = is.known; some = is.s
 
 module _ (stack : Stack) (good : IsStack stack) (places : ℕ → ℕ) where
   -- a write begins
-  pub begins_fits : (writer : ℕ) (later : List Todo) (bio : ℕ → Item Pad) (taken : Taken) (todo : Todo) (answer : Linked)
-      → ((node : ℕ) → IsWithin stack (bio node).bio) → All (IsTodo stack) (todo ∷ later)
-      → TaskFits stack (begins (setup_of stack places) writer later bio taken todo answer)
-  begins_fits writer later bio taken todo (Made node) within all = (
+  pub begins_fits : (writer : ℕ) (later : List Todo) (bio : ℕ → Item Pad) (taken : Taken) (todo : Todo) (line : Line) (answer : Linked)
+      → ((node : ℕ) → IsWithin stack (bio node).bio) → All (IsTodo stack) (todo ∷ later) → LineFits stack line
+      → TaskFits stack (begins (setup_of stack places) writer later bio taken todo line answer)
+  begins_fits writer later bio taken todo line (Made node) within all fits = (
     All-tail (IsTodo stack) todo later all,
     settled_fits stack good places (bio node ∷ []) (All-cons (IsItemWithin stack) (bio node) [] (within node) (All-nil (IsItemWithin stack))),
   )
-  begins_fits writer later bio taken todo (NoRoom back) within all =
-      (all, record { doing = tt; lists = (All-nil (IsItemWithin stack), All-nil (IsItemWithin stack)) })
-  begins_fits writer later bio taken todo (Stray back) within all =
-      (all, record { doing = tt; lists = (All-nil (IsItemWithin stack), All-nil (IsItemWithin stack)) })
+  begins_fits writer later bio taken todo line (NoRoom back) within all fits = (all, record { doing = tt; lists = fits.lists })
+  begins_fits writer later bio taken todo line (Stray back) within all fits = (all, record { doing = tt; lists = fits.lists })
 
   write_fits : (writer : ℕ) (todos : List Todo) (taken : Taken) (line : Line) (reply : Reply) → All (IsTodo stack) todos → LineFits stack line
       → TaskFits stack (write_answered (setup_of stack places) writer todos taken line reply)
@@ -46,12 +44,12 @@ module _ (stack : Stack) (good : IsStack stack) (places : ℕ → ℕ) where
   write_fits writer (todo ∷ later) (HasBio bio) line (HadVec got vector) all fits = (all, fits)
   write_fits writer (todo ∷ later) (HasBio bio) line (LinkedTo answer) all fits =
       let is = All-head (IsTodo stack) todo later all in
-      begins_fits writer later (λ node. filled_short writer todo node bio) (HasBio bio) todo answer
-      (λ node. record { device = is.known; some = is.some; within = is.within }) all
+      begins_fits writer later (λ node. filled_short writer todo node bio) (HasBio bio) todo line answer
+      (λ node. record { device = is.known; some = is.some; within = is.within }) all fits
   write_fits writer (todo ∷ later) (HasBoth bio vector) line (LinkedTo answer) all fits =
       let is = All-head (IsTodo stack) todo later all in
-      begins_fits writer later (λ node. filled writer todo node bio) (HasBoth bio vector) todo answer
-      (λ node. record { device = is.known; some = is.some; within = is.within }) all
+      begins_fits writer later (λ node. filled writer todo node bio) (HasBoth bio vector) todo line answer
+      (λ node. record { device = is.known; some = is.some; within = is.within }) all fits
   write_fits writer todos taken line _ all fits = (all, fits)
 
   writer_fits : (writer : ℕ) (todos : List Todo) (taken : Taken) (doing : Doing) (line : Line) (reply : Reply) → All (IsTodo stack) todos
@@ -110,7 +108,7 @@ carried_asks stack disk Empty = tt
 carried_asks stack disk (Brings bio status) = tt
 carried_asks stack disk (Carries writer closed) =
     closed_asks stack writer closed closed.held.vector closed.held.bio closed.held.slip closed.parent
-carried_asks stack disk (Fails breach) = tt
+carried_asks stack disk (Fails breach kept) = tt
 
 duty_asks : (stack : Stack) (duty : Duty) → AskedFits stack (duty_request duty)
 duty_asks stack (Resizes pool min later) = tt

@@ -10,8 +10,6 @@ use Rattle.task_core.specs.declared.event.TaskId.TheVariants as id
 use Rattle.task_core.specs.declared.step.Step.{Step}
 use Rattle.task_core.specs.declared.step.Step.TheVariants.{Broken, Ended}
 use Rattle.task_core.specs.declared.writing.Attempt.{Attempt}
-use Rattle.task_core.specs.declared.writing.Taken.{Taken as RealTaken}
-use Rattle.task_core.specs.declared.writing.Taken.TheVariants as taken
 use Rattle.task_core.specs.Scene.{Setup}
 use Rattle.task_core.specs.Requests.{Request, Reply, TakeBio, TakeVec, TakeSlip, GiveBio, GiveVec, GiveSlip, Punt, Pop, Push, Complete, Link, Drop, Done, Resize, NextRound, LookRound, LookLeft, Rest, HadBio, HadVec, HadSlip, Missed, Did, Popped, Completed, LinkedTo, DroppedTo, OutIs, Present, LeftOver, Nothing, Spent}
 use Rattle.task_core.specs.Lines.{Takes, Punts, Links, ToPush, ToCut, ToRecord, ToMaster, Doing, Rests, Drives, Copies, Breaks, Line, line_request, line_answered}
@@ -19,7 +17,7 @@ use Rattle.task_core.specs.Tasks.{Todo, Taken, NoBio, HasBio, HasBoth, TaskState
 use Rattle.task_core.specs.Turns.{step_of, Follows, Asks, AsksFor, Acts, ActsIf, TurnsBy, Turns, doing_breach, resting_step}
 use Rattle.task_core.specs.LineViews.{is_asking, is_over}
 use Rattle.task_core.specs.Answers.{finds, Answers}
-use Rattle.task_core.specs.WriterViews.{TakenSuits, WriteAnswers, is_taken, tried}
+use Rattle.task_core.specs.WriterViews.{WriteAnswers, is_taken, tried}
 use Rattle.task_core.specs.RescuerViews.{PopAnswers}
 
 -- a request that asks for something
@@ -71,7 +69,7 @@ module _ {S : Type 0} (serves : S → Request → Reply → S → Type 0) (owes 
   -- a submission that has something to ask for
   line_asks_any : (doing : Doing) (lists : TaskLists) → is_asking doing ≡ true → asks_any (line_request setup doing lists) ≡ true
   line_asks_any Rests lists asking = asking
-  line_asks_any (Breaks breach) lists asking = asking
+  line_asks_any (Breaks breach kept) lists asking = asking
   line_asks_any (Drives bio ToPush) lists asking = refl
   line_asks_any (Drives bio (ToCut (Takes waits))) lists asking = refl
   line_asks_any (Drives bio (ToCut Punts)) lists asking = refl
@@ -84,14 +82,14 @@ module _ {S : Type 0} (serves : S → Request → Reply → S → Type 0) (owes 
 
   asking_is : (doing : Doing) → is_asking doing ≡ true → is_over doing ≡ false
   asking_is Rests asking = sym asking
-  asking_is (Breaks breach) asking = refl
+  asking_is (Breaks breach kept) asking = refl
   asking_is (Drives bio ask) asking = refl
   asking_is (Copies bio master leg want) asking = refl
 
   -- one that neither asks nor has broken off is over
   pub it_rests : (doing : Doing) → is_asking doing ≡ false → doing_breach doing ≡ None → doing ≡ Rests
   it_rests Rests asking none = refl
-  it_rests (Breaks breach) asking none = absurd cc
+  it_rests (Breaks breach kept) asking none = absurd cc
   it_rests (Drives bio ask) asking none = absurd (true≢false asking)
   it_rests (Copies bio master leg want) asking none = absurd (true≢false asking)
 
@@ -101,21 +99,21 @@ module _ {S : Type 0} (serves : S → Request → Reply → S → Type 0) (owes 
   no_look (todo ∷ later) (HasBio bio) doing over = refl
   no_look (todo ∷ later) (HasBoth bio vector) doing over = refl
   no_look (todo ∷ later) NoBio Rests over = absurd (true≢false over)
-  no_look (todo ∷ later) NoBio (Breaks breach) over = refl
+  no_look (todo ∷ later) NoBio (Breaks breach kept) over = refl
   no_look (todo ∷ later) NoBio (Drives bio ask) over = refl
   no_look (todo ∷ later) NoBio (Copies bio master leg want) over = refl
 
   writer_asks : (number : ℕ) (todo : List Todo) (taken : Taken) (doing : Doing) (line : Line) → is_over doing ≡ false
       → writer_request setup number todo taken doing line ≡ line_request setup doing line.lists
   writer_asks number todo taken Rests line over = absurd (true≢false over)
-  writer_asks number todo taken (Breaks breach) line over = refl
+  writer_asks number todo taken (Breaks breach kept) line over = refl
   writer_asks number todo taken (Drives bio ask) line over = refl
   writer_asks number todo taken (Copies bio master leg want) line over = refl
 
   writer_goes_on : (number : ℕ) (todo : List Todo) (taken : Taken) (doing : Doing) (line : Line) (reply : Reply) → is_over doing ≡ false
       → Writer number todo taken (line_answered setup doing line.lists reply) ≡ writer_answered setup number todo taken doing line reply
   writer_goes_on number todo taken Rests line reply over = absurd (true≢false over)
-  writer_goes_on number todo taken (Breaks breach) line reply over = refl
+  writer_goes_on number todo taken (Breaks breach kept) line reply over = refl
   writer_goes_on number todo taken (Drives bio ask) line reply over = refl
   writer_goes_on number todo taken (Copies bio master leg want) line reply over = refl
 
@@ -142,13 +140,13 @@ module _ {S : Type 0} (serves : S → Request → Reply → S → Type 0) (owes 
   -- one that has broken off says so
   broken_asks : (doing : Doing) (lists : TaskLists) (breach : Breach) → doing_breach doing ≡ Some breach → line_request setup doing lists ≡ Rest
   broken_asks Rests lists breach broken = refl
-  broken_asks (Breaks other) lists breach broken = refl
+  broken_asks (Breaks other kept) lists breach broken = refl
   broken_asks (Drives bio ask) lists breach broken = absurd cc
   broken_asks (Copies bio master leg want) lists breach broken = absurd cc
 
   broken_is : (doing : Doing) (breach : Breach) → doing_breach doing ≡ Some breach → is_over doing ≡ false
   broken_is Rests breach broken = absurd cc
-  broken_is (Breaks other) breach broken = refl
+  broken_is (Breaks other kept) breach broken = refl
   broken_is (Drives bio ask) breach broken = refl
   broken_is (Copies bio master leg want) breach broken = refl
 
@@ -251,14 +249,14 @@ module _ {S : Type 0} (serves : S → Request → Reply → S → Type 0) (owes 
   -- the same of rescuers
   rescuer_asks : (dev : DevId) (doing : Doing) (line : Line) → is_over doing ≡ false → rescuer_request setup dev doing line ≡ line_request setup doing line.lists
   rescuer_asks dev Rests line over = absurd (true≢false over)
-  rescuer_asks dev (Breaks breach) line over = refl
+  rescuer_asks dev (Breaks breach kept) line over = refl
   rescuer_asks dev (Drives bio ask) line over = refl
   rescuer_asks dev (Copies bio master leg want) line over = refl
 
   rescuer_goes_on : (dev : DevId) (doing : Doing) (line : Line) (reply : Reply) → is_over doing ≡ false
       → Rescuer dev (line_answered setup doing line.lists reply) ≡ rescuer_answered setup dev doing line reply
   rescuer_goes_on dev Rests line reply over = absurd (true≢false over)
-  rescuer_goes_on dev (Breaks breach) line reply over = refl
+  rescuer_goes_on dev (Breaks breach kept) line reply over = refl
   rescuer_goes_on dev (Drives bio ask) line reply over = refl
   rescuer_goes_on dev (Copies bio master leg want) line reply over = refl
 
@@ -304,13 +302,3 @@ module _ {S : Type 0} (serves : S → Request → Reply → S → Type 0) (owes 
       } in
       subst (λ (asked : Request). AsksFor serves owes setup asked task old after new step)
       (ap (λ (doing : Doing). rescuer_request setup dev doing line) (sym rests)) asks
-
--- a writer whose submission asks for something has handed over no vector
-pub suits_on : (taken : RealTaken) (doing after : Doing) → TakenSuits taken doing → is_asking doing ≡ true → TakenSuits taken after
-suits_on taken.NoBio doing after suits asking = tt
-suits_on (taken.HasBio bio) doing after suits asking = tt
-suits_on (taken.HasBoth bio vector) doing after suits asking = tt
-suits_on (taken.Refused bio was) Rests after suits asking = absurd (true≢false (sym suits))
-suits_on (taken.Refused bio was) (Drives item ask) after suits asking = absurd (true≢false (sym suits))
-suits_on (taken.Refused bio was) (Copies copied master leg want) after suits asking = absurd (true≢false (sym suits))
-suits_on (taken.Refused bio was) (Breaks breach) after suits asking = absurd (true≢false (sym asking))

@@ -1,5 +1,5 @@
 -- What a step of a submission does: the task's half of an event, with the reply that the objects gave.
-use Rattle.std.specs.Prelude.{◌≡◌, ◌-◌, ◌^◌, min, ℕ, Bool, true, false, length, Option, None, Some, Result, Ok, Err}
+use Rattle.std.specs.Prelude.{◌≡◌, ◌-◌, ◌^◌, min, ℕ, Bool, true, false, List, length, map, Option, None, Some, Result, Ok, Err}
 use Rattle.stack_base.specs.declared.ids.DevId.{DevId}
 use Rattle.stack_base.specs.declared.ids.SetId.TheVariants.{Of}
 use Rattle.bio_records.specs.declared.tasks.TaskLists.{TaskLists}
@@ -11,13 +11,15 @@ use Rattle.task_core.specs.declared.event.What.TheVariants as what
 use Rattle.task_core.specs.declared.line.HandedBack.{HandedBack}
 use Rattle.task_core.specs.declared.line.Want.{Want as RealWant}
 use Rattle.task_core.specs.declared.objects.Unmade.{Unmade}
+use Rattle.task_core.specs.declared.objects.Unmade.TheVariants as unmade
 use Rattle.task_core.specs.declared.step.Step.{Step}
 use Rattle.task_core.specs.declared.step.Step.TheVariants.{Stepped}
 use Rattle.task_core.specs.Scene.{Setup}
 use Rattle.task_core.specs.Requests.{Request, Reply, Opening, TakeBio, Punt, Link, HadBio, Missed, Did, LinkedTo, Nothing, Spent}
 use Rattle.task_core.specs.Lines.{Want, Links, Doing, Line, punted, not_punted, line_request, after_miss, line_answered}
 use Rattle.task_core.specs.Turns.{named, step_of}
-use Rattle.task_core.specs.LineViews.{want_of}
+use Rattle.task_core.specs.Kept.{Kept, KeptBio, holding_kept, opening_kept}
+use Rattle.task_core.specs.LineViews.{want_of, unmade_kept, back_kept}
 
 -- a reply that is no look which found nothing
 abbrev pub finds : Reply → Bool
@@ -56,7 +58,7 @@ IsSpent serves owes asked old new = serves old asked Spent new × owes asked Spe
 abbrev pub Attempted : {S : Type 0} → (S → Request → Reply → S → Type 0) → (Request → Reply → Type 0) → TaskId → DevId → Bool → S → S
     → Result (RealWant × Step) Unmade → Type 0
 Attempted serves owes task dev waits old new (Ok made) = Attempts serves owes task dev waits old (want_of made.0) new made.1
-Attempted serves owes task dev waits old new (Err back) = IsSpent serves owes (TakeBio (Of dev) waits) old new
+Attempted serves owes task dev waits old new (Err back) = IsSpent serves owes (TakeBio (Of dev) waits) old new × (back ≡ unmade.Nothing)
 
 -- the bios of a device's set go from these lists to its rescuer
 abbrev pub PuntedAll : {S : Type 0} → (S → Request → Reply → S → Type 0) → (Request → Reply → Type 0) → TaskId → DevId → TaskLists → S → TaskLists → S
@@ -64,7 +66,8 @@ abbrev pub PuntedAll : {S : Type 0} → (S → Request → Reply → S → Type 
 PuntedAll serves owes task dev lists old after new (Ok step) =
     serves old (Punt dev (punted dev lists)) Did new × owes (Punt dev (punted dev lists)) Did × (after ≡ not_punted dev lists)
     × (step ≡ Stepped (record { task = task; what = what.Punt dev (min (length (punted dev lists)) (2 ^ 64 - 1)) }))
-PuntedAll serves owes task dev lists old after new (Err back) = IsSpent serves owes (Punt dev (punted dev lists)) old new
+PuntedAll serves owes task dev lists old after new (Err back) =
+    IsSpent serves owes (Punt dev (punted dev lists)) old new × (after ≡ not_punted dev lists) × (unmade_kept back ≡ map KeptBio (punted dev lists))
 
 -- why no node was opened, where none was
 abbrev pub refusal : Setup → ℕ → Opening → Reply → Option Breach
@@ -73,16 +76,23 @@ refusal setup writer opening (LinkedTo (NoRoom back)) = Some (breach.NoRoom writ
 refusal setup writer opening (LinkedTo (Stray back)) = Some (breach.Stray writer (named opening))
 refusal setup writer opening reply = None
 
+-- what comes back of what was handed over for a node that was not opened
+abbrev pub came_back : Opening → Reply → List Kept
+came_back opening (LinkedTo (NoRoom back)) = holding_kept back
+came_back opening (LinkedTo (Stray back)) = holding_kept back
+came_back opening reply = opening_kept opening
+
 pub record IsRefused {S : Type 0} (serves : S → Request → Reply → S → Type 0) (owes : Request → Reply → Type 0) (setup : Setup) (writer : ℕ)
-    (opening : Opening) (old : S) (breach : Breach) (new : S) : Type 0 where
+    (opening : Opening) (old : S) (breach : Breach) (handed : HandedBack) (new : S) : Type 0 where
   pub reply : Reply
   pub replied : serves old (Link writer opening) reply new
   pub owed : owes (Link writer opening) reply
   pub refused : refusal setup writer opening reply ≡ Some breach
+  pub back : back_kept handed ≡ came_back opening reply
 
 -- a node is opened, or is not
 abbrev pub NodeOpened : {S : Type 0} → (S → Request → Reply → S → Type 0) → (Request → Reply → Type 0) → Setup → ℕ → Opening → S → S
     → Result ℕ (Breach × HandedBack) → Type 0
 NodeOpened serves owes setup writer opening old new (Ok node) =
     serves old (Link writer opening) (LinkedTo (Made node)) new × owes (Link writer opening) (LinkedTo (Made node))
-NodeOpened serves owes setup writer opening old new (Err refused) = IsRefused serves owes setup writer opening old refused.0 new
+NodeOpened serves owes setup writer opening old new (Err refused) = IsRefused serves owes setup writer opening old refused.0 refused.1 new

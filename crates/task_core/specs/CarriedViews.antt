@@ -7,18 +7,31 @@ use Rattle.bio_records.specs.declared.segment.Vector.{Vector}
 use Rattle.bio_records.specs.declared.body.BioBody.{BioBody}
 use Rattle.bio_records.specs.Items.{item_of, IsAlone}
 use Rattle.bio_books.specs.declared.node.ClosedNode.{ClosedNode}
+use Rattle.bio_books.specs.Books.{Holding}
 use Rattle.bio_books.specs.Drops.{Closed}
-use Rattle.bio_books.specs.Views.{closed_node_of, slip_item, IsAlonePart}
+use Rattle.bio_books.specs.Views.{closed_node_of, holding_of, slip_item, IsAlonePart}
 use Rattle.task_core.specs.declared.carried.Load.{Load}
 use Rattle.task_core.specs.declared.carried.Load.TheVariants as load
 use Rattle.task_core.specs.Tasks.{Carried, Empty, Brings, Carries, Fails}
+use Rattle.task_core.specs.Kept.{holding_kept}
 use Rattle.task_core.specs.Views.{vec_item}
+use Rattle.task_core.specs.declared.objects.Unmade.{Unmade}
+use Rattle.task_core.specs.declared.objects.Unmade.TheVariants as unmade
 
 abbrev pub carried_of : Load → Carried
 carried_of load.Empty = Empty
 carried_of (load.Brings bio status) = Brings (item_of bio) status
 carried_of (load.Carries writer node) = Carries writer (closed_node_of node)
-carried_of (load.Fails breach kept) = Fails breach
+carried_of (load.Fails breach held) = Fails breach (holding_kept (holding_of held))
+
+-- what came back of a call, with what else was carried; a completer hands no lists over, and opens no nodes
+abbrev pub put_back : Holding → Unmade → Holding
+put_back held unmade.Nothing = held
+put_back held (unmade.Bio bio) = record held { bio = Some (item_of bio) }
+put_back held (unmade.Vec vector) = record held { vector = Some (vec_item vector) }
+put_back held (unmade.Slip slip) = record held { slip = Some (slip_item slip) }
+put_back held (unmade.List bios) = held
+put_back held (unmade.Ask ask) = held
 
 -- whether anything is carried, or a completer has broken off
 abbrev pub is_busy : Carried → Bool
@@ -30,7 +43,7 @@ abbrev pub IsLoadAlone : Load → Type 0
 IsLoadAlone load.Empty = Unit {0}
 IsLoadAlone (load.Brings bio status) = IsAlone bio
 IsLoadAlone (load.Carries writer node) = IsAlonePart node.held.bio
-IsLoadAlone (load.Fails breach kept) = Unit {0}
+IsLoadAlone (load.Fails breach held) = Unit {0}
 
 -- a closed node with this element beside what else it holds
 abbrev pub with_vector : Element Vector → ClosedNode → Closed

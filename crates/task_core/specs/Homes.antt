@@ -33,7 +33,7 @@ AskIsHome stage dev (ToMaster slip) = IsHome stage is_slips slip.share
 
 abbrev pub DoingIsHome : Stage → Doing → Type 0
 DoingIsHome stage Rests = Unit {0}
-DoingIsHome stage (Breaks breach) = Unit {0}
+DoingIsHome stage (Breaks breach kept) = Unit {0}
 DoingIsHome stage (Drives item ask) = IsOwned stage item × AskIsHome stage item.bio.dev ask
 DoingIsHome stage (Copies bio master leg want) = IsTrue (has_book stage bio.writer) × WantFits stage bio.dev want
 
@@ -59,7 +59,7 @@ abbrev pub CarriedFits : Stage → Carried → Type 0
 CarriedFits stage Empty = Unit {0}
 CarriedFits stage (Brings bio status) = IsOwned stage bio
 CarriedFits stage (Carries writer closed) = IsTrue (has_book stage writer) × ClosedFits stage closed
-CarriedFits stage (Fails breach) = Unit {0}
+CarriedFits stage (Fails breach kept) = Unit {0}
 
 abbrev pub DutyFits : Stage → Duty → Type 0
 DutyFits stage (Resizes pool min later) = IsTrue (is_pool stage pool) × (1 ≤ min) × (min ≤ stage.most (pool_number pool))

@@ -1,6 +1,7 @@
 pub mod Maps
 pub mod Scene
 pub mod Requests
+pub mod Kept
 pub mod Lines
 pub mod Tasks
 pub mod Objects

@@ -1,5 +1,5 @@
 -- A submission: the bio that its driver has and what the driver asks for, and the task's two lists (`submit_bio_noacct`, block/blk-core.c).
-use Rattle.std.specs.Prelude.{◌+◌, ◌-◌, ◌==◌, ◌&&◌, ◌||◌, ◌++◌, if◌then◌else◌, not, min, ℕ, Bool, true, false, List, [], ◌∷◌, length, filter}
+use Rattle.std.specs.Prelude.{◌+◌, ◌-◌, ◌==◌, ◌&&◌, ◌||◌, ◌++◌, if◌then◌else◌, not, min, ℕ, Bool, true, false, List, [], ◌∷◌, length, filter, map, Option, None, Some}
 use Rattle.stack_base.specs.declared.ids.DevId.{DevId}
 use Rattle.stack_base.specs.declared.ids.Range.{Range}
 use Rattle.stack_base.specs.declared.ids.SetId.{SetId}
@@ -19,6 +19,7 @@ use Rattle.bio_books.specs.Links.{Linked, Made, NoRoom, Stray}
 use Rattle.task_core.specs.declared.event.Breach.{Breach}
 use Rattle.task_core.specs.declared.event.Breach.TheVariants as breach
 use Rattle.task_core.specs.Scene.{Setup, tree_at, number_of}
+use Rattle.task_core.specs.Kept.{Kept, KeptBio, KeptSlip, holding_kept}
 use Rattle.task_core.specs.Requests.{Request, Reply, TakeBio, TakeSlip, Punt, Push, Link, Rest, Chain, Master, Leg, HadBio, HadSlip, Missed, Did, LinkedTo, Spent}
 
 -- what a driver does for a bio of its device's set: it takes one, waiting or not; where an attempt that did not wait missed, it punts; and
@@ -42,7 +43,8 @@ pub data Doing : Type 0 where
   Drives : (bio : Item Pad) → Ask → Doing
   -- a mirror copies a bio, which waits with its parent: the place of the master, and the leg that is made next
   Copies : (bio : Bio) (master leg : ℕ) → Want → Doing
-  Breaks : Breach → Doing
+  -- it cannot go on, and keeps what it had at hand and what came back
+  Breaks : Breach → (kept : List Kept) → Doing
 
 pub record Line : Type 0 where
   pub doing : Doing
@@ -156,7 +158,7 @@ not_punted dev lists = record {
 -- what a submission asks for
 abbrev pub line_request : Setup → Doing → TaskLists → Request
 line_request setup Rests lists = Rest
-line_request setup (Breaks breach) lists = Rest
+line_request setup (Breaks breach kept) lists = Rest
 line_request setup (Drives bio ToPush) lists = Push bio
 line_request setup (Drives bio (ToCut (Takes waits))) lists = TakeBio (Of bio.bio.dev) waits
 line_request setup (Drives bio (ToCut Punts)) lists = Punt bio.bio.dev (punted bio.bio.dev lists)
@@ -168,27 +170,69 @@ line_request setup (Copies bio master leg (Takes waits)) lists = TakeBio (Of bio
 line_request setup (Copies bio master leg Punts) lists = Punt bio.dev (punted bio.dev lists)
 line_request setup (Copies bio master leg (Links hand)) lists = Link bio.writer (Leg master)
 
--- a link that was refused, where the named node is this one
-abbrev pub refused : Setup → ℕ → ℕ → Linked → Doing
-refused setup writer node (Made place) = Rests
-refused setup writer node (NoRoom back) = Breaks (breach.NoRoom writer (setup.places writer))
-refused setup writer node (Stray back) = Breaks (breach.Stray writer node)
+-- a link that was refused, where the named node is this one, and these elements were at hand besides
+abbrev pub refused : Setup → ℕ → ℕ → List Kept → Linked → Doing
+refused setup writer node besides (Made place) = Rests
+refused setup writer node besides (NoRoom back) = Breaks (breach.NoRoom writer (setup.places writer)) (besides ++ holding_kept back)
+refused setup writer node besides (Stray back) = Breaks (breach.Stray writer node) (besides ++ holding_kept back)
 
 abbrev pub after_chain : Setup → TaskLists → Item Pad → Item Pad → Linked → Line
 after_chain setup lists bio hand (Made node) = cut_at setup lists bio hand node (tree_at setup bio.bio.dev)
-after_chain setup lists bio hand (NoRoom back) = record { doing = refused setup bio.bio.writer bio.bio.node (NoRoom back); lists = lists }
-after_chain setup lists bio hand (Stray back) = record { doing = refused setup bio.bio.writer bio.bio.node (Stray back); lists = lists }
+after_chain setup lists bio hand (NoRoom back) =
+    record { doing = refused setup bio.bio.writer bio.bio.node (KeptBio bio ∷ KeptBio hand ∷ []) (NoRoom back); lists = lists }
+after_chain setup lists bio hand (Stray back) =
+    record { doing = refused setup bio.bio.writer bio.bio.node (KeptBio bio ∷ KeptBio hand ∷ []) (Stray back); lists = lists }
 
 abbrev pub after_master : Setup → TaskLists → Bio → Linked → Line
 after_master setup lists bio (Made node) = copies setup lists bio node 0
-after_master setup lists bio (NoRoom back) = record { doing = refused setup bio.writer bio.node (NoRoom back); lists = lists }
-after_master setup lists bio (Stray back) = record { doing = refused setup bio.writer bio.node (Stray back); lists = lists }
+after_master setup lists bio (NoRoom back) = record { doing = refused setup bio.writer bio.node [] (NoRoom back); lists = lists }
+after_master setup lists bio (Stray back) = record { doing = refused setup bio.writer bio.node [] (Stray back); lists = lists }
 
 abbrev pub after_leg : Setup → TaskLists → Bio → ℕ → ℕ → Item Pad → Linked → Line
 after_leg setup lists bio master leg hand (Made node) =
     copies setup (submitted (leg_at bio hand leg node (tree_at setup bio.dev)) lists) bio master (leg + 1)
-after_leg setup lists bio master leg hand (NoRoom back) = record { doing = refused setup bio.writer master (NoRoom back); lists = lists }
-after_leg setup lists bio master leg hand (Stray back) = record { doing = refused setup bio.writer master (Stray back); lists = lists }
+after_leg setup lists bio master leg hand (NoRoom back) =
+    record { doing = refused setup bio.writer master (KeptBio hand ∷ []) (NoRoom back); lists = lists }
+after_leg setup lists bio master leg hand (Stray back) =
+    record { doing = refused setup bio.writer master (KeptBio hand ∷ []) (Stray back); lists = lists }
+
+-- what a submission has at hand, besides its lists
+abbrev pub want_kept : Want → List Kept
+want_kept (Takes waits) = []
+want_kept Punts = []
+want_kept (Links hand) = KeptBio hand ∷ []
+
+abbrev pub ask_kept : Ask → List Kept
+ask_kept ToPush = []
+ask_kept (ToCut want) = want_kept want
+ask_kept ToRecord = []
+ask_kept (ToMaster slip) = KeptSlip slip ∷ []
+
+abbrev pub at_hand : Doing → List Kept
+at_hand Rests = []
+at_hand (Drives bio ask) = KeptBio bio ∷ ask_kept ask
+at_hand (Copies bio master leg want) = want_kept want
+at_hand (Breaks breach kept) = kept
+
+-- the device whose bios it hands to the rescuer, if that is what it asks for
+abbrev pub want_punts : DevId → Want → Option DevId
+want_punts dev (Takes waits) = None
+want_punts dev Punts = Some dev
+want_punts dev (Links hand) = None
+
+abbrev pub punts_of : Doing → Option DevId
+punts_of Rests = None
+punts_of (Drives bio ToPush) = None
+punts_of (Drives bio (ToCut want)) = want_punts bio.bio.dev want
+punts_of (Drives bio ToRecord) = None
+punts_of (Drives bio (ToMaster slip)) = None
+punts_of (Copies bio master leg want) = want_punts bio.dev want
+punts_of (Breaks breach kept) = None
+
+-- There was no ticket for its call: it keeps what it had at hand, and bios that were to go to a rescuer come back beside its lists.
+abbrev pub spent : List Kept → TaskLists → Option DevId → Line
+spent kept lists None = record { doing = Breaks breach.Spent kept; lists = lists }
+spent kept lists (Some dev) = record { doing = Breaks breach.Spent (kept ++ map KeptBio (punted dev lists)); lists = not_punted dev lists }
 
 -- behind a miss: an attempt that waits is made again, and one that does not is followed by a punt
 abbrev pub after_miss : Bool → Want
@@ -197,7 +241,7 @@ after_miss false = Punts
 
 -- how a submission goes on with a reply; one that is no answer to what it asked for leaves it as it is
 abbrev pub line_answered : Setup → Doing → TaskLists → Reply → Line
-line_answered setup doing lists Spent = record { doing = Breaks breach.Spent; lists = lists }
+line_answered setup doing lists Spent = spent (at_hand doing) lists (punts_of doing)
 line_answered setup (Drives bio ToPush) lists Did = goes_on setup bio.bio.dev lists
 line_answered setup (Drives bio (ToCut (Takes waits))) lists (HadBio got hand) = record { doing = Drives bio (ToCut (Links hand)); lists = lists }
 line_answered setup (Drives bio (ToCut (Takes waits))) lists (Missed used) = record { doing = Drives bio (ToCut (after_miss waits)); lists = lists }

@@ -62,7 +62,8 @@ IsDriver stack device (driver.Stripe stripe) =
     (device.kind ≡ kind.Stripe stripe.chunk) × (stripe.members ≡ length (sizes_at stack device)) × (stripe.smallest ≡ smallest (sizes_at stack device))
 IsDriver stack device (driver.Zoned zoned) = (device.kind ≡ kind.Zoned zoned.chunk) × (zoned.sizes ≡ sizes_at stack device)
 IsDriver stack device (driver.Limit limit) = (device.kind ≡ kind.Limit limit.longest limit.chunk) × (limit.sectors ∷ [] ≡ sizes_at stack device)
-IsDriver stack device (driver.Mirror mirror) = (copies (shape_of device.kind) ≡ true) × (mirror.members ≡ device.members.items)
+IsDriver stack device (driver.Mirror mirror) =
+    (copies (shape_of device.kind) ≡ true) × (mirror.members ≡ device.members.items) × (mirror.size ≡ smallest (sizes_at stack device))
 
 -- what is kept of a device
 pub record IsRoute (stack : Stack) (device : Device) (route : Route) : Type 0 where
@@ -161,6 +162,7 @@ HasNoFirst stack bio = first_cut (tree stack bio.dev.0) bio.range ≡ None
 
 -- what a bio is one device further down, where it is one piece
 pub record IsBelow (stack : Stack) (bio next : Bio) : Type 0 where
+  pub next_is : IsSomeAnd (first_cut (tree stack bio.dev.0) bio.range) (λ cut. next ≡ handed cut bio)
   pub lands : landed (tree stack bio.dev.0) bio ≡ landed (tree stack next.dev.0) next
   pub below : next.dev.0 < bio.dev.0
   pub within : IsWithin stack next

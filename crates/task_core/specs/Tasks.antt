@@ -16,7 +16,8 @@ use Rattle.bio_books.specs.Links.{Linked, Made, NoRoom, Stray}
 use Rattle.task_core.specs.declared.event.Breach.{Breach}
 use Rattle.task_core.specs.declared.event.Breach.TheVariants as breach
 use Rattle.task_core.specs.Scene.{Setup}
-use Rattle.task_core.specs.Lines.{Doing, Rests, Breaks, Line, rests, settled, refused, line_request, line_answered}
+use Rattle.task_core.specs.Kept.{Kept, KeptBio, KeptVec, bio_kept, holding_kept}
+use Rattle.task_core.specs.Lines.{Doing, Rests, Breaks, Line, settled, refused, line_request, line_answered}
 use Rattle.task_core.specs.Requests.{Request, Reply, TakeBio, TakeVec, GiveBio, GiveVec, GiveSlip, Pop, Complete, Link, Drop, Done, Resize, NextRound, LookRound, LookLeft, Rest, Write, HadBio, HadVec, Did, Popped, Completed, LinkedTo, DroppedTo, OutIs, Present, LeftOver, Spent}
 
 -- a write that a writer has still to begin, by its number, with its round
@@ -36,7 +37,8 @@ pub data Carried : Type 0 where
   Empty : Carried
   Brings : Item Pad → Status → Carried
   Carries : (writer : ℕ) → Closed → Carried
-  Fails : Breach → Carried
+  -- its completer cannot go on, and keeps what it carried and what came back
+  Fails : Breach → (kept : List Kept) → Carried
 
 -- what the keeper does next: a pool gets another reserve, or the round of this number starts. `later` is how many writes there are of that
 -- round and of those behind it: none but these is unfinished when it may be done
@@ -121,7 +123,7 @@ carried_request disk Empty = Complete disk
 carried_request disk (Brings bio status) = Drop bio.bio.writer bio.bio.node status (Some bio)
 carried_request disk (Carries writer closed) =
     closed_request writer closed closed.held.vector closed.held.bio closed.held.slip closed.parent
-carried_request disk (Fails breach) = Rest
+carried_request disk (Fails breach kept) = Rest
 
 abbrev pub duty_request : Duty → Request
 duty_request (Resizes pool min later) = Resize pool min
@@ -163,21 +165,40 @@ lets (Writer number (todo ∷ later) taken line) (Present round) = nat_le todo.r
 lets (Keeper (Keeps (duty ∷ duties))) (LeftOver count) = count == later_of duty
 lets task reply = false
 
--- the top node of a write is open, and its bio is submitted
-abbrev pub begins : Setup → ℕ → List Todo → (ℕ → Item Pad) → Taken → Todo → Linked → TaskState
-begins setup writer later bio taken todo (Made node) = Writer writer later NoBio (settled setup (bio node ∷ []))
-begins setup writer later bio taken todo (NoRoom back) = Writer writer (todo ∷ later) taken (record rests { doing = refused setup writer 0 (NoRoom back) })
-begins setup writer later bio taken todo (Stray back) = Writer writer (todo ∷ later) taken (record rests { doing = refused setup writer 0 (Stray back) })
+-- what a writer has of what it has taken, once it hands a vector over
+abbrev pub besides : Taken → Taken
+besides NoBio = NoBio
+besides (HasBio bio) = HasBio bio
+besides (HasBoth bio vector) = HasBio bio
+
+-- and the vector that it hands over, with the segments of its next write
+abbrev pub vector_for : List Todo → VectorItem → VectorItem
+vector_for [] vector = vector
+vector_for (todo ∷ later) vector = filled_vector todo vector
+
+abbrev pub handed_vector : List Todo → Taken → List Kept
+handed_vector todo NoBio = []
+handed_vector todo (HasBio bio) = []
+handed_vector todo (HasBoth bio vector) = KeptVec (vector_for todo vector) ∷ []
+
+-- the top node of a write is open, and its bio is submitted; where it was refused, what was handed over for it comes back
+abbrev pub begins : Setup → ℕ → List Todo → (ℕ → Item Pad) → Taken → Todo → Line → Linked → TaskState
+begins setup writer later bio taken todo line (Made node) = Writer writer later NoBio (settled setup (bio node ∷ []))
+begins setup writer later bio taken todo line (NoRoom back) =
+    Writer writer (todo ∷ later) (besides taken) (record line { doing = refused setup writer 0 [] (NoRoom back) })
+begins setup writer later bio taken todo line (Stray back) =
+    Writer writer (todo ∷ later) (besides taken) (record line { doing = refused setup writer 0 [] (Stray back) })
 
 -- how a writer goes on outside of a submission
 abbrev pub write_answered : Setup → ℕ → List Todo → Taken → Line → Reply → TaskState
-write_answered setup writer todo taken line Spent = Writer writer todo taken (record line { doing = Breaks breach.Spent })
+write_answered setup writer todo taken line Spent =
+    Writer writer todo (besides taken) (record line { doing = Breaks breach.Spent (handed_vector todo taken) })
 write_answered setup writer (todo ∷ later) NoBio line (HadBio got bio) = Writer writer (todo ∷ later) (HasBio bio) line
 write_answered setup writer (todo ∷ later) (HasBio bio) line (HadVec got vector) = Writer writer (todo ∷ later) (HasBoth bio vector) line
 write_answered setup writer (todo ∷ later) (HasBio bio) line (LinkedTo answer) =
-    begins setup writer later (λ node. filled_short writer todo node bio) (HasBio bio) todo answer
+    begins setup writer later (λ node. filled_short writer todo node bio) (HasBio bio) todo line answer
 write_answered setup writer (todo ∷ later) (HasBoth bio vector) line (LinkedTo answer) =
-    begins setup writer later (λ node. filled writer todo node bio) (HasBoth bio vector) todo answer
+    begins setup writer later (λ node. filled writer todo node bio) (HasBoth bio vector) todo line answer
 write_answered setup writer todo taken line _ = Writer writer todo taken line
 
 abbrev pub writer_answered : Setup → ℕ → List Todo → Taken → Doing → Line → Reply → TaskState
@@ -186,7 +207,7 @@ writer_answered setup writer todo taken doing line reply = Writer writer todo ta
 
 abbrev pub rescuer_answered : Setup → DevId → Doing → Line → Reply → TaskState
 rescuer_answered setup dev Rests line (Popped bio) = Rescuer dev (settled setup (bio ∷ []))
-rescuer_answered setup dev Rests line Spent = Rescuer dev (record line { doing = Breaks breach.Spent })
+rescuer_answered setup dev Rests line Spent = Rescuer dev (record line { doing = Breaks breach.Spent [] })
 rescuer_answered setup dev Rests line _ = Rescuer dev line
 rescuer_answered setup dev doing line reply = Rescuer dev (line_answered setup doing line.lists reply)
 
@@ -202,14 +223,21 @@ abbrev pub after_drop : ℕ → ℕ → Ended → Carried
 after_drop writer node end.Left = Empty
 after_drop writer node (end.Up closed) = Carries writer closed
 after_drop writer node (end.Top closed) = Carries writer closed
-after_drop writer node (end.Stray part) = Fails (breach.Stray writer node)
+after_drop writer node (end.Stray part) = Fails (breach.Stray writer node) (bio_kept part)
 
 abbrev pub parent_or : Option ℕ → ℕ
 parent_or None = 0
 parent_or (Some parent) = parent
 
+-- what is carried, of a closed node in the order in which it goes back
+abbrev pub carried_kept : Carried → List Kept
+carried_kept Empty = []
+carried_kept (Brings bio status) = KeptBio bio ∷ []
+carried_kept (Carries writer closed) = holding_kept closed.held
+carried_kept (Fails breach kept) = kept
+
 abbrev pub carried_answered : Carried → Reply → Carried
-carried_answered carried Spent = Fails breach.Spent
+carried_answered carried Spent = Fails breach.Spent (carried_kept carried)
 carried_answered Empty (Completed index bio status) = Brings bio status
 carried_answered (Brings bio status) (DroppedTo ended) = after_drop bio.bio.writer bio.bio.node ended
 carried_answered (Carries writer closed) (DroppedTo ended) = after_drop writer (parent_or closed.parent) ended

@@ -49,13 +49,13 @@ abbrev pub doing_breach : Doing → Option Breach
 doing_breach Rests = None
 doing_breach (Drives bio ask) = None
 doing_breach (Copies bio master leg want) = None
-doing_breach (Breaks breach) = Some breach
+doing_breach (Breaks breach kept) = Some breach
 
 abbrev pub carried_breach : Carried → Option Breach
 carried_breach Empty = None
 carried_breach (Brings bio status) = None
 carried_breach (Carries writer closed) = None
-carried_breach (Fails breach) = Some breach
+carried_breach (Fails breach kept) = Some breach
 
 abbrev pub keeping_breach : Keeping → Option Breach
 keeping_breach (Keeps duties) = None

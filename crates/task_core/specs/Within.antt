@@ -58,7 +58,7 @@ AskFits t range (ToMaster slip) = is_mirror t ≡ true
 -- the bio at hand is within its device, and this is one that does so with it
 abbrev pub DoingFits : Stack → Doing → Type 0
 DoingFits stack Rests = Unit {0}
-DoingFits stack (Breaks breach) = Unit {0}
+DoingFits stack (Breaks breach kept) = Unit {0}
 DoingFits stack (Drives item ask) = IsWithin stack item.bio × AskFits (tree stack item.bio.dev.0) item.bio.range ask
 DoingFits stack (Copies bio master leg want) = IsWithin stack bio × (leg < legs_of (tree stack bio.dev.0))
 

@@ -1,12 +1,15 @@
 //! Attempts at a bio for a piece or for a leg. What the driver has stays where it is, so that an attempt that misses moves nothing.
-ghost use Rattle.std.specs.Prelude.{◌≡◌, true, Some};
+ghost use Rattle.std.specs.Prelude.{◌≡◌, ◌≢◌, true, Some, None};
 ghost use Rattle.stack_base.specs.declared.ids.SetId.TheVariants.{Of};
 ghost use Rattle.task_core.specs.declared.event.Breach.TheVariants as breach;
 ghost use Rattle.task_core.specs.Scene.{Setup};
 ghost use Rattle.task_core.specs.Requests.{TakeBio};
-ghost use Rattle.task_core.specs.Lines.{Breaks as Breaks'};
+ghost use Rattle.task_core.specs.Kept.{bio_kept};
+ghost use Rattle.task_core.specs.Lines.{Breaks as Breaks', at_hand};
+ghost use Rattle.task_core.specs.declared.objects.Unmade.TheVariants as unmade;
+ghost use Rattle.bio_books.specs.Views.{bio_of};
 ghost use Rattle.task_core.specs.Stage.{Fits, Owes};
-ghost use Rattle.task_core.specs.LineViews.{want_of, attempt_of, wanting, is_asking, IsWantAlone};
+ghost use Rattle.task_core.specs.LineViews.{want_of, attempt_of, wanting, doing_of, is_asking, IsWantAlone};
 ghost use Rattle.task_core.specs.Answers.{Answers};
 
 use crate::calls::attempt;
@@ -18,17 +21,22 @@ use bio_records::BioElement;
 use stack_base::DevId;
 use std::mem;
 
-// The bio that a driver has, if one has a bio.
-fn bio_of(doing: Doing) -> Option<BioElement> {
+// The bio that a driver has where it takes one for a piece: then it has nothing else at hand, and none where it takes one for a leg.
+#[tactic(auto, using(crate::proofs::Attempting::cuts_for_none, crate::proofs::Attempting::copies_for_none))]
+fn bio_of(doing: Doing) -> Option<BioElement>
+    requires takes { attempt_of (doing_of doing) ≢ None }
+    ensures { bio_kept (bio_of result) ≡ at_hand (doing_of doing) }
+{
     match doing {
         Doing::Drives { bio, ask } => {
             drop(ask);
             Some(bio)
         }
-        rest @ (Doing::Rests | Doing::Copies { .. } | Doing::Breaks { .. }) => {
-            drop(rest);
+        Doing::Copies { want, .. } => {
+            drop(want);
             None
         }
+        Doing::Rests | Doing::Breaks { .. } => unreachable!(),
     }
 }
 
@@ -65,14 +73,15 @@ impl Line {
         }
     }
 
-    // There was no ticket for its attempt.
-    fn spend(&mut self, back: Unmade)
-        requires { is_asking self.old.doing ≡ true }
-        ensures { self.new ≡ record self.old { doing = Breaks' breach.Spent } }
+    // There was no ticket for its attempt, which was handed nothing.
+    fn spend(&mut self, nothing: Unmade)
+        requires takes { attempt_of self.old.doing ≢ None }
+        requires nothing { nothing ≡ unmade.Nothing }
+        ensures { self.new ≡ record self.old { doing = Breaks' breach.Spent (at_hand self.old.doing) } }
     {
         let doing = mem::replace(&mut self.doing, Doing::Rests);
-        let kept = Kept::unmade(bio_of(doing), back);
-        put(&mut self.doing, broken(Breach::Spent, kept, &self.lists));
+        let kept = Kept::unmade(bio_of(doing), nothing);
+        put(&mut self.doing, broken(Breach::Spent, kept));
     }
 
     /// Takes a bio of this device's set for the first piece of the bio that its driver has, or for the next leg (`bio_alloc_bioset`,

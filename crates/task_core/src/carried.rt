@@ -3,12 +3,13 @@ ghost use Rattle.std.specs.Prelude.{◌≡◌, true, false, Option, None, Some};
 ghost use Rattle.bio_records.specs.declared.bio.Pad.{Pad as Pad'};
 ghost use Rattle.bio_records.specs.Items.{Item, item_of, IsAlone};
 ghost use Rattle.bio_books.specs.Books.{nothing_held};
-ghost use Rattle.bio_books.specs.Views.{closed_node_of, ended_of, IsAlonePart, IsDroppedAlone};
+ghost use Rattle.bio_books.specs.Views.{bio_of, closed_node_of, holding_of, ended_of, IsAlonePart, IsDroppedAlone};
 ghost use Rattle.task_core.specs.declared.event.Breach.TheVariants as Breach';
 ghost use Rattle.task_core.specs.declared.event.TaskId.TheVariants as TaskId';
 ghost use Rattle.task_core.specs.declared.event.What.TheVariants as What';
 ghost use Rattle.task_core.specs.declared.step.Step.TheVariants as Step';
 ghost use Rattle.task_core.specs.Scene.{Setup};
+ghost use Rattle.task_core.specs.Kept.{bio_kept, holding_kept};
 ghost use Rattle.task_core.specs.Events.{pool_of};
 ghost use Rattle.task_core.specs.Requests.{Drop as DropOf, DroppedTo};
 ghost use Rattle.task_core.specs.Tasks.{Brings, Carries, Completer as Completes, Empty, Fails, after_drop};
@@ -16,7 +17,7 @@ ghost use Rattle.task_core.specs.Routed.{setup};
 ghost use Rattle.task_core.specs.Stage.{Owes};
 ghost use Rattle.task_core.specs.Homes.{IsTaskOf};
 ghost use Rattle.task_core.specs.Turns.{completes, Chosen, Turns, step_of};
-ghost use Rattle.task_core.specs.CarriedViews.{carried_of, is_busy, with_bio, with_slip, with_vector, HoldsNothing, IsLoadAlone};
+ghost use Rattle.task_core.specs.CarriedViews.{carried_of, put_back, is_busy, with_bio, with_slip, with_vector, HoldsNothing, IsLoadAlone};
 
 use crate::event::{Breach, End, Event, TaskId, What};
 use crate::objects::{Chooser, Objects, Unmade};
@@ -37,8 +38,8 @@ pub enum Load {
     Brings { bio: BioElement, status: Status },
     /// What is left of a node that has closed.
     Carries { writer: u32, node: ClosedNode },
-    /// It cannot go on, and keeps what it was handed back.
-    Fails { breach: Breach, kept: Unmade },
+    /// It cannot go on, and keeps what came back of its call, and what else it carried.
+    Fails { breach: Breach, held: Back },
 }
 
 /// What a completer carries, seen without its boxes.
@@ -73,28 +74,68 @@ fn pool_of(number: u32) -> PoolId
     }
 }
 
-// It cannot go on.
-fn failing(breach: Breach, kept: Unmade) -> Carried
-    ensures { result ≡ Fails breach }
+// No element.
+fn nothing_held() -> Back
+    ensures { holding_of result ≡ nothing_held }
+{
+    Back {
+        bio: None,
+        vector: None,
+        slip: None,
+    }
+}
+
+// What came back of a call, with what else was carried.
+fn put_back(rest: Back, back: Unmade) -> Back
+    ensures { holding_of result ≡ put_back (holding_of rest) back }
+{
+    match back {
+        Unmade::Bio(bio) => Back {
+            bio: Some(bio),
+            ..rest
+        },
+        Unmade::Vec(vector) => Back {
+            vector: Some(vector),
+            ..rest
+        },
+        Unmade::Slip(slip) => Back {
+            slip: Some(slip),
+            ..rest
+        },
+        Unmade::Nothing | Unmade::List(_) | Unmade::Ask(_) => rest,
+    }
+}
+
+// It cannot go on, and keeps this.
+fn failing(breach: Breach, held: Back) -> Carried
+    ensures { result ≡ Fails breach (holding_kept (holding_of held)) }
 {
     Carried {
-        load: Load::Fails { breach, kept },
+        load: Load::Fails { breach, held },
     }
 }
 
-// An object had no ticket for a call.
-fn spent(kept: Unmade) -> (Carried, Step)
-    ensures { (result.0 ≡ Fails Breach'.Spent) × (result.1 ≡ Step'.Broken Breach'.Spent) }
+// An object had no ticket for a call. It keeps what came back, and what else it carried.
+fn spent(rest: Back, back: Unmade) -> (Carried, Step)
+    ensures carried { result.0 ≡ Fails Breach'.Spent (holding_kept (put_back (holding_of rest) back)) }
+    ensures step { result.1 ≡ Step'.Broken Breach'.Spent }
 {
-    (failing(Breach::Spent, kept), Step::Broken(Breach::Spent))
+    let held = put_back(rest, back);
+    (failing(Breach::Spent, held), Step::Broken(Breach::Spent))
 }
 
-// What a node was handed back.
-fn unmade_part(part: Option<BioElement>) -> Unmade {
-    match part {
-        Some(bio) => Unmade::Bio(bio),
-        None => Unmade::Nothing,
-    }
+// A node that was named was not open. It keeps the part that came back.
+#[tactic(auto, using(crate::proofs::KeptLemmas::part_alone))]
+fn stray(writer: u32, node: u32, part: Option<BioElement>) -> (Carried, Step)
+    ensures carried { result.0 ≡ Fails (Breach'.Stray writer node) (bio_kept (bio_of part)) }
+    ensures step { result.1 ≡ Step'.Broken (Breach'.Stray writer node) }
+{
+    let breach = Breach::Stray { writer, node };
+    let held = Back {
+        bio: part,
+        ..nothing_held()
+    };
+    (failing(breach, held), Step::Broken(breach))
 }
 
 // The event that an element went back to its pool.
@@ -151,10 +192,7 @@ fn told(disk: DevId, writer: u32, node: u32, status: Status, dropped: Dropped) -
             carrying(writer, closed),
             drops(disk, writer, node, status, End::Top),
         ),
-        Dropped::Stray(part) => (
-            failing(Breach::Stray { writer, node }, unmade_part(part)),
-            Step::Broken(Breach::Stray { writer, node }),
-        ),
+        Dropped::Stray(part) => stray(writer, node, part),
     }
 }
 
@@ -174,7 +212,7 @@ fn drop_part<O: Objects>(
     let Bio { writer, node, .. } = bio.body.bio;
     match objects.drop_one(writer, node, status, Some(bio)) {
         Ok(dropped) => told(disk, writer, node, status, dropped),
-        Err(kept) => spent(kept),
+        Err(back) => spent(nothing_held(), back),
     }
 }
 
@@ -196,10 +234,7 @@ fn give_vector<O: Objects>(
     let pool = pool_of(vector.no());
     match objects.give_vec(vector) {
         Ok(()) => (carrying(writer, rest), gives(disk, pool)),
-        Err(kept) => {
-            drop(rest);
-            spent(kept)
-        }
+        Err(back) => spent(rest.held, back),
     }
 }
 
@@ -221,10 +256,7 @@ fn give_bio<O: Objects>(
     let pool = pool_of(bio.no());
     match objects.give_bio(bio) {
         Ok(()) => (carrying(writer, rest), gives(disk, pool)),
-        Err(kept) => {
-            drop(rest);
-            spent(kept)
-        }
+        Err(back) => spent(rest.held, back),
     }
 }
 
@@ -245,10 +277,7 @@ fn give_slip<O: Objects>(
     let pool = pool_of(slip.no());
     match objects.give_slip(slip) {
         Ok(()) => (carrying(writer, rest), gives(disk, pool)),
-        Err(kept) => {
-            drop(rest);
-            spent(kept)
-        }
+        Err(back) => spent(rest.held, back),
     }
 }
 
@@ -268,7 +297,7 @@ fn drop_parent<O: Objects>(
 {
     match objects.drop_one(writer, parent, status, None) {
         Ok(dropped) => told(disk, writer, parent, status, dropped),
-        Err(kept) => spent(kept),
+        Err(back) => spent(nothing_held(), back),
     }
 }
 
@@ -294,7 +323,7 @@ fn end_write<O: Objects>(
                 Step::Stepped(Event { task, what }),
             )
         }
-        Err(kept) => spent(kept),
+        Err(back) => spent(nothing_held(), back),
     }
 }
 
@@ -343,7 +372,7 @@ fn step_of<O: Objects>(objects: &mut O, disk: DevId, load: Load) -> (Carried, St
         Load::Empty => unreachable!(),
         Load::Brings { bio, status } => drop_part(objects, disk, bio, status),
         Load::Carries { writer, node } => finish(objects, disk, writer, node),
-        Load::Fails { breach, kept } => (failing(breach, kept), Step::Broken(breach)),
+        Load::Fails { breach, held } => (failing(breach, held), Step::Broken(breach)),
     }
 }
 
@@ -405,11 +434,10 @@ impl Carried {
                     Step::Waiting
                 }
             }
-            Err(kept) => {
-                self.put(Load::Fails {
-                    breach: Breach::Spent,
-                    kept,
-                });
+            Err(back) => {
+                let held = put_back(nothing_held(), back);
+                let breach = Breach::Spent;
+                self.put(Load::Fails { breach, held });
                 Step::Broken(Breach::Spent)
             }
         }

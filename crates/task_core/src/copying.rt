@@ -12,15 +12,14 @@ ghost use Rattle.task_core.specs.LineViews.{line_of, IsDoingAlone};
 ghost use Rattle.task_core.specs.Answers.{Answers};
 
 use crate::calls::{open_node, punt_all};
-use crate::event::{Breach, Event, How, TaskId, What};
-use crate::line::{Doing, Kept, Want, break_off, broken_at, go_on};
+use crate::event::{Event, How, TaskId, What};
+use crate::line::{Doing, Kept, Want, break_off, go_on, spent};
 use crate::objects::{Ask, Objects};
 use crate::routes::Routes;
 use crate::step::Step;
 use bio_lists::Submission;
 use bio_records::{Bio, BioElement, TaskLists};
 use bioset_pools::fill_bio;
-use std::snapshot::Snapshot;
 
 /// How far a mirror is with a bio that it copies.
 #[derive(Clone, Copy)]
@@ -68,7 +67,6 @@ pub(crate) fn punt_to_copy<O: Objects>(
     ensures alone { IsDoingAlone result.0 }
     ensures kept { O.holds objects.new × (O.stage objects.new ≡ O.stage objects.old) }
 {
-    let was = Snapshot::of(lists);
     match punt_all(objects, task, run.bio.dev, lists) {
         Ok(step) => {
             let want = Want::Takes { waits: true };
@@ -81,13 +79,7 @@ pub(crate) fn punt_to_copy<O: Objects>(
             };
             (doing, step)
         }
-        Err(back) => {
-            let kept = Kept::unmade(None, back);
-            (
-                broken_at(Breach::Spent, kept, was),
-                Step::Broken(Breach::Spent),
-            )
-        }
+        Err(back) => spent(None, back),
     }
 }
 
@@ -147,7 +139,7 @@ pub(crate) fn leg<O: Objects>(
                 hand: Some(hand),
                 back,
             };
-            break_off(breach, kept, lists)
+            break_off(breach, kept)
         }
     }
 }

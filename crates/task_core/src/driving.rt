@@ -16,8 +16,8 @@ ghost use Rattle.task_core.specs.Answers.{Answers};
 
 use crate::calls::{had, missed, open_node, punt_all};
 use crate::copying::{Copying, copy_on};
-use crate::event::{Breach, Event, Got, How, TaskId, What};
-use crate::line::{Doing, DriverAsk, Kept, Want, break_off, broken_at, go_on, spent};
+use crate::event::{Event, Got, How, TaskId, What};
+use crate::line::{Doing, DriverAsk, Kept, Want, break_off, go_on, spent};
 use crate::objects::{Ask, Objects};
 use crate::routes::{Cut, Routes};
 use crate::step::Step;
@@ -26,7 +26,6 @@ use bio_records::{BioElement, SlipElement, TaskLists};
 use bio_split::split;
 use mempool_core::Taken;
 use stack_base::{PoolId, SetId};
-use std::snapshot::Snapshot;
 
 /// The bio goes to the disk that it is at, and the next one to its driver.
 pub(crate) fn push<O: Objects>(
@@ -56,7 +55,7 @@ pub(crate) fn push<O: Objects>(
             go_on(routes, lists, at),
             Step::Stepped(Event { task, what }),
         ),
-        Err(back) => spent(None, back, lists),
+        Err(back) => spent(None, back),
     }
 }
 
@@ -74,20 +73,13 @@ pub(crate) fn punt_to_cut<O: Objects>(
     ensures alone { IsDoingAlone result.0 }
     ensures kept { O.holds objects.new × (O.stage objects.new ≡ O.stage objects.old) }
 {
-    let was = Snapshot::of(lists);
     match punt_all(objects, task, bio.body.bio.dev, lists) {
         Ok(step) => {
             let ask = DriverAsk::ToCut(Want::Takes { waits: true });
             let doing = Doing::Drives { bio, ask };
             (doing, step)
         }
-        Err(back) => {
-            let kept = Kept::unmade(Some(bio), back);
-            (
-                broken_at(Breach::Spent, kept, was),
-                Step::Broken(Breach::Spent),
-            )
-        }
+        Err(back) => spent(Some(bio), back),
     }
 }
 
@@ -150,7 +142,7 @@ pub(crate) fn chain<O: Objects>(
                 hand: Some(hand),
                 back,
             };
-            break_off(breach, kept, lists)
+            break_off(breach, kept)
         }
     }
 }
@@ -187,7 +179,7 @@ pub(crate) fn take_record<O: Objects>(
             let doing = Doing::Drives { bio, ask };
             (doing, missed(task, true, used, pool))
         }
-        Err(back) => spent(Some(bio), back, lists),
+        Err(back) => spent(Some(bio), back),
     }
 }
 
@@ -239,7 +231,7 @@ pub(crate) fn master<O: Objects>(
                 hand: None,
                 back,
             };
-            break_off(breach, kept, lists)
+            break_off(breach, kept)
         }
     }
 }

@@ -141,7 +141,7 @@ impl Keeper {
         }
     }
 
-    /// What it has still to do, in this order.
+    /// What it has still to do, in this order. Of a keeper that has broken off nothing is said.
     pub fn duties(&self) -> &[Duty]
         ensures { (duties : List DutyState) → self.now ≡ Keeps duties → map duty_of result.now ≡ duties }
     {

@@ -1,5 +1,5 @@
 //! Submissions: the bio that its driver has, what the driver asks for, and the bios that wait (`submit_bio_noacct`, `block/blk-core.c`).
-ghost use Rattle.std.specs.Prelude.{◌≡◌, ◌<◌, length, [], ◌∷◌, true, None};
+ghost use Rattle.std.specs.Prelude.{◌≡◌, ◌<◌, ◌++◌, length, [], ◌∷◌, true, None};
 ghost use Rattle.bio_records.specs.declared.bio.Pad.{Pad};
 ghost use Rattle.bio_records.specs.Items.{Item, item_of, IsAlone};
 ghost use Rattle.task_core.specs.Scene.{tree_at};
@@ -9,7 +9,9 @@ ghost use Rattle.task_core.specs.Routed.{setup};
 ghost use Rattle.task_core.specs.Stage.{Fits, Owes};
 ghost use Rattle.task_core.specs.Homes.{IsLineOf};
 ghost use Rattle.task_core.specs.Turns.{doing_breach};
-ghost use Rattle.task_core.specs.LineViews.{want_of, attempt_of, ask_of, doing_of, lists_of, line_of, IsWantAlone, IsAskOfAlone, IsDoingAlone, is_asking};
+ghost use Rattle.task_core.specs.LineViews.{want_of, attempt_of, ask_of, unmade_kept, kept_of, doing_of, line_of, IsWantAlone, IsAskOfAlone, IsDoingAlone, is_asking};
+ghost use Rattle.task_core.specs.Kept.{bio_kept};
+ghost use Rattle.bio_books.specs.Views.{bio_of};
 ghost use Rattle.task_core.specs.Answers.{Answers};
 
 use crate::copying::{Copying, leg, punt_to_copy};
@@ -25,7 +27,6 @@ use bio_records::{Bio, BioElement, SlipElement, TaskLists};
 use stack_base::DevId;
 use std::marker::Model;
 use std::mem;
-use std::snapshot::Snapshot;
 
 /// What a driver does for a bio of its device's set.
 #[derive(Drop)]
@@ -72,6 +73,13 @@ pub struct Kept {
 }
 
 impl Kept {
+    /// Nothing was at hand, and nothing came back.
+    pub(crate) fn nothing() -> Kept
+        ensures { kept_of result ≡ [] }
+    {
+        Kept::unmade(None, Unmade::Nothing)
+    }
+
     /// What it had of a bio, and what came back of a call without a ticket.
     pub(crate) fn unmade(bio: Option<BioElement>, back: Unmade) -> Kept
         ensures { result ≡ record { bio = bio; hand = None; back = HandedBack.Unmade back } }
@@ -102,12 +110,10 @@ pub enum Doing {
         leg: u32,
         want: Want,
     },
-    /// It cannot go on. A punt that was refused has its bios back in `kept`, and no more in the lists; `lists` are these as they were before,
-    /// which have no bytes here.
+    /// It cannot go on, and keeps what it had at hand and what came back. A punt that was refused has its bios there, and no more in the lists.
     Breaks {
         breach: Breach,
         kept: Kept,
-        lists: Snapshot<TaskLists>,
     },
 }
 
@@ -175,42 +181,30 @@ pub(crate) fn go_on(routes: &Routes, lists: &mut TaskLists, served: DevId) -> Do
     }
 }
 
-// It cannot go on, and had these lists where it asked.
-pub(crate) fn broken_at(breach: Breach, kept: Kept, was: Snapshot<TaskLists>) -> Doing
-    ensures line { (lists : TaskLists) → line_of result lists ≡ record { doing = Breaks' breach; lists = was.value } }
+// It cannot go on, and keeps this.
+pub(crate) fn broken(breach: Breach, kept: Kept) -> Doing
+    ensures doing { doing_of result ≡ Breaks' breach (kept_of kept) }
     ensures alone { IsDoingAlone result }
 {
-    Doing::Breaks {
-        breach,
-        kept,
-        lists: was,
-    }
+    Doing::Breaks { breach, kept }
 }
 
-// It cannot go on, and has its lists as they are.
-pub(crate) fn broken(breach: Breach, kept: Kept, lists: &TaskLists) -> Doing
-    ensures line { (later : TaskLists) → line_of result later ≡ record { doing = Breaks' breach; lists = lists.now } }
-    ensures alone { IsDoingAlone result }
-{
-    broken_at(breach, kept, Snapshot::of(lists))
-}
-
-// It breaks off.
-pub(crate) fn break_off(breach: Breach, kept: Kept, lists: &TaskLists) -> (Doing, Step)
-    ensures line { line_of result.0 lists.now ≡ record { doing = Breaks' breach; lists = lists.now } }
+// It breaks off, and keeps this.
+pub(crate) fn break_off(breach: Breach, kept: Kept) -> (Doing, Step)
+    ensures doing { doing_of result.0 ≡ Breaks' breach (kept_of kept) }
     ensures alone { IsDoingAlone result.0 }
     ensures step { result.1 ≡ Step.Broken breach }
 {
-    (broken(breach, kept, lists), Step::Broken(breach))
+    (broken(breach, kept), Step::Broken(breach))
 }
 
-// There was no ticket for its call.
-pub(crate) fn spent(bio: Option<BioElement>, back: Unmade, lists: &TaskLists) -> (Doing, Step)
-    ensures line { line_of result.0 lists.now ≡ record { doing = Breaks' Breach.Spent; lists = lists.now } }
+// There was no ticket for its call: it keeps the bio that its driver had, if it had one, and what came back.
+pub(crate) fn spent(bio: Option<BioElement>, back: Unmade) -> (Doing, Step)
+    ensures doing { doing_of result.0 ≡ Breaks' Breach.Spent (bio_kept (bio_of bio) ++ unmade_kept back) }
     ensures alone { IsDoingAlone result.0 }
     ensures step { result.1 ≡ Step.Broken Breach.Spent }
 {
-    break_off(Breach::Spent, Kept::unmade(bio, back), lists)
+    break_off(Breach::Spent, Kept::unmade(bio, back))
 }
 
 // What a driver that cuts does next.
@@ -305,9 +299,9 @@ fn turn<O: Objects>(
     requires alone { IsDoingAlone doing }
     requires asks { is_asking (doing_of doing) ≡ true }
     requires no_attempt { attempt_of (doing_of doing) ≡ None }
-    requires fits { Fits (O.stage objects.old) (line_request (setup routes.now) (doing_of doing) (lists_of doing lists.old)) }
+    requires fits { Fits (O.stage objects.old) (line_request (setup routes.now) (doing_of doing) lists.old) }
     requires within { LineFits routes.now.stack (line_of doing lists.old) }
-    ensures step { Answers O.serves (Owes (O.stage objects.old)) (setup routes.now) task (doing_of doing) (lists_of doing lists.old) objects.old (line_of result.0 lists.new) objects.new result.1 }
+    ensures step { Answers O.serves (Owes (O.stage objects.old)) (setup routes.now) task (doing_of doing) lists.old objects.old (line_of result.0 lists.new) objects.new result.1 }
     ensures alone { IsDoingAlone result.0 }
     ensures kept { O.holds objects.new × (O.stage objects.new ≡ O.stage objects.old) }
 {
@@ -360,19 +354,12 @@ impl Line {
         self.lists = line.lists;
     }
 
-    /// The task of a submission that is over cannot go on.
+    /// The task of a submission that is over cannot go on, and keeps this.
     pub(crate) fn breaks(&mut self, breach: Breach, kept: Kept)
         requires { self.old.doing ≡ Rests }
-        ensures { self.new ≡ record self.old { doing = Breaks' breach } }
+        ensures { self.new ≡ record self.old { doing = Breaks' breach (kept_of kept) } }
     {
-        put(&mut self.doing, broken(breach, kept, &self.lists));
-    }
-
-    /// It was refused the node of a write.
-    pub(crate) fn refused(&mut self, breach: Breach, kept: Kept)
-        ensures { self.new ≡ record rests { doing = Breaks' breach } }
-    {
-        put(&mut self.doing, broken(breach, kept, &TaskLists::new()));
+        put(&mut self.doing, broken(breach, kept));
     }
 
     /// Whether it has something to ask for: it is not over, and has not broken off.

@@ -100,6 +100,7 @@ pub trait Objects {
         ensures serves { serves self.old (TakeBio set waits) (took_bio result) self.new }
         ensures owed { Owes (stage self.old) (TakeBio set waits) (took_bio result) }
         ensures clear { TookClear IsClearBody result }
+        ensures back { IfErr result (λ back. back ≡ unmade.Nothing) }
         ensures kept { holds self.new × (stage self.new ≡ stage self.old) };
 
     /// Takes a vector, and waits.
@@ -107,6 +108,7 @@ pub trait Objects {
         requires holds { holds self.old }
         ensures serves { serves self.old TakeVec (took_vec result) self.new }
         ensures owed { Owes (stage self.old) TakeVec (took_vec result) }
+        ensures back { IfErr result (λ back. back ≡ unmade.Nothing) }
         ensures kept { holds self.new × (stage self.new ≡ stage self.old) };
 
     /// Takes a record of a mirror, and waits.
@@ -115,6 +117,7 @@ pub trait Objects {
         requires fits { Fits (stage self.old) (TakeSlip dev) }
         ensures serves { serves self.old (TakeSlip dev) (took_slip result) self.new }
         ensures owed { Owes (stage self.old) (TakeSlip dev) (took_slip result) }
+        ensures back { IfErr result (λ back. back ≡ unmade.Nothing) }
         ensures kept { holds self.new × (stage self.new ≡ stage self.old) };
 
     /// Gives a bio back to its pool.
@@ -157,6 +160,7 @@ pub trait Objects {
         ensures serves { serves self.old (Pop dev) (popped result) self.new }
         ensures owed { Owes (stage self.old) (Pop dev) (popped result) }
         ensures alone { PoppedAlone result }
+        ensures back { IfErr result (λ back. back ≡ unmade.Nothing) }
         ensures kept { holds self.new × (stage self.new ≡ stage self.old) };
 
     /// Pushes a bio to the disk that it is at.
@@ -180,6 +184,7 @@ pub trait Objects {
         ensures owed { Owes (stage self.old) (Complete disk) (completed result) }
         ensures chosen { Choice C.chooses (picks self.old disk) chooser.old (completed result) chooser.new }
         ensures alone { CompletedAlone result }
+        ensures back { IfErr result (λ back. back ≡ unmade.Nothing) }
         ensures kept { holds self.new × (stage self.new ≡ stage self.old) };
 
     /// Opens a node in the book of a writer.
@@ -215,6 +220,7 @@ pub trait Objects {
         requires holds { holds self.old }
         requires fits { Fits (stage self.old) (DoneOf write status) }
         ensures serves { serves self.old (DoneOf write status) (did result) self.new }
+        ensures back { IfErr result (λ back. back ≡ unmade.Nothing) }
         ensures kept { holds self.new × (stage self.new ≡ stage self.old) };
 
     /// Sets the reserve of a pool, where nothing of it is out. It answers how much is.
@@ -222,12 +228,14 @@ pub trait Objects {
         requires holds { holds self.old }
         requires fits { Fits (stage self.old) (Resize pool min) }
         ensures serves { serves self.old (Resize pool min) (resized result) self.new }
+        ensures back { IfErr result (λ back. back ≡ unmade.Nothing) }
         ensures kept { holds self.new × (stage self.new ≡ stage self.old) };
 
     /// The round behind the present one becomes the present one, if there is one.
     fn next_round(&mut self) -> Result<(), Unmade>
         requires holds { holds self.old }
         ensures serves { (round : ℕ) → serves self.old (NextRound round) (did result) self.new }
+        ensures back { IfErr result (λ back. back ≡ unmade.Nothing) }
         ensures kept { holds self.new × (stage self.new ≡ stage self.old) };
 
     /// How many writes are unfinished.

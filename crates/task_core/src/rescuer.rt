@@ -69,8 +69,9 @@ impl Rescuer {
                 Step::Stepped(Event { task, what })
             }
             Ok(None) => idle(objects.left()),
-            Err(back) => {
-                self.line.breaks(Breach::Spent, Kept::unmade(None, back));
+            Err(nothing) => {
+                drop(nothing);
+                self.line.breaks(Breach::Spent, Kept::nothing());
                 Step::Broken(Breach::Spent)
             }
         }

@@ -29,13 +29,13 @@ pub struct Writer {
 }
 
 impl Model for Writer {
-    ghost use Rattle.task_core.specs.WriterViews.{WriterState, taken_of, IsTakenAlone, TakenSuits};
+    ghost use Rattle.task_core.specs.WriterViews.{WriterState, taken_of, IsTakenAlone};
 
     ghost Value = { WriterState };
 
     ghost view = { λ w. record { number = w.number; todo = w.todo; taken = taken_of w.taken; line = w.line } };
 
-    ghost invariant = { λ w. IsTakenAlone w.taken × TakenSuits w.taken w.line.doing };
+    ghost invariant = { λ w. IsTakenAlone w.taken };
 }
 
 impl Writer {
@@ -69,7 +69,7 @@ impl Writer {
     fn put(&mut self, next: Next)
         requires todo { self.old.todo ≢ [] }
         requires none { self.old.taken ≡ NoBio }
-        requires alone { IsNextAlone next self.old.line.doing }
+        requires alone { IsNextAlone next }
         ensures { (todo : TodoState) → self.old.todo ≡ todo ∷ drop 1 self.old.todo → writer_task self.new ≡ next_of next self.old.number todo (drop 1 self.old.todo) self.old.line }
     {
         match next {
@@ -105,9 +105,7 @@ impl Writer {
         match attempt {
             Attempt::Had(bio) => self.taken = Taken::HasBio(bio),
             Attempt::Missed => {}
-            Attempt::Spent(back) => {
-                self.line.breaks(Breach::Spent, Kept::unmade(None, back));
-            }
+            Attempt::Spent => self.line.breaks(Breach::Spent, Kept::nothing()),
         }
     }
 
@@ -147,7 +145,7 @@ impl Writer {
     {
         match self.taken {
             Taken::NoBio => false,
-            Taken::HasBio(_) | Taken::HasBoth(..) | Taken::Refused(..) => true,
+            Taken::HasBio(_) | Taken::HasBoth(..) => true,
         }
     }
 

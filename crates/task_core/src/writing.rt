@@ -4,20 +4,21 @@ ghost use Rattle.stack_base.specs.declared.ids.SetId.TheVariants.{Fs};
 ghost use Rattle.layout_model.specs.Writes.{IsWrite};
 ghost use Rattle.bio_records.specs.Items.{item_of, IsAlone};
 ghost use Rattle.bio_records.specs.Segments.{segment_count, segments_of};
-ghost use Rattle.bio_books.specs.Views.{vector_of};
+ghost use Rattle.bio_books.specs.Views.{vector_of, holding_of};
+ghost use Rattle.task_core.specs.Kept.{holding_kept};
 ghost use Rattle.task_core.specs.Scene.{Setup};
 ghost use Rattle.task_core.specs.Requests.{TakeBio, TakeVec, Link as LinkOf, Write as WriteOf};
 ghost use Rattle.task_core.specs.declared.event.TaskId.TheVariants as id;
 ghost use Rattle.task_core.specs.declared.event.How.TheVariants as how;
 ghost use Rattle.task_core.specs.declared.event.What.TheVariants as what;
-ghost use Rattle.task_core.specs.Lines.{Line as LineState, Rests, Breaks, rests};
+ghost use Rattle.task_core.specs.Lines.{Line as LineState, Rests, Breaks};
 ghost use Rattle.task_core.specs.Tasks.{Todo as TodoState, NoBio, HasBio, HasBoth, Writer as WriterTask, needs_vector, first_bio, filled, filled_short, filled_vector, write_request};
 ghost use Rattle.task_core.specs.Within.{IsWithin};
 ghost use Rattle.task_core.specs.Routed.{setup};
 ghost use Rattle.task_core.specs.Stage.{Fits, Owes, has_book, is_vecs, IsHome};
 ghost use Rattle.task_core.specs.Homes.{TodoFits, TakenIsHome};
 ghost use Rattle.task_core.specs.Views.{vec_item};
-ghost use Rattle.task_core.specs.WriterViews.{taken_of, is_taken, IsTakenAlone, TakenSuits, tried, IsAttemptAtBioAlone, next_of, IsNextAlone, WriteAnswers, WriteOpened};
+ghost use Rattle.task_core.specs.WriterViews.{taken_of, is_taken, IsTakenAlone, tried, IsAttemptAtBioAlone, next_of, IsNextAlone, WriteAnswers, WriteOpened};
 
 use crate::calls::{had, missed};
 use crate::event::{Breach, Event, Got, How, TaskId, What};
@@ -33,7 +34,6 @@ use bioset_pools::fill_bio;
 use layout_model::Write;
 use mempool_core::Taken as Took;
 use stack_base::{PoolId, Range, SetId};
-use std::snapshot::Snapshot;
 
 /// What a writer has taken for its next write.
 #[derive(Drop)]
@@ -42,8 +42,6 @@ pub enum Taken {
     HasBio(BioElement),
     /// Also a vector, which has no segments yet.
     HasBoth(BioElement, VecElement),
-    /// Its bio, and what the vector was that it handed over with a link that was refused, which has no bytes here.
-    Refused(BioElement, Snapshot<VecElement>),
 }
 
 // What becomes of a write that is to begin.
@@ -144,8 +142,8 @@ pub(crate) enum Attempt {
     Had(BioElement),
     // There is none yet.
     Missed,
-    // There was no ticket for the call.
-    Spent(Unmade),
+    // There was no ticket for the call, which was handed nothing.
+    Spent,
 }
 
 // Takes the bio of a write, and waits for it (`bio_alloc_bioset`, `block/bio.c`).
@@ -161,7 +159,10 @@ pub(crate) fn take_bio<O: Objects>(objects: &mut O, number: u32) -> (Attempt, St
         Ok(Took::Ordinary(bio)) => (Attempt::Had(bio), had(task, true, pool, Got::Ordinary)),
         Ok(Took::Spare(bio)) => (Attempt::Had(bio), had(task, true, pool, Got::Spare)),
         Ok(Took::Miss { used }) => (Attempt::Missed, missed(task, true, used, pool)),
-        Err(back) => (Attempt::Spent(back), Step::Broken(Breach::Spent)),
+        Err(nothing) => {
+            drop(nothing);
+            (Attempt::Spent, Step::Broken(Breach::Spent))
+        }
     }
 }
 
@@ -176,7 +177,7 @@ fn take_vector<O: Objects>(
     requires alone { IsAlone bio }
     requires rests { line.old.doing ≡ Rests }
     ensures step { (setup : Setup) (todo : TodoState) (later : List TodoState) → WriteAnswers O.serves (Owes (O.stage objects.old)) setup number TakeVec (todo ∷ later) (HasBio (item_of bio)) line.old objects.old (WriterTask number (todo ∷ later) (taken_of result.0) line.new) objects.new result.1 }
-    ensures alone { IsTakenAlone result.0 × TakenSuits result.0 line.new.doing }
+    ensures alone { IsTakenAlone result.0 }
     ensures kept { O.holds objects.new × (O.stage objects.new ≡ O.stage objects.old) }
 {
     let task = TaskId::Writer(number);
@@ -191,16 +192,18 @@ fn take_vector<O: Objects>(
             had(task, true, pool, Got::Spare),
         ),
         Ok(Took::Miss { used }) => (Taken::HasBio(bio), missed(task, true, used, pool)),
-        Err(back) => {
-            line.breaks(Breach::Spent, Kept::unmade(None, back));
+        Err(nothing) => {
+            drop(nothing);
+            line.breaks(Breach::Spent, Kept::nothing());
             (Taken::HasBio(bio), Step::Broken(Breach::Spent))
         }
     }
 }
 
-// A writer was refused the node of a write.
+// A writer was refused the node of a write, and keeps what it handed over for it.
 fn unlinked(line: &mut Line, breach: Breach, back: Back) -> Step
-    ensures line { line.new ≡ record rests { doing = Breaks breach } }
+    requires rests { line.old.doing ≡ Rests }
+    ensures line { line.new ≡ record line.old { doing = Breaks breach (holding_kept (holding_of back)) } }
     ensures step { result ≡ Step.Broken breach }
 {
     let kept = Kept {
@@ -208,7 +211,7 @@ fn unlinked(line: &mut Line, breach: Breach, back: Back) -> Step
         hand: None,
         back: HandedBack::Unlinked(back),
     };
-    line.refused(breach, kept);
+    line.breaks(breach, kept);
     Step::Broken(breach)
 }
 
@@ -270,7 +273,7 @@ fn link_short<O: Objects>(
     requires todo { TodoFits (O.stage objects.old) todo.now }
     requires book { IsTrue (has_book (O.stage objects.old) number) }
     ensures step { (later : List TodoState) → WriteAnswers O.serves (Owes (O.stage objects.old)) (setup routes.now) number (LinkOf number (WriteOf todo.now.number None)) (todo.now ∷ later) (HasBio (item_of bio)) line.old objects.old (next_of result.0 number todo.now later line.new) objects.new result.1 }
-    ensures alone { IsNextAlone result.0 line.new.doing }
+    ensures alone { IsNextAlone result.0 }
     ensures kept { O.holds objects.new × (O.stage objects.new ≡ O.stage objects.old) }
 {
     match open_write(objects, routes, number, todo.number, None, line) {
@@ -301,10 +304,9 @@ fn link_long<O: Objects>(
     requires book { IsTrue (has_book (O.stage objects.old) number) }
     requires home { IsHome (O.stage objects.old) is_vecs vector.share }
     ensures step { (later : List TodoState) → WriteAnswers O.serves (Owes (O.stage objects.old)) (setup routes.now) number (LinkOf number (WriteOf todo.now.number (Some (filled_vector todo.now (vec_item vector))))) (todo.now ∷ later) (HasBoth (item_of bio) (vec_item vector)) line.old objects.old (next_of result.0 number todo.now later line.new) objects.new result.1 }
-    ensures alone { IsNextAlone result.0 line.new.doing }
+    ensures alone { IsNextAlone result.0 }
     ensures kept { O.holds objects.new × (O.stage objects.new ≡ O.stage objects.old) }
 {
-    let was = Snapshot::of(&vector);
     let vector = Some(filled_vector(todo, vector));
     match open_write(objects, routes, number, todo.number, vector, line) {
         Ok(node) => {
@@ -312,7 +314,7 @@ fn link_long<O: Objects>(
             line.becomes(Line::begin(routes, bio));
             (Next::Begins, opened(number, node))
         }
-        Err(step) => (Next::Waits(Taken::Refused(bio, was)), step),
+        Err(step) => (Next::Waits(Taken::HasBio(bio)), step),
     }
 }
 
@@ -328,14 +330,13 @@ pub(crate) fn go_on<O: Objects>(
     requires holds { O.holds objects.old }
     requires routing { (O.stage objects.old).routing ≡ routes.now }
     requires alone { IsTakenAlone taken }
-    requires suits { TakenSuits taken line.old.doing }
     requires some { is_taken (taken_of taken) ≡ true }
     requires rests { line.old.doing ≡ Rests }
     requires todo { TodoFits (O.stage objects.old) todo.now }
     requires book { IsTrue (has_book (O.stage objects.old) number) }
     requires home { TakenIsHome (O.stage objects.old) (taken_of taken) }
     ensures step { (later : List TodoState) → WriteAnswers O.serves (Owes (O.stage objects.old)) (setup routes.now) number (write_request number (todo.now ∷ later) (taken_of taken)) (todo.now ∷ later) (taken_of taken) line.old objects.old (next_of result.0 number todo.now later line.new) objects.new result.1 }
-    ensures alone { IsNextAlone result.0 line.new.doing }
+    ensures alone { IsNextAlone result.0 }
     ensures kept { O.holds objects.new × (O.stage objects.new ≡ O.stage objects.old) }
 {
     match taken {
@@ -347,6 +348,6 @@ pub(crate) fn go_on<O: Objects>(
             (Next::Waits(taken), step)
         }
         Taken::HasBoth(bio, vector) => link_long(objects, routes, number, todo, bio, vector, line),
-        Taken::NoBio | Taken::Refused(..) => unreachable!(),
+        Taken::NoBio => unreachable!(),
     }
 }

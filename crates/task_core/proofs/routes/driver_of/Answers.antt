@@ -2,11 +2,13 @@ use Rattle.std.proofs.Common.{◌≡◌, ◌≤◌, ◌∷◌, [], List, ℕ, ge
 use Rattle.std.proofs.lemmas.List.{get_or-replicate, length-map, length-replicate}
 use Rattle.stack_base.specs.declared.ids.DevId.{DevId}
 use Rattle.stack_base.specs.Stack.{HasShape}
-use Rattle.stack_base.specs.Tree.{size, tree}
+use Rattle.stack_base.specs.Tree.{size, shape_of, tree}
 use Rattle.stack_base.specs.declared.stack.Device.{Device}
 use Rattle.stack_base.specs.Mapping.{smallest}
 use Rattle.stack_base.proofs.MemberSizes.{members_small}
-use Rattle.task_core.proofs.Opening.{stripe_small, limit_sizes}
+use Rattle.mirror_map.specs.Legs.{MirrorState}
+use Rattle.task_core.specs.Routed.{copies}
+use Rattle.task_core.proofs.Opening.{stripe_small, limit_sizes, mirror_size}
 use Rattle.task_core.proofs.routes.driver_of.Goals as goal
 
 -- the stripe is as large as its device
@@ -60,4 +62,15 @@ returns-in-Limit c device found =
       kind ∙ sym c.new-in-Limit.ensures.kind,
       c.new-in-Limit.ensures.sizes ∙ ap (λ n. n ∷ []) c.size.ensures
           ∙ limit_sizes c.args.stack.now c.requires.stack c.args.dev.0 device found c.in-Limit.max c.in-Limit.chunk kind,
+    )
+
+-- a mirror is as large as its device
+pub returns-in-Mirror : goal.returns-in-Mirror
+returns-in-Mirror c device found =
+    let same : c.device-device.result.now ≡ device = cc in
+    let kind = sym (ap (λ (d : Device). d.kind) same) ∙ c.in-Mirror.is in (
+      ap (λ k. copies (shape_of k)) kind,
+      ap (λ (m : MirrorState). m.members) c.new-in-Mirror.ensures ∙ c.members_of.ensures ∙ ap (λ (d : Device). d.members.items) same,
+      ap (λ (m : MirrorState). m.size) c.new-in-Mirror.ensures ∙ c.size-in-Mirror.ensures
+          ∙ mirror_size c.args.stack.now c.requires.stack c.args.dev.0 device found c.in-Mirror.records kind,
     )

@@ -1,6 +1,6 @@
-use Rattle.std.proofs.Common.{◌≡◌, ◌+◌, ◌∷◌, ◌∙◌, map, drop, sym, subst}
+use Rattle.std.proofs.Common.{◌+◌, ◌∷◌, ◌∙◌, map, drop, sym, subst}
 use Rattle.std.proofs.lemmas.List.Elements.{All-head}
-use Rattle.task_core.specs.Tasks.{Keeping, Keeps, Keeper}
+use Rattle.task_core.specs.Tasks.{Keeps, Keeper}
 use Rattle.task_core.specs.Routed.{setup}
 use Rattle.task_core.specs.Stage.{Stage, Owes}
 use Rattle.task_core.specs.Turns.{Acts}

@@ -15,4 +15,4 @@ returns-in-Err-clause-step g c setup =
     let old = c.args.objects.now in
     let new = c.attempt.new.objects in
     subst (λ (next : Line). Answers serves owes setup c.args.task line.doing line.lists old next new (Broken breach.Spent)) (sym c.spend.ensures)
-    (attempt_spent serves owes setup c.args.task line.doing line.lists c.args.dev c.args.waits old new c.requires.attempts c.in-Err.ensures.step)
+    (attempt_spent serves owes setup c.args.task line.doing line.lists c.args.dev c.args.waits old new c.requires.attempts c.in-Err.ensures.step.0)

@@ -3,13 +3,8 @@ use Rattle.task_core.specs.Routed.{setup}
 use Rattle.task_core.specs.Stage.{Owes}
 use Rattle.task_core.specs.Turns.{Turns}
 use Rattle.task_core.specs.WriterViews.{WriterState, writer_task, taken_of}
-use Rattle.task_core.proofs.TurnLemmas.{line_turns_writer, suits_on}
+use Rattle.task_core.proofs.TurnLemmas.{line_turns_writer}
 use Rattle.task_core.proofs.writer.Writer.step.Goals as goal
-
--- what it has taken stays
-pub invariant_of-self : goal.invariant_of-self
-invariant_of-self g c =
-    (c.self.invariant.0, suits_on c.self.inside.taken c.self.inside.line.doing c.step.new.self.doing c.self.invariant.1 (sym c.asks.ensures ∙ c.if-asks.true))
 
 -- the step of its submission is its own
 pub returns-then-asks-clause-turn : goal.returns-then-asks-clause-turn
