@@ -9,23 +9,23 @@ use Rattle.atomic_table.proofs.Lists.{set_again, set_else}
 use Rattle.elem_ledger.specs.declared.balance.View.{View}
 use Rattle.elem_ledger.specs.declared.balance.View.TheVariants.{Keeper, Out, Spent}
 use Rattle.elem_ledger.specs.Balance.{keepers, issued_by, redeemed_by, out_by, one_more_issued, one_more_redeemed, IsBalanced}
-use Rattle.elem_ledger.proofs.Sums.{sum_by-set}
+use Rattle.elem_ledger.proofs.Sums.{sum_by-put}
 
 -- an issue: the keeper has issued one more, and one more share is out
 pub issue_keeps : (id issued redeemed : ℕ) → Splits IsBalanced id (Keeper issued redeemed) (one_more_issued (Keeper issued redeemed)) Out
 issue_keeps id issued redeemed s rule at =
     let now : List View = set s.views id (one_more_issued (Keeper issued redeemed)) in
     record {
-      one_keeper = omega (arith, rule.one_keeper, sum_by_push keepers now Out, sum_by-set keepers s.views id (Keeper issued redeemed) (one_more_issued (Keeper issued redeemed)) at);
+      one_keeper = omega (arith, rule.one_keeper, sum_by_push keepers now Out, sum_by-put keepers s.views id (Keeper issued redeemed) (one_more_issued (Keeper issued redeemed)) at);
       balanced = omega (
         arith,
         rule.balanced,
         sum_by_push issued_by now Out,
         sum_by_push redeemed_by now Out,
         sum_by_push out_by now Out,
-        sum_by-set issued_by s.views id (Keeper issued redeemed) (one_more_issued (Keeper issued redeemed)) at,
-        sum_by-set redeemed_by s.views id (Keeper issued redeemed) (one_more_issued (Keeper issued redeemed)) at,
-        sum_by-set out_by s.views id (Keeper issued redeemed) (one_more_issued (Keeper issued redeemed)) at,
+        sum_by-put issued_by s.views id (Keeper issued redeemed) (one_more_issued (Keeper issued redeemed)) at,
+        sum_by-put redeemed_by s.views id (Keeper issued redeemed) (one_more_issued (Keeper issued redeemed)) at,
+        sum_by-put out_by s.views id (Keeper issued redeemed) (one_more_issued (Keeper issued redeemed)) at,
       );
     }
 
@@ -36,16 +36,16 @@ redeem_keeps id other issued redeemed s rule at apart out =
     let more : View = one_more_redeemed keeper in
     let now : List View = set s.views id more in
     record {
-      one_keeper = omega (arith, rule.one_keeper, sum_by-set keepers s.views id keeper more at, sum_by-set keepers now other Out Spent out);
+      one_keeper = omega (arith, rule.one_keeper, sum_by-put keepers s.views id keeper more at, sum_by-put keepers now other Out Spent out);
       balanced = omega (
         arith,
         rule.balanced,
-        sum_by-set issued_by s.views id keeper more at,
-        sum_by-set issued_by now other Out Spent out,
-        sum_by-set redeemed_by s.views id keeper more at,
-        sum_by-set redeemed_by now other Out Spent out,
-        sum_by-set out_by s.views id keeper more at,
-        sum_by-set out_by now other Out Spent out,
+        sum_by-put issued_by s.views id keeper more at,
+        sum_by-put issued_by now other Out Spent out,
+        sum_by-put redeemed_by s.views id keeper more at,
+        sum_by-put redeemed_by now other Out Spent out,
+        sum_by-put out_by s.views id keeper more at,
+        sum_by-put out_by now other Out Spent out,
       );
     }
 
@@ -70,7 +70,7 @@ pub merge_keeps : (id other issued redeemed issued_there redeemed_there : ℕ)
     → Joins IsBalanced id (Keeper issued redeemed) other (Keeper issued_there redeemed_there) (Keeper 0 1) Spent
 merge_keeps id other issued redeemed issued_there redeemed_there s rule at apart there =
     let gone : List View = set s.views id Spent in
-    let none : sum_by keepers gone ≡ 0 = omega (arith, rule.one_keeper, sum_by-set keepers s.views id (Keeper issued redeemed) Spent at) in
+    let none : sum_by keepers gone ≡ 0 = omega (arith, rule.one_keeper, sum_by-put keepers s.views id (Keeper issued redeemed) Spent at) in
     let still = set_else s.views id other Spent apart ∙ sym (set_else s.views id other (Keeper 0 1) apart) ∙ there in
     absurd (no_keeper gone other issued_there redeemed_there none still)
 

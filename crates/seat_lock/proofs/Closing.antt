@@ -1,25 +1,22 @@
 -- Splits, joins and the close keep the rule of a lock's table.
-use Rattle.std.proofs.Common.{◌≡◌, ◌≢◌, ℕ, zero, suc, ◌+◌, ◌%◌, ◌≤◌, ◌<◌, ◌⊎◌, inl, inr, ⊎_elim, Bool, true, false, List, [], ◌∷◌, ◌++◌, Option, Some, None, arith, refl, sym, ◌∙◌, ap, subst, nat_lt, eq-eqb}
+use Rattle.std.proofs.Common.{◌≡◌, ℕ, ◌+◌, ◌%◌, ◌<◌, inl, inr, ⊎_elim, true, false, List, [], ◌∷◌, ◌++◌, None, arith, refl, sym, ◌∙◌, ap, subst, nat_lt, eq-eqb}
 use Rattle.std.specs.Prelude.{sum_by, slice_set, slice_index}
 use Rattle.std.proofs.Math.Decide.{ℕ_discrete}
 use Rattle.std.proofs.Math.Logic.{dite}
 use Rattle.std.proofs.lemmas.List.{append-nil}
 use Rattle.std.proofs.lemmas.List.Sums.{sum_by-append, sum_by-cons}
 use Rattle.std.proofs.lemmas.Bool.{lt-ltb}
-use mathlib.Core.Option as option
 use mathlib.Core.Option.{some, none, some-injective}
 use lib.ListN.{get_elem?}
 use Rattle.std.specs.declared.snapshot.Snapshot.{Snapshot}
 use Rattle.atomic_table.specs.Table.{State, Me, step, keeps, Allows}
 use Rattle.atomic_table.proofs.Lists.{at_set, set_else, at_longer, at_snoc}
 use Rattle.seat_lock.specs.declared.view.View.{View}
-use Rattle.seat_lock.specs.declared.view.Entry.{Entry}
-use Rattle.seat_lock.specs.declared.view.Rank.{Rank}
 use Rattle.seat_lock.specs.declared.view.Rank.TheVariants.{First}
 use Rattle.seat_lock.specs.declared.view.Phase.TheVariants.{Idle, Serving}
 use Rattle.seat_lock.specs.History.{one_if, count, calls_by, IsLeft}
-use Rattle.seat_lock.specs.Seats.{is_first, split_of, own, IsWhole}
-use Rattle.seat_lock.specs.Turning.{around, is_live, firsts_of, others_of, out_of, firsts, others, split_by, joined_by, out, has_number, HasTurn, Stands, Knows, IsServed, Place, IsTurning, first_after_split, new_view, joined_view, spent_view, Learnt, AreParts}
+use Rattle.seat_lock.specs.Seats.{is_first, split_of, own}
+use Rattle.seat_lock.specs.Turning.{around, is_live, firsts_of, others_of, out_of, firsts, others, split_by, joined_by, out, has_number, HasTurn, Stands, Knows, IsServed, IsTurning, first_after_split, new_view, joined_view, spent_view, Learnt}
 use Rattle.seat_lock.proofs.Sums.{sum_by-put, sum_by-at, sum_by-two, sum_none, put_all, tail_all}
 use Rattle.seat_lock.proofs.Histories.{count_one, count_append, calls_by-append, none_of, nil_left, longer_is, squeeze, nothing, all_calls, all_none, all_prefix}
 use Rattle.seat_lock.proofs.Turns.{true_not, idle_not, no_split, not_live, first_more, first_live, plain_other, one_most, number_step}

@@ -1,12 +1,12 @@
 -- Beginnings of one history, the calls of some seats in them, and the runs of a machine.
-use Rattle.std.proofs.Common.{◌≡◌, ℕ, zero, suc, ◌+◌, ◌≤◌, ◌<◌, Bool, true, false, cond, List, [], ◌∷◌, ◌++◌, All, arith, refl, sym, ◌∙◌, ap, subst, length, eqb, ne_eqb, eq-eqb, nat_lt}
+use Rattle.std.proofs.Common.{◌≡◌, ℕ, zero, suc, ◌+◌, ◌≤◌, ◌<◌, Bool, true, false, cond, List, [], ◌∷◌, ◌++◌, All, arith, refl, sym, ◌∙◌, ap, subst, length, eqb, ne_eqb, nat_lt}
 use Rattle.std.specs.Prelude.{if◌then◌else◌}
 use Rattle.std.proofs.lemmas.List.{append-nil, append_assoc, length-append}
 use Rattle.std.proofs.lemmas.List.Elements.{filter-append}
 use Rattle.std.proofs.lemmas.List.Sums.{sum_by-append, sum_by-cons}
 use Rattle.std.proofs.lemmas.Bool.{lt-ltb, le-ltb, ltb-true, ltb-false}
 use Rattle.seat_lock.specs.declared.view.Entry.{Entry}
-use Rattle.seat_lock.specs.History.{one_if, count, IsPrefix, calls_by, longer, Continues, ContinuesOn, PartsContinue, Leads, EachInPlace}
+use Rattle.seat_lock.specs.History.{one_if, count, IsPrefix, calls_by, longer, ContinuesOn, PartsContinue, Leads, EachInPlace}
 
 -- numbers
 pub count_one : (x y : ℕ) → count x (y ∷ []) ≡ one_if (eqb y x)

@@ -1,20 +1,18 @@
 -- Sums over a list of views, of which one changes.
-use Rattle.std.proofs.Common.{◌≡◌, ◌≢◌, ℕ, zero, suc, ◌+◌, ◌≤◌, ◌⊎◌, ⊎_elim, List, [], ◌∷◌, ◌++◌, arith, refl, sym, ap, subst}
+use Rattle.std.proofs.Common.{◌≡◌, ◌≢◌, ℕ, zero, suc, ◌+◌, ◌<◌, ◌≤◌, ⊎_elim, List, length, [], ◌∷◌, ◌++◌, arith, refl, sym, ap, subst}
 use Rattle.std.specs.Prelude.{sum_by, slice_set}
-use Rattle.std.proofs.lemmas.List.Sums.{sum_by-cons}
+use Rattle.std.proofs.lemmas.List.{length-drop}
+use Rattle.std.proofs.lemmas.List.Sums.{sum_by-cons, sum_by-set}
 use mathlib.Core.Option.{some, some-injective, some-ne-none}
 use lib.ListN.{get_elem?}
-use Rattle.atomic_table.proofs.Lists.{at_set, at_snoc}
+use Rattle.atomic_table.proofs.Lists.{at_set, at_snoc, drop_at, set_again}
 
 module _ {V : Type 0} where
   -- one view changes
   pub sum_by-put : (f : V → ℕ) (xs : List V) (i : ℕ) (v w : V) → get_elem? xs i ≡ some v → sum_by f (slice_set xs i w) + f v ≡ sum_by f xs + f w
-  sum_by-put f [] i v w e = absurd (some-ne-none v (sym e))
-  sum_by-put f (x ∷ xs) zero v w e =
-      let same : f x ≡ f v = ap f (some-injective x v e) in
-      rw (sum_by-cons f w xs, sum_by-cons f x xs) (omega arith)
-  sum_by-put f (x ∷ xs) (suc i) v w e =
-      rw (sum_by-cons f x (slice_set xs i w), sum_by-cons f x xs) (omega (arith, sum_by-put f xs i v w e))
+  sum_by-put f xs i v w e =
+      let there : i < length xs = omega (arith, ap length (drop_at xs i v e), length-drop i xs) in
+      omega (arith, sum_by-set f xs i w v there, sum_by-set f xs i v v there, ap (sum_by f) (set_again xs i v e))
 
   -- a view is part of the sum
   pub sum_by-at : (f : V → ℕ) (xs : List V) (i : ℕ) (v : V) → get_elem? xs i ≡ some v → f v ≤ sum_by f xs

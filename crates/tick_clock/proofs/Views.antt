@@ -1,12 +1,12 @@
 -- The views of a clock's table: their sums and their tickets, after one of them changed.
-use Rattle.std.proofs.Common.{◌≡◌, ◌≢◌, ℕ, zero, suc, ◌+◌, ◌≤◌, ⊎_elim, true, false, List, [], ◌∷◌, ◌++◌, set, arith, ap, refl, sym, subst, ◌∙◌}
+use Rattle.std.proofs.Common.{◌≡◌, ◌≢◌, ℕ, zero, suc, ◌+◌, ◌<◌, ◌≤◌, ⊎_elim, true, false, List, length, [], ◌∷◌, ◌++◌, set, arith, ap, refl, sym, subst, ◌∙◌}
 use Rattle.std.specs.Prelude.{sum_by, IsPermutation}
-use Rattle.std.proofs.lemmas.List.Sums.{sum_by-cons}
+use Rattle.std.proofs.lemmas.List.Sums.{sum_by-cons, sum_by-set}
 use Rattle.std.proofs.lemmas.List.Sorted.{IsPermutation-refl, IsPermutation-sym, IsPermutation-trans, IsPermutation-append_left, IsPermutation-append_right, IsPermutation-append_comm}
-use Rattle.std.proofs.lemmas.List.{append-nil, append_assoc, set-set, set_comm}
+use Rattle.std.proofs.lemmas.List.{append-nil, append_assoc, length-drop, set-set, set_comm}
 use mathlib.Core.Option.{some, some-injective, some-ne-none}
 use lib.ListN.{get_elem?}
-use Rattle.atomic_table.proofs.Lists.{at_set, at_snoc, set_else}
+use Rattle.atomic_table.proofs.Lists.{at_set, at_snoc, drop_at, set_again, set_else}
 use Rattle.tick_clock.specs.declared.ticking.Rank.{Rank}
 use Rattle.tick_clock.specs.declared.ticking.Rank.TheVariants.{First, Other, Spent}
 use Rattle.tick_clock.specs.declared.ticking.Ticket.{Ticket}
@@ -15,12 +15,9 @@ use Rattle.tick_clock.specs.Ticking.{is_live, first_in, other_in, split_in, firs
 
 -- one view changes
 pub sum_by-put : (f : View → ℕ) (vs : List View) (i : ℕ) (v w : View) → get_elem? vs i ≡ some v → sum_by f (set vs i w) + f v ≡ sum_by f vs + f w
-sum_by-put f [] i v w e = absurd (some-ne-none v (sym e))
-sum_by-put f (u ∷ vs) zero v w e =
-    let same : f u ≡ f v = ap f (some-injective u v e) in
-    omega (arith, same, sum_by-cons f w vs, sum_by-cons f u vs)
-sum_by-put f (u ∷ vs) (suc i) v w e =
-    omega (arith, sum_by-cons f u (set vs i w), sum_by-cons f u vs, sum_by-put f vs i v w e)
+sum_by-put f vs i v w e =
+    let there : i < length vs = omega (arith, ap length (drop_at vs i v e), length-drop i vs) in
+    omega (arith, sum_by-set f vs i w v there, sum_by-set f vs i v v there, ap (sum_by f) (set_again vs i v e))
 
 pub put_at : (vs : List View) (i : ℕ) (v w : View) → get_elem? vs i ≡ some v → get_elem? (set vs i w) i ≡ some w
 put_at [] i v w e = absurd (some-ne-none v (sym e))
