@@ -1,7 +1,7 @@
 //! A disk: its image, its bad ranges and the bios that wait in it.
 use crate::fault::fault;
 use crate::image::Image;
-use bio_records::{BioElement, BioList};
+use bio_records::{BioElement, BioList, Bios};
 use stack_base::{Bad, DevId, Range, Status};
 use std::alloc::{AllocError, Global};
 use std::marker::Model;
@@ -40,12 +40,12 @@ pub struct Done {
 }
 
 impl Disk {
-    ghost use Rattle.std.specs.Prelude.{◌≡◌, ◌+◌, ◌-◌, ◌*◌, ◌%◌, ◌^◌, ◌<◌, ◌≤◌, [], ◌∷◌, ◌++◌, length, map, min, replicate, All, IfOk, MatchOption};
+    ghost use Rattle.std.specs.Prelude.{◌≡◌, ◌+◌, ◌-◌, ◌*◌, ◌%◌, ◌^◌, ◌<◌, ◌≤◌, [], ◌∷◌, ◌++◌, length, map, min, replicate, reverse, All, IfOk, MatchOption};
     ghost use Rattle.std.specs.Borrow.{sem};
     ghost use Rattle.std.specs.Io.BufRead.{Rests};
     ghost use Rattle.std.specs.List.{concat};
     ghost use Rattle.stack_base.specs.Words.{is_written};
-    ghost use Rattle.bio_records.specs.Items.{item_of, IsAlone};
+    ghost use Rattle.bio_records.specs.Items.{item_of, plain_of, IsAlone};
     ghost use Rattle.model_disks.specs.Disks.{IsBadRange, sum_of_words};
     ghost use Rattle.model_disks.specs.Moves.{opened, pushed, Completes};
     ghost use Rattle.model_disks.specs.Runs.{runs_from, IsApart};
@@ -123,6 +123,14 @@ impl Disk {
         ensures { result ≡ min (length self.now.pending) (2 ^ 64 - 1) }
     {
         self.pending.len()
+    }
+
+    /// The bios that wait, to be looked at, in the two parts that `BioList::walk` shows: the first of them in order, and then the others
+    /// with the last one first. It takes no memory.
+    pub fn waiting(&self) -> (Bios<'_>, Bios<'_>)
+        ensures { result.0 ++ reverse result.1 ≡ map plain_of self.now.pending }
+    {
+        self.pending.walk()
     }
 
     /// The bio at this place among those that wait is done, and the others keep their order (`bio_endio`, `block/bio.c`). Where it touches

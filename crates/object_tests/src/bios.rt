@@ -2,7 +2,8 @@
 ghost use Rattle.std.specs.Prelude.{◌≡◌};
 ghost use Rattle.bio_records.specs.Items.{item_of, IsAlone};
 
-use bio_records::{Bio, BioBody, BioElement, BioList, Iter, Pad};
+use crate::asks::is;
+use bio_records::{Bio, BioBody, BioElement, BioList, Bios, Iter, Pad};
 use bioset_pools::fill_bio;
 use fail_script::Script;
 use mempool_core::{Pool, Taken};
@@ -93,4 +94,27 @@ pub fn holds(rt: &impl Abort, mut list: BioList, writes: &[u32]) {
         pops(rt, &mut list, Some(*write));
     }
     pops(rt, &mut list, None);
+}
+
+// The first writes are those whose bios are left of a walk, in its order. The others are answered.
+fn behind<'a>(rt: &impl Abort, bios: Bios<'_>, writes: &'a [u32]) -> &'a [u32] {
+    let mut left = writes;
+    for body in bios {
+        let (first, others) = left.split_first().expect(rt, "one more bio");
+        is(rt, u64::from(body.bio.write), u64::from(*first));
+        left = others;
+    }
+    left
+}
+
+/// The two walks over a list have to show the bios of these writes: the first one in order, and the second one with the last one first.
+pub fn shown(rt: &impl Abort, (front, back): (Bios<'_>, Bios<'_>), writes: &[u32]) {
+    let left = behind(rt, front, writes);
+    let mut places = left.len();
+    for body in back {
+        places = places.saturating_sub(1);
+        let last = left.get(places).expect(rt, "one more bio");
+        is(rt, u64::from(body.bio.write), u64::from(*last));
+    }
+    is(rt, places as u64, 0);
 }

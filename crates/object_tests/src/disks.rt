@@ -2,7 +2,7 @@
 ghost use Rattle.std.specs.Prelude.{◌≡◌, length};
 
 use crate::asks::is;
-use crate::bios::{bio_of, open_bios, take};
+use crate::bios::{bio_of, open_bios, shown, take};
 use crate::elements::crosses;
 use bio_records::Bio;
 use model_disks::{Disk, Done};
@@ -188,6 +188,16 @@ fn disks_hold_what_was_pushed_and_completed(rt: HostRuntime) {
     for case in CASES {
         check(&rt, case);
     }
+}
+
+#[test]
+fn a_disk_shows_the_bios_that_wait(rt: HostRuntime) {
+    let mut disk = open(&rt, 0, 4, None);
+    shown(&rt, disk.waiting(), &[]);
+    push_all(&rt, &mut disk, THREE);
+    shown(&rt, disk.waiting(), &[0, 1, 2]);
+    drop(complete(&rt, &mut disk, 1));
+    shown(&rt, disk.waiting(), &[0, 2]);
 }
 
 // Device 2 has to have eight sectors of zeros, of which it keeps none, and this bad range.

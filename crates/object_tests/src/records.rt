@@ -1,9 +1,9 @@
 //! Segments, lists of bios, the list of a rescuer, and the lists of a task.
 use crate::asks::is;
-use crate::bios::{bio_of, holds, is_bio, list_of, open_bios, pops, push};
+use crate::bios::{bio_of, holds, is_bio, list_of, open_bios, pops, push, shown};
 use crate::elements::crosses;
 use bio_records::{
-    BioList, Bios, Iter, RescueList, Segment, TaskLists, Waits, advance, fill, front, segments,
+    BioList, Iter, RescueList, Segment, TaskLists, Waits, advance, fill, front, segments,
 };
 use stack_base::{DevId, Range};
 use std::process::Abort;
@@ -245,30 +245,11 @@ const RESCUES: &[&[Rescue]] = &[
     ],
 ];
 
-// The first writes are those whose bios are left of a walk, in its order. The others are answered.
-fn behind<'a>(rt: &impl Abort, bios: Bios<'_>, writes: &'a [u32]) -> &'a [u32] {
-    let mut left = writes;
-    for body in bios {
-        let (first, others) = left.split_first().expect(rt, "one more bio");
-        is(rt, u64::from(body.bio.write), u64::from(*first));
-        left = others;
-    }
-    left
-}
-
 // The bios of these writes have to wait, in this order.
 fn waits(rt: &impl Abort, waiting: &RescueList, writes: &[u32]) {
     is(rt, waiting.len(), writes.len() as u64);
     assert!(rt; waiting.dev() == DevId(3) && waiting.is_empty() == writes.is_empty());
-    let (front, back) = waiting.walk();
-    let left = behind(rt, front, writes);
-    let mut places = left.len();
-    for body in back {
-        places = places.saturating_sub(1);
-        let last = left.get(places).expect(rt, "one more bio");
-        is(rt, u64::from(body.bio.write), u64::from(*last));
-    }
-    is(rt, places as u64, 0);
+    shown(rt, waiting.walk(), writes);
 }
 
 // Makes a call of a rescuer's list, which has to answer as it says.
