@@ -1,17 +1,17 @@
 -- An image: the words of its sectors, and their flags.
-use Rattle.std.proofs.Common.{◌≡◌, ◌+◌, ◌*◌, ◌%◌, ◌^◌, ◌-◌, ◌<◌, ◌≤◌, ◌++◌, inl, inr, ℕ, Bool, true, false, List, [], get_or, map, length, take, drop, replicate, sum, refl, sym, ap, subst, ◌∙◌, arith, true≢false, length-append, length-drop}
+use Rattle.std.proofs.Common.{◌≡◌, ◌+◌, ◌*◌, ◌%◌, ◌^◌, ◌-◌, ◌<◌, ◌≤◌, ◌++◌, ℕ, zero, suc, Bool, true, false, List, [], get_or, map, length, take, drop, replicate, sum, sum_by, refl, sym, ap, subst, ◌∙◌, arith, length-append, length-drop}
 use Rattle.std.specs.List.{concat}
-use Rattle.std.proofs.lemmas.List.{length-replicate, get_or-map, length-take-le, take_all, drop_all, append-nil}
-use Rattle.std.proofs.lemmas.List.Sums.{sum_by_push}
-use Rattle.std.proofs.lemmas.Bool.{cases_lt}
+use Rattle.std.proofs.lemmas.List.{length-replicate, get_or-map, length-take-le, take_all, drop_all, append-nil, map-append}
+use Rattle.std.proofs.lemmas.List.Sums.{sum_by_push, sum_by-append}
 use Rattle.stack_base.specs.Words.{zero_sector, is_written}
+use Rattle.stack_base.specs.declared.ids.Range.{Range}
 use Rattle.bio_records.specs.declared.bio.Bio.{Bio}
 use Rattle.image_lanes.specs.Lanes.{sum_mod, sectors}
 use Rattle.model_disks.specs.Disks.{sum_of_words}
-use Rattle.model_disks.specs.Kept.{IsNoted, IsFront, grown, padded, filled}
+use Rattle.model_disks.specs.Kept.{IsNoted, IsFront, grown, padded, filled, marked}
 use Rattle.model_disks.specs.Moves.{written}
 use Rattle.model_disks.proofs.SectorLemmas.{length_sectors, concat_sectors, sectors_more, sector_at, sectors_of_zeros, written_words}
-use Rattle.model_disks.proofs.FrontLemmas.{length_grown, grown_twice, length_filled, filled_grown, filled_whole, front_sector, behind_front}
+use Rattle.model_disks.proofs.FrontLemmas.{length_grown, grown_twice, grown_sectors, length_filled, filled_grown}
 use Rattle.model_disks.proofs.FlagLemmas.{flags_of_zeros, flags_of_written, sum_of_unwritten}
 
 -- a list that was put in the place of one of the same length
@@ -40,58 +40,92 @@ sum_of_zeros words flags place noted lt unset =
     sum_more words place
     ∙ omega (arith, sum_of_unwritten (take 64 (drop (64 * place) words)) (sym (flag_at words flags place noted lt) ∙ unset))
 
--- a sector that is written is one of the front
-pub in_front : (front : List ℕ) (flags : List Bool) (place : ℕ) → length front % 64 ≡ 0 → IsNoted (padded (length flags) front) flags
-    → place < length flags → get_or flags place false ≡ true → 64 * place + 64 ≤ length front
-in_front front flags place whole noted lt set = elim (cases_lt (64 * place) (length front)) [
-  | inr past ↦
-      absurd (true≢false (sym set ∙ flag_at (padded (length flags) front) flags place noted lt ∙ behind_front (64 * length flags) front place past))
-  | inl before ↦ omega (arith, before, whole)
-]
-
--- its sum
-pub sum_of_front : (front : List ℕ) (count place : ℕ) → 64 * place + 64 ≤ length front
-    → sum_of_words (sectors (place + 1) (padded count front))
-    ≡ (sum_of_words (sectors place (padded count front)) + sum_mod (take 64 (drop (64 * place) front))) % 2 ^ 64
-sum_of_front front count place within =
-    sum_more (padded count front) place
-    ∙ ap (λ (s : List ℕ). (sum_of_words (sectors place (padded count front)) + sum_mod s) % 2 ^ 64) (front_sector (64 * count) front place within)
-
--- a new image
-pub zeros_are : (count : ℕ) (none : List ℕ) (flags : List Bool) → none ≡ [] → flags ≡ replicate count false
-    → sectors (length flags) (padded (length flags) none) ≡ replicate count zero_sector
+-- words that grow by zeros, with flags of which none more is set
+noted_grown : (size : ℕ) (words : List ℕ) (flags : List Bool) → IsNoted words flags → IsNoted (grown 0 (64 * size) words) (grown false size flags)
 unfolding grown
-zeros_are count none flags empty new =
-    let all : 64 * count - 0 ≡ 64 * count = omega arith in
-    rw (empty, new, length-replicate count false) (ap (λ k. sectors count (replicate k 0)) all ∙ sectors_of_zeros count)
-
-pub zeros_noted : (count room : ℕ) (none : List ℕ) (flags : List Bool) → none ≡ [] → flags ≡ replicate count false → 64 * count ≤ room
-    → IsFront room none flags
-zeros_noted count room none flags empty new fits =
-    let many : length flags ≡ count = ap length new ∙ length-replicate count false in
+noted_grown size words flags noted =
+    let count = length flags in
+    let more = size - count in
+    let many : length (grown false size flags) ≡ count + more = length_grown false size flags in
     record {
-      whole = rw empty refl;
-      fits = rw many fits;
-      noted = record {
-        size = omega (arith, length_grown (64 * length flags) none, ap length empty);
-        noted = new ∙ sym (ap (map is_written) (zeros_are count none flags empty new) ∙ flags_of_zeros count);
-      };
+      size = omega (arith, length_grown 0 (64 * size) words, length_grown false size flags, noted.size);
+      noted = ap (λ (fs : List Bool). fs ++ replicate more false) noted.noted
+          ∙ ap (λ (fs : List Bool). map is_written (sectors count words) ++ fs) (sym (flags_of_zeros more))
+          ∙ sym (map-append is_written (sectors count words) (replicate more zero_sector))
+          ∙ ap (map is_written) (sym (grown_sectors size count words noted.size))
+          ∙ ap (λ k. map is_written (sectors k (grown 0 (64 * size) words))) (sym many);
     }
 
--- an image after a bio
+-- an image: the sectors of its front, and zeros
+padded_sectors : (count : ℕ) (front : List ℕ) (flags : List Bool) → IsNoted front flags → length flags ≤ count
+    → sectors count (padded count front) ≡ sectors (length flags) front ++ replicate (count - length flags) zero_sector
+padded_sectors count front flags noted within =
+    let all : length flags + (count - length flags) ≡ count = omega arith in
+    ap (λ k. sectors k (padded count front)) (sym all) ∙ grown_sectors count (length flags) front noted.size
+
+-- its flags
+pub flags_of_image : (count words_room flags_room : ℕ) (front : List ℕ) (flags lent : List Bool) (image : List (List ℕ))
+    → IsFront count words_room flags_room front flags → sectors count (padded count front) ≡ image → lent ≡ flags
+    → map is_written image ≡ lent ++ replicate (count - length flags) false
+flags_of_image count words_room flags_room front flags lent image kept is lends =
+    let more = count - length flags in
+    ap (map is_written) (sym is ∙ padded_sectors count front flags kept.noted kept.within)
+    ∙ map-append is_written (sectors (length flags) front) (replicate more zero_sector)
+    ∙ ap (λ (fs : List Bool). fs ++ map is_written (replicate more zero_sector)) (sym kept.noted.noted ∙ sym lends)
+    ∙ ap (λ (fs : List Bool). lent ++ fs) (flags_of_zeros more)
+
+sum_of_zero_sectors : (count : ℕ) → sum_by sum (replicate count zero_sector) ≡ 0
+unfolding zero_sector
+sum_of_zero_sectors zero = refl
+sum_of_zero_sectors (suc count) = sum_of_zero_sectors count
+
+-- its sum is that of the front
+pub sum_of_image : (count words_room flags_room : ℕ) (front lent : List ℕ) (flags lent_flags : List Bool) (image : List (List ℕ))
+    → IsFront count words_room flags_room front flags → sectors count (padded count front) ≡ image → lent ≡ front → lent_flags ≡ flags
+    → sum_of_words (sectors (length lent_flags) lent) ≡ sum_of_words image
+sum_of_image count words_room flags_room front lent flags lent_flags image kept is lends lends_flags =
+    let more = count - length flags in
+    ap (λ (fs : List Bool). sum_of_words (sectors (length fs) lent)) lends_flags
+    ∙ ap (λ (ws : List ℕ). sum_of_words (sectors (length flags) ws)) lends
+    ∙ sym
+    (ap sum_of_words (sym is ∙ padded_sectors count front flags kept.noted kept.within)
+    ∙ omega (arith, sum_by-append sum (sectors (length flags) front) (replicate more zero_sector), sum_of_zero_sectors more))
+
+-- a new image
+pub zeros_are : (count : ℕ) (none : List ℕ) → none ≡ [] → sectors count (padded count none) ≡ replicate count zero_sector
+unfolding grown
+zeros_are count none empty =
+    let all : 64 * count - 0 ≡ 64 * count = omega arith in
+    rw empty (ap (λ k. sectors count (replicate k 0)) all ∙ sectors_of_zeros count)
+
+pub zeros_kept : (count words_room flags_room : ℕ) (front : List ℕ) (flags : List Bool) → front ≡ [] → flags ≡ []
+    → 64 * count ≤ words_room → count ≤ flags_room → IsFront count words_room flags_room front flags
+unfolding sectors
+zeros_kept count words_room flags_room front flags empty unset words_fit flags_fit = record {
+  noted = rw (empty, unset) (record { size = refl; noted = refl });
+  within = omega (arith, ap length unset);
+  words_fit = words_fit;
+  flags_fit = flags_fit;
+}
+
+-- as many flags as there were
+pub length_marked : (range : Range) (flags : List Bool) → range.start + range.len ≤ length flags → length (marked range flags) ≡ length flags
+length_marked range flags within = omega (
+  arith,
+  length-append (take range.start flags) (replicate range.len true ++ drop (range.start + range.len) flags),
+  length-append (replicate range.len true) (drop (range.start + range.len) flags),
+  length-take-le range.start flags (omega arith),
+  length-replicate range.len true,
+  length-drop (range.start + range.len) flags,
+)
+
+-- words and their flags after a bio
 module _ (bio : Bio) (words : List ℕ) (flags : List Bool) (noted : IsNoted words flags) (within : bio.range.start + bio.range.len ≤ length flags) where
-  abbrev pub flags_after : List Bool
-  flags_after = take bio.range.start flags ++ (replicate bio.range.len true ++ drop (bio.range.start + bio.range.len) flags)
+  abbrev flags_after : List Bool
+  flags_after = marked bio.range flags
 
   length_flags : length flags_after ≡ length flags
-  length_flags = omega (
-    arith,
-    length-append (take bio.range.start flags) (replicate bio.range.len true ++ drop (bio.range.start + bio.range.len) flags),
-    length-append (replicate bio.range.len true) (drop (bio.range.start + bio.range.len) flags),
-    length-take-le bio.range.start flags (omega arith),
-    length-replicate bio.range.len true,
-    length-drop (bio.range.start + bio.range.len) flags,
-  )
+  length_flags = length_marked bio.range flags within
 
   written_is : sectors (length flags_after) (filled bio words) ≡ written bio (sectors (length flags) words)
   written_is = ap (λ n. sectors n (filled bio words)) length_flags ∙ written_words bio (length flags) words noted.size within
@@ -102,100 +136,101 @@ module _ (bio : Bio) (words : List ℕ) (flags : List Bool) (noted : IsNoted wor
     noted = sym (
         ap (map is_written) written_is
         ∙ flags_of_written bio (sectors (length flags) words)
-        ∙ ap (λ fs. take bio.range.start fs ++ (replicate bio.range.len true ++ drop (bio.range.start + bio.range.len) fs)) (sym noted.noted)
+        ∙ ap (marked bio.range) (sym noted.noted)
         );
   }
 
--- the same, of an image of which a front is kept
-pub front_after : (bio : Bio) (front : List ℕ) (flags : List Bool) (size room : ℕ) (kept : IsFront room front flags)
-    → bio.range.start + bio.range.len ≤ length flags → size ≡ 64 * bio.range.start + 64 * bio.range.len
-    → (new : List ℕ) (new_room : ℕ) (new_flags : List Bool) → new ≡ filled bio (grown size front) → room ≤ new_room
-    → new_flags ≡ take bio.range.start flags ++ (replicate bio.range.len true ++ drop (bio.range.start + bio.range.len) flags)
-    → IsFront new_room new new_flags
-    × (sectors (length new_flags) (padded (length new_flags) new) ≡ written bio (sectors (length flags) (padded (length flags) front)))
-front_after bio front flags size room kept within is new new_room new_flags made more set =
-    let count = length flags in
-    let words = padded count front in
-    let many : length new_flags ≡ count = ap length set ∙ length_flags bio words flags kept.noted within in
-    let words_are : padded (length new_flags) new ≡ filled bio words =
-    ap (λ n. padded n new) many ∙ ap (padded count) made ∙ filled_grown bio (64 * count) size front is (omega (arith, is, within)) in (
+-- an image after a bio, whose words and flags are written in the front, which grows up to its end
+pub after_write : (bio : Bio) (image : List (List ℕ)) (count words_room flags_room new_words_room new_flags_room : ℕ) (front new : List ℕ)
+    (flags new_flags : List Bool)
+    → IsFront count words_room flags_room front flags → sectors count (padded count front) ≡ image
+    → bio.range.start + bio.range.len ≤ length image
+    → new ≡ filled bio (grown 0 (64 * bio.range.start + 64 * bio.range.len) front) → words_room ≤ new_words_room
+    → new_flags ≡ marked bio.range (grown false (bio.range.start + bio.range.len) flags) → flags_room ≤ new_flags_room
+    → IsFront count new_words_room new_flags_room new new_flags × (sectors count (padded count new) ≡ written bio image)
+after_write bio image count words_room flags_room new_words_room new_flags_room front new flags new_flags kept is fits made more set more_flags =
+    let end = bio.range.start + bio.range.len in
+    let within : end ≤ count = omega (arith, fits, ap length is, length_sectors count (padded count front)) in
+    let ends : 64 * bio.range.start + 64 * bio.range.len ≡ 64 * end = omega arith in
+    let grows = noted_grown end front flags kept.noted in
+    let flags_grow = length_grown false end flags in
+    let enough : end ≤ length (grown false end flags) = omega (arith, flags_grow) in
+    let made_of : new ≡ filled bio (grown 0 (64 * end) front) = made ∙ ap (λ n. filled bio (grown 0 n front)) ends in
+    let whole : length (padded count front) ≡ 64 * count =
+    omega (arith, length_grown 0 (64 * count) front, kept.noted.size, kept.within) in (
       record {
-        whole = ap (λ (ws : List ℕ). length ws % 64) made ∙ filled_whole bio size front is kept.whole;
-        fits = omega (arith, many, more, kept.fits);
-        noted = subst (λ (ws : List ℕ). IsNoted ws new_flags) (sym words_are)
-            (subst (λ (fs : List Bool). IsNoted (filled bio words) fs) (sym set) (written_noted bio words flags kept.noted within));
+        noted = subst (λ (ws : List ℕ). IsNoted ws new_flags) (sym made_of)
+            (subst (λ (fs : List Bool). IsNoted (filled bio (grown 0 (64 * end) front)) fs) (sym set)
+            (written_noted bio (grown 0 (64 * end) front) (grown false end flags) grows enough));
+        within = omega (
+          arith,
+          ap length set,
+          length_flags bio (grown 0 (64 * end) front) (grown false end flags) grows enough,
+          flags_grow,
+          kept.within,
+          within,
+        );
+        words_fit = omega (arith, kept.words_fit, more);
+        flags_fit = omega (arith, kept.flags_fit, more_flags);
       },
-      ap (λ (ws : List ℕ). sectors (length new_flags) ws) words_are
-          ∙ ap (λ (fs : List Bool). sectors (length fs) (filled bio words)) set
-          ∙ written_is bio words flags kept.noted within,
+      ap (λ (ws : List ℕ). sectors count (padded count ws)) made_of
+          ∙ ap (sectors count) (filled_grown bio (64 * count) (64 * end) front (sym ends) (omega (arith, within)))
+          ∙ written_words bio count (padded count front) whole within
+          ∙ ap (written bio) is,
     )
-
--- the same, where the flags are lent by a vector: what it lends is what it holds, and what it holds then is what was made of it
-pub after_write : (bio : Bio) (image : List (List ℕ)) (front new : List ℕ) (size room new_room : ℕ) (flags lent set : List Bool) (count : ℕ)
-    → IsFront room front flags → sectors (length flags) (padded (length flags) front) ≡ image → bio.range.start + bio.range.len ≤ length image
-    → size ≡ 64 * bio.range.start + 64 * bio.range.len → new ≡ filled bio (grown size front) → room ≤ new_room
-    → count ≡ length flags → lent ≡ flags
-    → set ≡ take bio.range.start lent ++ (replicate bio.range.len true ++ drop (bio.range.start + bio.range.len) lent)
-    → IsFront new_room new (take count (set ++ drop (length set) flags))
-    × (sectors (length (take count (set ++ drop (length set) flags))) (padded (length (take count (set ++ drop (length set) flags))) new)
-    ≡ written bio image)
-after_write bio image front new size room new_room flags lent set count kept is fits ends made more many flags_lent marked =
-    let within : bio.range.start + bio.range.len ≤ length flags = omega (arith, fits, ap length is, length_sectors (length flags) (padded (length flags) front)) in
-    let set_is : set ≡ take bio.range.start flags ++ (replicate bio.range.len true ++ drop (bio.range.start + bio.range.len) flags) =
-    marked ∙ ap (λ (fs : List Bool). take bio.range.start fs ++ (replicate bio.range.len true ++ drop (bio.range.start + bio.range.len) fs)) flags_lent in
-    let same : length set ≡ length flags = ap length set_is ∙ length_flags bio (padded (length flags) front) flags kept.noted within in
-    let whole = kept_whole flags set count many same in
-    let after = front_after bio front flags size room kept within ends new new_room (take count (set ++ drop (length set) flags)) made more (whole ∙ set_is) in
-    (after.0, after.1 ∙ ap (written bio) is)
 
 -- there is room for what is written within the image
-pub room_for : (bio : Bio) (front : List ℕ) (flags : List Bool) (room : ℕ) (image : List (List ℕ)) → IsFront room front flags
-    → sectors (length flags) (padded (length flags) front) ≡ image → bio.range.start + bio.range.len ≤ length image
-    → 64 * bio.range.start + 64 * bio.range.len ≤ room
-room_for bio front flags room image kept is fits =
-    omega (arith, fits, kept.fits, ap length is, length_sectors (length flags) (padded (length flags) front))
+pub room_for : (bio : Bio) (count words_room flags_room : ℕ) (front : List ℕ) (flags : List Bool) (image : List (List ℕ))
+    → IsFront count words_room flags_room front flags → sectors count (padded count front) ≡ image
+    → bio.range.start + bio.range.len ≤ length image
+    → (64 * bio.range.start + 64 * bio.range.len ≤ words_room) × (bio.range.start + bio.range.len ≤ flags_room)
+room_for bio count words_room flags_room front flags image kept is fits =
+    let within : bio.range.start + bio.range.len ≤ count = omega (arith, fits, ap length is, length_sectors count (padded count front)) in
+    (omega (arith, within, kept.words_fit), omega (arith, within, kept.flags_fit))
 
 -- the words of the whole image
-pub whole_words : (front : List ℕ) (flags : List Bool) (room : ℕ) (image : List (List ℕ)) → IsFront room front flags
-    → sectors (length flags) (padded (length flags) front) ≡ image → padded (length flags) front ≡ concat image
-whole_words front flags room image kept is =
-    concat_sectors (length flags) (padded (length flags) front) kept.noted.size ∙ ap concat is
+pub whole_words : (count words_room flags_room : ℕ) (front : List ℕ) (flags : List Bool) (image : List (List ℕ))
+    → IsFront count words_room flags_room front flags → sectors count (padded count front) ≡ image → padded count front ≡ concat image
+whole_words count words_room flags_room front flags image kept is =
+    concat_sectors count (padded count front) (omega (arith, length_grown 0 (64 * count) front, kept.noted.size, kept.within)) ∙ ap concat is
 
--- a front is as long as the image at most
-pub front_within : (front lent : List ℕ) (flags : List Bool) (room : ℕ) (image : List (List ℕ)) → IsFront room front flags
-    → sectors (length flags) (padded (length flags) front) ≡ image → lent ≡ front → length lent ≤ 64 * length image
-front_within front lent flags room image kept is lends =
-    omega (
-      arith,
-      ap length lends,
-      length_grown (64 * length flags) front,
-      kept.noted.size,
-      ap length is,
-      length_sectors (length flags) (padded (length flags) front),
-    )
+-- a front has whole sectors
+pub front_whole : (count words_room flags_room : ℕ) (front lent : List ℕ) (flags : List Bool)
+    → IsFront count words_room flags_room front flags → lent ≡ front → length lent % 64 ≡ 0
+front_whole count words_room flags_room front lent flags kept lends = omega (arith, ap length lends, kept.noted.size)
+
+-- and is as long as the image at most
+pub front_within : (count words_room flags_room : ℕ) (front lent : List ℕ) (flags : List Bool) (image : List (List ℕ))
+    → IsFront count words_room flags_room front flags → sectors count (padded count front) ≡ image → lent ≡ front
+    → length lent ≤ 64 * length image
+front_within count words_room flags_room front lent flags image kept is lends =
+    omega (arith, ap length lends, kept.noted.size, kept.within, ap length is, length_sectors count (padded count front))
 
 -- and the other words are zeros
-pub front_words : (front lent : List ℕ) (flags : List Bool) (room : ℕ) (image : List (List ℕ)) → IsFront room front flags
-    → sectors (length flags) (padded (length flags) front) ≡ image → lent ≡ front
+pub front_words : (count words_room flags_room : ℕ) (front lent : List ℕ) (flags : List Bool) (image : List (List ℕ))
+    → IsFront count words_room flags_room front flags → sectors count (padded count front) ≡ image → lent ≡ front
     → concat image ≡ lent ++ replicate (64 * length image - length lent) 0
 unfolding grown
-front_words front lent flags room image kept is lends =
-    let many : length flags ≡ length image = sym (length_sectors (length flags) (padded (length flags) front)) ∙ ap length is in
-    sym (whole_words front flags room image kept is)
+front_words count words_room flags_room front lent flags image kept is lends =
+    let many : count ≡ length image = sym (length_sectors count (padded count front)) ∙ ap length is in
+    sym (whole_words count words_room flags_room front flags image kept is)
     ∙ ap (λ n. front ++ replicate {A = ℕ} (64 * n - length front) 0) many
     ∙ ap (λ (ws : List ℕ). ws ++ replicate (64 * length image - length ws) 0) (sym lends)
 
 -- an image whose front grew up to the whole is the same image
-pub whole_front : (front new : List ℕ) (flags : List Bool) (room new_room : ℕ) (image : List (List ℕ)) → IsFront room front flags
-    → sectors (length flags) (padded (length flags) front) ≡ image → new ≡ padded (length flags) front → room ≤ new_room
-    → IsFront new_room new flags × (sectors (length flags) (padded (length flags) new) ≡ image)
-whole_front front new flags room new_room image kept is made more =
-    let all = 64 * length flags in
-    let same : padded (length flags) new ≡ padded (length flags) front = ap (grown all) made ∙ grown_twice all all front (omega arith) in (
+pub whole_front : (count words_room flags_room new_words_room new_flags_room : ℕ) (front new : List ℕ) (flags new_flags : List Bool)
+    (image : List (List ℕ))
+    → IsFront count words_room flags_room front flags → sectors count (padded count front) ≡ image
+    → new ≡ padded count front → words_room ≤ new_words_room → new_flags ≡ grown false count flags → flags_room ≤ new_flags_room
+    → IsFront count new_words_room new_flags_room new new_flags × (sectors count (padded count new) ≡ image)
+whole_front count words_room flags_room new_words_room new_flags_room front new flags new_flags image kept is made more set more_flags =
+    let all = 64 * count in (
       record {
-        whole = omega (arith, ap length made, kept.noted.size);
-        fits = omega (arith, kept.fits, more);
-        noted = subst (λ (ws : List ℕ). IsNoted ws flags) (sym same) kept.noted;
+        noted = subst (λ (ws : List ℕ). IsNoted ws new_flags) (sym made)
+            (subst (λ (fs : List Bool). IsNoted (padded count front) fs) (sym set) (noted_grown count front flags kept.noted));
+        within = omega (arith, ap length set, length_grown false count flags, kept.within);
+        words_fit = omega (arith, kept.words_fit, more);
+        flags_fit = omega (arith, kept.flags_fit, more_flags);
       },
-      ap (sectors (length flags)) same ∙ is,
+      ap (sectors count) (ap (grown 0 all) made ∙ grown_twice all all front (omega arith)) ∙ is,
     )

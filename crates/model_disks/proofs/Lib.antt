@@ -1,4 +1,5 @@
 pub mod WrittenLemmas
+pub mod RunLemmas
 pub mod SectorLemmas
 pub mod FlagLemmas
 pub mod FrontLemmas

@@ -22,11 +22,11 @@ one_more flags from place kind before here x le lt = elim (cases_eq x place) [
 ]
 
 -- no number of the range passes
-filter_none : (p : ℕ → Bool) (a m : ℕ) → ((x : ℕ) → a ≤ x → x < a + m → p x ≡ false) → filter p (range_with_len a m) ≡ []
+pub filter_none : (p : ℕ → Bool) (a m : ℕ) → ((x : ℕ) → a ≤ x → x < a + m → p x ≡ false) → filter p (range_with_len a m) ≡ []
 filter_none p a zero none = refl
 filter_none p a (suc m) none = rw (none a (omega arith) (omega arith)) (filter_none p (a + 1) m (λ x le lt. none x (omega arith) (omega arith)))
 
-range_append : (a m k : ℕ) → range_with_len a (m + k) ≡ range_with_len a m ++ range_with_len (a + m) k
+pub range_append : (a m k : ℕ) → range_with_len a (m + k) ≡ range_with_len a m ++ range_with_len (a + m) k
 range_append a zero k = rw (zero-add, add-zero) refl
 range_append a (suc m) k =
     let one : suc m + k ≡ suc (m + k) = omega arith in
@@ -58,7 +58,7 @@ one_of p from start stop m more k is_start is_stop before here inside =
     skip p from m (suc (more + k)) start is_start before
     ∙ rw here (ap (λ rest. start ∷ rest) (skip p (start + 1) more k stop is_stop inside))
 
-unset_starts_none : (flags : List Bool) (x : ℕ) → flag flags x ≡ false → starts_run flags x ≡ false
+pub unset_starts_none : (flags : List Bool) (x : ℕ) → flag flags x ≡ false → starts_run flags x ≡ false
 unfolding starts_run
 unset_starts_none flags x unset = rw unset refl
 

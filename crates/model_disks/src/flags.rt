@@ -1,20 +1,45 @@
-//! Of each sector of a disk, whether it is written.
-ghost use Rattle.std.specs.Prelude.{◌≡◌, ◌+◌, ◌-◌, ◌^◌, ◌<◌, ◌≤◌, [], ◌∷◌, ◌++◌, true, length, take, drop, replicate, MatchOption};
+//! Of each sector of the front of a disk, whether it is written.
+ghost use Rattle.std.specs.Prelude.{◌≡◌, ◌+◌, ◌^◌, ◌<◌, ◌≤◌, [], ◌∷◌, false, length, vec_capacity, MatchOption};
+ghost use Rattle.model_disks.specs.Kept.{grown, marked};
 ghost use Rattle.model_disks.specs.Runs.{IsApart, IsFirst, runs_from};
 
 use stack_base::Range;
 
-/// The sectors of a range, which ends within the disk, are written.
-pub fn set(flags: &mut [bool], range: Range)
+/// Brings the flags up to so many sectors, for which there is room. None of those that are new is written.
+pub fn grow(flags: &mut Vec<bool>, count: usize)
+    requires { count ≤ vec_capacity flags.old }
+    ensures flags { flags.new.items ≡ grown false count flags.old.items }
+    ensures room { vec_capacity flags.old ≤ vec_capacity flags.new }
+{
+    if flags.len() >= count {
+        return;
+    }
+    let Ok(()) = flags.resize(count, false) else {
+        unreachable!()
+    };
+}
+
+// The sectors of a range, which have flags, are written.
+fn set(flags: &mut [bool], range: Range)
     requires { range.start + range.len ≤ length flags.old }
-    ensures { flags.new ≡ take range.start flags.old ++ (replicate range.len true ++ drop (range.start + range.len) flags.old) }
+    ensures { flags.new ≡ marked range flags.old }
 {
     let start = range.start as usize;
     let end = start + range.len as usize;
     flags[start..end].fill(true);
 }
 
-// The first place at or behind `from` that is written, or that is not, or the number of sectors where there is none.
+/// The sectors of a range, for whose flags there is room, are written. The flags grow up to their end.
+pub fn note(flags: &mut Vec<bool>, range: Range)
+    requires { range.start + range.len ≤ vec_capacity flags.old }
+    ensures flags { flags.new.items ≡ marked range (grown false (range.start + range.len) flags.old.items) }
+    ensures room { vec_capacity flags.old ≤ vec_capacity flags.new }
+{
+    grow(flags, range.start as usize + range.len as usize);
+    set(flags, range);
+}
+
+// The first place at or behind `from` that is written, or that is not, or the number of flags where there is none.
 fn first_place(flags: &[bool], from: usize, written: bool) -> usize
     requires { from ≤ length flags.now }
     ensures { IsFirst flags.now from written result }

@@ -1,8 +1,8 @@
 //! The image of a disk.
-ghost use Rattle.std.specs.Prelude.{◌≡◌, ◌+◌, ◌*◌, ◌%◌, ◌≤◌, length, take, drop, vec_capacity};
+ghost use Rattle.std.specs.Prelude.{◌≡◌, ◌+◌, ◌*◌, ◌≤◌, length, take, drop, vec_capacity};
 ghost use Rattle.image_lanes.specs.Lanes.{sum_mod, sectors};
 ghost use Rattle.model_disks.specs.Disks.{sum_of_words};
-ghost use Rattle.model_disks.specs.Kept.{IsNoted, grown, padded, filled};
+ghost use Rattle.model_disks.specs.Kept.{IsNoted, grown, filled};
 
 use crate::flags;
 use bio_records::Bio;
@@ -13,33 +13,35 @@ use std::marker::Model;
 
 /// The sectors of a disk, one behind the other.
 ///
-/// Contracts see the list of the sectors, each of 64 words. Of the words only a front is kept, up to the last sector that was ever written:
-/// all words behind it are zeros. Room for all words is reserved at the opening, so the front grows without taking memory. Sums and runs go by
-/// a flag a sector, and read no word of a sector that is not written.
+/// Contracts see the list of the sectors, each of 64 words. Only a front is kept, up to the last sector that was ever written: all words behind
+/// it are zeros. Room for all sectors is reserved at the opening, so the front grows without taking memory, and what is behind it costs nothing.
+/// Sums and runs go by a flag for each sector of the front, and read no word of a sector that is not written.
 #[derive(Drop)]
 pub struct Image {
+    // How many sectors there are.
+    count: u64,
     // The words of the front, 64 a sector.
     front: Vec<u64>,
-    // For each sector whether it is written, as one of its words is not 0.
+    // For each sector of the front whether it is written, as one of its words is not 0.
     flags: Vec<bool>,
 }
 
 impl Model for Image {
-    ghost use Rattle.std.specs.Prelude.{ℕ, List, length, vec_capacity};
+    ghost use Rattle.std.specs.Prelude.{ℕ, List, vec_capacity};
     ghost use Rattle.image_lanes.specs.Lanes.{sectors};
     ghost use Rattle.model_disks.specs.Kept.{IsFront, padded};
 
     ghost Value = { List (List ℕ) };
 
-    ghost view = { λ i. sectors (length i.flags.items) (padded (length i.flags.items) i.front.items) };
+    ghost view = { λ i. sectors i.count (padded i.count i.front.items) };
 
-    ghost invariant = { λ i. IsFront (vec_capacity i.front) i.front.items i.flags.items };
+    ghost invariant = { λ i. IsFront i.count (vec_capacity i.front) (vec_capacity i.flags) i.front.items i.flags.items };
 }
 
 // Brings the front up to so many words, for which there is room, with zeros.
 fn grow(front: &mut Vec<u64>, size: usize)
     requires { size ≤ vec_capacity front.old }
-    ensures words { front.new.items ≡ grown size front.old.items }
+    ensures words { front.new.items ≡ grown 0 size front.old.items }
     ensures room { vec_capacity front.old ≤ vec_capacity front.new }
 {
     if front.len() >= size {
@@ -63,7 +65,7 @@ fn write_words(words: &mut [u64], bio: Bio)
 // Writes the words of a bio's sectors, for which there is room. The front grows up to their end.
 fn write_front(front: &mut Vec<u64>, bio: Bio)
     requires { 64 * bio.range.start + 64 * bio.range.len ≤ vec_capacity front.old }
-    ensures words { front.new.items ≡ filled bio (grown (64 * bio.range.start + 64 * bio.range.len) front.old.items) }
+    ensures words { front.new.items ≡ filled bio (grown 0 (64 * bio.range.start + 64 * bio.range.len) front.old.items) }
     ensures room { vec_capacity front.old ≤ vec_capacity front.new }
 {
     let size = 64 * bio.range.start as usize + 64 * bio.range.len as usize;
@@ -80,11 +82,10 @@ fn sum_of_sector(words: &[u64], place: usize) -> u64
     sum_words(&words[start..start + 64])
 }
 
-// The sum of all words, modulo 2 ^ 64: those of the sectors that are written, which are sectors of the front.
+// The sum of the words of a front, modulo 2 ^ 64, which is that of the sectors that are written.
 fn sum_of_written(front: &[u64], flags: &[bool]) -> u64
-    requires whole { length front.now % 64 ≡ 0 }
-    requires noted { IsNoted (padded (length flags.now) front.now) flags.now }
-    ensures { result ≡ sum_of_words (sectors (length flags.now) (padded (length flags.now) front.now)) }
+    requires { IsNoted front.now flags.now }
+    ensures { result ≡ sum_of_words (sectors (length flags.now) front.now) }
 {
     let mut all = 0u64;
     'adding: for place in 0..flags.len() {
@@ -106,7 +107,7 @@ impl Image {
     ghost use Rattle.model_disks.specs.Runs.{runs_from, IsApart};
     ghost use Rattle.model_disks.specs.contracts.image.Image.{the_row};
 
-    /// An image of so many sectors of zeros.
+    /// An image of so many sectors of zeros. It takes the room for all of them, and touches none of it.
     ///
     /// # Errors
     ///
@@ -118,16 +119,18 @@ impl Image {
             return Err(AllocError);
         };
         Ok(Image {
+            count: sectors,
             front: Vec::with_capacity(alloc, words)?,
-            flags: vec![in alloc; false; sectors as usize]?,
+            flags: Vec::with_capacity(alloc, sectors as usize)?,
         })
     }
 
     /// How many sectors it has.
+    #[tactic(auto, using(crate::proofs::SectorLemmas::length_sectors))]
     pub fn sectors(&self) -> u64
         ensures { result ≡ length self.now }
     {
-        self.flags.len() as u64
+        self.count
     }
 
     /// The words of its first sectors, at least up to the last one that was ever written: all words behind them are zeros.
@@ -144,7 +147,9 @@ impl Image {
         ensures* same { sem 𝓛 (Rests the_row self.entry (λ image. image ≡ self.old)) }
         ensures words { result.now ≡ concat self.old }
     {
-        grow(&mut self.front, 64 * self.flags.len());
+        let count = self.count as usize;
+        grow(&mut self.front, 64 * count);
+        flags::grow(&mut self.flags, count);
         &self.front
     }
 
@@ -155,7 +160,7 @@ impl Image {
         ensures size { length self.new ≡ length self.old }
     {
         write_front(&mut self.front, bio);
-        flags::set(&mut self.flags, bio.range);
+        flags::note(&mut self.flags, bio.range);
     }
 
     /// The sum of all words, modulo 2 ^ 64.

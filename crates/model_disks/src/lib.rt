@@ -2,8 +2,8 @@
 //! Only opening a disk takes memory.
 //!
 //! A sector is 512 bytes, as in Linux, and its data are 64 words of 8 bytes (`specs/Words.antt` of `stack_base`). A disk keeps one list of
-//! its words up to the last sector that was ever written, in memory that is reserved for all of them when it is opened, and a flag a sector.
-//! Contracts speak of whole sectors (`specs/Disks.antt`), whose words one behind the other are that list with zeros behind it.
+//! its words up to the last sector that was ever written, and a flag for each of these sectors, in memory that is reserved for all sectors
+//! when it is opened. Contracts speak of whole sectors (`specs/Disks.antt`), whose words one behind the other are that list with zeros behind it.
 #![tactic(auto)]
 
 mod disk;

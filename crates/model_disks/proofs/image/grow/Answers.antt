@@ -5,9 +5,9 @@ use Rattle.model_disks.proofs.image.grow.Goals as goal
 
 pub returns-then-len-size-clause-words : goal.returns-then-len-size-clause-words
 returns-then-len-size-clause-words c =
-    grown_enough c.args.size c.args.front.now.items (omega (arith, c.if-len-size.true, c.len.ensures, c.args.front.now.ok.0))
+    grown_enough 0 c.args.size c.args.front.now.items (omega (arith, c.if-len-size.true, c.len.ensures, c.args.front.now.ok.0))
 
 pub returns-clause-words : goal.returns-clause-words
 returns-clause-words c =
-    grown_from c.args.size _ c.args.front.now.items c.resize.new.self.items c.args.front.now.ok.0
+    grown_from 0 c.args.size _ c.args.front.now.items c.resize.new.self.items c.args.front.now.ok.0
     (omega (arith, c.if-len-size.false, c.len.ensures)) c.in-Ok.ensures.items

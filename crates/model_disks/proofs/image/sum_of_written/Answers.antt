@@ -1,9 +1,8 @@
 -- One more sector: its sum, or nothing where it is not written.
-use Rattle.std.proofs.Common.{ℕ, ◌+◌, ◌%◌, ◌^◌, length, refl, sym, ap, ◌∙◌}
+use Rattle.std.proofs.Common.{ℕ, ◌+◌, ◌%◌, ◌^◌, refl, sym, ap, ◌∙◌, arith}
 use Rattle.image_lanes.specs.Lanes.{sectors}
 use Rattle.model_disks.specs.Disks.{sum_of_words}
-use Rattle.model_disks.specs.Kept.{padded}
-use Rattle.model_disks.proofs.ImageLemmas.{in_front, sum_of_front, sum_of_zeros}
+use Rattle.model_disks.proofs.ImageLemmas.{sum_more, sum_of_zeros}
 use Rattle.model_disks.proofs.image.sum_of_written.Goals as goal
 use Rattle.model_disks.proofs.image.sum_of_written.Goals.{then-flags-place, else-flags-place}
 
@@ -12,23 +11,18 @@ unfolding sectors
 adding-init c = refl
 
 pub sum_of_sector-all-requires : goal.sum_of_sector-all-requires
-sum_of_sector-all-requires c =
-    in_front c.args.front.now c.args.flags.now c.adding.place c.requires.whole c.requires.noted c.adding-test.true c.if-flags-place.true
+sum_of_sector-all-requires c = omega (arith, c.requires.size, c.adding-test.true)
 
 pub adding-preserved : goal.adding-preserved
 adding-preserved c =
     let front = c.args.front.now in
-    let flags = c.args.flags.now in
-    let words = padded (length flags) front in
     let place = c.adding.place in
     elim c.if-flags-place.branch [
       | then-flags-place w ↦
           w.all-is
           ∙ ap (λ (s : ℕ). (s + w.sum_of_sector-all.result) % 2 ^ 64) c.adding.invariant
-          ∙ ap (λ (s : ℕ). (sum_of_words (sectors place words) + s) % 2 ^ 64) w.sum_of_sector-all.ensures
-          ∙ sym
-          (sum_of_front front (length flags) place
-          (in_front front flags place c.requires.whole c.requires.noted c.adding-test.true w.if-flags-place.true))
+          ∙ ap (λ (s : ℕ). (sum_of_words (sectors place front) + s) % 2 ^ 64) w.sum_of_sector-all.ensures
+          ∙ sym (sum_more front place)
       | else-flags-place w ↦
-          w.all-is ∙ c.adding.invariant ∙ sym (sum_of_zeros words flags place c.requires.noted c.adding-test.true w.if-flags-place.false)
+          w.all-is ∙ c.adding.invariant ∙ sym (sum_of_zeros front c.args.flags.now place c.requires c.adding-test.true w.if-flags-place.false)
     ]

@@ -8,7 +8,7 @@ use Rattle.model_disks.proofs.image.write_front.Goals as goal
 pub write_words-requires : goal.write_words-requires
 write_words-requires c =
     let size = 64 * c.args.bio.range.start + 64 * c.args.bio.range.len in
-    omega (arith, ap length c.deref_mut.ensures.value, ap length c.grow.ensures.words, length_grown size c.args.front.now.items)
+    omega (arith, ap length c.deref_mut.ensures.value, ap length c.grow.ensures.words, length_grown 0 size c.args.front.now.items)
 
 pub returns-clause-words : goal.returns-clause-words
 returns-clause-words c =
@@ -17,6 +17,6 @@ returns-clause-words c =
     let made = c.write_words.ensures ∙ ap (filled c.args.bio) grows in
     kept_whole c.grow.new.front.items c.write_words.new.words _ c.grow.new.front.ok.0
     (ap length made
-    ∙ length_filled c.args.bio (grown size c.args.front.now.items) (omega (arith, length_grown size c.args.front.now.items))
+    ∙ length_filled c.args.bio (grown 0 size c.args.front.now.items) (omega (arith, length_grown 0 size c.args.front.now.items))
     ∙ ap length (sym c.grow.ensures.words))
     ∙ made
