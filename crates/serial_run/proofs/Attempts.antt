@@ -1,8 +1,9 @@
 -- One task is tried: what its step over plain objects is in the machine.
-use Rattle.std.proofs.Common.{◌≡◌, ◌%◌, ◌^◌, ◌-◌, ◌<◌, ◌≤◌, min, ℕ, Bool, true, false, true≢false, List, All, length, set, get_or, inl, inr, sym, ap, ◌∙◌, subst, arith}
+use Rattle.std.proofs.Common.{◌≡◌, ◌⊎◌, ◌%◌, ◌^◌, ◌-◌, ◌<◌, ◌≤◌, min, ℕ, Bool, true, false, true≢false, Option, None, List, All, length, set, get_or, inl, inr, sym, ap, ◌∙◌, subst, arith}
 use Rattle.std.proofs.lemmas.List.{get_or-map, get_or-set_same, get_or-set_other, map-set, length-map}
 use Rattle.std.proofs.lemmas.List.Elements.{All-get_or, All-set}
 use Rattle.rand_pcg.specs.Lcg.{Lcg}
+use Rattle.stack_base.specs.declared.ids.DevId.{DevId}
 use Rattle.stack_base.specs.declared.stack.Stack.{Stack}
 use Rattle.task_core.specs.declared.event.Event.{Event}
 use Rattle.task_core.specs.declared.event.What.{What}
@@ -11,6 +12,7 @@ use Rattle.task_core.specs.declared.plain.Plain.{Plain}
 use Rattle.task_core.specs.declared.step.Step.{Step}
 use Rattle.task_core.specs.declared.step.Step.TheVariants.{Stepped, Blocked, Waiting, Ended, Broken}
 use Rattle.task_core.specs.Maps.{upd}
+use Rattle.task_core.specs.Choosing.{IsAsked}
 use Rattle.task_core.specs.Homes.{IsTaskOf}
 use Rattle.task_core.specs.OfOne.{states, tasks_at, run_state, AreOfOne}
 use Rattle.task_core.specs.Opened.{no_task}
@@ -87,10 +89,10 @@ least_of : (l m : ℕ) → 64 ≤ m → min (min l m) 64 ≡ min l 64
 least_of l m le = omega (arith, le)
 
 module _ (plain : Plain) (tasks : List TaskOf) (stream after : Lcg) where
-  picks_chosen : (event : Event) → Chosen Chooses (PicksIn plain) stream (Stepped event) after → Picks (run_state plain tasks) event.what stream after
-  picks_chosen event chosen = by_what event.what chosen
+  picks_chosen : (own : DevId) (event : Event) → Chosen Chooses (PicksIn plain) own stream (Stepped event) after → Picks (run_state plain tasks) event.what stream after
+  picks_chosen own event chosen = by_what event.what chosen
     where
-      by_what : (w : What) → Chosen Chooses (PicksIn plain) stream (Stepped (record event { what = w })) after → Picks (run_state plain tasks) w stream after
+      by_what : (w : What) → Chosen Chooses (PicksIn plain) own stream (Stepped (record event { what = w })) after → Picks (run_state plain tasks) w stream after
       by_what (what.Complete disk index status) (pending, place, chooses, picks) = (
         picks.1 ∙ chooses.0 ∙ ap (λ n. word stream % min n 64) picks.0
             ∙ ap (λ n. word stream % n) (least_of (length ((objects_of plain).disk disk.0).pending) (2 ^ 64 - 1) (omega arith)),
@@ -112,19 +114,24 @@ module _ (plain : Plain) (tasks : List TaskOf) (stream after : Lcg) where
       → ChosenBy task Chooses (PicksIn plain) stream (Stepped event) after → Picks (run_state plain tasks) event.what stream after
   picks (Writer number todo taken line) event none chosen = picks_none (run_state plain tasks) event.what stream after (none tt) chosen
   picks (Rescuer dev line) event none chosen = picks_none (run_state plain tasks) event.what stream after (none tt) chosen
-  picks (Completer disk carried) event none chosen = picks_chosen event chosen
+  picks (Completer disk carried) event none chosen = picks_chosen disk event chosen
   picks (Keeper keeping) event none chosen = picks_none (run_state plain tasks) event.what stream after (none tt) chosen
+
+  -- nobody takes a bio between two looks of one thread
+  stayed : (own : DevId) → (after ≡ stream) ⊎ IsAsked Chooses (PicksIn plain own) stream None after → after ≡ stream
+  stayed own (inl same) = same
+  stayed own (inr (pending, place, chooses, none)) = absurd none
 
   stays_still : (task : TaskState) (step : Step) → IsStill step → ChosenBy task Chooses (PicksIn plain) stream step after → after ≡ stream
   stays_still (Writer number todo taken line) step still chosen = chosen
   stays_still (Rescuer dev line) step still chosen = chosen
   stays_still (Completer disk carried) step still chosen = by_step step still chosen
     where
-      by_step : (step : Step) → IsStill step → Chosen Chooses (PicksIn plain) stream step after → after ≡ stream
+      by_step : (step : Step) → IsStill step → Chosen Chooses (PicksIn plain) disk stream step after → after ≡ stream
       by_step (Stepped event) still chosen = absurd still
       by_step (Blocked pool) still chosen = chosen
-      by_step Waiting still chosen = chosen
-      by_step Ended still chosen = chosen
+      by_step Waiting still chosen = stayed disk chosen
+      by_step Ended still chosen = stayed disk chosen
       by_step (Broken breach) still chosen = absurd still
   stays_still (Keeper keeping) step still chosen = chosen
 

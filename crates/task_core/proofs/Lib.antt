@@ -1,3 +1,4 @@
+pub mod FirstTries
 pub mod Turns
 pub mod OneWrite
 pub mod MirrorRun

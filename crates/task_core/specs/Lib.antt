@@ -1,3 +1,4 @@
+pub mod Choosing
 pub mod Maps
 pub mod Scene
 pub mod Requests

@@ -1,5 +1,5 @@
 -- The objects of one thread: what they are as the objects of a run, and what holds of them between calls.
-use Rattle.std.specs.Prelude.{◌≡◌, ◌⊎◌, ◌+◌, ◌-◌, ◌^◌, ◌%◌, ◌<◌, ◌≤◌, ◌==◌, ◌||◌, if◌then◌else◌, ℕ, Bool, true, [], length, map, filter, min}
+use Rattle.std.specs.Prelude.{◌≡◌, ◌⊎◌, ◌+◌, ◌-◌, ◌^◌, ◌%◌, ◌<◌, ◌≤◌, ◌==◌, ◌||◌, if◌then◌else◌, ℕ, Bool, true, Option, None, Some, [], length, map, filter, min}
 use Rattle.std.specs.List.{range_with_len}
 use Rattle.elem_ledger.specs.Ledger.{LedgerId}
 use Rattle.fail_script.specs.Script.{only_tail}
@@ -127,6 +127,7 @@ abbrev pub Tells : Plain → Request → Reply → Plain → Type 0
 Tells old request reply new =
     Serves (stage_of old).ledger (objects_of old) request reply (objects_of new) ⊎ StaysLast (objects_of old) request reply (objects_of new)
 
--- the bio at the chosen place is completed
-abbrev pub Picks : Plain → DevId → ℕ → ℕ → ℕ → Type 0
-Picks plain dev pending chosen index = (pending ≡ min (length ((objects_of plain).disk dev.0).pending) (2 ^ 64 - 1)) × (index ≡ chosen)
+-- the bio at the chosen place is completed, which nobody took meanwhile
+abbrev pub Picks : Plain → DevId → ℕ → ℕ → Option ℕ → Type 0
+Picks plain dev pending chosen (Some index) = (pending ≡ min (length ((objects_of plain).disk dev.0).pending) (2 ^ 64 - 1)) × (index ≡ chosen)
+Picks plain dev pending chosen None = ⊥

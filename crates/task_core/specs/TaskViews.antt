@@ -1,5 +1,5 @@
 -- Tasks without their boxes.
-use Rattle.std.specs.Prelude.{◌≡◌, ℕ}
+use Rattle.std.specs.Prelude.{◌≡◌, ℕ, Option}
 use Rattle.stack_base.specs.declared.ids.DevId.{DevId}
 use Rattle.task_core.specs.declared.step.Step.{Step}
 use Rattle.task_core.specs.declared.task.Kind.{Kind}
@@ -22,8 +22,8 @@ task_of (kind.Completer disk carried) = Completer disk carried
 task_of (kind.Keeper keeper) = Keeper keeper
 
 -- the completer of a disk asks its chooser, and no other task does
-abbrev pub ChosenBy : {C : Type 0} → TaskState → (C → ℕ → ℕ → C → Type 0) → (DevId → ℕ → ℕ → ℕ → Type 0) → C → Step → C → Type 0
+abbrev pub ChosenBy : {C : Type 0} → TaskState → (C → ℕ → ℕ → C → Type 0) → (DevId → ℕ → ℕ → Option ℕ → Type 0) → C → Step → C → Type 0
 ChosenBy (Writer number todo taken line) chooses picks old step new = new ≡ old
 ChosenBy (Rescuer dev line) chooses picks old step new = new ≡ old
-ChosenBy (Completer disk carried) chooses picks old step new = Chosen chooses picks old step new
+ChosenBy (Completer disk carried) chooses picks old step new = Chosen chooses picks disk old step new
 ChosenBy (Keeper keeping) chooses picks old step new = new ≡ old

@@ -1,5 +1,5 @@
 -- What a step of a task does, whatever objects it asks: the task's half of an event, with the reply that they gave.
-use Rattle.std.specs.Prelude.{◌≡◌, ◌==◌, if◌then◌else◌, ℕ, Bool, true, false, Option, None, Some}
+use Rattle.std.specs.Prelude.{◌≡◌, ◌⊎◌, ◌==◌, if◌then◌else◌, ℕ, Bool, true, false, Option, None, Some}
 use Rattle.stack_base.specs.declared.ids.PoolId.TheVariants.{FsVecs, Records}
 use Rattle.bioset_pools.specs.Sets.{bios_of}
 use Rattle.bio_books.specs.Drops as end
@@ -14,6 +14,7 @@ use Rattle.task_core.specs.declared.step.Step.TheVariants.{Stepped, Blocked, Wai
 use Rattle.stack_base.specs.declared.ids.DevId.{DevId}
 use Rattle.task_core.specs.Scene.{Setup}
 use Rattle.task_core.specs.Lines.{Doing, Rests, Drives, Copies, Breaks}
+use Rattle.task_core.specs.Choosing.{IsAsked}
 use Rattle.task_core.specs.Requests.{Request, Reply, Opening, Write, Chain, Master, Leg, TakeBio, TakeVec, TakeSlip, Link, Drop, Resize, LookLeft, Rest, Missed, LinkedTo, DroppedTo, OutIs, LeftOver, Nothing, Spent}
 use Rattle.task_core.specs.Tasks.{TaskState, Writer, Rescuer, Completer, Keeper, Carried, Empty, Brings, Carries, Fails, Keeping, Keeps, Stops, request, look_of, lets, answered}
 use Rattle.task_core.specs.Events.{id_of, what_of}
@@ -121,12 +122,13 @@ completes (Stepped event) = is_completion event.what
     is_completion what = false
 completes step = false
 
--- the chooser was asked where a bio was completed, and else it stays
-abbrev pub Chosen : {C : Type 0} → (C → ℕ → ℕ → C → Type 0) → (DevId → ℕ → ℕ → ℕ → Type 0) → C → Step → C → Type 0
-Chosen chooses picks old (Stepped event) new = chosen_by event.what
+-- The chooser was asked where a bio was completed. Else it stays, but for the completer of a disk in which, once it had chosen, no bio was left.
+abbrev pub Chosen : {C : Type 0} → (C → ℕ → ℕ → C → Type 0) → (DevId → ℕ → ℕ → Option ℕ → Type 0) → DevId → C → Step → C → Type 0
+Chosen chooses picks own old (Stepped event) new = chosen_by event.what
   where
     chosen_by : What → Type 0
-    chosen_by (what.Complete disk index status) = (pending : ℕ) × (chosen : ℕ) × chooses old pending chosen new × picks disk pending chosen index
+    chosen_by (what.Complete disk index status) = IsAsked chooses (picks disk) old (Some index) new
     chosen_by what = new ≡ old
-Chosen chooses picks old (Broken breach) new = Unit {0}
-Chosen chooses picks old step new = new ≡ old
+Chosen chooses picks own old (Broken breach) new = Unit {0}
+Chosen chooses picks own old (Blocked pool) new = new ≡ old
+Chosen chooses picks own old step new = (new ≡ old) ⊎ IsAsked chooses (picks own) old None new

@@ -1,5 +1,5 @@
 -- What calls of the objects are handed and answer, without its boxes: as requests and replies.
-use Rattle.std.specs.Prelude.{◌≡◌, ℕ, Option, None, Some, Result, Ok, Err}
+use Rattle.std.specs.Prelude.{◌≡◌, ◌⊎◌, ℕ, Option, None, Some, Result, Ok, Err}
 use Rattle.elem_ledger.specs.declared.element.Element.{Element}
 use Rattle.mempool_core.specs.declared.Taken.{Taken}
 use Rattle.mempool_core.specs.declared.Taken.TheVariants as taken
@@ -18,6 +18,7 @@ use Rattle.task_core.specs.declared.objects.Ask.{Ask}
 use Rattle.task_core.specs.declared.objects.Ask.TheVariants as ask
 use Rattle.task_core.specs.declared.objects.Unmade.{Unmade}
 use Rattle.task_core.specs.declared.objects.Unmade.TheVariants as unmade
+use Rattle.task_core.specs.Choosing.{IsAsked}
 use Rattle.task_core.specs.Requests.{Reply, Opening, Write, Chain, Master, Leg, HadBio, HadVec, HadSlip, Missed, Did, Popped, Completed, LinkedTo, DroppedTo, OutIs, Nothing, Spent}
 
 abbrev pub vec_item : Element Vector → VectorItem
@@ -84,11 +85,10 @@ CompletedAlone (Ok None) = Unit {0}
 CompletedAlone (Ok (Some done)) = IsAlone done.1.el
 CompletedAlone (Err back) = Unit {0}
 
--- A chooser is asked where a bio was completed, and else it stays.
-abbrev pub Choice : {C : Type 0} → (C → ℕ → ℕ → C → Type 0) → (ℕ → ℕ → ℕ → Type 0) → C → Reply → C → Type 0
-Choice chooses picks old (Completed index bio status) new =
-    (pending : ℕ) × (chosen : ℕ) × chooses old pending chosen new × picks pending chosen index
-Choice chooses picks old Nothing new = new ≡ old
+-- A chooser is asked where a bio was completed. Where none was, it stays, or it was asked for one that had gone before the disk was asked again.
+abbrev pub Choice : {C : Type 0} → (C → ℕ → ℕ → C → Type 0) → (ℕ → ℕ → Option ℕ → Type 0) → C → Reply → C → Type 0
+Choice chooses picks old (Completed index bio status) new = IsAsked chooses picks old (Some index) new
+Choice chooses picks old Nothing new = (new ≡ old) ⊎ IsAsked chooses picks old None new
 Choice chooses picks old reply new = Unit {0}
 
 abbrev pub linked : Result Link Unmade → Reply

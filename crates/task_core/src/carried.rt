@@ -413,7 +413,7 @@ impl Carried {
         requires holds { O.holds objects.old }
         requires fits { IsTaskOf (O.stage objects.old) (Completes disk Empty) }
         ensures turns { Turns O.serves (Owes (O.stage objects.old)) (setup (O.stage objects.old).routing) (Completes disk Empty) objects.old (Completes disk self.new) objects.new result }
-        ensures chosen { Chosen C.chooses (O.picks objects.old) chooser.old result chooser.new }
+        ensures chosen { Chosen C.chooses (O.picks objects.old) disk chooser.old result chooser.new }
         ensures kept { O.holds objects.new × (O.stage objects.new ≡ O.stage objects.old) }
     {
         match objects.complete(disk, chooser) {
@@ -453,7 +453,7 @@ impl Carried {
         requires holds { O.holds objects.old }
         requires fits { IsTaskOf (O.stage objects.old) (Completes disk self.old) }
         ensures turns { Turns O.serves (Owes (O.stage objects.old)) (setup (O.stage objects.old).routing) (Completes disk self.old) objects.old (Completes disk self.new) objects.new result }
-        ensures chosen { Chosen C.chooses (O.picks objects.old) chooser.old result chooser.new }
+        ensures chosen { Chosen C.chooses (O.picks objects.old) disk chooser.old result chooser.new }
         ensures kept { O.holds objects.new × (O.stage objects.new ≡ O.stage objects.old) }
     {
         if !self.is_busy() {

@@ -1,5 +1,5 @@
 //! What a task asks of the objects.
-ghost use Rattle.std.specs.Prelude.{◌≡◌, ◌≤◌, ◌<◌, ℕ, IfErr, Some, None};
+ghost use Rattle.std.specs.Prelude.{◌≡◌, ◌≤◌, ◌<◌, ℕ, IfErr, Option, Some, None};
 ghost use Rattle.bio_records.specs.Items.{item_of, IsAlone};
 ghost use Rattle.bio_records.specs.Clear.{IsClearBody};
 ghost use Rattle.bio_books.specs.Views.{bio_of, slip_item, IsAlonePart};
@@ -90,8 +90,8 @@ pub trait Objects {
     ghost serves: { Self → Request → Reply → Self → Type 0 };
 
     /// What becomes of a choice: in these objects, of the bios that wait in this disk, so many that a chooser is told of and the index that it
-    /// chooses, the one at this index is completed.
-    ghost picks: { Self → DevId' → ℕ → ℕ → ℕ → Type 0 };
+    /// chooses, the one at this index is completed, or none where others had taken them all by then.
+    ghost picks: { Self → DevId' → ℕ → ℕ → Option ℕ → Type 0 };
 
     /// Takes a bio of a set. An attempt that does not wait is told also where it misses.
     fn take_bio(&mut self, set: SetId, waits: bool) -> Result<Taken<BioBody<Pad>>, Unmade>
@@ -172,7 +172,8 @@ pub trait Objects {
         ensures back { IfErr result (λ back. back ≡ unmade.Bio el) }
         ensures kept { holds self.new × (stage self.new ≡ stage self.old) };
 
-    /// Completes the chosen one of the bios that wait in a disk, if one does, or the last one where there are fewer by then.
+    /// Completes the chosen one of the bios that wait in a disk, if one does, or the last one where there are fewer by then. Answers `None` where
+    /// none waits at the last look; the chooser is asked where one waited at the first.
     fn complete<C: Chooser>(
         &mut self,
         disk: DevId,
