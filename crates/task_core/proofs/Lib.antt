@@ -1,5 +1,8 @@
 pub mod FirstTries
 pub mod Turns
+pub mod Stacks
+pub mod OneDisk
+pub mod Able
 pub mod OneWrite
 pub mod MirrorRun
 pub mod SplitRun

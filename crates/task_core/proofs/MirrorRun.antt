@@ -1,11 +1,20 @@
--- A mirror of two, with one bio and one record in reserve and no ordinary memory: 25 events, in one of which a bio is punted.
-use Rattle.std.proofs.Common.{◌==◌, ◌&&◌, ◌||◌, ◌++◌, if◌then◌else◌, ℕ, Bool, inl, List, [], ◌∷◌, Option, None, Some, refl, arith, false, true}
+-- A mirror of two, with one bio and one record in reserve and no ordinary memory: 25 events, in one of which a bio is punted, after which the state
+-- has ended.
+use Rattle.std.proofs.Common.{◌≡◌, ◌+◌, ◌==◌, ◌++◌, if◌then◌else◌, ℕ, zero, suc, Bool, inl, List, [], ◌∷◌, length, replicate, sum_by, slice_index_or, Option, None, Some, refl, subst, arith, false, true}
+use Rattle.std.specs.Global.{Global}
 use Rattle.elem_ledger.specs.Ledger.{LedgerId}
-use Rattle.fail_script.specs.Script.{only_tail}
+use Rattle.fail_script.specs.Script.{Answers, only_tail}
 use Rattle.stack_base.specs.declared.ids.DevId.{DevId}
-use Rattle.stack_base.specs.declared.ids.PoolId.TheVariants.{FsBios, Bios, Records}
+use Rattle.stack_base.specs.declared.ids.PoolId.{PoolId}
+use Rattle.stack_base.specs.declared.ids.PoolId.TheVariants.{FsBios, FsVecs, Bios, Records}
 use Rattle.stack_base.specs.declared.ids.Status.TheVariants.{Ok}
-use Rattle.stack_base.specs.Tree.{Tree, Leaf, Mirrored}
+use Rattle.stack_base.specs.declared.stack.Kind.TheVariants.{Mirror}
+use Rattle.stack_base.specs.declared.stack.Stack.{Stack}
+use Rattle.stack_base.specs.Tree.{Tree, Leaf, Mirrored, tree, tree_below, over_shape, member_at, size}
+use Rattle.layout_model.specs.declared.write.Write.{Write}
+use Rattle.layout_model.specs.May.{bads_of}
+use Rattle.layout_model.specs.Need.{needed, begun as begins}
+use Rattle.layout_model.specs.Needs.{nodes as nodes_of}
 use Rattle.mempool_core.specs.Move.{opened, takes_spare, misses, gives}
 use Rattle.bio_records.specs.declared.bio.Pad.{Pad}
 use Rattle.bio_records.specs.Items.{Item}
@@ -29,57 +38,77 @@ use Rattle.task_core.specs.Requests.{HadBio, HadSlip, Missed as missed, LinkedTo
 use Rattle.task_core.specs.Lines.{rests, leg_at}
 use Rattle.task_core.specs.Tasks.{Todo, TaskState, Writer, Rescuer, Completer, NoBio, Empty, filled_short}
 use Rattle.task_core.specs.Objects.{clear_bio, clear_slip, done_one}
-use Rattle.task_core.specs.Runs.{State, IsRun}
+use Rattle.task_core.specs.Events.{pool_of}
+use Rattle.task_core.specs.Opened.{Scenario, at, no_task, places_of, reserve_of, script_at}
+use Rattle.task_core.specs.Opened as texts
+use Rattle.task_core.specs.Runs.{State, IsRun, HasEnded}
+use Rattle.task_core.proofs.Stacks.{device, disk as disk_of, stack_of}
 use Rattle.task_core.proofs.Turns.{Turn, follow, AreTurns, turns_run, takes, rescues, on_disk, in_book}
 
 abbrev pub a : DevId
-a = record { 0 = 0 }
+a = at 0
 
 abbrev pub b : DevId
-b = record { 0 = 1 }
+b = at 1
 
 abbrev pub m : DevId
-m = record { 0 = 2 }
+m = at 2
 
 abbrev pub mirror : Tree
-mirror = Mirrored 2 (8 ∷ 8 ∷ []) (λ place. Leaf place 8)
+mirror = Mirrored 2 (8 ∷ 8 ∷ []) (member_at 2 (Leaf 0 8 ∷ Leaf 1 8 ∷ []))
 
 -- whether the mirror's set has a rescuer
 abbrev pub setup : Bool → Setup
-setup rescuer = record { count = 3; tree = λ dev. if dev == 2 then mirror else Leaf dev 8; rescuer = λ dev. rescuer && (dev == 2); places = λ writer. 4 }
+setup rescuer = record {
+  count = 3;
+  tree = λ dev. slice_index_or (Leaf 0 8 ∷ Leaf 1 8 ∷ mirror ∷ []) dev (Leaf dev 0);
+  rescuer = λ dev. slice_index_or (false ∷ false ∷ rescuer ∷ []) dev false;
+  places = λ writer. if 0 == writer then 4 else 0;
+}
+
+abbrev pub write : Write
+write = record { task = 0; dev = m; start = 0; count = 1; tag = 0 }
 
 abbrev pub todo : Todo
-todo = record { number = 0; round = 0; write = record { task = 0; dev = m; start = 0; count = 1; tag = 0 } }
+todo = record { number = 0; round = 0; write = write }
 
-abbrev tasks : ℕ → TaskState
-tasks place =
-    if place == 0 then Writer 0 (todo ∷ []) NoBio rests
-    else if place == 1 then Rescuer m rests
-    else if place == 2 then Completer a Empty
-    else Completer b Empty
+abbrev pub tasks : List TaskState
+tasks = Writer 0 (todo ∷ []) NoBio rests ∷ Rescuer m rests ∷ Completer a Empty ∷ Completer b Empty ∷ []
 
--- the reserves of the mirror's bios and records, and of any other pool
-abbrev reserve : ℕ → ℕ
-reserve number = if (number == 4) || (number == 5) then 1 else 2
+-- the reserves of the writers' pools, and those of the mirror's bios and records
+abbrev pub reserve : PoolId → ℕ
+reserve FsBios = 2
+reserve FsVecs = 2
+reserve (Bios dev) = slice_index_or (0 ∷ 0 ∷ 1 ∷ []) dev.0 0
+reserve (Records dev) = slice_index_or (0 ∷ 0 ∷ 1 ∷ []) dev.0 0
+
+-- no pool has ordinary memory
+abbrev pub scripts : List (PoolId × Answers)
+scripts =
+    (FsBios, only_tail false)
+    ∷ (FsVecs, only_tail false)
+    ∷ (Records m, only_tail false)
+    ∷ (Bios m, only_tail false)
+    ∷ []
 
 abbrev pub start : State
 start = record {
   objects = record {
-    pool = λ number. opened (reserve number) (only_tail false);
+    pool = λ number. opened (reserve (pool_of number)) (script_at scripts number);
     rescue = λ dev. [];
-    disk = λ dev. disk.opened (record { 0 = dev }) 8 [];
-    book = λ writer. record { writer = writer; nodes = None ∷ None ∷ None ∷ None ∷ [] };
+    disk = λ dev. disk.opened (at dev) (size ((setup true).tree dev)) [];
+    book = λ writer. record { writer = writer; nodes = replicate ((setup true).places writer) None };
     tally = record { round = 0; left = 1 ∷ []; statuses = Ok ∷ [] };
   };
-  task = tasks;
+  task = λ place. slice_index_or tasks place no_task;
 }
 
 module _ (some : LedgerId) where
   abbrev pub ledger : ℕ → LedgerId
   ledger number = record some { no = number }
 
-  abbrev scene : Scene
-  scene = record { setup = setup true; tasks = 4; books = 1; writes = 1; ledger = ledger }
+  abbrev pub scene : Scene
+  scene = record { setup = setup true; tasks = 4; books = 8; writes = 1; ledger = ledger }
 
   abbrev bio : Item Pad
   bio = filled_short 0 todo 0 (clear_bio (ledger 65))
@@ -122,7 +151,7 @@ module _ (some : LedgerId) where
       ∷ in_book 0 (LinkedTo (Made 2)) 0 (nodes (Some top) (Some master) (Some (leg_node 0 1)))
       ∷ []
 
-  abbrev turns : List Turn
+  abbrev pub turns : List Turn
   turns =
       begun
       ++ takes 0 (missed false) 4 (misses false)
@@ -146,13 +175,13 @@ module _ (some : LedgerId) where
       ∷ record { place = 3; reply = Did; change = λ old. record old { tally = done_one 0 Ok old.tally } }
       ∷ []
 
-  abbrev w : What → Event
+  abbrev pub w : What → Event
   w what = record { task = id.Writer 0; what = what }
 
-  abbrev r : What → Event
+  abbrev pub r : What → Event
   r what = record { task = id.Rescuer m; what = what }
 
-  abbrev c : DevId → What → Event
+  abbrev pub c : DevId → What → Event
   c disk what = record { task = id.Completer disk; what = what }
 
   abbrev pub begun_events : List Event
@@ -254,3 +283,104 @@ module _ (some : LedgerId) where
 
   mirror_runs : IsRun scene start events (follow (setup true) start turns)
   mirror_runs = turns_run scene start turns events are_turns
+
+  -- no write is unfinished then, and each element is at home
+  all_home : (number : ℕ) (one two three : Bool) → (number == 65) ≡ one → (number == 5) ≡ two → (number == 4) ≡ three
+      → ((follow (setup true) start turns).objects.pool number).facts.out ≡ 0
+  unfolding upd
+  all_home number true two three is_one is_two is_three = rw is_one refl
+  all_home number false true three is_one is_two is_three = rw (is_one, is_two) refl
+  all_home number false false true is_one is_two is_three = rw (is_one, is_two, is_three) refl
+  all_home number false false false is_one is_two is_three = rw (is_one, is_two, is_three) refl
+
+  mirror_ends : HasEnded (follow (setup true) start turns)
+  mirror_ends = record { writes = refl; pools = λ number. all_home number (number == 65) (number == 5) (number == 4) refl refl refl }
+
+-- The scenario of the text: two disks of eight sectors, their mirror, no ordinary memory, and one write of the mirror's first sector. The run
+-- begins in the state that its runs are opened in. So it is without a rescuer, but for the tasks, of which none is the rescuer's.
+module _ (memory : Global) where
+  abbrev pub stack : Bool → Stack
+  stack rescuer =
+      stack_of memory
+      (disk_of memory 8 ∷ disk_of memory 8 ∷ device memory (Mirror 1) (0 ∷ 1 ∷ []) 1 rescuer ∷ [])
+      refl (8 ∷ 8 ∷ 8 ∷ []) 2
+
+  abbrev pub text : Bool → Scenario
+  text rescuer = record { stack = stack rescuer; scripts = scripts; writes = write ∷ []; rounds = 0 ∷ []; changes = [] }
+
+  module _ (rescuer : Bool) where
+    tree_is : (dev : ℕ) → (setup rescuer).tree dev ≡ tree (stack rescuer) dev
+    unfolding tree_below over_shape
+    tree_is zero = refl
+    tree_is (suc zero) = refl
+    tree_is (suc (suc zero)) = refl
+    tree_is (suc (suc (suc n))) = let e : suc (suc (suc n)) + 1 ≡ suc (suc (suc (suc n))) = omega arith in rw e refl
+
+    rescuer_is : (dev : ℕ) → (setup rescuer).rescuer dev ≡ (texts.setup (text rescuer)).rescuer dev
+    rescuer_is zero = refl
+    rescuer_is (suc zero) = refl
+    rescuer_is (suc (suc zero)) = refl
+    rescuer_is (suc (suc (suc n))) = refl
+
+    places_if : (own : Bool) → (if own then 4 else 0) ≡ sum_by (λ (todo : Todo). nodes_of (stack rescuer) todo.write) (if own then todo ∷ [] else [])
+    unfolding tree_below over_shape needed begins
+    places_if true = refl
+    places_if false = refl
+
+    places_are : (writer : ℕ) → (setup rescuer).places writer ≡ places_of (text rescuer) writer
+    places_are writer = places_if (0 == writer)
+
+    pub setup_is : setup rescuer ≡ texts.setup (text rescuer)
+    setup_is = λ k. record {
+      count = 3;
+      tree = λ dev. tree_is dev k;
+      rescuer = λ dev. rescuer_is dev k;
+      places = λ writer. places_are writer k;
+    }
+
+    bads_are : (dev : ℕ) → [] ≡ bads_of (stack rescuer) dev
+    bads_are zero = refl
+    bads_are (suc zero) = refl
+    bads_are (suc (suc zero)) = refl
+    bads_are (suc (suc (suc n))) = refl
+
+    bios_are : (dev : ℕ) → reserve (Bios (at dev)) ≡ reserve_of (stack rescuer) (Bios (at dev))
+    bios_are zero = refl
+    bios_are (suc zero) = refl
+    bios_are (suc (suc zero)) = refl
+    bios_are (suc (suc (suc n))) = refl
+
+    records_are : (dev : ℕ) → reserve (Records (at dev)) ≡ reserve_of (stack rescuer) (Records (at dev))
+    records_are zero = refl
+    records_are (suc zero) = refl
+    records_are (suc (suc zero)) = refl
+    records_are (suc (suc (suc n))) = refl
+
+    reserve_is : (pool : PoolId) → reserve pool ≡ reserve_of (stack rescuer) pool
+    reserve_is FsBios = refl
+    reserve_is FsVecs = refl
+    reserve_is (Bios dev) = bios_are dev.0
+    reserve_is (Records dev) = records_are dev.0
+
+    pub objects_are : start.objects ≡ texts.objects (text rescuer)
+    objects_are = λ k. record {
+      pool = λ number. opened (reserve_is (pool_of number) k) (script_at scripts number);
+      rescue = λ dev. [];
+      disk = λ dev. disk.opened (at dev) (size (tree_is dev k)) (bads_are dev k);
+      book = λ writer. record { writer = writer; nodes = replicate (places_are writer k) None };
+      tally = start.objects.tally;
+    }
+
+  tasks_are : tasks ≡ texts.tasks (text true)
+  unfolding tree_below over_shape
+  tasks_are = refl
+
+  start_is : start ≡ texts.start (text true)
+  start_is = λ k. record { objects = objects_are true k; task = λ place. slice_index_or (tasks_are k) place no_task }
+
+  scene_is : (some : LedgerId) → scene some ≡ texts.scene (text true) (ledger some)
+  scene_is some = λ k. record { setup = setup_is true k; tasks = length (tasks_are k); books = 8; writes = 1; ledger = ledger some }
+
+  text_runs : (some : LedgerId) → IsRun (texts.scene (text true) (ledger some)) (texts.start (text true)) (events some) (follow (setup true) start (turns some))
+  text_runs some = subst (λ (x : Scene × State). IsRun x.0 x.1 (events some) (follow (setup true) start (turns some)))
+      (λ k. (scene_is some k, start_is k)) (mirror_runs some)

@@ -1,11 +1,15 @@
 -- One write of a sector to a disk of 64: seven events, after which the state has ended.
-use Rattle.std.proofs.Common.{◌==◌, if◌then◌else◌, ℕ, List, [], ◌∷◌, None, Some, refl, arith, false, true}
+use Rattle.std.proofs.Common.{◌≡◌, ◌==◌, if◌then◌else◌, ℕ, Bool, List, [], ◌∷◌, length, replicate, sum_by, slice_index_or, None, Some, refl, subst, arith, false, true}
+use Rattle.std.specs.Global.{Global}
 use Rattle.elem_ledger.specs.Ledger.{LedgerId}
 use Rattle.fail_script.specs.Script.{only_tail}
 use Rattle.stack_base.specs.declared.ids.DevId.{DevId}
 use Rattle.stack_base.specs.declared.ids.PoolId.TheVariants.{FsBios}
 use Rattle.stack_base.specs.declared.ids.Status.TheVariants.{Ok}
-use Rattle.stack_base.specs.Tree.{Leaf}
+use Rattle.stack_base.specs.Tree.{tree_below, over_shape, size}
+use Rattle.layout_model.specs.declared.write.Write.{Write}
+use Rattle.layout_model.specs.Need.{needed, begun}
+use Rattle.layout_model.specs.Needs.{nodes}
 use Rattle.mempool_core.specs.Move.{opened, takes_ordinary, gives}
 use Rattle.bio_records.specs.declared.bio.Pad.{Pad}
 use Rattle.bio_records.specs.Items.{Item}
@@ -27,38 +31,53 @@ use Rattle.task_core.specs.Maps.{upd}
 use Rattle.task_core.specs.Scene.{Setup, Scene}
 use Rattle.task_core.specs.Requests.{HadBio, LinkedTo, Did, Completed, DroppedTo, Present}
 use Rattle.task_core.specs.Lines.{rests}
-use Rattle.task_core.specs.Tasks.{Todo, Writer, Completer, NoBio, Empty, filled_short}
+use Rattle.task_core.specs.Tasks.{Todo, TaskState, Writer, Completer, NoBio, Empty, filled_short}
 use Rattle.task_core.specs.Objects.{clear_bio, done_one}
-use Rattle.task_core.specs.Runs.{State, IsRun}
+use Rattle.task_core.specs.Events.{pool_of}
+use Rattle.task_core.specs.Opened.{Scenario, at, no_task, places_of}
+use Rattle.task_core.specs.Opened as texts
+use Rattle.task_core.specs.Runs.{State, IsRun, HasEnded}
+use Rattle.task_core.proofs.OneDisk.{tree_of, rescuer_of, reserve, stack, tree_is, rescuer_is, bads_are, reserve_is}
 use Rattle.task_core.proofs.Turns.{Turn, follow, AreTurns, turns_run, takes, on_disk, in_book}
 
-abbrev a : DevId
-a = record { 0 = 0 }
+abbrev pub a : DevId
+a = at 0
 
-abbrev setup : Setup
-setup = record { count = 1; tree = λ dev. Leaf dev 64; rescuer = λ dev. false; places = λ writer. 1 }
+abbrev pub setup : Setup
+setup = record {
+  count = 1;
+  tree = tree_of 64;
+  rescuer = rescuer_of;
+  places = λ writer. if 0 == writer then 1 else 0;
+}
+
+abbrev write : Write
+write = record { task = 0; dev = a; start = 0; count = 1; tag = 0 }
 
 abbrev todo : Todo
-todo = record { number = 0; round = 0; write = record { task = 0; dev = a; start = 0; count = 1; tag = 0 } }
+todo = record { number = 0; round = 0; write = write }
 
-abbrev start : State
+abbrev tasks : List TaskState
+tasks = Writer 0 (todo ∷ []) NoBio rests ∷ Completer a Empty ∷ []
+
+abbrev pub start : State
 start = record {
   objects = record {
-    pool = λ number. opened 2 (only_tail true);
+    pool = λ number. opened (reserve (pool_of number)) (only_tail true);
     rescue = λ dev. [];
-    disk = λ dev. disk.opened a 64 [];
-    book = λ writer. record { writer = writer; nodes = None ∷ [] };
+    disk = λ dev. disk.opened (at dev) (size (setup.tree dev)) [];
+    book = λ writer. record { writer = writer; nodes = replicate (setup.places writer) None };
     tally = record { round = 0; left = 1 ∷ []; statuses = Ok ∷ [] };
   };
-  task = λ place. if place == 0 then Writer 0 (todo ∷ []) NoBio rests else Completer a Empty;
+  task = λ place. slice_index_or tasks place no_task;
 }
 
 module _ (some : LedgerId) where
   abbrev ledger : ℕ → LedgerId
   ledger number = record some { no = number }
 
-  abbrev scene : Scene
-  scene = record { setup = setup; tasks = 2; books = 1; writes = 1; ledger = ledger }
+  abbrev pub scene : Scene
+  scene = record { setup = setup; tasks = 2; books = 8; writes = 1; ledger = ledger }
 
   abbrev bio : Item Pad
   bio = filled_short 0 todo 0 (clear_bio (ledger 65))
@@ -70,7 +89,7 @@ module _ (some : LedgerId) where
   abbrev completed : DiskState → DiskState
   completed disk = record disk { image = written bio.bio disk.image; pending = [] }
 
-  abbrev turns : List Turn
+  abbrev pub turns : List Turn
   turns =
       takes 0 (HadBio Ordinary (clear_bio (ledger 65))) 65 takes_ordinary
       ∷ in_book 0 (LinkedTo (Made 0)) 0 (λ book. with_node book 0 (Some (top_node 0 None)))
@@ -81,10 +100,10 @@ module _ (some : LedgerId) where
       ∷ record { place = 1; reply = Did; change = λ old. record old { tally = done_one 0 Ok old.tally } }
       ∷ []
 
-  abbrev by_writer : What → Event
+  abbrev pub by_writer : What → Event
   by_writer what = record { task = id.Writer 0; what = what }
 
-  abbrev by_completer : What → Event
+  abbrev pub by_completer : What → Event
   by_completer what = record { task = id.Completer a; what = what }
 
   abbrev events : List Event
@@ -125,3 +144,59 @@ module _ (some : LedgerId) where
 
   one_write_runs : IsRun scene start events (follow setup start turns)
   one_write_runs = turns_run scene start turns events are_turns
+
+  -- no write is unfinished then, and each element is at home
+  all_home : (number : ℕ) (is : Bool) → (number == 65) ≡ is → ((follow setup start turns).objects.pool number).facts.out ≡ 0
+  unfolding upd
+  all_home number true is = rw is refl
+  all_home number false is = rw is refl
+
+  one_write_ends : HasEnded (follow setup start turns)
+  one_write_ends = record { writes = refl; pools = λ number. all_home number (number == 65) refl }
+
+-- The scenario of the text: a disk of 64 sectors, and one write of its first sector. The run begins in the state that its runs are opened in.
+module _ (memory : Global) where
+  abbrev pub text : Scenario
+  text = record { stack = stack memory 64; scripts = []; writes = write ∷ []; rounds = 0 ∷ []; changes = [] }
+
+  places_if : (own : Bool) → (if own then 1 else 0) ≡ sum_by (λ (todo : Todo). nodes (stack memory 64) todo.write) (if own then todo ∷ [] else [])
+  unfolding tree_below over_shape needed begun
+  places_if true = refl
+  places_if false = refl
+
+  places_are : (writer : ℕ) → setup.places writer ≡ places_of text writer
+  places_are writer = places_if (0 == writer)
+
+  tasks_are : tasks ≡ texts.tasks text
+  unfolding tree_below over_shape
+  tasks_are = refl
+
+  start_is : start ≡ texts.start text
+  start_is = λ k. record {
+    objects = record {
+      pool = λ number. opened (reserve_is memory 64 (pool_of number) k) (only_tail true);
+      rescue = λ dev. [];
+      disk = λ dev. disk.opened (at dev) (size (tree_is memory 64 dev k)) (bads_are memory 64 dev k);
+      book = λ writer. record { writer = writer; nodes = replicate (places_are writer k) None };
+      tally = start.objects.tally;
+    };
+    task = λ place. slice_index_or (tasks_are k) place no_task;
+  }
+
+  scene_is : (some : LedgerId) → scene some ≡ texts.scene text (ledger some)
+  scene_is some = λ k. record {
+    setup = record {
+      count = 1;
+      tree = λ dev. tree_is memory 64 dev k;
+      rescuer = λ dev. rescuer_is memory 64 dev k;
+      places = λ writer. places_are writer k;
+    };
+    tasks = length (tasks_are k);
+    books = 8;
+    writes = 1;
+    ledger = ledger some;
+  }
+
+  text_runs : (some : LedgerId) → IsRun (texts.scene text (ledger some)) (texts.start text) (events some) (follow setup start (turns some))
+  text_runs some = subst (λ (x : Scene × State). IsRun x.0 x.1 (events some) (follow setup start (turns some)))
+      (λ k. (scene_is some k, start_is k)) (one_write_runs some)

@@ -1,34 +1,36 @@
 -- The same mirror without a rescuer: the first leg waits in the writer's own list while the writer waits for the bio of the second, and the
 -- only bio in reserve is the first leg's. No event can come, though the write is unfinished.
-use Rattle.std.proofs.Common.{◌≡◌, ◌<◌, ◌==◌, if◌then◌else◌, ℕ, zero, suc, [], ◌∷◌, Some, refl, arith, false}
+use Rattle.std.proofs.Common.{◌≡◌, ◌<◌, ℕ, zero, suc, List, [], ◌∷◌, length, slice_index_or, Some, refl, arith, false}
+use Rattle.std.specs.Global.{Global}
 use Rattle.elem_ledger.specs.Ledger.{LedgerId}
 use Rattle.stack_base.specs.declared.ids.SetId.TheVariants.{Of}
+use Rattle.stack_base.specs.Tree.{tree_below, over_shape}
 use Rattle.task_core.specs.declared.event.What.{What}
 use Rattle.task_core.specs.Maps.{upd}
 use Rattle.task_core.specs.Scene.{Scene}
 use Rattle.task_core.specs.Requests.{Reply, Present}
 use Rattle.task_core.specs.Lines.{rests}
-use Rattle.task_core.specs.Tasks.{Writer, Completer, NoBio, Empty, request}
+use Rattle.task_core.specs.Tasks.{TaskState, Writer, Completer, NoBio, Empty, request}
 use Rattle.task_core.specs.Objects.{Objects, Serves}
 use Rattle.task_core.specs.Events.{what_of}
+use Rattle.task_core.specs.Opened.{no_task}
+use Rattle.task_core.specs.Opened as texts
 use Rattle.task_core.specs.Runs.{State, IsRun, HasFree, unfinished}
 use Rattle.task_core.proofs.Turns.{follow, AreTurns, turns_run}
 use Rattle.task_core.proofs.Blocked.{IsBare, bare_waits, idle_waits}
 use Rattle.task_core.proofs.MirrorRun as mirrored
 
-abbrev start : State
-start = record mirrored.start {
-  task = λ place.
-      if place == 0 then Writer 0 (mirrored.todo ∷ []) NoBio rests
-      else if place == 1 then Completer mirrored.a Empty
-      else Completer mirrored.b Empty;
-}
+abbrev tasks : List TaskState
+tasks = Writer 0 (mirrored.todo ∷ []) NoBio rests ∷ Completer mirrored.a Empty ∷ Completer mirrored.b Empty ∷ []
+
+abbrev pub start : State
+start = record mirrored.start { task = λ place. slice_index_or tasks place no_task }
 
 module _ (some : LedgerId) where
-  abbrev scene : Scene
-  scene = record { setup = mirrored.setup false; tasks = 3; books = 1; writes = 1; ledger = mirrored.ledger some }
+  abbrev pub scene : Scene
+  scene = record { setup = mirrored.setup false; tasks = 3; books = 8; writes = 1; ledger = mirrored.ledger some }
 
-  abbrev stuck : State
+  abbrev pub stuck : State
   stuck = follow (mirrored.setup false) start (mirrored.begun some)
 
   are_turns : AreTurns scene start (mirrored.begun some) (mirrored.begun_events some)
@@ -74,3 +76,21 @@ module _ (some : LedgerId) where
 
   no_event : HasFree scene stuck → ⊥
   no_event (event, (new, (place, steps)), free) = none_at place steps.here steps.reply new.objects event.what steps.serves steps.told
+
+-- The text says no rescuer, which is refused (a mirror needs one): this is the state in which its runs would begin.
+module _ (memory : Global) where
+  tasks_are : tasks ≡ texts.tasks (mirrored.text memory false)
+  unfolding tree_below over_shape
+  tasks_are = refl
+
+  start_is : start ≡ texts.start (mirrored.text memory false)
+  start_is = λ k. record { objects = mirrored.objects_are memory false k; task = λ place. slice_index_or (tasks_are k) place no_task }
+
+  scene_is : (some : LedgerId) → scene some ≡ texts.scene (mirrored.text memory false) (mirrored.ledger some)
+  scene_is some = λ k. record {
+    setup = mirrored.setup_is memory false k;
+    tasks = length (tasks_are k);
+    books = 8;
+    writes = 1;
+    ledger = mirrored.ledger some;
+  }
