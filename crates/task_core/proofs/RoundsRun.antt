@@ -1,11 +1,16 @@
--- Two rounds of one write each, to sectors that they share, and a reserve that changes between them.
-use Rattle.std.proofs.Common.{◌≡◌, ◌++◌, ◌*◌, ◌==◌, if◌then◌else◌, ℕ, List, [], ◌∷◌, Option, None, Some, refl, arith, false}
+-- Two rounds of one write each, to sectors that they share, and a reserve that changes between them: 16 events, after which the state has ended.
+use Rattle.std.proofs.Common.{◌≡◌, ◌+◌, ◌++◌, ◌*◌, ◌==◌, if◌then◌else◌, ℕ, Bool, List, [], ◌∷◌, length, replicate, sum_by, slice_index_or, Option, None, Some, refl, subst, arith, true, false}
+use Rattle.std.specs.Global.{Global}
 use Rattle.elem_ledger.specs.Ledger.{LedgerId}
-use Rattle.fail_script.specs.Script.{only_tail}
+use Rattle.fail_script.specs.Script.{Answers, only_tail}
 use Rattle.stack_base.specs.declared.ids.DevId.{DevId}
-use Rattle.stack_base.specs.declared.ids.PoolId.TheVariants.{FsBios}
+use Rattle.stack_base.specs.declared.ids.PoolId.{PoolId}
+use Rattle.stack_base.specs.declared.ids.PoolId.TheVariants.{FsBios, FsVecs}
 use Rattle.stack_base.specs.declared.ids.Status.TheVariants.{Ok}
-use Rattle.stack_base.specs.Tree.{Leaf}
+use Rattle.stack_base.specs.Tree.{tree_below, over_shape, size}
+use Rattle.layout_model.specs.declared.write.Write.{Write}
+use Rattle.layout_model.specs.Need.{needed, begun}
+use Rattle.layout_model.specs.Needs.{nodes as nodes_of}
 use Rattle.mempool_core.specs.Move.{opened, takes_spare, gives, resizes}
 use Rattle.bio_records.specs.declared.bio.Pad.{Pad}
 use Rattle.bio_records.specs.Items.{Item}
@@ -29,43 +34,60 @@ use Rattle.task_core.specs.Requests.{HadBio, LinkedTo, Did, Completed, DroppedTo
 use Rattle.task_core.specs.Lines.{rests}
 use Rattle.task_core.specs.Tasks.{Todo, TaskState, Writer, Completer, Keeper, NoBio, Empty, Keeps, Resizes, Starts, filled_short}
 use Rattle.task_core.specs.Objects.{clear_bio, done_one}
-use Rattle.task_core.specs.Runs.{State, IsRun, unfinished}
+use Rattle.task_core.specs.Events.{pool_of}
+use Rattle.task_core.specs.Opened.{Scenario, at, no_task, places_of, script_at}
+use Rattle.task_core.specs.Opened as texts
+use Rattle.task_core.specs.Runs.{State, IsRun, HasEnded}
+use Rattle.task_core.proofs.OneDisk.{tree_of, rescuer_of, reserve, stack, tree_is, rescuer_is, bads_are, reserve_is}
 use Rattle.task_core.proofs.Turns.{Turn, follow, AreTurns, turns_run, takes, on_disk, in_book}
 
-abbrev a : DevId
-a = record { 0 = 0 }
+abbrev pub a : DevId
+a = at 0
 
-abbrev setup : Setup
-setup = record { count = 1; tree = λ dev. Leaf dev 8; rescuer = λ dev. false; places = λ writer. 1 }
+abbrev pub setup : Setup
+setup = record {
+  count = 1;
+  tree = tree_of 8;
+  rescuer = rescuer_of;
+  places = λ writer. (if 0 == writer then 1 else 0) + (if 1 == writer then 1 else 0);
+}
+
+abbrev write : ℕ → Write
+write number = record { task = number; dev = a; start = number; count = 2; tag = 1000 * number }
 
 abbrev todo : ℕ → Todo
-todo number = record { number = number; round = number; write = record { task = number; dev = a; start = number; count = 2; tag = 1000 * number } }
+todo number = record { number = number; round = number; write = write number }
 
-abbrev tasks : ℕ → TaskState
-tasks place =
-    if place == 0 then Writer 0 (todo 0 ∷ []) NoBio rests
-    else if place == 1 then Writer 1 (todo 1 ∷ []) NoBio rests
-    else if place == 2 then Completer a Empty
-    else Keeper (Keeps (Resizes FsBios 3 1 ∷ Starts 1 1 ∷ []))
+abbrev tasks : List TaskState
+tasks =
+    Writer 0 (todo 0 ∷ []) NoBio rests
+    ∷ Writer 1 (todo 1 ∷ []) NoBio rests
+    ∷ Completer a Empty
+    ∷ Keeper (Keeps (Resizes FsBios 3 1 ∷ Starts 1 1 ∷ []))
+    ∷ []
 
-abbrev start : State
+-- no pool has ordinary memory
+abbrev scripts : List (PoolId × Answers)
+scripts = (FsBios, only_tail false) ∷ (FsVecs, only_tail false) ∷ []
+
+abbrev pub start : State
 start = record {
   objects = record {
-    pool = λ number. opened 2 (only_tail false);
+    pool = λ number. opened (reserve (pool_of number)) (script_at scripts number);
     rescue = λ dev. [];
-    disk = λ dev. disk.opened a 8 [];
-    book = λ writer. record { writer = writer; nodes = None ∷ [] };
+    disk = λ dev. disk.opened (at dev) (size (setup.tree dev)) [];
+    book = λ writer. record { writer = writer; nodes = replicate (setup.places writer) None };
     tally = record { round = 0; left = 1 ∷ 1 ∷ []; statuses = Ok ∷ Ok ∷ [] };
   };
-  task = tasks;
+  task = λ place. slice_index_or tasks place no_task;
 }
 
 module _ (some : LedgerId) where
   abbrev ledger : ℕ → LedgerId
   ledger number = record some { no = number }
 
-  abbrev scene : Scene
-  scene = record { setup = setup; tasks = 4; books = 2; writes = 2; ledger = ledger }
+  abbrev pub scene : Scene
+  scene = record { setup = setup; tasks = 4; books = 8; writes = 2; ledger = ledger }
 
   abbrev bio : ℕ → Item Pad
   bio number = filled_short number (todo number) 0 (clear_bio (ledger 65))
@@ -80,7 +102,7 @@ module _ (some : LedgerId) where
   nodes node book = record book { nodes = node ∷ [] }
 
   -- a write, from its take to its end
-  abbrev writing : ℕ → List Turn
+  abbrev pub writing : ℕ → List Turn
   writing number =
       takes number (HadBio Spare (clear_bio (ledger 65))) 65 takes_spare
       ∷ in_book number (LinkedTo (Made 0)) number (nodes (Some (top_node number None)))
@@ -97,13 +119,13 @@ module _ (some : LedgerId) where
       ∷ record { place = 3; reply = Did; change = λ old. record old { tally = record old.tally { round = 1 } } }
       ∷ []
 
-  abbrev w : ℕ → What → Event
+  abbrev pub w : ℕ → What → Event
   w writer what = record { task = id.Writer writer; what = what }
 
-  abbrev c : What → Event
+  abbrev pub c : What → Event
   c what = record { task = id.Completer a; what = what }
 
-  abbrev k : What → Event
+  abbrev pub k : What → Event
   k what = record { task = id.Keeper; what = what }
 
   abbrev written_events : ℕ → List Event
@@ -112,7 +134,7 @@ module _ (some : LedgerId) where
       ∷ c (what.Complete a 0 Ok) ∷ c (what.Drop number 0 Ok left.Top) ∷ c (what.Give FsBios) ∷ c (what.Done number Ok)
       ∷ []
 
-  abbrev turns : List Turn
+  abbrev pub turns : List Turn
   turns = writing 0 ++ (keeping ++ writing 1)
 
   abbrev events : List Event
@@ -173,14 +195,80 @@ module _ (some : LedgerId) where
   rounds_run : IsRun scene start events (follow setup start turns)
   rounds_run = turns_run scene start turns events are_turns
 
-  -- no write is unfinished then, and the pool has its new reserve, all of it at home
-  all_done : unfinished (follow setup start turns) ≡ 0
-  all_done = refl
-
-  reserve_is : ((follow setup start turns).objects.pool 65).facts.min ≡ 3
+  -- the pool has its new reserve then, all of it at home
+  reserve_is_new : ((follow setup start turns).objects.pool 65).facts.min ≡ 3
   unfolding upd
-  reserve_is = refl
+  reserve_is_new = refl
 
-  all_home : ((follow setup start turns).objects.pool 65).facts.spares ≡ 3
+  reserve_is_home : ((follow setup start turns).objects.pool 65).facts.spares ≡ 3
   unfolding upd
-  all_home = refl
+  reserve_is_home = refl
+
+  -- no write is unfinished, and nothing is out of any pool
+  all_home : (number : ℕ) (is : Bool) → (number == 65) ≡ is → ((follow setup start turns).objects.pool number).facts.out ≡ 0
+  unfolding upd
+  all_home number true is = rw is refl
+  all_home number false is = rw is refl
+
+  rounds_end : HasEnded (follow setup start turns)
+  rounds_end = record { writes = refl; pools = λ number. all_home number (number == 65) refl }
+
+-- The scenario of the text: a disk of eight sectors, no ordinary memory, a write, a `sync` line, a `resize` line and a write. The run begins in the
+-- state that its runs are opened in.
+module _ (memory : Global) where
+  abbrev pub text : Scenario
+  text = record {
+    stack = stack memory 8;
+    scripts = scripts;
+    writes = write 0 ∷ write 1 ∷ [];
+    rounds = 0 ∷ 1 ∷ [];
+    changes = record { round = 1; pool = FsBios; min = 3 } ∷ [];
+  }
+
+  abbrev among : Bool → Bool → List Todo
+  among first second = if first then todo 0 ∷ (if second then todo 1 ∷ [] else []) else if second then todo 1 ∷ [] else []
+
+  places_if : (first second : Bool)
+      → (if first then 1 else 0) + (if second then 1 else 0) ≡ sum_by (λ (todo : Todo). nodes_of (stack memory 8) todo.write) (among first second)
+  unfolding tree_below over_shape needed begun
+  places_if true true = refl
+  places_if true false = refl
+  places_if false true = refl
+  places_if false false = refl
+
+  places_are : (writer : ℕ) → setup.places writer ≡ places_of text writer
+  places_are writer = places_if (0 == writer) (1 == writer)
+
+  tasks_are : tasks ≡ texts.tasks text
+  unfolding tree_below over_shape
+  tasks_are = refl
+
+  start_is : start ≡ texts.start text
+  start_is = λ k. record {
+    objects = record {
+      pool = λ number. opened (reserve_is memory 8 (pool_of number) k) (script_at scripts number);
+      rescue = λ dev. [];
+      disk = λ dev. disk.opened (at dev) (size (tree_is memory 8 dev k)) (bads_are memory 8 dev k);
+      book = λ writer. record { writer = writer; nodes = replicate (places_are writer k) None };
+      tally = start.objects.tally;
+    };
+    task = λ place. slice_index_or (tasks_are k) place no_task;
+  }
+
+  scene_is : (some : LedgerId) → scene some ≡ texts.scene text (ledger some)
+  scene_is some = λ k. record {
+    setup = record {
+      count = 1;
+      tree = λ dev. tree_is memory 8 dev k;
+      rescuer = λ dev. rescuer_is memory 8 dev k;
+      places = λ writer. places_are writer k;
+    };
+    tasks = length (tasks_are k);
+    books = 8;
+    writes = 2;
+    ledger = ledger some;
+  }
+
+  text_runs : (some : LedgerId) → IsRun (texts.scene text (ledger some)) (texts.start text) (events some) (follow setup start (turns some))
+  text_runs some = subst (λ (x : Scene × State). IsRun x.0 x.1 (events some) (follow setup start (turns some)))
+      (λ k. (scene_is some k, start_is k)) (rounds_run some)
