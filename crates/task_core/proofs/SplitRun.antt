@@ -1,17 +1,24 @@
 -- A linear device over a limit and a disk: a write is cut, its first piece is cut again, and each first piece goes all the way down before a
 -- rest is cut.
-use Rattle.std.proofs.Common.{◌==◌, ◌-◌, if◌then◌else◌, ℕ, List, [], ◌∷◌, Option, None, Some, refl, arith, false}
+use Rattle.std.proofs.Common.{◌≡◌, ◌+◌, ◌==◌, if◌then◌else◌, ℕ, zero, suc, Bool, List, [], ◌∷◌, length, replicate, sum_by, slice_index_or, Option, None, Some, refl, subst, arith, true, false}
+use Rattle.std.specs.Global.{Global}
 use Rattle.elem_ledger.specs.Ledger.{LedgerId}
-use Rattle.fail_script.specs.Script.{only_tail}
+use Rattle.fail_script.specs.Script.{Answers, only_tail}
 use Rattle.stack_base.specs.declared.ids.DevId.{DevId}
-use Rattle.stack_base.specs.declared.ids.PoolId.TheVariants.{FsBios, Bios}
+use Rattle.stack_base.specs.declared.ids.PoolId.{PoolId}
+use Rattle.stack_base.specs.declared.ids.PoolId.TheVariants.{FsBios, FsVecs, Bios, Records}
 use Rattle.stack_base.specs.declared.ids.SetId.{SetId}
 use Rattle.stack_base.specs.declared.ids.SetId.TheVariants.{Fs, Of}
 use Rattle.stack_base.specs.declared.ids.Status.TheVariants.{Ok}
 use Rattle.stack_base.specs.declared.stack.Kind.TheVariants.{Linear, Limit}
+use Rattle.stack_base.specs.declared.stack.Stack.{Stack}
 use Rattle.stack_base.specs.Cutting.{next, next_member}
-use Rattle.stack_base.specs.Mapping.{slot, among}
-use Rattle.stack_base.specs.Tree.{Tree, Leaf, Split}
+use Rattle.stack_base.specs.Mapping.{slot, among, head, size_of, smallest}
+use Rattle.stack_base.specs.Tree.{Tree, Leaf, Split, tree, tree_below, over_shape, member_at, size}
+use Rattle.layout_model.specs.declared.write.Write.{Write}
+use Rattle.layout_model.specs.May.{bads_of}
+use Rattle.layout_model.specs.Need.{needed, begun}
+use Rattle.layout_model.specs.Needs.{nodes as nodes_of}
 use Rattle.mempool_core.specs.Move.{opened, takes_spare}
 use Rattle.bio_records.specs.declared.bio.Pad.{Pad}
 use Rattle.bio_records.specs.Segments.{segments_of}
@@ -30,50 +37,73 @@ use Rattle.task_core.specs.Maps.{upd}
 use Rattle.task_core.specs.Scene.{Setup, Scene}
 use Rattle.task_core.specs.Requests.{HadBio, LinkedTo, Did, Present}
 use Rattle.task_core.specs.Lines.{rests}
-use Rattle.task_core.specs.Tasks.{Todo, Writer, Completer, NoBio, Empty}
+use Rattle.task_core.specs.Tasks.{Todo, TaskState, Writer, Completer, NoBio, Empty}
 use Rattle.task_core.specs.Objects.{clear_bio}
+use Rattle.task_core.specs.Events.{pool_of}
+use Rattle.task_core.specs.Opened.{Scenario, at, no_task, places_of, reserve_of, script_at}
+use Rattle.task_core.specs.Opened as texts
 use Rattle.task_core.specs.Runs.{State, IsRun}
+use Rattle.task_core.proofs.Stacks.{device, disk as disk_of, stack_of}
 use Rattle.task_core.proofs.Turns.{Turn, follow, AreTurns, turns_run, takes, on_disk, in_book}
-
-abbrev at : ℕ → DevId
-at dev = record { 0 = dev }
 
 -- disks 0 and 1 of eight sectors, device 2 that lets at most two sectors pass to disk 0, and device 3 with device 2 and then disk 1
 abbrev limit : Tree
-limit = Split 2 (Limit 2 0) (8 ∷ []) (λ place. Leaf 0 8)
+limit = Split 2 (Limit 2 0) (8 ∷ []) (member_at 2 (Leaf 0 8 ∷ []))
 
 abbrev linear : Tree
-linear = Split 3 Linear (8 ∷ 8 ∷ []) (λ place. if place == 0 then limit else Leaf 1 8)
+linear = Split 3 Linear (8 ∷ 8 ∷ []) (member_at 3 (limit ∷ Leaf 1 8 ∷ []))
 
-abbrev setup : Setup
+abbrev pub setup : Setup
 setup = record {
   count = 4;
-  tree = λ dev. if dev == 3 then linear else if dev == 2 then limit else Leaf dev 8;
+  tree = λ dev. slice_index_or (Leaf 0 8 ∷ Leaf 1 8 ∷ limit ∷ linear ∷ []) dev (Leaf dev 0);
   rescuer = λ dev. false;
-  places = λ writer. 4;
+  places = λ writer. if 0 == writer then 3 else 0;
 }
 
-abbrev todo : Todo
-todo = record { number = 0; round = 0; write = record { task = 0; dev = at 3; start = 5; count = 5; tag = 7 } }
+abbrev write : Write
+write = record { task = 0; dev = at 3; start = 5; count = 5; tag = 7 }
 
-abbrev start : State
+abbrev todo : Todo
+todo = record { number = 0; round = 0; write = write }
+
+abbrev tasks : List TaskState
+tasks = Writer 0 (todo ∷ []) NoBio rests ∷ Completer (at 0) Empty ∷ Completer (at 1) Empty ∷ []
+
+-- the reserves of the writers' pools, and those of the bios of devices 2 and 3
+abbrev reserve : PoolId → ℕ
+reserve FsBios = 2
+reserve FsVecs = 2
+reserve (Bios dev) = slice_index_or (0 ∷ 0 ∷ 2 ∷ 2 ∷ []) dev.0 0
+reserve (Records dev) = 0
+
+-- no pool has ordinary memory
+abbrev scripts : List (PoolId × Answers)
+scripts =
+    (FsBios, only_tail false)
+    ∷ (FsVecs, only_tail false)
+    ∷ (Bios (at 3), only_tail false)
+    ∷ (Bios (at 2), only_tail false)
+    ∷ []
+
+abbrev pub start : State
 start = record {
   objects = record {
-    pool = λ number. opened 2 (only_tail false);
+    pool = λ number. opened (reserve (pool_of number)) (script_at scripts number);
     rescue = λ dev. [];
-    disk = λ dev. disk.opened (at dev) 8 [];
-    book = λ writer. record { writer = writer; nodes = None ∷ None ∷ None ∷ None ∷ [] };
+    disk = λ dev. disk.opened (at dev) (size (setup.tree dev)) [];
+    book = λ writer. record { writer = writer; nodes = replicate (setup.places writer) None };
     tally = record { round = 0; left = 1 ∷ []; statuses = Ok ∷ [] };
   };
-  task = λ place. if place == 0 then Writer 0 (todo ∷ []) NoBio rests else Completer (at (place - 1)) Empty;
+  task = λ place. slice_index_or tasks place no_task;
 }
 
 module _ (some : LedgerId) where
   abbrev ledger : ℕ → LedgerId
   ledger number = record some { no = number }
 
-  abbrev scene : Scene
-  scene = record { setup = setup; tasks = 3; books = 1; writes = 1; ledger = ledger }
+  abbrev pub scene : Scene
+  scene = record { setup = setup; tasks = 3; books = 8; writes = 1; ledger = ledger }
 
   -- a part of the write, from this place in it on
   abbrev part : ℕ → ℕ → ℕ → ℕ → ℕ → ℕ → ℕ → SetId → Item Pad
@@ -101,9 +131,9 @@ module _ (some : LedgerId) where
   third = record (part 65 0 1 0 2 3 199 Fs) { short = segments_of 7 5 }
 
   abbrev nodes : Option Node → Option Node → Option Node → BookState → BookState
-  nodes one two three book = record book { nodes = one ∷ two ∷ three ∷ None ∷ [] }
+  nodes one two three book = record book { nodes = one ∷ two ∷ three ∷ [] }
 
-  abbrev turns : List Turn
+  abbrev pub turns : List Turn
   turns =
       takes 0 (HadBio Spare (clear_bio (ledger 65))) 65 takes_spare
       ∷ in_book 0 (LinkedTo (Made 0)) 0 (nodes (Some (top_node 0 None)) None None)
@@ -116,7 +146,7 @@ module _ (some : LedgerId) where
       ∷ on_disk 0 Did 1 (disk.pushed third)
       ∷ []
 
-  abbrev w : What → Event
+  abbrev pub w : What → Event
   w what = record { task = id.Writer 0; what = what }
 
   abbrev events : List Event
@@ -160,3 +190,99 @@ module _ (some : LedgerId) where
 
   split_runs : IsRun scene start events (follow setup start turns)
   split_runs = turns_run scene start turns events are_turns
+
+-- The scenario of the text: the two disks, the limit, the linear device, no ordinary memory, and one write of five sectors. The run begins in the
+-- state that its runs are opened in.
+module _ (memory : Global) where
+  abbrev pub stack : Stack
+  stack =
+      stack_of memory
+      (disk_of memory 8 ∷ disk_of memory 8 ∷ device memory (Limit 2 0) (0 ∷ []) 2 false ∷ device memory Linear (2 ∷ 1 ∷ []) 2 false ∷ [])
+      refl (8 ∷ 8 ∷ 8 ∷ 16 ∷ []) 2
+
+  abbrev pub text : Scenario
+  text = record { stack = stack; scripts = scripts; writes = write ∷ []; rounds = 0 ∷ []; changes = [] }
+
+  tree_is : (dev : ℕ) → setup.tree dev ≡ tree stack dev
+  unfolding tree_below over_shape size_of smallest
+  tree_is zero = refl
+  tree_is (suc zero) = refl
+  tree_is (suc (suc zero)) = refl
+  tree_is (suc (suc (suc zero))) = refl
+  tree_is (suc (suc (suc (suc n)))) = let e : suc (suc (suc (suc n))) + 1 ≡ suc (suc (suc (suc (suc n)))) = omega arith in rw e refl
+
+  rescuer_is : (dev : ℕ) → setup.rescuer dev ≡ (texts.setup text).rescuer dev
+  rescuer_is zero = refl
+  rescuer_is (suc zero) = refl
+  rescuer_is (suc (suc zero)) = refl
+  rescuer_is (suc (suc (suc zero))) = refl
+  rescuer_is (suc (suc (suc (suc n)))) = refl
+
+  places_if : (own : Bool) → (if own then 3 else 0) ≡ sum_by (λ (todo : Todo). nodes_of stack todo.write) (if own then todo ∷ [] else [])
+  unfolding tree_below over_shape size_of smallest needed begun head slot among next next_member
+  places_if true = refl
+  places_if false = refl
+
+  places_are : (writer : ℕ) → setup.places writer ≡ places_of text writer
+  places_are writer = places_if (0 == writer)
+
+  bads_are : (dev : ℕ) → [] ≡ bads_of stack dev
+  bads_are zero = refl
+  bads_are (suc zero) = refl
+  bads_are (suc (suc zero)) = refl
+  bads_are (suc (suc (suc zero))) = refl
+  bads_are (suc (suc (suc (suc n)))) = refl
+
+  bios_are : (dev : ℕ) → reserve (Bios (at dev)) ≡ reserve_of stack (Bios (at dev))
+  bios_are zero = refl
+  bios_are (suc zero) = refl
+  bios_are (suc (suc zero)) = refl
+  bios_are (suc (suc (suc zero))) = refl
+  bios_are (suc (suc (suc (suc n)))) = refl
+
+  records_are : (dev : ℕ) → 0 ≡ reserve_of stack (Records (at dev))
+  records_are zero = refl
+  records_are (suc zero) = refl
+  records_are (suc (suc zero)) = refl
+  records_are (suc (suc (suc zero))) = refl
+  records_are (suc (suc (suc (suc n)))) = refl
+
+  reserve_is : (pool : PoolId) → reserve pool ≡ reserve_of stack pool
+  reserve_is FsBios = refl
+  reserve_is FsVecs = refl
+  reserve_is (Bios dev) = bios_are dev.0
+  reserve_is (Records dev) = records_are dev.0
+
+  tasks_are : tasks ≡ texts.tasks text
+  unfolding tree_below over_shape
+  tasks_are = refl
+
+  start_is : start ≡ texts.start text
+  start_is = λ k. record {
+    objects = record {
+      pool = λ number. opened (reserve_is (pool_of number) k) (script_at scripts number);
+      rescue = λ dev. [];
+      disk = λ dev. disk.opened (at dev) (size (tree_is dev k)) (bads_are dev k);
+      book = λ writer. record { writer = writer; nodes = replicate (places_are writer k) None };
+      tally = start.objects.tally;
+    };
+    task = λ place. slice_index_or (tasks_are k) place no_task;
+  }
+
+  scene_is : (some : LedgerId) → scene some ≡ texts.scene text (ledger some)
+  scene_is some = λ k. record {
+    setup = record {
+      count = 4;
+      tree = λ dev. tree_is dev k;
+      rescuer = λ dev. rescuer_is dev k;
+      places = λ writer. places_are writer k;
+    };
+    tasks = length (tasks_are k);
+    books = 8;
+    writes = 1;
+    ledger = ledger some;
+  }
+
+  text_runs : (some : LedgerId) → IsRun (texts.scene text (ledger some)) (texts.start text) (events some) (follow setup start (turns some))
+  text_runs some = subst (λ (x : Scene × State). IsRun x.0 x.1 (events some) (follow setup start (turns some)))
+      (λ k. (scene_is some k, start_is k)) (split_runs some)
