@@ -1,10 +1,9 @@
 -- A linear device over a limit and a disk: a write is cut, its first piece is cut again, and each first piece goes all the way down before a
--- rest is cut.
+-- rest is cut. Then each part ends: 21 events, after which the state has ended.
 use Rattle.std.proofs.Common.{◌≡◌, ◌+◌, ◌==◌, if◌then◌else◌, ℕ, zero, suc, Bool, List, [], ◌∷◌, length, replicate, sum_by, slice_index_or, Option, None, Some, refl, subst, arith, true, false}
 use Rattle.std.specs.Global.{Global}
 use Rattle.elem_ledger.specs.Ledger.{LedgerId}
 use Rattle.fail_script.specs.Script.{Answers, only_tail}
-use Rattle.stack_base.specs.declared.ids.DevId.{DevId}
 use Rattle.stack_base.specs.declared.ids.PoolId.{PoolId}
 use Rattle.stack_base.specs.declared.ids.PoolId.TheVariants.{FsBios, FsVecs, Bios, Records}
 use Rattle.stack_base.specs.declared.ids.SetId.{SetId}
@@ -19,30 +18,34 @@ use Rattle.layout_model.specs.declared.write.Write.{Write}
 use Rattle.layout_model.specs.May.{bads_of}
 use Rattle.layout_model.specs.Need.{needed, begun}
 use Rattle.layout_model.specs.Needs.{nodes as nodes_of}
-use Rattle.mempool_core.specs.Move.{opened, takes_spare}
+use Rattle.mempool_core.specs.Move.{opened, takes_spare, gives}
 use Rattle.bio_records.specs.declared.bio.Pad.{Pad}
 use Rattle.bio_records.specs.Segments.{segments_of}
 use Rattle.bio_records.specs.Items.{Item}
+use Rattle.model_disks.specs.Disks.{DiskState}
 use Rattle.model_disks.specs.Moves as disk
 use Rattle.model_disks.specs.Moves.{written}
-use Rattle.bio_books.specs.Books.{BookState, Node, top_node, child_node, raised}
+use Rattle.bio_books.specs.Books.{BookState, Node, top_node, child_node, raised, told, lowered}
+use Rattle.bio_books.specs.Drops.{closed_of}
+use Rattle.bio_books.specs.Drops as end
 use Rattle.bio_books.specs.Links.{Made}
 use Rattle.task_core.specs.declared.event.Event.{Event}
 use Rattle.task_core.specs.declared.event.TaskId.TheVariants as id
 use Rattle.task_core.specs.declared.event.Got.TheVariants.{Spare}
 use Rattle.task_core.specs.declared.event.How.TheVariants as how
+use Rattle.task_core.specs.declared.event.End.TheVariants as left
 use Rattle.task_core.specs.declared.event.What.{What}
 use Rattle.task_core.specs.declared.event.What.TheVariants as what
 use Rattle.task_core.specs.Maps.{upd}
 use Rattle.task_core.specs.Scene.{Setup, Scene}
-use Rattle.task_core.specs.Requests.{HadBio, LinkedTo, Did, Present}
+use Rattle.task_core.specs.Requests.{HadBio, LinkedTo, Did, Completed, DroppedTo, Present}
 use Rattle.task_core.specs.Lines.{rests}
 use Rattle.task_core.specs.Tasks.{Todo, TaskState, Writer, Completer, NoBio, Empty}
-use Rattle.task_core.specs.Objects.{clear_bio}
+use Rattle.task_core.specs.Objects.{clear_bio, done_one}
 use Rattle.task_core.specs.Events.{pool_of}
 use Rattle.task_core.specs.Opened.{Scenario, at, no_task, places_of, reserve_of, script_at}
 use Rattle.task_core.specs.Opened as texts
-use Rattle.task_core.specs.Runs.{State, IsRun}
+use Rattle.task_core.specs.Runs.{State, IsRun, HasEnded}
 use Rattle.task_core.proofs.Stacks.{device, disk as disk_of, stack_of}
 use Rattle.task_core.proofs.Turns.{Turn, follow, AreTurns, turns_run, takes, on_disk, in_book}
 
@@ -133,6 +136,16 @@ module _ (some : LedgerId) where
   abbrev nodes : Option Node → Option Node → Option Node → BookState → BookState
   nodes one two three book = record book { nodes = one ∷ two ∷ three ∷ [] }
 
+  abbrev completed : Item Pad → List (Item Pad) → DiskState → DiskState
+  completed item others disk = record disk { image = written item.bio disk.image; pending = others }
+
+  -- the write's node and the first piece's with one end told
+  abbrev top : Node
+  top = lowered (told (raised (top_node 0 None)) Ok None)
+
+  abbrev piece : Node
+  piece = lowered (told (raised (child_node 0 0)) Ok None)
+
   abbrev pub turns : List Turn
   turns =
       takes 0 (HadBio Spare (clear_bio (ledger 65))) 65 takes_spare
@@ -144,10 +157,25 @@ module _ (some : LedgerId) where
       ∷ on_disk 0 Did 0 (disk.pushed first)
       ∷ on_disk 0 Did 0 (disk.pushed second)
       ∷ on_disk 0 Did 1 (disk.pushed third)
+      ∷ on_disk 1 (Completed 0 first Ok) 0 (completed first (second ∷ []))
+      ∷ in_book 1 (DroppedTo (end.Up (closed_of (told (child_node 0 1) Ok (Some first))))) 0 (nodes (Some (raised (top_node 0 None))) (Some (raised (child_node 0 0))) None)
+      ∷ takes 1 Did 4 gives
+      ∷ in_book 1 (DroppedTo end.Left) 0 (nodes (Some (raised (top_node 0 None))) (Some piece) None)
+      ∷ on_disk 1 (Completed 0 second Ok) 0 (completed second [])
+      ∷ in_book 1 (DroppedTo (end.Up (closed_of (told piece Ok (Some second))))) 0 (nodes (Some (raised (top_node 0 None))) None None)
+      ∷ takes 1 Did 6 gives
+      ∷ in_book 1 (DroppedTo end.Left) 0 (nodes (Some top) None None)
+      ∷ on_disk 2 (Completed 0 third Ok) 1 (completed third [])
+      ∷ in_book 2 (DroppedTo (end.Top (closed_of (told top Ok (Some third))))) 0 (nodes None None None)
+      ∷ takes 2 Did 65 gives
+      ∷ record { place = 2; reply = Did; change = λ old. record old { tally = done_one 0 Ok old.tally } }
       ∷ []
 
   abbrev pub w : What → Event
   w what = record { task = id.Writer 0; what = what }
+
+  abbrev pub c : ℕ → What → Event
+  c disk what = record { task = id.Completer (at disk); what = what }
 
   abbrev events : List Event
   events =
@@ -155,6 +183,9 @@ module _ (some : LedgerId) where
       ∷ w (what.Take (Bios (at 3)) Spare) ∷ w (what.Link 0 how.Chain 1)
       ∷ w (what.Take (Bios (at 2)) Spare) ∷ w (what.Link 0 how.Chain 2)
       ∷ w (what.Push (at 0) 5 2 0) ∷ w (what.Push (at 0) 7 1 0) ∷ w (what.Push (at 1) 0 2 0)
+      ∷ c 0 (what.Complete (at 0) 0 Ok) ∷ c 0 (what.Drop 0 2 Ok left.Up) ∷ c 0 (what.Give (Bios (at 2))) ∷ c 0 (what.Drop 0 1 Ok left.Left)
+      ∷ c 0 (what.Complete (at 0) 0 Ok) ∷ c 0 (what.Drop 0 1 Ok left.Up) ∷ c 0 (what.Give (Bios (at 3))) ∷ c 0 (what.Drop 0 0 Ok left.Left)
+      ∷ c 1 (what.Complete (at 1) 0 Ok) ∷ c 1 (what.Drop 0 0 Ok left.Top) ∷ c 1 (what.Give FsBios) ∷ c 1 (what.Done 0 Ok)
       ∷ []
 
   are_turns : AreTurns scene start turns events
@@ -177,7 +208,43 @@ module _ (some : LedgerId) where
                   (refl, refl, tt, refl, refl),
                   (
                     (refl, refl, tt, refl, refl),
-                    tt,
+                    (
+                      (refl, refl, tt, refl, (record { taken = refl; status = refl; after = refl }, refl)),
+                      (
+                        (refl, refl, tt, refl, ((refl, refl, refl, refl), refl)),
+                        (
+                          (refl, refl, tt, refl, (omega arith, refl)),
+                          (
+                            (refl, refl, tt, refl, ((omega arith, refl), refl)),
+                            (
+                              (refl, refl, tt, refl, (record { taken = refl; status = refl; after = refl }, refl)),
+                              (
+                                (refl, refl, tt, refl, ((refl, refl, refl, refl), refl)),
+                                (
+                                  (refl, refl, tt, refl, (omega arith, refl)),
+                                  (
+                                    (refl, refl, tt, refl, ((omega arith, refl), refl)),
+                                    (
+                                      (refl, refl, tt, refl, (record { taken = refl; status = refl; after = refl }, refl)),
+                                      (
+                                        (refl, refl, tt, refl, ((refl, refl, refl, refl), refl)),
+                                        (
+                                          (refl, refl, tt, refl, (omega arith, refl)),
+                                          (
+                                            (refl, refl, tt, refl, refl),
+                                            tt,
+                                          ),
+                                        ),
+                                      ),
+                                    ),
+                                  ),
+                                ),
+                              ),
+                            ),
+                          ),
+                        ),
+                      ),
+                    ),
                   ),
                 ),
               ),
@@ -190,6 +257,19 @@ module _ (some : LedgerId) where
 
   split_runs : IsRun scene start events (follow setup start turns)
   split_runs = turns_run scene start turns events are_turns
+
+  -- no write is unfinished then, and each element is at home
+  all_home : (number : ℕ) (one two three : Bool) → (number == 65) ≡ one → (number == 6) ≡ two → (number == 4) ≡ three
+      → ((follow setup start turns).objects.pool number).facts.out ≡ 0
+  unfolding upd
+  all_home number true two three is_one is_two is_three = rw is_one refl
+  all_home number false true three is_one is_two is_three = rw (is_one, is_two) refl
+  all_home number false false true is_one is_two is_three = rw (is_one, is_two, is_three) refl
+  all_home number false false false is_one is_two is_three = rw (is_one, is_two, is_three) refl
+
+  split_ends : HasEnded (follow setup start turns)
+  unfolding next next_member slot among
+  split_ends = record { writes = refl; pools = λ number. all_home number (number == 65) (number == 6) (number == 4) refl refl refl }
 
 -- The scenario of the text: the two disks, the limit, the linear device, no ordinary memory, and one write of five sectors. The run begins in the
 -- state that its runs are opened in.
