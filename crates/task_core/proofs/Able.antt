@@ -1,6 +1,6 @@
 -- What an event needs of the state that it comes in, as a function of what its task asks for: so that an event can not come is a short fact about
 -- one object, or that the task asks for something else.
-use Rattle.std.proofs.Common.{◌≡◌, ◌+◌, ◌-◌, ◌^◌, ◌<◌, ◌==◌, ◌&&◌, ◌||◌, not, min, ℕ, zero, suc, Bool, IsTrue, true, false, true≢false, List, [], ◌∷◌, length, sum, slice_get, Option, None, Some, inl, inr, refl, sym, ap, ◌∙◌, subst, arith}
+use Rattle.std.proofs.Common.{◌≡◌, ◌+◌, ◌-◌, ◌^◌, ◌<◌, ◌==◌, ◌&&◌, ◌||◌, not, min, ℕ, zero, suc, Bool, IsTrue, true, false, length, sum, slice_get, Option, None, Some, inl, inr, refl, sym, ap, ◌∙◌, subst, arith}
 use Rattle.std.proofs.lemmas.Bool.{eqb-true, eq-eqb, and_parts, or_cases, cases_eq, not-true, both_ways}
 use Rattle.std.proofs.lemmas.Option.{same_Some, none-some}
 use Rattle.elem_ledger.specs.Ledger.{LedgerId}
@@ -32,7 +32,7 @@ use Rattle.task_core.specs.Requests.{Request, Reply, Opening, TakeBio, TakeVec, 
 use Rattle.task_core.specs.Tasks.{TaskState, request, look_of, lets}
 use Rattle.task_core.specs.Objects.{Objects, Opened, Has, Serves}
 use Rattle.task_core.specs.Events.{id_of, pool_of, how_of, resize_of, what_of}
-use Rattle.task_core.specs.Runs.{State, IsLet, Steps, Happens, IsEnabled}
+use Rattle.task_core.specs.Runs.{State, IsLet, Steps, IsEnabled}
 
 -- An attempt that waits, at this pool: one that misses uses up an entry of the script. One that does not wait may miss behind the script, too.
 abbrev pub CanTake : PoolState → Got → Type 0
