@@ -1,4 +1,4 @@
--- What an event needs of the state that it comes in, as a function of what its task asks for: so that an event can not come is a short fact about
+-- What an event needs of the state that it comes in, as a function of what its task asks for: so that an event cannot come is a short fact about
 -- one object, or that the task asks for something else.
 use Rattle.std.proofs.Common.{◌≡◌, ◌+◌, ◌-◌, ◌^◌, ◌<◌, ◌==◌, ◌&&◌, ◌||◌, not, min, ℕ, zero, suc, Bool, IsTrue, true, false, length, sum, slice_get, Option, None, Some, inl, inr, refl, sym, ap, ◌∙◌, subst, arith}
 use Rattle.std.proofs.lemmas.Bool.{eqb-true, eq-eqb, and_parts, or_cases, cases_eq, not-true, both_ways}
@@ -234,10 +234,10 @@ module _ (who : TaskId) (task : ℕ → TaskState) (place : ℕ) where
         | inr other ↦ one_place n parts.0 at (omega (arith, below, other)) ne by
       ]
 
--- An event can not come where the only place that has its task can not have it.
-pub never : (scene : Scene) (old : State) (event : Event) (place : ℕ) → is_alone event.task old.task place scene.tasks ≡ true
+-- An event cannot come where the only place that has its task cannot have it.
+pub not_next : (scene : Scene) (old : State) (event : Event) (place : ℕ) → is_alone event.task old.task place scene.tasks ≡ true
     → (Can scene old place event → ⊥) → IsEnabled scene old event → ⊥
-never scene old event place alone cannot (new, (at, steps)) = elim (cases_eq at place) [
+not_next scene old event place alone cannot (new, (at, steps)) = elim (cases_eq at place) [
   | inl e ↦ cannot (subst (λ n. Can scene old n event) e (can_of scene old new at event steps))
   | inr other ↦ one_place event.task old.task place scene.tasks alone at steps.here other steps.by
 ]

@@ -1,6 +1,6 @@
 pub mod FirstTries
 pub mod Turns
-pub mod Stacks
+pub mod Texts
 pub mod OneDisk
 pub mod Able
 pub mod OneWrite

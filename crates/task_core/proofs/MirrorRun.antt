@@ -1,6 +1,6 @@
 -- A mirror of two, with one bio and one record in reserve and no ordinary memory: 25 events, in one of which a bio is punted, after which the state
 -- has ended.
-use Rattle.std.proofs.Common.{◌≡◌, ◌+◌, ◌==◌, ◌++◌, if◌then◌else◌, ℕ, zero, suc, Bool, inl, List, [], ◌∷◌, length, replicate, sum_by, slice_index_or, Option, None, Some, refl, subst, arith, false, true}
+use Rattle.std.proofs.Common.{◌≡◌, ◌+◌, ◌==◌, ◌++◌, if◌then◌else◌, ℕ, zero, suc, Bool, inl, List, [], ◌∷◌, length, replicate, sum_by, slice_index_or, codes, Option, None, Some, refl, subst, arith, false, true}
 use Rattle.std.specs.Global.{Global}
 use Rattle.elem_ledger.specs.Ledger.{LedgerId}
 use Rattle.fail_script.specs.Script.{Answers, only_tail}
@@ -10,7 +10,13 @@ use Rattle.stack_base.specs.declared.ids.PoolId.TheVariants.{FsBios, FsVecs, Bio
 use Rattle.stack_base.specs.declared.ids.Status.TheVariants.{Ok}
 use Rattle.stack_base.specs.declared.stack.Kind.TheVariants.{Mirror}
 use Rattle.stack_base.specs.declared.stack.Stack.{Stack}
+use Rattle.stack_base.specs.Mapping.{size_of, smallest}
 use Rattle.stack_base.specs.Tree.{Tree, Leaf, Mirrored, tree, tree_below, over_shape, member_at, size}
+use Rattle.decl_text.specs.Text.{without_empty_end, is_name, number_of}
+use Rattle.decl_text.specs.Commands.{command_of}
+use Rattle.decl_text.specs.Items.{meaning}
+use Rattle.decl_text.specs.Known.{pool_of as pool_at}
+use Rattle.decl_text.specs.Refusals.{refusal, first_found}
 use Rattle.layout_model.specs.declared.write.Write.{Write}
 use Rattle.layout_model.specs.May.{bads_of}
 use Rattle.layout_model.specs.Need.{needed, begun as begins}
@@ -42,7 +48,7 @@ use Rattle.task_core.specs.Events.{pool_of}
 use Rattle.task_core.specs.Opened.{Scenario, at, no_task, places_of, reserve_of, script_at}
 use Rattle.task_core.specs.Opened as texts
 use Rattle.task_core.specs.Runs.{State, IsRun, HasEnded}
-use Rattle.task_core.proofs.Stacks.{device, disk as disk_of, stack_of}
+use Rattle.task_core.proofs.Texts.{device, disk as disk_of, stack_of, Says, sound_at}
 use Rattle.task_core.proofs.Turns.{Turn, follow, AreTurns, turns_run, takes, rescues, on_disk, in_book}
 
 abbrev pub a : DevId
@@ -296,17 +302,21 @@ module _ (some : LedgerId) where
   mirror_ends : HasEnded (follow (setup true) start turns)
   mirror_ends = record { writes = refl; pools = λ number. all_home number (number == 65) (number == 5) (number == 4) refl refl refl }
 
--- The scenario of the text: two disks of eight sectors, their mirror, no ordinary memory, and one write of the mirror's first sector. The run
--- begins in the state that its runs are opened in. So it is without a rescuer, but for the tasks, of which none is the rescuer's.
+-- two disks of eight sectors, their mirror, no ordinary memory, and one write of the mirror's first sector
+abbrev text : List ℕ
+text = codes "disk a 8\ndisk b 8\nmirror m a b reserve=1 records=1\nmemory none\nwrite 0 m 0 1 0"
+
+-- The text says this scenario with a rescuer, and the run begins in the state in which its runs are opened. Without one there is no task of the
+-- rescuer's, and all else is the same.
 module _ (memory : Global) where
   abbrev pub stack : Bool → Stack
   stack rescuer =
       stack_of memory
-      (disk_of memory 8 ∷ disk_of memory 8 ∷ device memory (Mirror 1) (0 ∷ 1 ∷ []) 1 rescuer ∷ [])
+      (disk_of memory (codes "a") 8 ∷ disk_of memory (codes "b") 8 ∷ device memory (codes "m") (Mirror 1) (0 ∷ 1 ∷ []) 1 rescuer ∷ [])
       refl (8 ∷ 8 ∷ 8 ∷ []) 2
 
-  abbrev pub text : Bool → Scenario
-  text rescuer = record { stack = stack rescuer; scripts = scripts; writes = write ∷ []; rounds = 0 ∷ []; changes = [] }
+  abbrev pub scenario : Bool → Scenario
+  scenario rescuer = record { stack = stack rescuer; scripts = scripts; writes = write ∷ []; rounds = 0 ∷ []; changes = [] }
 
   module _ (rescuer : Bool) where
     tree_is : (dev : ℕ) → (setup rescuer).tree dev ≡ tree (stack rescuer) dev
@@ -316,7 +326,7 @@ module _ (memory : Global) where
     tree_is (suc (suc zero)) = refl
     tree_is (suc (suc (suc n))) = let e : suc (suc (suc n)) + 1 ≡ suc (suc (suc (suc n))) = omega arith in rw e refl
 
-    rescuer_is : (dev : ℕ) → (setup rescuer).rescuer dev ≡ (texts.setup (text rescuer)).rescuer dev
+    rescuer_is : (dev : ℕ) → (setup rescuer).rescuer dev ≡ (texts.setup (scenario rescuer)).rescuer dev
     rescuer_is zero = refl
     rescuer_is (suc zero) = refl
     rescuer_is (suc (suc zero)) = refl
@@ -327,10 +337,10 @@ module _ (memory : Global) where
     places_if true = refl
     places_if false = refl
 
-    places_are : (writer : ℕ) → (setup rescuer).places writer ≡ places_of (text rescuer) writer
+    places_are : (writer : ℕ) → (setup rescuer).places writer ≡ places_of (scenario rescuer) writer
     places_are writer = places_if (0 == writer)
 
-    pub setup_is : setup rescuer ≡ texts.setup (text rescuer)
+    pub setup_is : setup rescuer ≡ texts.setup (scenario rescuer)
     setup_is = λ k. record {
       count = 3;
       tree = λ dev. tree_is dev k;
@@ -362,7 +372,7 @@ module _ (memory : Global) where
     reserve_is (Bios dev) = bios_are dev.0
     reserve_is (Records dev) = records_are dev.0
 
-    pub objects_are : start.objects ≡ texts.objects (text rescuer)
+    pub objects_are : start.objects ≡ texts.objects (scenario rescuer)
     objects_are = λ k. record {
       pool = λ number. opened (reserve_is (pool_of number) k) (script_at scripts number);
       rescue = λ dev. [];
@@ -371,16 +381,32 @@ module _ (memory : Global) where
       tally = start.objects.tally;
     }
 
-  tasks_are : tasks ≡ texts.tasks (text true)
+  tasks_are : tasks ≡ texts.tasks (scenario true)
   unfolding tree_below over_shape
   tasks_are = refl
 
-  start_is : start ≡ texts.start (text true)
+  start_is : start ≡ texts.start (scenario true)
   start_is = λ k. record { objects = objects_are true k; task = λ place. slice_index_or (tasks_are k) place no_task }
 
-  scene_is : (some : LedgerId) → scene some ≡ texts.scene (text true) (ledger some)
+  scene_is : (some : LedgerId) → scene some ≡ texts.scene (scenario true) (ledger some)
   scene_is some = λ k. record { setup = setup_is true k; tasks = length (tasks_are k); books = 8; writes = 1; ledger = ledger some }
 
-  text_runs : (some : LedgerId) → IsRun (texts.scene (text true) (ledger some)) (texts.start (text true)) (events some) (follow (setup true) start (turns some))
+  text_runs : (some : LedgerId) → IsRun (texts.scene (scenario true) (ledger some)) (texts.start (scenario true)) (events some) (follow (setup true) start (turns some))
   text_runs some = subst (λ (x : Scene × State). IsRun x.0 x.1 (events some) (follow (setup true) start (turns some)))
       (λ k. (scene_is some k, start_is k)) (mirror_runs some)
+
+  says : Says text (scenario true)
+  unfolding refusal without_empty_end first_found command_of is_name number_of meaning pool_at over_shape size_of smallest needed begins
+  says = record {
+    right = refl;
+    means = record {
+      devices = refl;
+      bad = sound_at (scenario true).stack.devices.items (refl, (refl, (refl, tt)));
+      fs_bios = refl;
+      fs_vecs = refl;
+      scripts = refl;
+    };
+    writes = refl;
+    rounds = refl;
+    changes = refl;
+  }

@@ -1,4 +1,4 @@
--- For each condition of an event a state in which it does not hold, so that the event can not come. The states are those of the example runs, behind
+-- For each condition of an event a state in which it does not hold, so that the event cannot come. The states are those of the example runs, behind
 -- so many events; where no run comes to such a state, one object or one task of it is another.
 use Rattle.std.proofs.Common.{◌≡◌, ◌-◌, ◌^◌, ◌<◌, ℕ, Bool, true, false, true≢false, [], ◌∷◌, take, None, Some, inl, inr, refl, sym, arith}
 use Rattle.std.proofs.lemmas.Option.{none-some}
@@ -28,7 +28,7 @@ use Rattle.task_core.specs.Objects.{TallyState}
 use Rattle.task_core.specs.Opened.{at}
 use Rattle.task_core.specs.Runs.{State, IsEnabled}
 use Rattle.task_core.proofs.Turns.{follow}
-use Rattle.task_core.proofs.Able.{never}
+use Rattle.task_core.proofs.Able.{not_next}
 use Rattle.task_core.proofs.OneWrite as one
 use Rattle.task_core.proofs.MirrorRun as mirrored
 use Rattle.task_core.proofs.StuckRun as unrescued
@@ -106,44 +106,44 @@ module _ (some : LedgerId) where
   -- Tasks. There is no such task, and a task whose writes are done asks for nothing.
   no_such_task : IsEnabled one_write (one_at 0) (record { task = id.Keeper; what = what.Round 1 }) → ⊥
   unfolding upd
-  no_such_task = never _ _ _ 0 refl (λ can. cc)
+  no_such_task = not_next _ _ _ 0 refl (λ can. cc)
 
   all_done : IsEnabled one_write (one_at 7) (one.by_writer some (what.Take FsBios Ordinary)) → ⊥
   unfolding upd
-  all_done = never _ _ _ 0 refl (λ can. can.needs)
+  all_done = not_next _ _ _ 0 refl (λ can. can.needs)
 
   -- Ordinary memory: the script allows it.
   no_memory : IsEnabled mirror (mirror_at 0) (mirrored.w some (what.Take FsBios Ordinary)) → ⊥
   unfolding upd
-  no_memory = never _ _ _ 0 refl (λ can. true≢false (sym can.needs.1.0))
+  no_memory = not_next _ _ _ 0 refl (λ can. true≢false (sym can.needs.1.0))
 
   -- Spares: there is one.
   no_spare : IsEnabled mirror (mirror_at 6) (mirrored.w some (what.Try (Bios mirrored.m) Spare)) → ⊥
   unfolding upd
-  no_spare = never _ _ _ 0 refl (λ can. absurd (omega (arith, can.needs.1.0)))
+  no_spare = not_next _ _ _ 0 refl (λ can. absurd (omega (arith, can.needs.1.0)))
 
   -- Misses: there is no spare.
   spare_is_there : IsEnabled one_write (with_pool (one_at 0) 65 (opened 2 entry)) (one.by_writer some (what.Take FsBios Missed)) → ⊥
   unfolding upd
-  spare_is_there = never _ _ _ 0 refl (λ can. has_spares (opened 2 entry) true (omega arith) (omega arith) can.needs.1)
+  spare_is_there = not_next _ _ _ 0 refl (λ can. has_spares (opened 2 entry) true (omega arith) (omega arith) can.needs.1)
 
   -- Misses of attempts that wait: each uses up an entry of the script. One that uses none is no event, without a spare and with all out.
   no_entry : IsEnabled (unrescued.scene some) (unrescued.stuck some) (mirrored.w some (what.Take (Bios mirrored.m) Missed)) → ⊥
   unfolding upd
-  no_entry = never _ _ _ 0 refl (λ can. true≢false can.needs.1.1)
+  no_entry = not_next _ _ _ 0 refl (λ can. true≢false can.needs.1.1)
 
   no_entry_for_more : IsEnabled one_write (with_pool (one_at 0) 65 all_out) (one.by_writer some (what.Take FsBios Missed)) → ⊥
   unfolding upd
-  no_entry_for_more = never _ _ _ 0 refl (λ can. true≢false can.needs.1.1)
+  no_entry_for_more = not_next _ _ _ 0 refl (λ can. true≢false can.needs.1.1)
 
   -- Takes: no more elements are out than can be counted.
   no_more_ordinary : IsEnabled one_write (with_pool (one_at 0) 65 all_out) (one.by_writer some (what.Take FsBios Ordinary)) → ⊥
   unfolding upd
-  no_more_ordinary = never _ _ _ 0 refl (λ can. absurd (omega (arith, can.needs.1.1)))
+  no_more_ordinary = not_next _ _ _ 0 refl (λ can. absurd (omega (arith, can.needs.1.1)))
 
   no_more_spares : IsEnabled one_write (with_pool (one_at 0) 65 all_out) (one.by_writer some (what.Take FsBios Spare)) → ⊥
   unfolding upd
-  no_more_spares = never _ _ _ 0 refl (λ can. absurd (omega (arith, can.needs.1.1)))
+  no_more_spares = not_next _ _ _ 0 refl (λ can. absurd (omega (arith, can.needs.1.1)))
 
   -- Vectors: a write takes one if it has more than four segments, and before its node is linked.
   abbrev long : Todo
@@ -151,189 +151,189 @@ module _ (some : LedgerId) where
 
   no_vector : IsEnabled one_write (one_at 1) (one.by_writer some (what.Take FsVecs Ordinary)) → ⊥
   unfolding upd
-  no_vector = never _ _ _ 0 refl (λ can. can.needs)
+  no_vector = not_next _ _ _ 0 refl (λ can. can.needs)
 
   vector_first : (bio : Item Pad)
       → IsEnabled one_write (with_task (one_at 1) 0 (Writer 0 (long ∷ []) (HasBio bio) rests)) (one.by_writer some (what.Link 0 how.Write 0)) → ⊥
   unfolding upd
-  vector_first bio = never _ _ _ 0 refl (λ can. can.needs)
+  vector_first bio = not_next _ _ _ 0 refl (λ can. can.needs)
 
   -- Takes at a mirror: the record first, then a bio for each leg, of the mirror's pool.
   record_first : IsEnabled mirror (mirror_at 2) (mirrored.w some (what.Take (Bios mirrored.m) Spare)) → ⊥
   unfolding upd
-  record_first = never _ _ _ 0 refl (λ can. cc)
+  record_first = not_next _ _ _ 0 refl (λ can. cc)
 
   of_another_pool : IsEnabled mirror (mirror_at 4) (mirrored.w some (what.Take FsBios Spare)) → ⊥
   unfolding upd
-  of_another_pool = never _ _ _ 0 refl (λ can. cc)
+  of_another_pool = not_next _ _ _ 0 refl (λ can. cc)
 
   -- Gives: something is out, and it goes to its own pool.
   nothing_is_out : IsEnabled one_write (with_pool (one_at 5) 65 (opened 2 entry)) (one.by_completer some (what.Give FsBios)) → ⊥
   unfolding upd
-  nothing_is_out = never _ _ _ 1 refl (λ can. absurd (omega (arith, can.needs.1)))
+  nothing_is_out = not_next _ _ _ 1 refl (λ can. absurd (omega (arith, can.needs.1)))
 
   to_another_pool : IsEnabled one_write (one_at 5) (one.by_completer some (what.Give FsVecs)) → ⊥
   unfolding upd
-  to_another_pool = never _ _ _ 1 refl (λ can. cc)
+  to_another_pool = not_next _ _ _ 1 refl (λ can. cc)
 
   -- Attempts that do not wait: the set has a rescuer, and one of the two lists has a bio.
   no_bio_waits : IsEnabled mirror (mirror_at 4) (mirrored.w some (what.Try (Bios mirrored.m) Spare)) → ⊥
   unfolding upd
-  no_bio_waits = never _ _ _ 0 refl (λ can. can.needs)
+  no_bio_waits = not_next _ _ _ 0 refl (λ can. can.needs)
 
   no_rescuer : IsEnabled (unrescued.scene some) (unrescued.stuck some) (mirrored.w some (what.Try (Bios mirrored.m) Missed)) → ⊥
   unfolding upd
-  no_rescuer = never _ _ _ 0 refl (λ can. can.needs)
+  no_rescuer = not_next _ _ _ 0 refl (λ can. can.needs)
 
   -- Attempts that wait: where it is otherwise, only behind a missed one that did not, and behind the punt that follows.
   a_bio_waits : IsEnabled mirror (mirror_at 6) (mirrored.w some (what.Take (Bios mirrored.m) Missed)) → ⊥
   unfolding upd
-  a_bio_waits = never _ _ _ 0 refl (λ can. can.needs)
+  a_bio_waits = not_next _ _ _ 0 refl (λ can. can.needs)
 
   not_before_the_punt : IsEnabled mirror (mirror_at 7) (mirrored.w some (what.Take (Bios mirrored.m) Missed)) → ⊥
   unfolding upd
-  not_before_the_punt = never _ _ _ 0 refl (λ can. can.needs)
+  not_before_the_punt = not_next _ _ _ 0 refl (λ can. can.needs)
 
   not_without_waiting_again : IsEnabled mirror (mirror_at 8) (mirrored.w some (what.Try (Bios mirrored.m) Missed)) → ⊥
   unfolding upd
-  not_without_waiting_again = never _ _ _ 0 refl (λ can. can.needs)
+  not_without_waiting_again = not_next _ _ _ 0 refl (λ can. can.needs)
 
   -- Punts: an attempt has missed, and all bios of the set go.
   no_miss : IsEnabled mirror (mirror_at 6) (mirrored.w some (what.Punt mirrored.m 1)) → ⊥
   unfolding upd
-  no_miss = never _ _ _ 0 refl (λ can. can.needs)
+  no_miss = not_next _ _ _ 0 refl (λ can. can.needs)
 
   not_two : IsEnabled mirror (mirror_at 7) (mirrored.w some (what.Punt mirrored.m 2)) → ⊥
   unfolding upd
-  not_two = never _ _ _ 0 refl (λ can. absurd (omega (arith, can.needs.1)))
+  not_two = not_next _ _ _ 0 refl (λ can. absurd (omega (arith, can.needs.1)))
 
   -- Pops: the rescuer's list has a bio.
   nothing_was_punted : IsEnabled mirror (mirror_at 0) (mirrored.r some (what.Pop mirrored.m)) → ⊥
   unfolding upd
-  nothing_was_punted = never _ _ _ 1 refl (λ can. absurd (omega (arith, can.needs.1)))
+  nothing_was_punted = not_next _ _ _ 1 refl (λ can. absurd (omega (arith, can.needs.1)))
 
   -- Pushes: of the bio at hand, as it is. What is left of a bio that is cut comes behind its first piece.
   rest_waits : IsEnabled cuts (cut_at 6) (cut.w some (what.Push (at 0) 7 1 0)) → ⊥
   unfolding upd next next_member slot among
-  rest_waits = never _ _ _ 0 refl (λ can. absurd (omega (arith, can.needs.1)))
+  rest_waits = not_next _ _ _ 0 refl (λ can. absurd (omega (arith, can.needs.1)))
 
   another_sector : IsEnabled one_write (one_at 2) (one.by_writer some (what.Push one.a 1 1 0)) → ⊥
   unfolding upd
-  another_sector = never _ _ _ 0 refl (λ can. absurd (omega (arith, can.needs.1)))
+  another_sector = not_next _ _ _ 0 refl (λ can. absurd (omega (arith, can.needs.1)))
 
   -- Ends of bios: one waits in the disk at this index, and it ends as the bad ranges say.
   nothing_waits : IsEnabled one_write (one_at 0) (one.by_completer some (what.Complete one.a 0 Ok)) → ⊥
   unfolding upd
-  nothing_waits = never _ _ _ 1 refl (λ can. none-some _ can.needs.1.1)
+  nothing_waits = not_next _ _ _ 1 refl (λ can. none-some _ can.needs.1.1)
 
   not_at_this_index : IsEnabled one_write (one_at 3) (one.by_completer some (what.Complete one.a 1 Ok)) → ⊥
   unfolding upd
-  not_at_this_index = never _ _ _ 1 refl (λ can. none-some _ can.needs.1.1)
+  not_at_this_index = not_next _ _ _ 1 refl (λ can. none-some _ can.needs.1.1)
 
   no_bad_range : IsEnabled one_write (one_at 3) (one.by_completer some (what.Complete one.a 0 Io)) → ⊥
   unfolding upd
-  no_bad_range = never _ _ _ 1 refl (λ can. cc)
+  no_bad_range = not_next _ _ _ 1 refl (λ can. cc)
 
   -- Links: the place is one of the book, and vacant.
   no_such_place : IsEnabled one_write (one_at 1) (one.by_writer some (what.Link 0 how.Write 1)) → ⊥
   unfolding upd
-  no_such_place = never _ _ _ 0 refl (λ can. none-some _ can.needs.2.1.0)
+  no_such_place = not_next _ _ _ 0 refl (λ can. none-some _ can.needs.2.1.0)
 
   taken_place : IsEnabled mirror (mirror_at 3) (mirrored.w some (what.Link 0 how.Master 0)) → ⊥
   unfolding upd
-  taken_place = never _ _ _ 0 refl (λ can. cc)
+  taken_place = not_next _ _ _ 0 refl (λ can. cc)
 
   -- Links of a child, a master and a leg: the node that they name is open.
   stray_child : IsEnabled cuts (with_books (cut_at 3) empty) (cut.w some (what.Link 0 how.Chain 1)) → ⊥
   unfolding upd next next_member
-  stray_child = never _ _ _ 0 refl (λ can. can.needs.2.1)
+  stray_child = not_next _ _ _ 0 refl (λ can. can.needs.2.1)
 
   stray_master : IsEnabled mirror (with_books (mirror_at 3) empty) (mirrored.w some (what.Link 0 how.Master 1)) → ⊥
   unfolding upd
-  stray_master = never _ _ _ 0 refl (λ can. can.needs.2.1)
+  stray_master = not_next _ _ _ 0 refl (λ can. can.needs.2.1)
 
   stray_leg : IsEnabled mirror (with_books (mirror_at 5) empty) (mirrored.w some (what.Link 0 how.Leg 2)) → ⊥
   unfolding upd
-  stray_leg = never _ _ _ 0 refl (λ can. can.needs.2.1)
+  stray_leg = not_next _ _ _ 0 refl (λ can. can.needs.2.1)
 
   -- Links of a child: its parent waits for fewer ends than can be counted.
   one_end_too_many : IsEnabled cuts (with_books (cut_at 3) crowded) (cut.w some (what.Link 0 how.Chain 1)) → ⊥
   unfolding upd next next_member
-  one_end_too_many = never _ _ _ 0 refl (λ can. absurd (omega (arith, can.needs.2.1.0)))
+  one_end_too_many = not_next _ _ _ 0 refl (λ can. absurd (omega (arith, can.needs.2.1.0)))
 
   -- Ends that nodes are told of: the node is open.
   stray_end : IsEnabled one_write (with_books (one_at 4) empty) (one.by_completer some (what.Drop 0 0 Ok left.Left)) → ⊥
   unfolding upd
-  stray_end = never _ _ _ 1 refl (λ can. can.needs.3.1)
+  stray_end = not_next _ _ _ 1 refl (λ can. can.needs.3.1)
 
   stray_close : IsEnabled one_write (with_books (one_at 4) empty) (one.by_completer some (what.Drop 0 0 Ok left.Top)) → ⊥
   unfolding upd
-  stray_close = never _ _ _ 1 refl (λ can. can.needs.3.2)
+  stray_close = not_next _ _ _ 1 refl (λ can. can.needs.3.2)
 
   stray_close_of_a_child : IsEnabled mirror (with_books (mirror_at 11) empty) (mirrored.c some mirrored.a (what.Drop 0 2 Ok left.Up)) → ⊥
   unfolding upd
-  stray_close_of_a_child = never _ _ _ 2 refl (λ can. can.needs.3.2)
+  stray_close_of_a_child = not_next _ _ _ 2 refl (λ can. can.needs.3.2)
 
   -- A node stays open while it waits for others, closes with its last end, to its parent if it has one, and with its status.
   was_its_last : IsEnabled one_write (one_at 4) (one.by_completer some (what.Drop 0 0 Ok left.Left)) → ⊥
   unfolding upd
-  was_its_last = never _ _ _ 1 refl (λ can. absurd (omega (arith, can.needs.3.1.0)))
+  was_its_last = not_next _ _ _ 1 refl (λ can. absurd (omega (arith, can.needs.3.1.0)))
 
   waits_for_another : IsEnabled mirror (mirror_at 13) (mirrored.c some mirrored.a (what.Drop 0 1 Ok left.Up)) → ⊥
   unfolding upd
-  waits_for_another = never _ _ _ 2 refl (λ can. absurd (omega (arith, can.needs.3.2.0)))
+  waits_for_another = not_next _ _ _ 2 refl (λ can. absurd (omega (arith, can.needs.3.2.0)))
 
   has_no_parent : IsEnabled one_write (one_at 4) (one.by_completer some (what.Drop 0 0 Ok left.Up)) → ⊥
   unfolding upd
-  has_no_parent = never _ _ _ 1 refl (λ can. true≢false (sym can.needs.3.2.1))
+  has_no_parent = not_next _ _ _ 1 refl (λ can. true≢false (sym can.needs.3.2.1))
 
   has_a_parent : IsEnabled mirror (mirror_at 11) (mirrored.c some mirrored.a (what.Drop 0 2 Ok left.Top)) → ⊥
   unfolding upd
-  has_a_parent = never _ _ _ 2 refl (λ can. none-some _ (sym can.needs.3.2.1))
+  has_a_parent = not_next _ _ _ 2 refl (λ can. none-some _ (sym can.needs.3.2.1))
 
   ended_otherwise : IsEnabled one_write (one_at 4) (one.by_completer some (what.Drop 0 0 Io left.Top)) → ⊥
   unfolding upd
-  ended_otherwise = never _ _ _ 1 refl (λ can. cc)
+  ended_otherwise = not_next _ _ _ 1 refl (λ can. cc)
 
   -- Ends of writes: what the closed node held is back, and the write ends as its node did.
   gives_first : IsEnabled one_write (one_at 5) (one.by_completer some (what.Done 0 Ok)) → ⊥
   unfolding upd
-  gives_first = never _ _ _ 1 refl (λ can. can.needs)
+  gives_first = not_next _ _ _ 1 refl (λ can. can.needs)
 
   done_otherwise : IsEnabled one_write (one_at 6) (one.by_completer some (what.Done 0 Io)) → ⊥
   unfolding upd
-  done_otherwise = never _ _ _ 1 refl (λ can. cc)
+  done_otherwise = not_next _ _ _ 1 refl (λ can. cc)
 
   -- Writes: their round has come.
   before_its_round : IsEnabled two_rounds (rounds_at 0) (rounds.w some 1 (what.Take FsBios Spare)) → ⊥
   unfolding upd
-  before_its_round = never _ _ _ 1 refl (λ can. true≢false (sym can.sees))
+  before_its_round = not_next _ _ _ 1 refl (λ can. true≢false (sym can.sees))
 
   -- Resizes: every write before the round is done, and nothing is out.
   unfinished_at_a_resize : IsEnabled two_rounds (rounds_at 0) (rounds.k some (what.Resize FsBios 3)) → ⊥
   unfolding upd
-  unfinished_at_a_resize = never _ _ _ 3 refl (λ can. true≢false (sym can.sees))
+  unfinished_at_a_resize = not_next _ _ _ 3 refl (λ can. true≢false (sym can.sees))
 
   one_is_out : IsEnabled two_rounds (with_pool (rounds_at 7) 65 bare) (rounds.k some (what.Resize FsBios 3)) → ⊥
   unfolding upd
-  one_is_out = never _ _ _ 3 refl (λ can. absurd (omega (arith, can.needs.2)))
+  one_is_out = not_next _ _ _ 3 refl (λ can. absurd (omega (arith, can.needs.2)))
 
   -- Rounds: the resizes before it are made, every write before it is done, and it is the next one, which is there.
   resize_is_open : IsEnabled two_rounds (rounds_at 7) (rounds.k some (what.Round 1)) → ⊥
   unfolding upd
-  resize_is_open = never _ _ _ 3 refl (λ can. can.needs)
+  resize_is_open = not_next _ _ _ 3 refl (λ can. can.needs)
 
   unfinished_at_a_round : IsEnabled two_rounds (with_task (rounds_at 0) 3 (Keeper (Keeps (Starts 1 1 ∷ [])))) (rounds.k some (what.Round 1)) → ⊥
   unfolding upd
-  unfinished_at_a_round = never _ _ _ 3 refl (λ can. true≢false (sym can.sees))
+  unfinished_at_a_round = not_next _ _ _ 3 refl (λ can. true≢false (sym can.sees))
 
   not_the_next : IsEnabled two_rounds (rounds_at 8) (rounds.k some (what.Round 2)) → ⊥
   unfolding upd
-  not_the_next = never _ _ _ 3 refl (λ can. absurd (omega (arith, can.needs.0)))
+  not_the_next = not_next _ _ _ 3 refl (λ can. absurd (omega (arith, can.needs.0)))
 
   was_the_last : IsEnabled two_rounds (with_tally (rounds_at 8) (record { round = 0; left = 1 ∷ []; statuses = [] })) (rounds.k some (what.Round 1)) → ⊥
   unfolding upd
-  was_the_last = never _ _ _ 3 refl (λ can. absurd (omega (arith, can.needs.1)))
+  was_the_last = not_next _ _ _ 3 refl (λ can. absurd (omega (arith, can.needs.1)))
 
 -- Whether an attempt waits goes by both lists.
 abbrev rescued : Setup

@@ -1,5 +1,5 @@
--- A stack of one disk, for examples: what the runs over it begin with, place by place.
-use Rattle.std.proofs.Common.{◌≡◌, ◌+◌, ℕ, zero, suc, Bool, [], ◌∷◌, slice_get, slice_index_or, refl, arith, false}
+-- A stack of one disk, a, for examples: what the runs over it begin with, place by place.
+use Rattle.std.proofs.Common.{◌≡◌, ◌+◌, ℕ, zero, suc, Bool, [], ◌∷◌, slice_get, slice_index_or, codes, refl, arith, false}
 use Rattle.std.specs.Global.{Global}
 use Rattle.std.specs.Option.{option_map_or}
 use Rattle.stack_base.specs.declared.ids.PoolId.{PoolId}
@@ -10,7 +10,7 @@ use Rattle.stack_base.specs.Tree.{Tree, Leaf, tree, tree_below, over_shape}
 use Rattle.layout_model.specs.May.{bads_of}
 use Rattle.task_core.specs.Scene.{rescuer_at}
 use Rattle.task_core.specs.Opened.{records_of, reserve_of}
-use Rattle.task_core.proofs.Stacks.{stack_of, disk}
+use Rattle.task_core.proofs.Texts.{stack_of, disk}
 
 abbrev pub tree_of : ℕ → ℕ → Tree
 tree_of sectors dev = slice_index_or (Leaf 0 sectors ∷ []) dev (Leaf dev 0)
@@ -27,7 +27,7 @@ reserve (Records dev) = 0
 
 module _ (memory : Global) (sectors : ℕ) where
   abbrev pub stack : Stack
-  stack = stack_of memory (disk memory sectors ∷ []) refl (sectors ∷ []) 2
+  stack = stack_of memory (disk memory (codes "a") sectors ∷ []) refl (sectors ∷ []) 2
 
   pub tree_is : (dev : ℕ) → tree_of sectors dev ≡ tree stack dev
   unfolding tree_below over_shape

@@ -1,12 +1,18 @@
 -- One write of a sector to a disk of 64: seven events, after which the state has ended.
-use Rattle.std.proofs.Common.{◌≡◌, ◌==◌, if◌then◌else◌, ℕ, Bool, List, [], ◌∷◌, length, replicate, sum_by, slice_index_or, None, Some, refl, subst, arith, false, true}
+use Rattle.std.proofs.Common.{◌≡◌, ◌==◌, if◌then◌else◌, ℕ, Bool, List, [], ◌∷◌, length, replicate, sum_by, slice_index_or, codes, None, Some, refl, subst, arith, false, true}
 use Rattle.std.specs.Global.{Global}
 use Rattle.elem_ledger.specs.Ledger.{LedgerId}
-use Rattle.fail_script.specs.Script.{only_tail}
+use Rattle.fail_script.specs.Script.{Answers, only_tail}
 use Rattle.stack_base.specs.declared.ids.DevId.{DevId}
-use Rattle.stack_base.specs.declared.ids.PoolId.TheVariants.{FsBios}
+use Rattle.stack_base.specs.declared.ids.PoolId.{PoolId}
+use Rattle.stack_base.specs.declared.ids.PoolId.TheVariants.{FsBios, FsVecs}
 use Rattle.stack_base.specs.declared.ids.Status.TheVariants.{Ok}
 use Rattle.stack_base.specs.Tree.{tree_below, over_shape, size}
+use Rattle.decl_text.specs.Text.{without_empty_end, is_name, number_of}
+use Rattle.decl_text.specs.Commands.{command_of}
+use Rattle.decl_text.specs.Items.{meaning}
+use Rattle.decl_text.specs.Known.{pool_of as pool_at}
+use Rattle.decl_text.specs.Refusals.{refusal, first_found}
 use Rattle.layout_model.specs.declared.write.Write.{Write}
 use Rattle.layout_model.specs.Need.{needed, begun}
 use Rattle.layout_model.specs.Needs.{nodes}
@@ -34,9 +40,10 @@ use Rattle.task_core.specs.Lines.{rests}
 use Rattle.task_core.specs.Tasks.{Todo, TaskState, Writer, Completer, NoBio, Empty, filled_short}
 use Rattle.task_core.specs.Objects.{clear_bio, done_one}
 use Rattle.task_core.specs.Events.{pool_of}
-use Rattle.task_core.specs.Opened.{Scenario, at, no_task, places_of}
+use Rattle.task_core.specs.Opened.{Scenario, at, no_task, places_of, script_at}
 use Rattle.task_core.specs.Opened as texts
 use Rattle.task_core.specs.Runs.{State, IsRun, HasEnded}
+use Rattle.task_core.proofs.Texts.{Says, sound_at}
 use Rattle.task_core.proofs.OneDisk.{tree_of, rescuer_of, reserve, stack, tree_is, rescuer_is, bads_are, reserve_is}
 use Rattle.task_core.proofs.Turns.{Turn, follow, AreTurns, turns_run, takes, on_disk, in_book}
 
@@ -60,10 +67,14 @@ todo = record { number = 0; round = 0; write = write }
 abbrev tasks : List TaskState
 tasks = Writer 0 (todo ∷ []) NoBio rests ∷ Completer a Empty ∷ []
 
+-- every take may have ordinary memory
+abbrev scripts : List (PoolId × Answers)
+scripts = (FsBios, only_tail true) ∷ (FsVecs, only_tail true) ∷ []
+
 abbrev pub start : State
 start = record {
   objects = record {
-    pool = λ number. opened (reserve (pool_of number)) (only_tail true);
+    pool = λ number. opened (reserve (pool_of number)) (script_at scripts number);
     rescue = λ dev. [];
     disk = λ dev. disk.opened (at dev) (size (setup.tree dev)) [];
     book = λ writer. record { writer = writer; nodes = replicate (setup.places writer) None };
@@ -154,27 +165,31 @@ module _ (some : LedgerId) where
   one_write_ends : HasEnded (follow setup start turns)
   one_write_ends = record { writes = refl; pools = λ number. all_home number (number == 65) refl }
 
--- The scenario of the text: a disk of 64 sectors, and one write of its first sector. The run begins in the state that its runs are opened in.
+-- a disk of 64 sectors, and one write of its first sector
+abbrev text : List ℕ
+text = codes "disk a 64\nwrite 0 a 0 1 0"
+
+-- The text says this scenario, and the run begins in the state in which its runs are opened.
 module _ (memory : Global) where
-  abbrev pub text : Scenario
-  text = record { stack = stack memory 64; scripts = []; writes = write ∷ []; rounds = 0 ∷ []; changes = [] }
+  abbrev pub scenario : Scenario
+  scenario = record { stack = stack memory 64; scripts = scripts; writes = write ∷ []; rounds = 0 ∷ []; changes = [] }
 
   places_if : (own : Bool) → (if own then 1 else 0) ≡ sum_by (λ (todo : Todo). nodes (stack memory 64) todo.write) (if own then todo ∷ [] else [])
   unfolding tree_below over_shape needed begun
   places_if true = refl
   places_if false = refl
 
-  places_are : (writer : ℕ) → setup.places writer ≡ places_of text writer
+  places_are : (writer : ℕ) → setup.places writer ≡ places_of scenario writer
   places_are writer = places_if (0 == writer)
 
-  tasks_are : tasks ≡ texts.tasks text
+  tasks_are : tasks ≡ texts.tasks scenario
   unfolding tree_below over_shape
   tasks_are = refl
 
-  start_is : start ≡ texts.start text
+  start_is : start ≡ texts.start scenario
   start_is = λ k. record {
     objects = record {
-      pool = λ number. opened (reserve_is memory 64 (pool_of number) k) (only_tail true);
+      pool = λ number. opened (reserve_is memory 64 (pool_of number) k) (script_at scripts number);
       rescue = λ dev. [];
       disk = λ dev. disk.opened (at dev) (size (tree_is memory 64 dev k)) (bads_are memory 64 dev k);
       book = λ writer. record { writer = writer; nodes = replicate (places_are writer k) None };
@@ -183,7 +198,7 @@ module _ (memory : Global) where
     task = λ place. slice_index_or (tasks_are k) place no_task;
   }
 
-  scene_is : (some : LedgerId) → scene some ≡ texts.scene text (ledger some)
+  scene_is : (some : LedgerId) → scene some ≡ texts.scene scenario (ledger some)
   scene_is some = λ k. record {
     setup = record {
       count = 1;
@@ -197,6 +212,22 @@ module _ (memory : Global) where
     ledger = ledger some;
   }
 
-  text_runs : (some : LedgerId) → IsRun (texts.scene text (ledger some)) (texts.start text) (events some) (follow setup start (turns some))
+  text_runs : (some : LedgerId) → IsRun (texts.scene scenario (ledger some)) (texts.start scenario) (events some) (follow setup start (turns some))
   text_runs some = subst (λ (x : Scene × State). IsRun x.0 x.1 (events some) (follow setup start (turns some)))
       (λ k. (scene_is some k, start_is k)) (one_write_runs some)
+
+  says : Says text scenario
+  unfolding refusal without_empty_end first_found command_of is_name number_of meaning pool_at over_shape needed begun
+  says = record {
+    right = refl;
+    means = record {
+      devices = refl;
+      bad = sound_at scenario.stack.devices.items (refl, tt);
+      fs_bios = refl;
+      fs_vecs = refl;
+      scripts = refl;
+    };
+    writes = refl;
+    rounds = refl;
+    changes = refl;
+  }

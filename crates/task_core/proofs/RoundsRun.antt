@@ -1,5 +1,5 @@
 -- Two rounds of one write each, to sectors that they share, and a reserve that changes between them: 16 events, after which the state has ended.
-use Rattle.std.proofs.Common.{◌≡◌, ◌+◌, ◌++◌, ◌*◌, ◌==◌, if◌then◌else◌, ℕ, Bool, List, [], ◌∷◌, length, replicate, sum_by, slice_index_or, Option, None, Some, refl, subst, arith, true, false}
+use Rattle.std.proofs.Common.{◌≡◌, ◌+◌, ◌++◌, ◌*◌, ◌==◌, if◌then◌else◌, ℕ, Bool, List, [], ◌∷◌, length, replicate, sum_by, slice_index_or, codes, Option, None, Some, refl, subst, arith, true, false}
 use Rattle.std.specs.Global.{Global}
 use Rattle.elem_ledger.specs.Ledger.{LedgerId}
 use Rattle.fail_script.specs.Script.{Answers, only_tail}
@@ -8,6 +8,11 @@ use Rattle.stack_base.specs.declared.ids.PoolId.{PoolId}
 use Rattle.stack_base.specs.declared.ids.PoolId.TheVariants.{FsBios, FsVecs}
 use Rattle.stack_base.specs.declared.ids.Status.TheVariants.{Ok}
 use Rattle.stack_base.specs.Tree.{tree_below, over_shape, size}
+use Rattle.decl_text.specs.Text.{without_empty_end, is_name, number_of}
+use Rattle.decl_text.specs.Commands.{command_of}
+use Rattle.decl_text.specs.Items.{meaning}
+use Rattle.decl_text.specs.Known.{pool_of as pool_at}
+use Rattle.decl_text.specs.Refusals.{refusal, first_found}
 use Rattle.layout_model.specs.declared.write.Write.{Write}
 use Rattle.layout_model.specs.Need.{needed, begun}
 use Rattle.layout_model.specs.Needs.{nodes as nodes_of}
@@ -38,6 +43,7 @@ use Rattle.task_core.specs.Events.{pool_of}
 use Rattle.task_core.specs.Opened.{Scenario, at, no_task, places_of, script_at}
 use Rattle.task_core.specs.Opened as texts
 use Rattle.task_core.specs.Runs.{State, IsRun, HasEnded}
+use Rattle.task_core.proofs.Texts.{Says, sound_at}
 use Rattle.task_core.proofs.OneDisk.{tree_of, rescuer_of, reserve, stack, tree_is, rescuer_is, bads_are, reserve_is}
 use Rattle.task_core.proofs.Turns.{Turn, follow, AreTurns, turns_run, takes, on_disk, in_book}
 
@@ -213,11 +219,14 @@ module _ (some : LedgerId) where
   rounds_end : HasEnded (follow setup start turns)
   rounds_end = record { writes = refl; pools = λ number. all_home number (number == 65) refl }
 
--- The scenario of the text: a disk of eight sectors, no ordinary memory, a write, a `sync` line, a `resize` line and a write. The run begins in the
--- state that its runs are opened in.
+-- a disk of eight sectors, no ordinary memory, and two writes with a `sync` line between them, behind which a reserve changes
+abbrev text : List ℕ
+text = codes "disk a 8\nmemory none\nwrite 0 a 0 2 0\nsync\nresize fs.bios 3\nwrite 1 a 1 2 1000"
+
+-- The text says this scenario, and the run begins in the state in which its runs are opened.
 module _ (memory : Global) where
-  abbrev pub text : Scenario
-  text = record {
+  abbrev pub scenario : Scenario
+  scenario = record {
     stack = stack memory 8;
     scripts = scripts;
     writes = write 0 ∷ write 1 ∷ [];
@@ -236,14 +245,14 @@ module _ (memory : Global) where
   places_if false true = refl
   places_if false false = refl
 
-  places_are : (writer : ℕ) → setup.places writer ≡ places_of text writer
+  places_are : (writer : ℕ) → setup.places writer ≡ places_of scenario writer
   places_are writer = places_if (0 == writer) (1 == writer)
 
-  tasks_are : tasks ≡ texts.tasks text
+  tasks_are : tasks ≡ texts.tasks scenario
   unfolding tree_below over_shape
   tasks_are = refl
 
-  start_is : start ≡ texts.start text
+  start_is : start ≡ texts.start scenario
   start_is = λ k. record {
     objects = record {
       pool = λ number. opened (reserve_is memory 8 (pool_of number) k) (script_at scripts number);
@@ -255,7 +264,7 @@ module _ (memory : Global) where
     task = λ place. slice_index_or (tasks_are k) place no_task;
   }
 
-  scene_is : (some : LedgerId) → scene some ≡ texts.scene text (ledger some)
+  scene_is : (some : LedgerId) → scene some ≡ texts.scene scenario (ledger some)
   scene_is some = λ k. record {
     setup = record {
       count = 1;
@@ -269,6 +278,22 @@ module _ (memory : Global) where
     ledger = ledger some;
   }
 
-  text_runs : (some : LedgerId) → IsRun (texts.scene text (ledger some)) (texts.start text) (events some) (follow setup start (turns some))
+  text_runs : (some : LedgerId) → IsRun (texts.scene scenario (ledger some)) (texts.start scenario) (events some) (follow setup start (turns some))
   text_runs some = subst (λ (x : Scene × State). IsRun x.0 x.1 (events some) (follow setup start (turns some)))
       (λ k. (scene_is some k, start_is k)) (rounds_run some)
+
+  says : Says text scenario
+  unfolding refusal without_empty_end first_found command_of is_name number_of meaning pool_at over_shape needed begun
+  says = record {
+    right = refl;
+    means = record {
+      devices = refl;
+      bad = sound_at scenario.stack.devices.items (refl, tt);
+      fs_bios = refl;
+      fs_vecs = refl;
+      scripts = refl;
+    };
+    writes = refl;
+    rounds = refl;
+    changes = refl;
+  }

@@ -1,6 +1,6 @@
 -- A linear device over a limit and a disk: a write is cut, its first piece is cut again, and each first piece goes all the way down before a
 -- rest is cut. Then each part ends: 21 events, after which the state has ended.
-use Rattle.std.proofs.Common.{◌≡◌, ◌+◌, ◌==◌, if◌then◌else◌, ℕ, zero, suc, Bool, List, [], ◌∷◌, length, replicate, sum_by, slice_index_or, Option, None, Some, refl, subst, arith, true, false}
+use Rattle.std.proofs.Common.{◌≡◌, ◌+◌, ◌==◌, if◌then◌else◌, ℕ, zero, suc, Bool, List, [], ◌∷◌, length, replicate, sum_by, slice_index_or, codes, Option, None, Some, refl, subst, arith, true, false}
 use Rattle.std.specs.Global.{Global}
 use Rattle.elem_ledger.specs.Ledger.{LedgerId}
 use Rattle.fail_script.specs.Script.{Answers, only_tail}
@@ -14,6 +14,11 @@ use Rattle.stack_base.specs.declared.stack.Stack.{Stack}
 use Rattle.stack_base.specs.Cutting.{next, next_member}
 use Rattle.stack_base.specs.Mapping.{slot, among, head, size_of, smallest}
 use Rattle.stack_base.specs.Tree.{Tree, Leaf, Split, tree, tree_below, over_shape, member_at, size}
+use Rattle.decl_text.specs.Text.{without_empty_end, is_name, number_of}
+use Rattle.decl_text.specs.Commands.{command_of}
+use Rattle.decl_text.specs.Items.{meaning}
+use Rattle.decl_text.specs.Known.{pool_of as pool_at}
+use Rattle.decl_text.specs.Refusals.{refusal, first_found}
 use Rattle.layout_model.specs.declared.write.Write.{Write}
 use Rattle.layout_model.specs.May.{bads_of}
 use Rattle.layout_model.specs.Need.{needed, begun}
@@ -46,7 +51,7 @@ use Rattle.task_core.specs.Events.{pool_of}
 use Rattle.task_core.specs.Opened.{Scenario, at, no_task, places_of, reserve_of, script_at}
 use Rattle.task_core.specs.Opened as texts
 use Rattle.task_core.specs.Runs.{State, IsRun, HasEnded}
-use Rattle.task_core.proofs.Stacks.{device, disk as disk_of, stack_of}
+use Rattle.task_core.proofs.Texts.{device, disk as disk_of, stack_of, Says, sound_at}
 use Rattle.task_core.proofs.Turns.{Turn, follow, AreTurns, turns_run, takes, on_disk, in_book}
 
 -- disks 0 and 1 of eight sectors, device 2 that lets at most two sectors pass to disk 0, and device 3 with device 2 and then disk 1
@@ -271,17 +276,24 @@ module _ (some : LedgerId) where
   unfolding next next_member slot among
   split_ends = record { writes = refl; pools = λ number. all_home number (number == 65) (number == 6) (number == 4) refl refl refl }
 
--- The scenario of the text: the two disks, the limit, the linear device, no ordinary memory, and one write of five sectors. The run begins in the
--- state that its runs are opened in.
+-- the two disks, the limit l, the linear device d, no ordinary memory, and one write of five sectors
+abbrev text : List ℕ
+text = codes "disk a 8\ndisk b 8\nlimit l a max=2\nlinear d l b\nmemory none\nwrite 0 d 5 5 7"
+
+-- The text says this scenario, and the run begins in the state in which its runs are opened.
 module _ (memory : Global) where
   abbrev pub stack : Stack
   stack =
       stack_of memory
-      (disk_of memory 8 ∷ disk_of memory 8 ∷ device memory (Limit 2 0) (0 ∷ []) 2 false ∷ device memory Linear (2 ∷ 1 ∷ []) 2 false ∷ [])
+      (disk_of memory (codes "a") 8
+      ∷ disk_of memory (codes "b") 8
+      ∷ device memory (codes "l") (Limit 2 0) (0 ∷ []) 2 false
+      ∷ device memory (codes "d") Linear (2 ∷ 1 ∷ []) 2 false
+      ∷ [])
       refl (8 ∷ 8 ∷ 8 ∷ 16 ∷ []) 2
 
-  abbrev pub text : Scenario
-  text = record { stack = stack; scripts = scripts; writes = write ∷ []; rounds = 0 ∷ []; changes = [] }
+  abbrev pub scenario : Scenario
+  scenario = record { stack = stack; scripts = scripts; writes = write ∷ []; rounds = 0 ∷ []; changes = [] }
 
   tree_is : (dev : ℕ) → setup.tree dev ≡ tree stack dev
   unfolding tree_below over_shape size_of smallest
@@ -291,7 +303,7 @@ module _ (memory : Global) where
   tree_is (suc (suc (suc zero))) = refl
   tree_is (suc (suc (suc (suc n)))) = let e : suc (suc (suc (suc n))) + 1 ≡ suc (suc (suc (suc (suc n)))) = omega arith in rw e refl
 
-  rescuer_is : (dev : ℕ) → setup.rescuer dev ≡ (texts.setup text).rescuer dev
+  rescuer_is : (dev : ℕ) → setup.rescuer dev ≡ (texts.setup scenario).rescuer dev
   rescuer_is zero = refl
   rescuer_is (suc zero) = refl
   rescuer_is (suc (suc zero)) = refl
@@ -303,7 +315,7 @@ module _ (memory : Global) where
   places_if true = refl
   places_if false = refl
 
-  places_are : (writer : ℕ) → setup.places writer ≡ places_of text writer
+  places_are : (writer : ℕ) → setup.places writer ≡ places_of scenario writer
   places_are writer = places_if (0 == writer)
 
   bads_are : (dev : ℕ) → [] ≡ bads_of stack dev
@@ -333,11 +345,11 @@ module _ (memory : Global) where
   reserve_is (Bios dev) = bios_are dev.0
   reserve_is (Records dev) = records_are dev.0
 
-  tasks_are : tasks ≡ texts.tasks text
+  tasks_are : tasks ≡ texts.tasks scenario
   unfolding tree_below over_shape
   tasks_are = refl
 
-  start_is : start ≡ texts.start text
+  start_is : start ≡ texts.start scenario
   start_is = λ k. record {
     objects = record {
       pool = λ number. opened (reserve_is (pool_of number) k) (script_at scripts number);
@@ -349,7 +361,7 @@ module _ (memory : Global) where
     task = λ place. slice_index_or (tasks_are k) place no_task;
   }
 
-  scene_is : (some : LedgerId) → scene some ≡ texts.scene text (ledger some)
+  scene_is : (some : LedgerId) → scene some ≡ texts.scene scenario (ledger some)
   scene_is some = λ k. record {
     setup = record {
       count = 4;
@@ -363,6 +375,22 @@ module _ (memory : Global) where
     ledger = ledger some;
   }
 
-  text_runs : (some : LedgerId) → IsRun (texts.scene text (ledger some)) (texts.start text) (events some) (follow setup start (turns some))
+  text_runs : (some : LedgerId) → IsRun (texts.scene scenario (ledger some)) (texts.start scenario) (events some) (follow setup start (turns some))
   text_runs some = subst (λ (x : Scene × State). IsRun x.0 x.1 (events some) (follow setup start (turns some)))
       (λ k. (scene_is some k, start_is k)) (split_runs some)
+
+  says : Says text scenario
+  unfolding refusal without_empty_end first_found command_of is_name number_of meaning pool_at over_shape size_of smallest needed begun head slot among next next_member
+  says = record {
+    right = refl;
+    means = record {
+      devices = refl;
+      bad = sound_at scenario.stack.devices.items (refl, (refl, (refl, (refl, tt))));
+      fs_bios = refl;
+      fs_vecs = refl;
+      scripts = refl;
+    };
+    writes = refl;
+    rounds = refl;
+    changes = refl;
+  }

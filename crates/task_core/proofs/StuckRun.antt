@@ -77,16 +77,16 @@ module _ (some : LedgerId) where
   no_event : HasFree scene stuck → ⊥
   no_event (event, (new, (place, steps)), free) = none_at place steps.here steps.reply new.objects event.what steps.serves steps.told
 
--- The text says no rescuer, which is refused (a mirror needs one): this is the state in which its runs would begin.
+-- With `rescuer=no` the text is refused, since a mirror of two needs a rescuer. This is the state in which its runs would begin.
 module _ (memory : Global) where
-  tasks_are : tasks ≡ texts.tasks (mirrored.text memory false)
+  tasks_are : tasks ≡ texts.tasks (mirrored.scenario memory false)
   unfolding tree_below over_shape
   tasks_are = refl
 
-  start_is : start ≡ texts.start (mirrored.text memory false)
+  start_is : start ≡ texts.start (mirrored.scenario memory false)
   start_is = λ k. record { objects = mirrored.objects_are memory false k; task = λ place. slice_index_or (tasks_are k) place no_task }
 
-  scene_is : (some : LedgerId) → scene some ≡ texts.scene (mirrored.text memory false) (mirrored.ledger some)
+  scene_is : (some : LedgerId) → scene some ≡ texts.scene (mirrored.scenario memory false) (mirrored.ledger some)
   scene_is some = λ k. record {
     setup = mirrored.setup_is memory false k;
     tasks = length (tasks_are k);
