@@ -1,6 +1,6 @@
 -- For each condition of an event a state in which it does not hold, so that the event cannot come. The states are those of the example runs, behind
 -- so many events; where no run comes to such a state, one object or one task of it is another.
-use Rattle.std.proofs.Common.{◌≡◌, ◌-◌, ◌^◌, ◌<◌, ℕ, Bool, true, false, true≢false, [], ◌∷◌, take, None, Some, inl, inr, refl, sym, arith}
+use Rattle.std.proofs.Common.{◌≡◌, ◌-◌, ◌^◌, ◌<◌, ℕ, zero, suc, Bool, true, false, true≢false, [], ◌∷◌, take, None, Some, inl, inr, refl, sym, arith}
 use Rattle.std.proofs.lemmas.Option.{none-some}
 use Rattle.elem_ledger.specs.Ledger.{LedgerId}
 use Rattle.fail_script.specs.Script.{Answers, only_tail}
@@ -66,9 +66,12 @@ has_spares : (pool : PoolState) (used : Bool) → 0 < pool.facts.spares → pool
 has_spares pool used some few (inl none, is) = absurd (omega (arith, none, some))
 has_spares pool used some few (inr many, is) = absurd (omega (arith, many, few))
 
--- books in which no node is open, and one whose node waits for as many ends as can be counted
+-- books in which no node is open, full ones, and some whose node waits for as many ends as can be counted
 abbrev empty : ℕ → BookState
 empty writer = record { writer = writer; nodes = None ∷ None ∷ None ∷ None ∷ [] }
+
+abbrev full : ℕ → BookState
+full writer = record { writer = writer; nodes = Some (top_node 0 None) ∷ [] }
 
 abbrev crowded : ℕ → BookState
 crowded writer = record { writer = writer; nodes = Some (record (top_node 0 None) { count = 2 ^ 64 - 1 }) ∷ None ∷ None ∷ None ∷ [] }
@@ -89,7 +92,7 @@ module _ (some : LedgerId) where
   abbrev mirror_at : ℕ → State
   mirror_at n = follow (mirrored.setup true) mirrored.start (take n (mirrored.turns some))
 
-  -- a write that is cut twice: three takes, each with a link, and three pushes
+  -- a write that is cut twice: three takes, each with a link, three pushes, and then the ends
   abbrev cuts : Scene
   cuts = cut.scene some
 
@@ -242,6 +245,11 @@ module _ (some : LedgerId) where
   taken_place : IsEnabled mirror (mirror_at 3) (mirrored.w some (what.Link 0 how.Master 0)) → ⊥
   unfolding upd
   taken_place = not_next _ _ _ 0 refl (λ can. cc)
+
+  in_a_full_book : (place : ℕ) → IsEnabled one_write (with_books (one_at 1) full) (one.by_writer some (what.Link 0 how.Write place)) → ⊥
+  unfolding upd
+  in_a_full_book zero = not_next _ _ _ 0 refl (λ can. cc)
+  in_a_full_book (suc place) = not_next _ _ _ 0 refl (λ can. none-some _ can.needs.2.1.0)
 
   -- Links of a child, a master and a leg: the node that they name is open.
   stray_child : IsEnabled cuts (with_books (cut_at 3) empty) (cut.w some (what.Link 0 how.Chain 1)) → ⊥
