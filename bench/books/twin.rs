@@ -1,4 +1,5 @@
 //! The twin of main.rt.txt: a book of the same shape in plain Rust, over a vector of nodes with a list of free places.
+use std::mem::MaybeUninit;
 use std::time::Instant;
 
 #[derive(Clone, Copy, PartialEq, Eq)]
@@ -14,12 +15,14 @@ enum Status {
 enum Role {
     Top,
     Chain { parent: u32 },
+    Master { parent: u32 },
+    Leg { parent: u32 },
 }
 
 /// The memory of a bio.
 #[allow(dead_code)]
 struct BioBody {
-    words: [u64; 20],
+    words: [u64; 19],
     next: Option<Box<BioBody>>,
 }
 
@@ -47,12 +50,80 @@ struct Back {
     slip: Option<Element<Slip>>,
 }
 
+impl Back {
+    /// The own part of a node and a mirror's record, for which there is no master.
+    fn unmastered(part: Element<BioBody>, slip: Element<Slip>) -> Back {
+        Back {
+            bio: Some(part),
+            vector: None,
+            slip: Some(slip),
+        }
+    }
+}
+
 struct Node {
     role: Role,
     write: u32,
     count: u64,
     status: Status,
     held: Back,
+    /// As much as makes a place as large as one of the measured program. Nothing is written to it.
+    _room: MaybeUninit<[u64; 5]>,
+}
+
+const _: () = assert!(size_of::<Option<Node>>() == 112);
+
+/// Of two ends, the first that failed.
+fn first_failing(old: Status, new: Status) -> Status {
+    if old == Status::Ok { new } else { old }
+}
+
+/// Of two ends, one that was well, if one was.
+fn any_well(old: Status, new: Status) -> Status {
+    if new == Status::Ok { new } else { old }
+}
+
+impl Node {
+    /// A node of one end that holds nothing.
+    fn new(role: Role, write: u32) -> Node {
+        Node {
+            role,
+            write,
+            count: 1,
+            status: Status::Ok,
+            held: Back::default(),
+            _room: MaybeUninit::uninit(),
+        }
+    }
+
+    /// Keeps how it has ended, with one more end, and the last part that came.
+    fn tell(&mut self, status: Status, part: Option<Element<BioBody>>) {
+        self.status = match self.role {
+            Role::Master { .. } => any_well(self.status, status),
+            _ => first_failing(self.status, status),
+        };
+        if part.is_some() {
+            self.held.bio = part;
+        }
+    }
+
+    /// What is left of it as it closes.
+    fn close(self) -> ClosedNode {
+        let parent = match self.role {
+            Role::Top => None,
+            Role::Chain { parent } | Role::Master { parent } | Role::Leg { parent } => Some(parent),
+        };
+        let status = match self.role {
+            Role::Master { .. } if self.status != Status::Ok => Status::Io,
+            _ => self.status,
+        };
+        ClosedNode {
+            held: self.held,
+            parent,
+            write: self.write,
+            status,
+        }
+    }
 }
 
 #[allow(dead_code)]
@@ -103,16 +174,8 @@ impl Book {
     }
 
     fn open_write(&mut self, write: u32, vector: Option<Element<Vector>>) -> Link {
-        let node = Node {
-            role: Role::Top,
-            write,
-            count: 1,
-            status: Status::Ok,
-            held: Back {
-                vector,
-                ..Back::default()
-            },
-        };
+        let mut node = Node::new(Role::Top, write);
+        node.held.vector = vector;
         match self.insert(node) {
             Ok(place) => Link::Made(place),
             Err(node) => Link::NoRoom(node.held),
@@ -126,14 +189,7 @@ impl Book {
         if node.count == u64::MAX {
             return Link::NoRoom(Back::default());
         }
-        let child = Node {
-            role: Role::Chain { parent },
-            write: node.write,
-            count: 1,
-            status: Status::Ok,
-            held: Back::default(),
-        };
-        match self.insert(child) {
+        match self.insert(Node::new(Role::Chain { parent }, node.write)) {
             Ok(place) => {
                 if let Some(Some(node)) = self.nodes.get_mut(parent as usize) {
                     node.count += 1;
@@ -144,6 +200,41 @@ impl Book {
         }
     }
 
+    fn master(&mut self, parent: u32, part: Element<BioBody>, mut slip: Element<Slip>, legs: u32) -> Link {
+        let write = match self.nodes.get(parent as usize) {
+            Some(Some(node)) => node.write,
+            _ => return Link::Stray(Back::unmastered(part, slip)),
+        };
+        if self.free.is_empty() {
+            return Link::NoRoom(Back::unmastered(part, slip));
+        }
+        slip.body.legs = legs;
+        let mut master = Node::new(Role::Master { parent }, write);
+        master.count = u64::from(legs);
+        master.status = Status::Io;
+        master.held.slip = Some(slip);
+        match self.insert(master) {
+            Ok(place) => {
+                if let Some(Some(node)) = self.nodes.get_mut(parent as usize) {
+                    node.held.bio = Some(part);
+                }
+                Link::Made(place)
+            }
+            Err(_) => unreachable!(),
+        }
+    }
+
+    fn leg(&mut self, master: u32) -> Link {
+        let write = match self.nodes.get(master as usize) {
+            Some(Some(node)) => node.write,
+            _ => return Link::Stray(Back::default()),
+        };
+        match self.insert(Node::new(Role::Leg { parent: master }, write)) {
+            Ok(place) => Link::Made(place),
+            Err(leg) => Link::NoRoom(leg.held),
+        }
+    }
+
     fn drop_one(&mut self, place: u32, status: Status, part: Option<Element<BioBody>>) -> Dropped {
         let Some(slot) = self.nodes.get_mut(place as usize) else {
             return Dropped::Stray(part);
@@ -151,12 +242,7 @@ impl Book {
         let Some(node) = slot else {
             return Dropped::Stray(part);
         };
-        if node.status == Status::Ok {
-            node.status = status;
-        }
-        if part.is_some() {
-            node.held.bio = part;
-        }
+        node.tell(status, part);
         if node.count > 1 {
             node.count -= 1;
             return Dropped::Left;
@@ -165,18 +251,10 @@ impl Book {
             return Dropped::Left;
         };
         self.free.push(place);
-        let mut closed = ClosedNode {
-            held: node.held,
-            parent: None,
-            write: node.write,
-            status: node.status,
-        };
-        match node.role {
-            Role::Top => Dropped::Top(closed),
-            Role::Chain { parent } => {
-                closed.parent = Some(parent);
-                Dropped::Up(closed)
-            }
+        let closed = node.close();
+        match closed.parent {
+            None => Dropped::Top(closed),
+            Some(_) => Dropped::Up(closed),
         }
     }
 }
@@ -249,6 +327,78 @@ fn fill(book: &mut Book, top: u32, count: u32) -> u64 {
     served
 }
 
+/// The place of the node, if one was opened.
+fn made(link: Link) -> Option<u32> {
+    match link {
+        Link::Made(place) => Some(place),
+        _ => None,
+    }
+}
+
+/// Tells a leg of its end, and its master of the leg's. It answers what is left of the master, where that was its last leg.
+fn end_leg(book: &mut Book, leg: u32) -> Option<ClosedNode> {
+    match book.drop_one(leg, Status::Ok, None) {
+        Dropped::Up(ClosedNode {
+            parent: Some(master),
+            status,
+            ..
+        }) => match book.drop_one(master, status, None) {
+            Dropped::Up(closed) => Some(closed),
+            _ => None,
+        },
+        _ => None,
+    }
+}
+
+/// Tells the node of a write of its only end. It answers the part that the node kept.
+fn end_write(book: &mut Book, top: u32, status: Status) -> Option<Element<BioBody>> {
+    match book.drop_one(top, status, None) {
+        Dropped::Top(ClosedNode { held, .. }) => held.bio,
+        _ => None,
+    }
+}
+
+/// A write to a mirror of two members: its node is opened, a master for its part and two legs, and all of them end. The part and the record
+/// are handed out again.
+fn mirrored(
+    book: &mut Book,
+    write: u32,
+    part: Element<BioBody>,
+    slip: Element<Slip>,
+) -> Option<(Element<BioBody>, Element<Slip>)> {
+    let top = made(book.open_write(write, None))?;
+    let master = made(book.master(top, part, slip, 2))?;
+    let first = made(book.leg(master))?;
+    let second = made(book.leg(master))?;
+    if end_leg(book, first).is_some() {
+        return None;
+    }
+    let ClosedNode {
+        held,
+        parent,
+        status,
+        ..
+    } = end_leg(book, second)?;
+    let part = end_write(book, parent?, status)?;
+    Some((part, held.slip?))
+}
+
+/// One write to a mirror after the other. It answers how many had their part and their record back.
+fn mirrors(book: &mut Book, part: Element<BioBody>, slip: Element<Slip>, count: u32) -> u64 {
+    let mut hand = Some((part, slip));
+    let mut served = 0;
+    for write in 0..count {
+        let Some((part, slip)) = hand else {
+            return served;
+        };
+        hand = mirrored(book, write, part, slip);
+        if hand.is_some() {
+            served += 1;
+        }
+    }
+    served
+}
+
 /// The nanoseconds of so many pairs at a book of two places.
 fn time_pairs(count: u32) -> (u128, u64) {
     let (mut book, top) = open(2);
@@ -266,10 +416,31 @@ fn time_fill(count: u32) -> (u128, u64) {
     (start.elapsed().as_nanos(), served)
 }
 
+/// The nanoseconds of so many writes to a mirror at a book of four places.
+fn time_mirrors(count: u32) -> (u128, u64) {
+    let mut book = Book::open(0, 4);
+    let part = Element {
+        body: Box::new(BioBody {
+            words: [0; 19],
+            next: None,
+        }),
+        no: 0,
+    };
+    let slip = Element {
+        body: Box::new(Slip { legs: 0 }),
+        no: 1,
+    };
+    let start = Instant::now();
+    let served = mirrors(&mut book, part, slip, count);
+    (start.elapsed().as_nanos(), served)
+}
+
 fn main() {
     let count = std::env::args().nth(1).and_then(|word| word.parse().ok()).unwrap_or(0);
     let (chained, served) = time_pairs(count);
     println!("chain {chained} {served}");
     let (filled, served) = time_fill(count);
     println!("fill {filled} {served}");
+    let (mirrored, served) = time_mirrors(count);
+    println!("mirror {mirrored} {served}");
 }
