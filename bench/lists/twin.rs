@@ -32,6 +32,25 @@ impl BioList {
     fn merge(&mut self, mut other: BioList) {
         self.ring.append(&mut other.ring);
     }
+
+    fn is_empty(&self) -> bool {
+        self.ring.is_empty()
+    }
+
+    /// Takes the bios of a set out. The ring is turned once.
+    fn take_set(&mut self, set: Option<u32>) -> BioList {
+        let mut chosen = BioList::default();
+        for _ in 0..self.ring.len() {
+            if let Some(element) = self.ring.pop_front() {
+                if element.bio.set == set {
+                    chosen.push(element);
+                } else {
+                    self.push(element);
+                }
+            }
+        }
+        chosen
+    }
 }
 
 /// The two lists, and two more to sort into, which keep their memory.
@@ -44,10 +63,6 @@ struct TaskLists {
 }
 
 impl TaskLists {
-    fn submit(&mut self, element: Element) {
-        self.list0.push(element);
-    }
-
     fn next(&mut self, served: u32) -> Option<Element> {
         while let Some(element) = self.list0.pop() {
             if element.bio.dev == served {
@@ -66,9 +81,10 @@ impl TaskLists {
     }
 }
 
-/// A bio for a device.
-fn bio(dev: u32) -> Element {
+/// A bio of a set for a device.
+fn bio(dev: u32, set: Option<u32>) -> Element {
     let mut body = Box::new(Body::default());
     body.bio.dev = dev;
+    body.bio.set = set;
     body
 }

@@ -57,6 +57,20 @@ fn part(mut from: Link, dev: u32, mut lower: Link, mut same: Link) -> (Link, Lin
     (lower, same)
 }
 
+/// Moves the bios of a chain: those of this set before `chosen`, and the others before `others`. It answers how many were of the set, too.
+fn part_by_set(mut from: Link, set: Option<u32>, mut chosen: Link, mut others: Link) -> (Link, Link, u64) {
+    let mut count = 0;
+    while let Some(element) = detach(&mut from) {
+        if element.body.bio.set == set {
+            attach(&mut chosen, element);
+            count += 1;
+        } else {
+            attach(&mut others, element);
+        }
+    }
+    (chosen, others, count)
+}
+
 /// The elements at the front, and those at the back with the last one first.
 #[derive(Default)]
 struct BioList {
@@ -93,6 +107,24 @@ impl BioList {
         self.count = count;
     }
 
+    fn is_empty(&self) -> bool {
+        self.count == 0
+    }
+
+    /// Takes the bios of a set out. They and the others each keep their order.
+    fn take_set(&mut self, set: Option<u32>) -> BioList {
+        let (chosen, others, behind) = part_by_set(self.back.take(), set, None, None);
+        let (chosen, others, before) = part_by_set(reverse_onto(self.front.take(), None), set, chosen, others);
+        let count = behind + before;
+        self.front = others;
+        self.count -= count;
+        BioList {
+            front: chosen,
+            back: None,
+            count,
+        }
+    }
+
     fn sort_before(&mut self, other: &mut BioList, dev: u32) {
         if other.count == 0 {
             return;
@@ -112,19 +144,16 @@ struct TaskLists {
 }
 
 impl TaskLists {
-    fn submit(&mut self, element: Element) {
-        self.list0.push(element);
-    }
-
     fn next(&mut self, served: u32) -> Option<Element> {
         self.list1.sort_before(&mut self.list0, served);
         self.list1.pop()
     }
 }
 
-/// A bio for a device.
-fn bio(dev: u32) -> Element {
+/// A bio of a set for a device.
+fn bio(dev: u32, set: Option<u32>) -> Element {
     let mut body = Box::new(Body::default());
     body.bio.dev = dev;
+    body.bio.set = set;
     Element { body, share: 1 }
 }

@@ -71,6 +71,26 @@ impl BioList {
     }
 }
 
+impl BioList {
+    fn is_empty(&self) -> bool {
+        self.head.is_none()
+    }
+
+    /// Takes the bios of a set out, as `punt_bios_to_rescuer` has it: all are popped, and go to one list or the other.
+    fn take_set(&mut self, set: Option<u32>) -> BioList {
+        let (mut chosen, mut others) = (BioList::default(), BioList::default());
+        while let Some(element) = self.pop() {
+            if element.body.bio.set == set {
+                chosen.push(element);
+            } else {
+                others.push(element);
+            }
+        }
+        *self = others;
+        chosen
+    }
+}
+
 #[derive(Default)]
 struct TaskLists {
     list0: BioList,
@@ -78,10 +98,6 @@ struct TaskLists {
 }
 
 impl TaskLists {
-    fn submit(&mut self, element: Element) {
-        self.list0.push(element);
-    }
-
     fn next(&mut self, served: u32) -> Option<Element> {
         if self.list0.head.is_some() {
             let (mut lower, mut same) = (BioList::default(), BioList::default());
@@ -100,9 +116,10 @@ impl TaskLists {
     }
 }
 
-/// A bio for a device.
-fn bio(dev: u32) -> Element {
+/// A bio of a set for a device.
+fn bio(dev: u32, set: Option<u32>) -> Element {
     let mut body = Box::new(Body::default());
     body.bio.dev = dev;
+    body.bio.set = set;
     Element { body, share: 1 }
 }
