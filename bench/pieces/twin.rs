@@ -1,4 +1,4 @@
-//! The twin of main.rt.txt: the same four devices in plain Rust.
+//! The twin of main.rt.txt: the same devices in plain Rust.
 use std::time::Instant;
 
 #[allow(dead_code)]
@@ -80,6 +80,7 @@ struct Zone {
 
 struct Zoned {
     chunk: u64,
+    sizes: Vec<u64>,
     sectors: u64,
     zones: Vec<Zone>,
 }
@@ -98,7 +99,24 @@ impl Zoned {
             zones.push(Zone { members, base, chunks });
             base = level;
         }
-        Zoned { chunk, sectors: counts.iter().sum::<u64>() * chunk, zones }
+        Zoned { chunk, sizes: sizes.to_vec(), sectors: counts.iter().sum::<u64>() * chunk, zones }
+    }
+
+    /// The sector of the device that this sector of a member is, if it is in one of the member's whole chunks.
+    fn sector_of(&self, member: u32, at: u64) -> Option<u64> {
+        let row = at / self.chunk;
+        if row >= self.sizes[member as usize] / self.chunk {
+            return None;
+        }
+        let mut number = 0;
+        for (place, size) in self.sizes.iter().enumerate() {
+            let count = *size / self.chunk;
+            number += count.min(row);
+            if place < member as usize && row < count {
+                number += 1;
+            }
+        }
+        Some(number * self.chunk + at % self.chunk)
     }
 }
 
@@ -122,6 +140,45 @@ impl MapLaw for Zoned {
             number -= zone.chunks;
         }
         unreachable!()
+    }
+}
+
+#[derive(Clone, Copy)]
+#[allow(dead_code)]
+struct Bio {
+    write: u32,
+    writer: u32,
+    node: u32,
+    dev: u32,
+    start: u64,
+    len: u64,
+    word: u64,
+    segment: u32,
+    done: u32,
+    set: Option<u32>,
+}
+
+#[derive(Clone, Copy)]
+#[allow(dead_code)]
+struct Pad {
+    leg: u32,
+}
+
+#[allow(dead_code)]
+struct Mirror {
+    members: Vec<u32>,
+    size: u64,
+}
+
+impl Mirror {
+    fn legs(&self) -> u32 {
+        self.members.len() as u32
+    }
+
+    /// The bio of one leg, and its padding.
+    fn clone_for(&self, bio: &Bio, leg: u32, set: Option<u32>, node: u32) -> (Bio, Pad) {
+        let clone = Bio { dev: self.members[leg as usize], set, node, ..*bio };
+        (clone, Pad { leg })
     }
 }
 
@@ -150,6 +207,77 @@ fn time_pieces<D: MapLaw>(name: &str, device: &D, count: u32) {
     println!("{name} {} {served}", start.elapsed().as_nanos());
 }
 
+fn seek(device: &Zoned, count: u32) -> u64 {
+    let mut member = 0;
+    let mut at: u64 = 0;
+    let mut served: u64 = 0;
+    for k in 0..count {
+        if let Some(sector) = device.sector_of(member, at) {
+            served += 1;
+            member = (sector % 4) as u32;
+            at = at.wrapping_add(sector).wrapping_add(u64::from(k)) % 2048;
+        }
+    }
+    served
+}
+
+fn time_sectors(device: &Zoned, count: u32) {
+    let start = Instant::now();
+    let served = seek(device, count);
+    println!("sector {} {served}", start.elapsed().as_nanos());
+}
+
+/// A bio of 16 sectors for the mirror.
+fn bio() -> Bio {
+    Bio {
+        write: 0,
+        writer: 0,
+        node: 0,
+        dev: 5,
+        start: 64,
+        len: 16,
+        word: 1,
+        segment: 0,
+        done: 0,
+        set: None,
+    }
+}
+
+/// How many clones are kept.
+const PLACES: u32 = 64;
+
+/// Makes the clones of a bio for all legs, and of another bio then, so often, each at the next of the places. It answers how many were made.
+fn copy(mirror: &Mirror, clones: &mut [(Bio, Pad)], rounds: u32) -> u64 {
+    let mut bio = bio();
+    let mut served: u64 = 0;
+    for node in 0..rounds {
+        for leg in 0..mirror.legs() {
+            if let Some(clone) = clones.get_mut((served % u64::from(PLACES)) as usize) {
+                *clone = mirror.clone_for(&bio, leg, Some(5), node);
+                served += 1;
+            }
+        }
+        bio.word = bio.word.wrapping_add(1024);
+    }
+    served
+}
+
+fn time_clones(count: u32) {
+    // four members, which the compiler can't know
+    let mut members = vec![1, 2, 3, 4];
+    if count > 4_000_000 {
+        members.push(6);
+    }
+    let mirror = Mirror { members, size: 2048 };
+    let mut clones: Vec<(Bio, Pad)> = (0..PLACES).map(|leg| (bio(), Pad { leg })).collect();
+    let start = Instant::now();
+    let served = copy(&mirror, &mut clones, count / 4);
+    let nanoseconds = start.elapsed().as_nanos();
+    // so that each clone is made
+    let words = clones.iter().fold(0u64, |all, (clone, _)| all.wrapping_add(clone.word));
+    println!("mirror {nanoseconds} {}", if words == 0 { 0 } else { served });
+}
+
 fn main() {
     let count: u32 = std::env::args().nth(1).and_then(|word| word.parse().ok()).unwrap_or(0);
     // 8, which the compiler can't know
@@ -159,4 +287,6 @@ fn main() {
     time_pieces("stripe", &Stripe { chunk, members: 4, smallest: 8192 }, count);
     time_pieces("limit", &Limit { max: 3, chunk, size: 32768 }, count);
     time_pieces("zoned", &Zoned::new(chunk, &sizes), count);
+    time_sectors(&Zoned::new(chunk, &sizes), count);
+    time_clones(count);
 }
