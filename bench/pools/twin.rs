@@ -1,4 +1,6 @@
 //! The twin of main.rt.txt: a pool of the same shape in plain Rust, with a count of what is out in place of a ledger.
+//!
+//! A take and a give are inlined, as they are in the measured program; left to rustc they are calls, and a pair with a spare takes twice as long.
 use std::time::Instant;
 
 /// A body of 64 bytes.
@@ -38,8 +40,10 @@ struct Pool {
     no: u32,
     out: u64,
     script: Script,
-    spares: Vec<Box<Body>>,
+    /// Those laid aside, and the spares behind them.
+    bodies: Vec<Box<Body>>,
     min: u64,
+    aside: u64,
     live: u64,
     pos: u64,
     ordinary: u64,
@@ -52,8 +56,9 @@ impl Pool {
             no,
             out: 0,
             script,
-            spares: (0..min).map(|_| Box::new(Body::fresh())).collect(),
+            bodies: (0..min).map(|_| Box::new(Body::fresh())).collect(),
             min: u64::from(min),
+            aside: 0,
             live: 0,
             pos: 0,
             ordinary: 0,
@@ -61,11 +66,31 @@ impl Pool {
         }
     }
 
+    /// Lays elements aside, so that the reserve may be as many as `most`.
+    fn widen(&mut self, most: u32) {
+        let lacking = (most as usize).saturating_sub(self.bodies.len());
+        self.bodies.extend((0..lacking).map(|_| Box::new(Body::fresh())));
+        self.aside += lacking as u64;
+    }
+
+    /// Sets the reserve, with nothing out.
+    fn resize(&mut self, min: u32) {
+        let min = u64::from(min);
+        self.aside = self.bodies.len() as u64 - min;
+        self.min = min;
+    }
+
+    /// How many bodies are not laid aside.
+    fn spares(&self) -> u64 {
+        self.bodies.len() as u64 - self.aside
+    }
+
     fn issue(&mut self, body: Box<Body>) -> Element {
         self.out += 1;
         Element { body, no: self.no }
     }
 
+    #[inline(always)]
     fn take(&mut self) -> Taken {
         let is_allowed = self.script.allows(self.pos);
         if self.pos < self.script.entries.len() as u64 {
@@ -80,20 +105,24 @@ impl Pool {
             self.ordinary = self.ordinary.saturating_add(1);
             return Taken::Ordinary(self.issue(body));
         }
-        let Some(body) = self.spares.pop() else {
+        if self.spares() == 0 {
+            return Taken::Miss;
+        }
+        let Some(body) = self.bodies.pop() else {
             return Taken::Miss;
         };
         self.spare = self.spare.saturating_add(1);
         Taken::Spare(self.issue(body))
     }
 
+    #[inline(always)]
     fn give(&mut self, element: Element) {
         assert!(element.no == self.no);
         let mut body = element.body;
         self.out -= 1;
-        if (self.spares.len() as u64) < self.min {
+        if self.spares() < self.min {
             *body = Body::fresh();
-            self.spares.push(body);
+            self.bodies.push(body);
         } else {
             self.live -= 1;
         }
@@ -110,6 +139,7 @@ fn open(allows: bool) -> Pool {
 }
 
 /// An element, where the pool has one.
+#[inline(always)]
 fn taken(pool: &mut Pool) -> Option<Element> {
     match pool.take() {
         Taken::Ordinary(element) | Taken::Spare(element) => Some(element),
@@ -157,6 +187,25 @@ fn fill(pool: &mut Pool, count: u32) -> u64 {
     served
 }
 
+/// Sets the reserve, in a call of its own, so that the compiler makes each of them.
+#[inline(never)]
+fn set_reserve(pool: &mut Pool, min: u32) {
+    pool.resize(min);
+}
+
+/// Sets the reserve to eight and to one in turn, so often, and answers how often the pool had as many spares then.
+fn resizes(pool: &mut Pool, count: u32) -> u64 {
+    let mut served = 0;
+    for k in 0..count {
+        let min = if k % 2 == 0 { 8 } else { 1 };
+        set_reserve(pool, min);
+        if pool.spares() == u64::from(min) {
+            served += 1;
+        }
+    }
+    served
+}
+
 /// The nanoseconds of so many pairs at a pool of its own.
 fn time_pairs(allows: bool, count: u32) -> (u128, u64) {
     let mut pool = open(allows);
@@ -173,6 +222,15 @@ fn time_fill(count: u32) -> (u128, u64) {
     (start.elapsed().as_nanos(), served)
 }
 
+/// The nanoseconds of so many resizes of a pool of its own.
+fn time_resizes(count: u32) -> (u128, u64) {
+    let mut pool = open(false);
+    pool.widen(8);
+    let start = Instant::now();
+    let served = resizes(&mut pool, count);
+    (start.elapsed().as_nanos(), served)
+}
+
 fn main() {
     let count = std::env::args().nth(1).and_then(|word| word.parse().ok()).unwrap_or(0);
     let (ordinary, served) = time_pairs(true, count);
@@ -181,4 +239,6 @@ fn main() {
     println!("spare {spare} {served}");
     let (filled, served) = time_fill(count);
     println!("fill {filled} {served}");
+    let (resized, served) = time_resizes(count);
+    println!("resize {resized} {served}");
 }
