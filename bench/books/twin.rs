@@ -235,6 +235,7 @@ impl Book {
         }
     }
 
+    #[inline(always)]
     fn drop_one(&mut self, place: u32, status: Status, part: Option<Element<BioBody>>) -> Dropped {
         let Some(slot) = self.nodes.get_mut(place as usize) else {
             return Dropped::Stray(part);

@@ -1,0 +1,84 @@
+//! The twin of main.rt.txt with a disk of the same shape: the words up to the last sector that was written, room for all of them that is
+//! reserved at the opening, and a flag a sector.
+use std::time::Instant;
+
+const SECTORS: usize = 262_144;
+const BIO: usize = 2_048;
+
+struct Disk {
+    front: Vec<u64>,
+    flags: Vec<bool>,
+}
+
+impl Disk {
+    fn open() -> Disk {
+        Disk { front: Vec::with_capacity(64 * SECTORS), flags: vec![false; SECTORS] }
+    }
+
+    /// Writes a bio's sectors from `start` on.
+    fn write(&mut self, start: usize) {
+        let (first, end) = (64 * start, 64 * (start + BIO));
+        if self.front.len() < end {
+            self.front.resize(end, 0);
+        }
+        for (i, word) in self.front[first..end].iter_mut().enumerate() {
+            *word = (start as u64).wrapping_add(i as u64);
+        }
+        self.flags[start..start + BIO].fill(true);
+    }
+
+    /// The sum of the words of all sectors that are written.
+    fn sum(&self) -> u64 {
+        let mut all = 0u64;
+        for (place, written) in self.flags.iter().enumerate() {
+            if *written {
+                all = self.front[64 * place..64 * place + 64].iter().fold(all, |all, word| all.wrapping_add(*word));
+            }
+        }
+        all
+    }
+
+    fn first_place(&self, from: usize, written: bool) -> usize {
+        (from..SECTORS).find(|place| self.flags[*place] == written).unwrap_or(SECTORS)
+    }
+
+    /// Where the first run from `from` on starts and ends.
+    fn next_run(&self, from: usize) -> Option<(usize, usize)> {
+        let start = self.first_place(from, true);
+        (start < SECTORS).then(|| (start, self.first_place(start, false)))
+    }
+}
+
+fn has_one_run(disk: &Disk) -> bool {
+    disk.next_run(0).is_some_and(|(_, end)| disk.next_run(end).is_none())
+}
+
+fn main() {
+    let mut words = std::env::args().skip(1);
+    let count: u64 = words.next().and_then(|word| word.parse().ok()).unwrap_or(0);
+    let only = words.next();
+    let rows: [(&str, &[usize]); 4] = [
+        ("open", &[]),
+        ("whole", &std::array::from_fn::<usize, { SECTORS / BIO }, _>(|k| k * BIO)),
+        ("front", &[0]),
+        ("far", &[SECTORS - BIO]),
+    ];
+    for (name, starts) in rows {
+        if only.as_ref().is_some_and(|word| word != name) {
+            continue;
+        }
+        let (mut nanoseconds, mut served) = (0, 0);
+        for _ in 0..count / SECTORS as u64 {
+            let start = Instant::now();
+            let mut disk = Disk::open();
+            starts.iter().for_each(|start| disk.write(*start));
+            let sum = disk.sum();
+            let written = has_one_run(&disk) && sum != 0;
+            nanoseconds += start.elapsed().as_nanos();
+            if written != starts.is_empty() {
+                served += SECTORS as u64;
+            }
+        }
+        println!("{name} {nanoseconds} {served}");
+    }
+}
