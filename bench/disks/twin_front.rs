@@ -1,5 +1,5 @@
-//! The twin of main.rt.txt with a disk of the same shape: the words up to the last sector that was written, room for all of them that is
-//! reserved at the opening, and a flag a sector.
+//! The twin of main.rt.txt with a disk of the same shape: the words up to the last sector that was written, a flag for each of these sectors, and room
+//! for all of them that is reserved at the opening.
 use std::time::Instant;
 
 const SECTORS: usize = 262_144;
@@ -12,7 +12,7 @@ struct Disk {
 
 impl Disk {
     fn open() -> Disk {
-        Disk { front: Vec::with_capacity(64 * SECTORS), flags: vec![false; SECTORS] }
+        Disk { front: Vec::with_capacity(64 * SECTORS), flags: Vec::with_capacity(SECTORS) }
     }
 
     /// Writes a bio's sectors from `start` on.
@@ -20,6 +20,7 @@ impl Disk {
         let (first, end) = (64 * start, 64 * (start + BIO));
         if self.front.len() < end {
             self.front.resize(end, 0);
+            self.flags.resize(end / 64, false);
         }
         for (i, word) in self.front[first..end].iter_mut().enumerate() {
             *word = (start as u64).wrapping_add(i as u64);
@@ -39,13 +40,13 @@ impl Disk {
     }
 
     fn first_place(&self, from: usize, written: bool) -> usize {
-        (from..SECTORS).find(|place| self.flags[*place] == written).unwrap_or(SECTORS)
+        (from..self.flags.len()).find(|place| self.flags[*place] == written).unwrap_or(self.flags.len())
     }
 
     /// Where the first run from `from` on starts and ends.
     fn next_run(&self, from: usize) -> Option<(usize, usize)> {
         let start = self.first_place(from, true);
-        (start < SECTORS).then(|| (start, self.first_place(start, false)))
+        (start < self.flags.len()).then(|| (start, self.first_place(start, false)))
     }
 }
 
