@@ -3,6 +3,7 @@ pub mod Sifted
 pub mod Places
 pub mod Updated
 pub mod Booked
+pub mod Vacancies
 pub mod Served
 pub mod Steps
 pub mod Tasks

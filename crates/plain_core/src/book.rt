@@ -248,14 +248,19 @@ impl Node {
 pub struct Book {
     writer: u32,
     nodes: Vec<Option<Node>>,
+    // At how many places no node is open.
+    vacant: usize,
 }
 
 impl Model for Book {
+    ghost use Rattle.std.specs.Prelude.{◌≡◌, count_by, is_none};
     ghost use Rattle.bio_books.specs.Books.{BookState};
 
     ghost Value = { BookState };
 
     ghost view = { λ b. record { writer = b.writer; nodes = b.nodes.items } };
+
+    ghost invariant = { λ b. count_by is_none b.nodes.items ≡ b.vacant };
 }
 
 impl Book {
@@ -270,7 +275,11 @@ impl Book {
         for _ in 0..places {
             nodes.push(None)?;
         }
-        Ok(Book { writer, nodes })
+        Ok(Book {
+            writer,
+            nodes,
+            vacant: places as usize,
+        })
     }
 
     // The node at a place, if one is open there.
@@ -319,6 +328,7 @@ impl Book {
         let Some(node) = slot.take() else {
             unreachable!()
         };
+        self.vacant += 1;
         node.told(status, part).close()
     }
 
@@ -348,7 +358,7 @@ impl Book {
     pub fn has_place(&self) -> bool
         ensures { Tells result ((place : ℕ) × IsVacant self.now place) }
     {
-        self.nodes.iter().any(|node| node.is_none())
+        self.vacant > 0
     }
 
     // Whether no node is open at a place of the book.
@@ -356,6 +366,16 @@ impl Book {
         ensures { MatchBool result (IsVacant self.now place) (IsVacant self.now place → ⊥) }
     {
         matches!(self.nodes.get(place as usize), Some(None))
+    }
+
+    // A node is opened at a vacant place.
+    #[tactic(auto, using(crate::proofs::Vacancies::filled))]
+    fn put(&mut self, place: u32, node: Node)
+        requires { IsVacant self.old place }
+        ensures { self.new ≡ with_node self.old place (Some node) }
+    {
+        self.nodes[place as usize] = Some(node);
+        self.vacant -= 1;
     }
 
     /// Opens the node of a write at this place, where it is vacant.
@@ -366,7 +386,7 @@ impl Book {
         if !self.is_vacant(place) {
             return false;
         }
-        self.nodes[place as usize] = Some(Node::new(Role::Top, write, vector));
+        self.put(place, Node::new(Role::Top, write, vector));
         true
     }
 
@@ -393,7 +413,7 @@ impl Book {
             return Err(CoreFault::NotEnabled);
         }
         lists.reserve()?;
-        self.nodes[place as usize] = Some(Node::new(Role::Chain { parent }, write, None));
+        self.put(place, Node::new(Role::Chain { parent }, write, None));
         self.raise(parent);
         Ok(())
     }
@@ -425,7 +445,7 @@ impl Book {
             return Err(CoreFault::NotEnabled);
         }
         lists.reserve()?;
-        self.nodes[place as usize] = Some(Node::master(parent, write, slip, legs));
+        self.put(place, Node::master(parent, write, slip, legs));
         self.keep(parent, part);
         Ok(())
     }
@@ -448,8 +468,7 @@ impl Book {
             return Err(CoreFault::NotEnabled);
         }
         lists.reserve()?;
-        let leg = Role::Leg { parent: master };
-        self.nodes[place as usize] = Some(Node::new(leg, write, None));
+        self.put(place, Node::new(Role::Leg { parent: master }, write, None));
         Ok(())
     }
 
