@@ -32,7 +32,11 @@ fn seven_events_end_a_write(rt: HostRuntime) -> Result<(), Fail> {
 
 #[test]
 fn a_write_is_not_done_before_it_began(rt: HostRuntime) -> Result<(), Fail> {
-    let Opened { accepted, mut core } = opened_of(&rt, ONE)?;
+    let Opened {
+        accepted,
+        mut core,
+        ..
+    } = opened_of(&rt, ONE)?;
     let stack = &accepted.stack;
     refused(&rt, stack, &mut core, "event c:a done 0 ok");
     for (_, _, line) in EVENTS {

@@ -9,7 +9,7 @@ use stack_base::Stack;
 use std::alloc::AllocGlobal;
 use std::process::Abort;
 use std::test::Fail;
-use task_core::{Event, TaskId, open};
+use task_core::{Event, TaskId, What, open};
 use trace_text::read_event;
 
 /// The state in which the runs of a text begin that is to be accepted.
@@ -19,7 +19,11 @@ pub fn opened_of(rt: &(impl Abort + AllocGlobal), text: &str) -> Result<Opened, 
     let Scene { accepted, work } = scene_of(rt.alloc(), text)?;
     accepted_texts_can_open();
     let core = Core::plain(rt.alloc(), &accepted.stack, &accepted.scripts, &work)?;
-    Ok(Opened { accepted, core })
+    Ok(Opened {
+        accepted,
+        writes: work.writes.len(),
+        core,
+    })
 }
 
 /// The plain state of the objects and tasks that are opened of such a text.
@@ -29,7 +33,11 @@ pub fn seen_of(rt: &(impl Abort + AllocGlobal), text: &str) -> Result<Opened, Fa
     let Scene { accepted, work } = scene_of(rt.alloc(), text)?;
     let opened = open(rt.alloc(), &accepted, &work)?;
     let core = Core::of(rt.alloc(), &opened)?;
-    Ok(Opened { accepted, core })
+    Ok(Opened {
+        accepted,
+        writes: work.writes.len(),
+        core,
+    })
 }
 
 /// The event of a line.
@@ -98,11 +106,45 @@ pub fn state(rt: &impl Abort, stack: &Stack, core: &mut Core, state: &State)
     step(rt, stack, core, line);
 }
 
-// The states of a run in their order, part by part, behind the last of which nothing is left to do.
+// Whether an event tells that this write is done.
+fn ends(event: Event, write: usize) -> bool {
+    matches!(event.what, What::Done { write: done, .. } if done as usize == write)
+}
+
+// How many events of a run tell that this write is done.
+fn times_done(rt: &impl Abort, stack: &Stack, parts: &[&[State]], write: usize) -> usize
+    requires { IsNamed stack.now }
+{
+    let mut times: usize = 0;
+    for part in parts {
+        for (_, _, line) in *part {
+            if ends(event_of(rt, stack, line), write) {
+                times = times.saturating_add(1);
+            }
+        }
+    }
+    times
+}
+
+// No write is unfinished: each of so many was done with one step of the run.
+fn all_done(rt: &impl Abort, stack: &Stack, parts: &[&[State]], writes: usize)
+    requires { IsNamed stack.now }
+{
+    for write in 0..writes {
+        assert!(rt; times_done(rt, stack, parts, write) == 1, "write {write}");
+    }
+}
+
+// The states of a run in their order, part by part, behind the last of which no task is free and no write is unfinished. In a stuck state no
+// task is free either, but there a write is not done.
 fn follow(rt: &impl Abort, opened: Opened, parts: &[&[State]])
     requires { IsNamed opened.accepted.stack }
 {
-    let Opened { accepted, mut core } = opened;
+    let Opened {
+        accepted,
+        writes,
+        mut core,
+    } = opened;
     let stack = &accepted.stack;
     for part in parts {
         for one in *part {
@@ -110,6 +152,7 @@ fn follow(rt: &impl Abort, opened: Opened, parts: &[&[State]])
         }
     }
     assert!(rt; core.free().is_none());
+    all_done(rt, stack, parts, writes);
 }
 
 /// A run of a text, from its plain state and from that of what is opened of it.

@@ -127,10 +127,11 @@ pub struct Scene {
     pub work: Work,
 }
 
-/// A text that was read, and the state in which its runs begin.
+/// A text that was read, how many writes it has, and the state in which its runs begin.
 #[derive(Drop)]
 pub struct Opened {
     pub accepted: Accepted,
+    pub writes: usize,
     pub core: Core,
 }
 
