@@ -12,6 +12,8 @@ mod legs;
 #[cfg(test)]
 mod mirrors;
 #[cfg(test)]
+mod nests;
+#[cfg(test)]
 mod rounds;
 #[cfg(test)]
 mod states;
