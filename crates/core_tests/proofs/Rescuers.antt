@@ -6,8 +6,8 @@ use Rattle.stack_base.specs.declared.ids.DevId.{DevId}
 use Rattle.stack_base.specs.declared.stack.Kind.{Kind}
 use Rattle.stack_base.specs.declared.stack.Device.{Device}
 use Rattle.stack_base.specs.declared.stack.Stack.{Stack}
-use Rattle.stack_base.specs.Stack.{HasShape, IsDevice, IsMember, IsStack}
-use Rattle.stack_base.specs.Tree.{Tree, built, over, size, tree, tree_below, weight}
+use Rattle.stack_base.specs.Stack.{HasShape, IsMember, IsStack}
+use Rattle.stack_base.specs.Tree.{Tree, built, over, size, tree_below, weight}
 
 -- what a device is by kind and members
 abbrev pub Bare : Type 0
