@@ -1,5 +1,5 @@
 -- What two chains become that are parted by a test, last one first, and joined again.
-use Rattle.std.proofs.Common.{◌≡◌, ◌+◌, Bool, true, false, ℕ, min, List, [], ◌∷◌, ◌++◌, filter, length, map, not, reverse, refl, sym, ap, ◌∙◌, append_assoc, arith}
+use Rattle.std.proofs.Common.{◌≡◌, ◌+◌, ◌-◌, ◌^◌, Bool, true, false, ℕ, min, List, [], ◌∷◌, ◌++◌, filter, length, map, not, reverse, refl, sym, ap, ◌∙◌, append_assoc, arith}
 use Rattle.std.proofs.lemmas.List.{append-nil, map-append, reverse-append, reverse-reverse, length-append}
 use Rattle.std.proofs.lemmas.List.Elements.{filter-append}
 use Rattle.std.proofs.lemmas.List.Filters.{length-filter_both}
@@ -65,3 +65,9 @@ pub sorted_counted : {X : Type 0} (p q : X → Bool) (other : (x : X) → q x �
     → count ≡ min (own_count + other_count) most → count ≡ min (length (all ++ ends)) most
 sorted_counted p q other xs front ends all own_count other_count count most is own others added =
     omega (arith, ap length is, sorted_count p q other xs front, length-append all ends, length-append front ends, own, others, added)
+
+-- how many there are of two parts, where it is known of both together
+pub parted_count : {X : Type 0} (p q : X → Bool) (other : (x : X) → q x ≡ not (p x)) (xs chosen others : List X) (count : ℕ)
+    → count ≡ min (length xs) (2 ^ 64 - 1) → chosen ≡ filter p xs → others ≡ filter q xs → count ≡ min (length chosen + length others) (2 ^ 64 - 1)
+parted_count p q other xs chosen others count is one two =
+    omega (arith, is, ap length one, ap length two, length-filter_both p q other xs)

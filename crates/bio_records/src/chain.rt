@@ -173,6 +173,21 @@ pub fn count_less_one<F: Drop>(count: u64, front: &Link<F>, back: &Link<F>) -> u
     }
 }
 
+/// How many elements each of two chains has, or `u64::MAX` where there are more, from how many they have together. The second one is looked at only
+/// where that does not tell.
+pub fn counts_apart<F: Drop>(count: u64, chosen: &Link<F>, others: &Link<F>) -> (u64, u64)
+    requires { count ≡ min (length (items chosen.now) + length (items others.now)) (2 ^ 64 - 1) }
+    ensures chosen { result.0 ≡ min (length (items chosen.now)) (2 ^ 64 - 1) }
+    ensures others { result.1 ≡ min (length (items others.now)) (2 ^ 64 - 1) }
+{
+    let of_chosen = count_of(chosen);
+    if count < u64::MAX {
+        (of_chosen, count - of_chosen)
+    } else {
+        (of_chosen, count_of(others))
+    }
+}
+
 /// Where the front of a list is empty, its back becomes its front: turned round, and empty from then on.
 pub fn bring_round<F: Drop>(front: &mut Link<F>, back: &mut Link<F>)
     ensures same { items front.new ++ reverse (items back.new) ≡ items front.old ++ reverse (items back.old) }

@@ -104,6 +104,7 @@ impl BioList {
     }
 
     /// Puts the bios of another list at the end, in their order (`bio_list_merge`). It moves those of the shorter list one by one.
+    #[inline(always)]
     pub fn merge(&mut self, mut other: BioList)
         ensures { self.new ≡ self.old ++ other }
     {
@@ -145,10 +146,13 @@ impl BioList {
         ensures taken { result ≡ filter (is_of set) self.old }
         ensures rest { self.new ≡ filter (is_of_other set) self.old }
     {
+        if self.count == 0 {
+            return BioList::new();
+        }
         let (chosen, others) = chain::set_apart(self.front.take(), self.back.take(), set);
-        self.count = chain::count_of(&others);
+        let (count, left) = chain::counts_apart(self.count, &chosen, &others);
         chain::put(&mut self.front, others);
-        let count = chain::count_of(&chosen);
+        self.count = left;
         BioList {
             front: chosen,
             back: None,
