@@ -2,25 +2,25 @@
 use Rattle.std.proofs.Common.{◌≡◌, ◌≢◌, ◌⊎◌, ℕ, zero, suc, length, List, [], ◌∷◌, inl, inr, sym, ap, subst, arith}
 use Rattle.std.specs.Prelude.{All, slice_index_or}
 use Rattle.stack_base.specs.Stack.{IsStack}
-use Rattle.task_core.specs.declared.event.Event.{Event}
+use Rattle.run_machine.specs.declared.event.Event.{Event}
 use Rattle.task_core.specs.declared.opened.Opened.{Opened}
-use Rattle.task_core.specs.Homes.{IsTaskOf}
-use Rattle.task_core.specs.Maps.{upd}
-use Rattle.task_core.specs.Named.{IsEventOf}
+use Rattle.task_steps.specs.Homes.{IsTaskOf}
+use Rattle.run_machine.specs.Maps.{upd}
+use Rattle.task_steps.specs.Named.{IsEventOf}
 use Rattle.task_core.specs.ObjectsOf.{AreNumbered, AreObjectsOf}
 use Rattle.task_core.specs.OfOne.{IsOpened, scenario_in, states}
-use Rattle.task_core.specs.Opened.{at, most_writers, no_task, scene, start, tasks}
+use Rattle.run_machine.specs.Opened.{at, most_writers, no_task, scene, start, tasks}
 use Rattle.task_core.specs.Plains.{stage_of}
-use Rattle.task_core.specs.Routed.{setup}
-use Rattle.task_core.specs.Runs.{State, IsRun, Steps}
-use Rattle.task_core.specs.Scene.{Scene, Setup}
-use Rattle.task_core.specs.Stage.{Stage}
-use Rattle.task_core.specs.TaskViews.{TaskOf}
-use Rattle.task_core.specs.Tasks.{TaskState, answered, request}
-use Rattle.task_core.proofs.Frames.{upd_same, upd_other}
+use Rattle.task_steps.specs.Routed.{setup}
+use Rattle.run_machine.specs.Runs.{State, IsRun, Steps}
+use Rattle.run_machine.specs.Scene.{Scene, Setup}
+use Rattle.task_steps.specs.Stage.{Stage}
+use Rattle.task_steps.specs.TaskViews.{TaskOf}
+use Rattle.run_machine.specs.Tasks.{TaskState, answered, request}
+use Rattle.run_machine.proofs.Frames.{upd_same, upd_other}
 use Rattle.task_core.proofs.Keeping.{objects_stay, objects_owe}
-use Rattle.task_core.proofs.Named.{tasks_name_the_stack}
-use Rattle.task_core.proofs.TaskHomes.{tasks_stay_home}
+use Rattle.task_steps.proofs.Named.{tasks_name_the_stack}
+use Rattle.task_steps.proofs.TaskHomes.{tasks_stay_home}
 
 same_or_not : (i j : ℕ) → (i ≡ j) ⊎ (i ≢ j)
 same_or_not i j = grind arith

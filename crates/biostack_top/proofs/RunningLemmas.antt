@@ -10,12 +10,12 @@ use Rattle.decl_text.specs.declared.accepted.Accepted.{Accepted}
 use Rattle.work_text.specs.declared.Work.{Work}
 use Rattle.work_text.proofs.Ready.{writes_ready}
 use Rattle.task_core.specs.declared.ended.Ended.{Ended}
-use Rattle.task_core.specs.declared.event.Event.{Event}
+use Rattle.run_machine.specs.declared.event.Event.{Event}
 use Rattle.task_core.specs.declared.opened.Opened.{Opened}
 use Rattle.task_core.specs.OfOne.{IsOpened, IsReadBehind, scenario_in}
 use Rattle.task_core.specs.Plains.{stage_of}
-use Rattle.task_core.specs.Opened.{scene, start}
-use Rattle.task_core.specs.Scenario.{scenario_of}
+use Rattle.run_machine.specs.Opened.{scene, start}
+use Rattle.run_machine.specs.Scenario.{scenario_of}
 use Rattle.block_core.specs.Runnable.{IsRunnable}
 use Rattle.block_core.proofs.Claim.{accepted_texts_run_as_claimed}
 use Rattle.block_core.proofs.Runnable.{accepted_texts_are_runnable, steps_are_few}

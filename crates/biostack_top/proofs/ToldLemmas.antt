@@ -4,8 +4,8 @@ use Rattle.biostack_words.specs.declared.order.Order.TheVariants.{Run, Gen}
 use Rattle.decl_text.specs.declared.accepted.Accepted.{Accepted}
 use Rattle.work_text.specs.declared.Work.{Work}
 use Rattle.task_core.specs.declared.ended.Ended.{Ended}
-use Rattle.task_core.specs.declared.event.Event.{Event}
-use Rattle.task_core.specs.Scenario.{scenario_of}
+use Rattle.run_machine.specs.declared.event.Event.{Event}
+use Rattle.run_machine.specs.Scenario.{scenario_of}
 use Rattle.report_text.specs.CheckText.{most_steps}
 use Rattle.report_text.specs.Report.{gen_text, report}
 use Rattle.report_text.specs.Views.{told_of}

@@ -8,7 +8,7 @@ use Rattle.outside_io.specs.Causes.{Rose}
 use Rattle.outside_io.specs.Saying.{AppendsFront, Says, Writes, emptied}
 use Rattle.outside_io.proofs.PutLemmas.{appends_front, front_longer}
 use Rattle.outside_io.proofs.SaysLemmas.{finished, says_then, says_silence}
-use Rattle.task_core.specs.declared.event.Event.{Event}
+use Rattle.run_machine.specs.declared.event.Event.{Event}
 use Rattle.serial_run.specs.Serial.{HandsOn}
 use Rattle.biostack_top.specs.declared.trace.Trace.{Trace}
 use Rattle.biostack_top.specs.Tracing.{WritesLine, event_line, event_lines}

@@ -13,7 +13,7 @@ use Rattle.outside_io.specs.Saying.{AppendsFront, joined_text}
 use Rattle.decl_text.specs.Reasons.{name_of_number}
 use Rattle.decl_text.specs.declared.accepted.Accepted.{Accepted}
 use Rattle.decl_text.specs.declared.reason.Refusal.{Refusal}
-use Rattle.task_core.specs.declared.event.Event.{Event}
+use Rattle.run_machine.specs.declared.event.Event.{Event}
 use Rattle.work_text.specs.declared.Work.{Work}
 use Rattle.work_text.specs.Whole.{text_refusal}
 use Rattle.report_text.specs.Report.{Told, gen_text, report}

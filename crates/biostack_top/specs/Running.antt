@@ -8,14 +8,14 @@ use Rattle.layout_model.specs.declared.write.Write.{Write}
 use Rattle.decl_text.specs.declared.accepted.Accepted.{Accepted}
 use Rattle.work_text.specs.declared.Work.{Work}
 use Rattle.task_core.specs.declared.ended.Ended.{Ended}
-use Rattle.task_core.specs.declared.event.Event.{Event}
+use Rattle.run_machine.specs.declared.event.Event.{Event}
 use Rattle.task_core.specs.Leaving.{IsLeft}
-use Rattle.task_core.specs.Opened.{Scenario, at, scene, start}
-use Rattle.task_core.specs.Runs.{State, IsRun, HasEnded}
-use Rattle.task_core.specs.Scenario.{scenario_of}
+use Rattle.run_machine.specs.Opened.{Scenario, at, scene, start}
+use Rattle.run_machine.specs.Runs.{State, IsRun, HasEnded}
+use Rattle.run_machine.specs.Scenario.{scenario_of}
 use Rattle.block_core.specs.Claim.{IsAsClaimed}
 use Rattle.block_core.specs.Sound.{IsNaming}
-use Rattle.task_core.specs.Named.{IsEventOf}
+use Rattle.task_steps.specs.Named.{IsEventOf}
 use Rattle.serial_run.specs.Schedule.{Follows}
 use Rattle.report_text.specs.CheckText.{most_steps}
 use Rattle.report_text.specs.Report.{Told}

@@ -4,10 +4,10 @@ use Rattle.std.proofs.lemmas.List.{length-set}
 use Rattle.stack_base.specs.Tree.{Tree, Leaf, Split, Mirrored}
 use Rattle.bio_books.specs.Books.{Node, BookState, node_at, with_node, top_node, child_node, master_node, leg_node, keeping, raised, lowered, told}
 use Rattle.bio_books.specs.Links.{IsVacant}
-use Rattle.task_core.specs.Maps.{upd}
-use Rattle.task_core.specs.Scene.{Scene, tree_at}
-use Rattle.task_core.specs.Lines.{ToMaster, Drives, legs_of}
-use Rattle.task_core.specs.Runs.{State}
+use Rattle.run_machine.specs.Maps.{upd}
+use Rattle.run_machine.specs.Scene.{Scene, tree_at}
+use Rattle.run_machine.specs.Lines.{ToMaster, Drives, legs_of}
+use Rattle.run_machine.specs.Runs.{State}
 use Rattle.block_core.proofs.Moves.{Move, IsTaking, place_of, Can, after, lost, gained, limit_of, with_line, HasLine, Wants, with_want, taken_of, filled_of, vector_of, cut_lists, IsTake, Tells, Hands, piece, with_pool, with_book}
 use Rattle.block_core.proofs.Moves as moves
 use Rattle.block_core.proofs.Sums.{within_book, with_node_is}

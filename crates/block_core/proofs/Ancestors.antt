@@ -10,10 +10,10 @@ use Rattle.bio_records.specs.Items.{Item}
 use Rattle.bio_books.specs.Books.{Node, node_at, parent_of}
 use Rattle.bio_books.specs.Drops.{Closed}
 use Rattle.model_disks.specs.Disks.{DiskState}
-use Rattle.task_core.specs.Scene.{Scene, tree_at}
-use Rattle.task_core.specs.Lines.{Want, Ask, Doing, Rests, Drives, Copies, Breaks, legs_of}
-use Rattle.task_core.specs.Tasks.{TaskState, Writer, Rescuer, Completer, Keeper, Carried, Empty, Brings, Carries, Fails}
-use Rattle.task_core.specs.Runs.{State}
+use Rattle.run_machine.specs.Scene.{Scene, tree_at}
+use Rattle.run_machine.specs.Lines.{Want, Ask, Doing, Rests, Drives, Copies, Breaks, legs_of}
+use Rattle.run_machine.specs.Tasks.{TaskState, Writer, Rescuer, Completer, Keeper, Carried, Empty, Brings, Carries, Fails}
+use Rattle.run_machine.specs.Runs.{State}
 use Rattle.block_core.specs.Weights.{Weight, Lined, Rescued, Pending, total, sum_at, one, line_weight, refs, names, under, legs_left, count_of}
 use Rattle.block_core.specs.Levels.{apart}
 use Rattle.block_core.specs.OfOneWrite.{bio_strays, parent_strays, strays}

@@ -3,7 +3,7 @@ use Rattle.std.proofs.Common.{◌≡◌, ◌≢◌, ◌+◌, ◌*◌, ◌<◌, �
 use Rattle.std.proofs.lemmas.List.{get_or-set_same, get_or-set_other}
 use Rattle.bio_books.specs.Books.{Node, BookState, node_at, with_node}
 use Rattle.bio_books.specs.Links.{IsVacant}
-use Rattle.task_core.specs.Maps.{upd}
+use Rattle.run_machine.specs.Maps.{upd}
 use Rattle.block_core.specs.Weights.{one}
 use Rattle.block_core.proofs.Sums.{upd-same, upd-other, within_book, one-same, one-other, same_or_not}
 use Rattle.block_core.proofs.Deltas.{vacant_at}

@@ -1,13 +1,13 @@
 -- Every event of every run lowers the rank, so no run has more events than the rank at its start.
 use Rattle.std.proofs.Common.{◌+◌, ◌*◌, ◌≤◌, ℕ, List, [], ◌∷◌, length, inl, inr, refl, sym, ap, subst, arith}
 use Rattle.elem_ledger.specs.Ledger.{LedgerId}
-use Rattle.task_core.specs.declared.event.Event.{Event}
+use Rattle.run_machine.specs.declared.event.Event.{Event}
 use Rattle.mempool_core.specs.Move.{PoolState, Move as PoolMove, after_move, takes_ordinary, takes_spare, misses, gives, resizes}
 use Rattle.stack_base.specs.PoolId.{pool_number}
-use Rattle.task_core.specs.Maps.{upd}
-use Rattle.task_core.specs.Scene.{Scene}
-use Rattle.task_core.specs.Opened.{Scenario, scene, start, setup as setup_in}
-use Rattle.task_core.specs.Runs.{State, Steps, IsRun}
+use Rattle.run_machine.specs.Maps.{upd}
+use Rattle.run_machine.specs.Scene.{Scene}
+use Rattle.run_machine.specs.Opened.{Scenario, scene, start, setup as setup_in}
+use Rattle.run_machine.specs.Runs.{State, Steps, IsRun}
 use Rattle.block_core.specs.Charges.{charged, spent, rank, EventsLowerRank}
 use Rattle.block_core.specs.Sound.{IsScenario, IsNaming}
 use Rattle.block_core.specs.Bounded.{most_steps, OpenedRankIsBounded, OutsAreBounded, RunsAreBounded}

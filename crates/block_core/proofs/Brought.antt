@@ -9,16 +9,16 @@ use Rattle.bio_records.specs.declared.tasks.TaskLists.{TaskLists}
 use Rattle.bio_records.specs.Items.{Item}
 use Rattle.bio_books.specs.Books.{VectorItem, SlipItem}
 use Rattle.bio_books.specs.Drops.{Closed}
-use Rattle.task_core.specs.declared.event.Event.{Event}
-use Rattle.task_core.specs.declared.event.What.{What}
-use Rattle.task_core.specs.Events.{what_of}
-use Rattle.task_core.specs.Maps.{upd}
-use Rattle.task_core.specs.Scene.{Setup, Scene}
-use Rattle.task_core.specs.Lines.{Takes, Punts as WantsPunt, Links, ToPush, ToCut, ToRecord, ToMaster, Doing, Rests, Drives, Copies, Breaks, Line, line_request}
-use Rattle.task_core.specs.Tasks.{TaskState, Writer, Rescuer, Completer, Keeper, Keeping, Keeps, Stops, Resizes, Starts, Todo, Taken, NoBio, HasBio, HasBoth, Carried, Empty, Brings, Carries, Fails, request, answered, closed_request, with_bio, needs_vector, write_request, writer_request}
-use Rattle.task_core.specs.Requests as requests
-use Rattle.task_core.specs.Requests.{Request, Reply}
-use Rattle.task_core.specs.Runs.{State, Steps}
+use Rattle.run_machine.specs.declared.event.Event.{Event}
+use Rattle.run_machine.specs.declared.event.What.{What}
+use Rattle.run_machine.specs.Events.{what_of}
+use Rattle.run_machine.specs.Maps.{upd}
+use Rattle.run_machine.specs.Scene.{Setup, Scene}
+use Rattle.run_machine.specs.Lines.{Takes, Punts as WantsPunt, Links, ToPush, ToCut, ToRecord, ToMaster, Doing, Rests, Drives, Copies, Breaks, Line, line_request}
+use Rattle.run_machine.specs.Tasks.{TaskState, Writer, Rescuer, Completer, Keeper, Keeping, Keeps, Stops, Resizes, Starts, Todo, Taken, NoBio, HasBio, HasBoth, Carried, Empty, Brings, Carries, Fails, request, answered, closed_request, with_bio, needs_vector, write_request, writer_request}
+use Rattle.run_machine.specs.Requests as requests
+use Rattle.run_machine.specs.Requests.{Request, Reply}
+use Rattle.run_machine.specs.Runs.{State, Steps}
 use Rattle.block_core.specs.Fragments.{fragment_of, completed_by}
 use Rattle.block_core.proofs.Moves.{Move, place_of, Can, after, HasLine, Tells}
 use Rattle.block_core.proofs.Moves as moves

@@ -8,17 +8,17 @@ use Rattle.bio_records.specs.declared.bio.Pad.{Pad}
 use Rattle.bio_records.specs.declared.tasks.TaskLists.{TaskLists}
 use Rattle.bio_records.specs.Items.{Item}
 use Rattle.bio_books.specs.Books.{keeping}
-use Rattle.task_core.specs.Scene.{Setup, Scene, tree_at}
-use Rattle.task_core.specs.Lines.{Want, Takes, Punts as WantsPunt, Links, ToPush, ToCut, ToRecord, ToMaster, Doing, Rests, Drives, Copies, Breaks, Line, legs_of}
-use Rattle.task_core.specs.Tasks.{TaskState, Writer, Rescuer, Completer, Keeper, Todo, Taken, NoBio, HasBio, HasBoth, Empty, Brings, Carries, Fails}
-use Rattle.task_core.specs.Runs.{State}
+use Rattle.run_machine.specs.Scene.{Setup, Scene, tree_at}
+use Rattle.run_machine.specs.Lines.{Want, Takes, Punts as WantsPunt, Links, ToPush, ToCut, ToRecord, ToMaster, Doing, Rests, Drives, Copies, Breaks, Line, legs_of}
+use Rattle.run_machine.specs.Tasks.{TaskState, Writer, Rescuer, Completer, Keeper, Todo, Taken, NoBio, HasBio, HasBoth, Empty, Brings, Carries, Fails}
+use Rattle.run_machine.specs.Runs.{State}
 use Rattle.block_core.specs.Weights.{Weight, Lined, sum_at, one, line_weight}
 use Rattle.block_core.proofs.Sums.{one-other, same_or_not}
 use Rattle.block_core.proofs.Kept.{Suits, DoingFits}
 use Rattle.block_core.proofs.Lines.{IsBusy}
 use Rattle.block_core.proofs.Orders.{Each, Above, DoingPlaced, Ground}
 use Rattle.std.specs.Prelude.{min}
-use Rattle.task_core.specs.Scene.{keeps_data, is_mirror}
+use Rattle.run_machine.specs.Scene.{keeps_data, is_mirror}
 use Rattle.block_core.proofs.Waits.{DoingWaits}
 
 -- the pools at which a task can wait: the two of writes, those of bios of devices that cut or copy, and those of mirrors' records

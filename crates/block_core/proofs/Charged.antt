@@ -18,12 +18,12 @@ use Rattle.bio_lists.specs.Submission.{order, submitted}
 use Rattle.bio_split.specs.Split.{split_rest}
 use Rattle.bio_books.specs.Books.{VectorItem, Holding, keeping, told, later_part}
 use Rattle.bio_books.specs.Drops.{closed_of}
-use Rattle.task_core.specs.Maps.{upd}
-use Rattle.task_core.specs.Scene.{Setup, Scene, tree_at}
-use Rattle.task_core.specs.Lines.{Want, Takes, Punts as WantsPunt, Links, ToPush, ToCut, ToRecord, ToMaster, Doing, Rests, Drives, Copies, Breaks, Line, rests, settled, goes_on, copies, first_waits, first_length, landed, legs_of, leg_at, is_of, not_punted}
-use Rattle.task_core.specs.Tasks.{TaskState, Writer, Rescuer, Completer, Keeper, Keeps, Resizes, Starts, Todo, NoBio, HasBio, HasBoth, Carried, Empty, Brings, Carries, Fails}
-use Rattle.task_core.specs.Objects.{clear_bio, clear_vector, clear_slip}
-use Rattle.task_core.specs.Runs.{State}
+use Rattle.run_machine.specs.Maps.{upd}
+use Rattle.run_machine.specs.Scene.{Setup, Scene, tree_at}
+use Rattle.run_machine.specs.Lines.{Want, Takes, Punts as WantsPunt, Links, ToPush, ToCut, ToRecord, ToMaster, Doing, Rests, Drives, Copies, Breaks, Line, rests, settled, goes_on, copies, first_waits, first_length, landed, legs_of, leg_at, is_of, not_punted}
+use Rattle.run_machine.specs.Tasks.{TaskState, Writer, Rescuer, Completer, Keeper, Keeps, Resizes, Starts, Todo, NoBio, HasBio, HasBoth, Carried, Empty, Brings, Carries, Fails}
+use Rattle.run_machine.specs.Objects.{clear_bio, clear_vector, clear_slip}
+use Rattle.run_machine.specs.Runs.{State}
 use Rattle.block_core.specs.Weights.{Weight, Rescued, Lined, sum_at, doing_weight, task_weight, line_weight, carried_weight}
 use Rattle.block_core.specs.Charges.{may_pop, bio_charge, legs_charge, there, write_run, write_charge, todo_charge, charge, want_spent, doing_spent, task_spent, task_duties, entries_left, charged, spent}
 use Rattle.block_core.proofs.Moves.{Move, IsTaking, place_of, Can, after, lost, gained, limit_of, with_line, HasLine, Wants, with_want, taken_of, filled_of, vector_of, cut_lists, IsTake, Tells, Hands, piece, with_pool, with_book}
@@ -39,43 +39,18 @@ use Rattle.block_core.proofs.Deltas.{delta}
 use Rattle.block_core.proofs.Lines.{line_fits}
 use Rattle.block_core.proofs.Orders.{waiting_placed}
 use Rattle.block_core.proofs.OrdersKept.{line_placed}
-use Rattle.block_core.proofs.Places.{cut_weight}
+use Rattle.block_core.proofs.Landings.{AreThere, IsLanding, settled_there, goes_there, copies_there, all_there, none_there, cut_there, leg_there}
+use Rattle.block_core.proofs.Places.{cut_weight, unless_less}
 
-abbrev AllThere : Setup → List (Item Pad) → Type 0
-AllThere setup items = Each (λ (item : Item Pad). IsThere setup item.bio) items
+-- bios are charged the same where they land
+charge_lands : (setup : Setup) → Priced setup → IsLanding setup (charge setup)
+charge_lands setup p limit item is = ap (λ v. 1 + may_pop limit item.share.no + v) (p.lands item.bio is)
 
--- bios of a line, the first of them where it lands
-settled_charge : (setup : Setup) → Priced setup → (limit : ℕ) (items : List (Item Pad)) → AllThere setup items
-    → line_weight (charge setup) limit (settled setup items) ≡ sum_by (bio_charge setup (Lined limit)) items
-settled_charge setup p limit [] are = refl
-settled_charge setup p limit (item ∷ waiting) are =
-    let at : Bio = landed (tree_at setup item.bio.dev) item.bio in
-    let lists : TaskLists = record { list0 = []; list1 = waiting } in
-    let a = asks_weight (charge setup) limit setup lists (record item { bio = at }) (tree_at setup at.dev) in
-    let b = p.lands item.bio are.0 in
-    let c = sum_by-cons (bio_charge setup (Lined limit)) item waiting in
-    omega (arith, a, b, c)
-
-goes_charge : (setup : Setup) → Priced setup → (limit : ℕ) (dev : DevId) (lists : TaskLists) → AllThere setup lists.list0 → AllThere setup lists.list1
-    → line_weight (charge setup) limit (goes_on setup dev lists) ≡ sum_by (bio_charge setup (Lined limit)) lists.list0 + sum_by (bio_charge setup (Lined limit)) lists.list1
-goes_charge setup p limit dev lists first second =
-    let P : Item Pad → Type 0 = λ item. IsThere setup item.bio in
-    let low = filter (is_lower dev) lists.list0 in
-    let same = filter (is_same dev) lists.list0 in
-    settled_charge setup p limit (order dev lists)
-    (each_append P low (same ++ lists.list1) (each_less P (is_lower dev) lists.list0 first) (each_append P same lists.list1 (each_less P (is_same dev) lists.list0 first) second))
-    ∙ order_weight (bio_charge setup (Lined limit)) dev lists
-
-copies_charge : (setup : Setup) → Priced setup → (limit : ℕ) (lists : TaskLists) (bio : Bio) (master leg : ℕ) → AllThere setup lists.list0 → AllThere setup lists.list1
+copies_charge : (setup : Setup) → Priced setup → (limit : ℕ) (lists : TaskLists) (bio : Bio) (master leg : ℕ) → AreThere setup lists.list0 → AreThere setup lists.list1
     → line_weight (charge setup) limit (copies setup lists bio master leg)
     ≤ legs_charge setup bio leg + sum_by (bio_charge setup (Lined limit)) lists.list0 + sum_by (bio_charge setup (Lined limit)) lists.list1
 copies_charge setup p limit lists bio master leg first second =
-    elim (leg == legs_of (tree_at setup bio.dev))
-    as (λ v. line_weight (charge setup) limit (if v then goes_on setup bio.dev lists else record { doing = Copies bio master leg (Takes (first_waits setup bio.dev lists)); lists = lists })
-    ≤ legs_charge setup bio leg + sum_by (bio_charge setup (Lined limit)) lists.list0 + sum_by (bio_charge setup (Lined limit)) lists.list1) [
-      | true ↦ omega (arith, goes_charge setup p limit bio.dev lists first second)
-      | false ↦ omega arith
-    ]
+    omega (arith, copies_there setup (charge setup) (charge_lands setup p) limit lists bio master leg first second, unless_less (leg == legs_of (tree_at setup bio.dev)) (legs_charge setup bio leg))
 
 pops_once : (limit number : ℕ) → may_pop limit number ≤ 1
 pops_once limit number = elim (nat_lt number (2 * limit)) as (λ v. (if v then 1 else 0) ≤ 1) [ true ↦ omega arith | false ↦ omega arith ]
@@ -247,11 +222,8 @@ module _ (scene : Scene) (s : State) (g : Ground scene.setup) (p : Priced scene.
   has : (place : ℕ) (x : TaskState) (doing : Doing) (lists : TaskLists) → s.task place ≡ x → HasLine x doing lists → DoingPlaced scene.setup (limit_of x) doing lists
   has place x doing lists is h = line_placed scene.setup x doing lists (subst (TaskPlaced scene.setup) is (a.tasks place)) h
 
-  all_there : (limit : ℕ) (items : List (Item Pad)) → Each (IsPlaced scene.setup limit) items → AllThere scene.setup items
-  all_there limit items placed = each_map (IsPlaced scene.setup limit) (λ (item : Item Pad). IsThere scene.setup item.bio) (λ item h. h.0) items placed
-
-  own_there : (dev limit : ℕ) (items : List (Item Pad)) → Each (IsOwn scene.setup dev limit) items → AllThere scene.setup items
-  own_there dev limit items own = each_map (IsOwn scene.setup dev limit) (λ (item : Item Pad). IsThere scene.setup item.bio) (λ item h. h.0.0) items own
+  lands : IsLanding scene.setup w
+  lands = charge_lands scene.setup p
 
   numbered : (number : ℕ) → moves.IsNumber scene number → number < 66
   numbered number (inl low) = let few = g.few in omega arith
@@ -262,11 +234,11 @@ module _ (scene : Scene) (s : State) (g : Ground scene.setup) (p : Priced scene.
       → line_weight w 32 (settled scene.setup (filled_of writer todo item vector key ∷ [])) ≤ 1 + write_run scene.setup todo
   begins place writer todo later item None key c fits home =
       let filled_item : Item Pad = filled_of writer todo item None key in
-      let b = settled_charge scene.setup p 32 (filled_item ∷ []) (fits key, tt) in
+      let b = settled_there scene.setup w lands 32 (filled_item ∷ []) (fits key, tt) in
       omega (arith, b, sum_by-cons (bio_charge scene.setup (Lined 32)) filled_item [], pops_not 32 item.share.no (omega (arith, home)))
   begins place writer todo later item (Some vector) key c fits home =
       let filled_item : Item Pad = filled_of writer todo item (Some vector) key in
-      let b = settled_charge scene.setup p 32 (filled_item ∷ []) (fits key, tt) in
+      let b = settled_there scene.setup w lands 32 (filled_item ∷ []) (fits key, tt) in
       omega (arith, b, sum_by-cons (bio_charge scene.setup (Lined 32)) filled_item [], pops_not 32 item.share.no (omega (arith, home)))
 
   pub lowers : (m : Move) → Can scene s m → Lowers m
@@ -357,15 +329,14 @@ module _ (scene : Scene) (s : State) (g : Ground scene.setup) (p : Priced scene.
         delta scene w s (moves.Pops place dev bio bios) c,
         on_tasks task_spent scene s place x y c.0 c.1,
         on_tasks task_duties scene s place x y c.0 c.1,
-        settled_charge scene.setup p dev.0 (bio ∷ []) (r.0.0.0, tt),
+        settled_there scene.setup w lands dev.0 (bio ∷ []) (r.0.0.0, tt),
         sum_by-cons (bio_charge scene.setup (Lined dev.0)) bio [],
         pops_not dev.0 bio.share.no (omega (arith, own)),
       )
   lowers (moves.Pushes place x bio lists) c =
       let d = has place x (Drives bio ToPush) lists c.1 c.2 in
       let t = on_line scene s place x (Drives bio ToPush) lists (goes_on scene.setup bio.bio.dev lists) c.0 c.1 c.2 in
-      let none : AllThere scene.setup lists.list0 = subst (AllThere scene.setup) (sym d.0) tt in
-      let b = goes_charge scene.setup p (limit_of x) bio.bio.dev lists none (all_there (limit_of x) lists.list1 d.1.1) in
+      let b = goes_there scene.setup w lands (limit_of x) bio.bio.dev lists (none_there scene.setup (limit_of x) lists d.0) (all_there scene.setup (limit_of x) lists.list1 d.1.1) in
       let is = d.1.0.0 in
       omega (
         arith,
@@ -407,29 +378,21 @@ module _ (scene : Scene) (s : State) (g : Ground scene.setup) (p : Priced scene.
       let n = first_length kind sizes bio.bio.range in
       let new : Line = goes_on scene.setup bio.bio.dev (cut_lists bio lists hand n key kind sizes members) in
       let child = piece bio hand n key kind sizes members in
-      let rest = split_rest bio n in
-      let P : Item Pad → Type 0 = λ item. IsThere scene.setup item.bio in
       let d = has place x (Drives bio (ToCut (Links hand))) lists c.1 c.2 in
-      let suits : AskFits (Split number kind sizes members) bio.bio.range bio.bio.dev.0 (ToCut (Links hand)) =
-      subst (λ t. AskFits t bio.bio.range bio.bio.dev.0 (ToCut (Links hand))) c.3 d.3 in
-      let cuts = g.cut_piece bio hand key number kind sizes members d.1.0.0 c.3 suits.0 in
-      let none : AllThere scene.setup lists.list0 = subst (AllThere scene.setup) (sym d.0) tt in
-      let first : AllThere scene.setup (cut_lists bio lists hand n key kind sizes members).list0 =
-      each_append P (lists.list0 ++ child ∷ []) (rest ∷ []) (each_append P lists.list0 (child ∷ []) none (cuts.0, tt)) (cuts.2, tt) in
+      let cuts = cut_there scene.setup (limit_of x) g bio hand lists key number kind sizes members d c.3 in
       let t = on_line scene s place x (Drives bio (ToCut (Links hand))) lists new c.0 c.1 c.2 in
       omega (
         arith,
         delta scene w s (moves.Chained place x bio lists hand number kind sizes members key node) c,
         t.0,
         t.1,
-        goes_charge scene.setup p (limit_of x) bio.bio.dev (cut_lists bio lists hand n key kind sizes members) first (all_there (limit_of x) lists.list1 d.1.1),
+        goes_there scene.setup w lands (limit_of x) bio.bio.dev (cut_lists bio lists hand n key kind sizes members) cuts.1 (all_there scene.setup (limit_of x) lists.list1 d.1.1),
         cut_weight (bio_charge scene.setup (Lined (limit_of x))) bio lists hand n key kind sizes members,
-        p.cut bio hand key number kind sizes members d.1.0.0 c.3 suits.0,
+        p.cut bio hand key number kind sizes members d.1.0.0 c.3 cuts.0,
         pops_once (limit_of x) child.share.no,
       )
   lowers (moves.Mastered place x bio lists slip key node) c =
       let d = has place x (Drives bio (ToMaster slip)) lists c.1 c.2 in
-      let none : AllThere scene.setup lists.list0 = subst (AllThere scene.setup) (sym d.0) tt in
       let t = on_line scene s place x (Drives bio (ToMaster slip)) lists (copies scene.setup lists bio.bio key 0) c.0 c.1 c.2 in
       let is = d.1.0.0 in
       omega (
@@ -437,7 +400,7 @@ module _ (scene : Scene) (s : State) (g : Ground scene.setup) (p : Priced scene.
         delta scene w s (moves.Mastered place x bio lists slip key node) c,
         t.0,
         t.1,
-        copies_charge scene.setup p (limit_of x) lists bio.bio key 0 none (all_there (limit_of x) lists.list1 d.1.1),
+        copies_charge scene.setup p (limit_of x) lists bio.bio key 0 (none_there scene.setup (limit_of x) lists d.0) (all_there scene.setup (limit_of x) lists.list1 d.1.1),
         mirror_charge (tree_at scene.setup bio.bio.dev) bio.bio.range bio.bio.dev.0 slip d.3 is.some,
       )
   lowers (moves.Legged place x bio lists master leg hand key node) c =
@@ -445,16 +408,14 @@ module _ (scene : Scene) (s : State) (g : Ground scene.setup) (p : Priced scene.
       let lt = line_fits scene x (Copies bio master leg (Links hand)) lists (subst (TaskFits scene) c.1 (i.tasks place)) c.2 in
       let item = leg_at bio hand leg key (tree_at scene.setup bio.dev) in
       let more = submitted item lists in
-      let l = g.leg bio hand leg key d.0 lt in
-      let P : Item Pad → Type 0 = λ item. IsThere scene.setup item.bio in
-      let first : AllThere scene.setup more.list0 = each_append P lists.list0 (item ∷ []) (own_there bio.dev.0 (limit_of x) lists.list0 d.2) (l.0, tt) in
+      let first = leg_there scene.setup (limit_of x) g bio hand lists master leg key d lt in
       let t = on_line scene s place x (Copies bio master leg (Links hand)) lists (copies scene.setup more bio master (leg + 1)) c.0 c.1 c.2 in
       omega (
         arith,
         delta scene w s (moves.Legged place x bio lists master leg hand key node) c,
         t.0,
         t.1,
-        copies_charge scene.setup p (limit_of x) more bio master (leg + 1) first (all_there (limit_of x) lists.list1 d.3),
+        copies_charge scene.setup p (limit_of x) more bio master (leg + 1) first (all_there scene.setup (limit_of x) lists.list1 d.3),
         sum_by_push (bio_charge scene.setup (Lined (limit_of x))) lists.list0 item,
         p.leg bio hand leg key d.0 lt,
         legs_next (tree_at scene.setup bio.dev) bio.range leg lt,

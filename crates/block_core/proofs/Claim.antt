@@ -1,6 +1,6 @@
 -- Every run of a scenario that can be run is as claimed: the laws together.
 use Rattle.std.proofs.Common.{arith}
-use Rattle.task_core.specs.Scenario.{scenario_of}
+use Rattle.run_machine.specs.Scenario.{scenario_of}
 use Rattle.block_core.specs.Claim.{EveryRunIsAsClaimed, AcceptedTextsRunAsClaimed}
 use Rattle.block_core.proofs.Bounded.{runs_are_bounded}
 use Rattle.block_core.proofs.DoneWrites.{done_is_completed}

@@ -13,16 +13,17 @@ use Rattle.bio_records.specs.Items.{Item}
 use Rattle.bio_records.specs.Sorting.{is_lower, is_same}
 use Rattle.bio_lists.specs.Submission.{order, submitted}
 use Rattle.bio_split.specs.Split.{split_rest}
-use Rattle.task_core.specs.Scene.{Setup, Scene, tree_at}
-use Rattle.task_core.specs.Lines.{Takes, Links, ToPush, ToCut, ToMaster, Doing, Drives, Copies, rests, settled, goes_on, copies, first_waits, first_length, landed, legs_of, leg_at, punted}
-use Rattle.task_core.specs.Tasks.{TaskState, Writer, HasBio, HasBoth, Carried, Empty, Brings, Carries, Fails}
-use Rattle.task_core.specs.Runs.{State}
+use Rattle.run_machine.specs.Scene.{Setup, Scene, tree_at}
+use Rattle.run_machine.specs.Lines.{Takes, Links, ToPush, ToCut, ToMaster, Doing, Drives, Copies, rests, settled, goes_on, copies, first_waits, first_length, landed, legs_of, leg_at, punted}
+use Rattle.run_machine.specs.Tasks.{TaskState, Writer, HasBio, HasBoth, Carried, Empty, Brings, Carries, Fails}
+use Rattle.run_machine.specs.Runs.{State}
 use Rattle.block_core.specs.Weights.{Weight, Rescued, Lined, total, line_weight, carried_weight}
 use Rattle.block_core.specs.Fragments.{offset_of, fragment_of, leg_fragments, todo_fragments, bio_comes, legs_come, to_come}
 use Rattle.block_core.proofs.Moves.{Move, Can, after, lost, gained, limit_of, with_line, HasLine, Wants, with_want, taken_of, filled_of, vector_of, cut_lists, Tells, Hands, piece}
 use Rattle.block_core.proofs.Moves as moves
 use Rattle.block_core.proofs.Listed.{asks_weight, order_weight}
-use Rattle.block_core.proofs.Places.{cut_weight}
+use Rattle.block_core.proofs.Landings.{AreThere, IsLanding, settled_there, goes_there, copies_there, all_there, none_there, cut_there, leg_there}
+use Rattle.block_core.proofs.Places.{cut_weight, unless}
 use Rattle.block_core.proofs.Deltas.{delta}
 use Rattle.block_core.proofs.Kept.{TaskFits, Kept}
 use Rattle.block_core.proofs.Lines.{line_fits}
@@ -44,50 +45,29 @@ ended m = []
 abbrev pub done : (Fragment → ℕ) → Move → ℕ
 done value m = sum_by value (ended m)
 
-abbrev AllThere : Setup → List (Item Pad) → Type 0
-AllThere setup items = Each (λ (item : Item Pad). IsThere setup item.bio) items
-
 module _ (setup : Setup) (value : Fragment → ℕ) (v : Divided setup value) where
   abbrev lined : ℕ → Item Pad → ℕ
   lined limit = bio_comes setup value (Lined limit)
 
-  -- bios of a line, the first of them where it lands
-  settled_comes : (limit : ℕ) (items : List (Item Pad)) → AllThere setup items → line_weight (to_come setup value) limit (settled setup items) ≡ sum_by (lined limit) items
-  settled_comes limit [] are = refl
-  settled_comes limit (item ∷ waiting) are =
-      let at : Bio = landed (tree_at setup item.bio.dev) item.bio in
-      let lists : TaskLists = record { list0 = []; list1 = waiting } in
-      let a = asks_weight (to_come setup value) limit setup lists (record item { bio = at }) (tree_at setup at.dev) in
-      let b = v.lands item.bio are.0 in
-      let c = sum_by-cons (lined limit) item waiting in
-      omega (arith, a, b, c)
-
-  goes_comes : (limit : ℕ) (dev : DevId) (lists : TaskLists) → AllThere setup lists.list0 → AllThere setup lists.list1
-      → line_weight (to_come setup value) limit (goes_on setup dev lists) ≡ sum_by (lined limit) lists.list0 + sum_by (lined limit) lists.list1
-  goes_comes limit dev lists first second =
-      let P : Item Pad → Type 0 = λ item. IsThere setup item.bio in
-      let low = filter (is_lower dev) lists.list0 in
-      let same = filter (is_same dev) lists.list0 in
-      settled_comes limit (order dev lists)
-      (each_append P low (same ++ lists.list1) (each_less P (is_lower dev) lists.list0 first) (each_append P same lists.list1 (each_less P (is_same dev) lists.list0 first) second))
-      ∙ order_weight (lined limit) dev lists
+  pub lands : IsLanding setup (to_come setup value)
+  lands limit item is = v.lands item.bio is
 
   legs_end : (bio : Bio) (leg : ℕ) → leg ≡ legs_of (tree_at setup bio.dev) → legs_come setup value bio leg ≡ 0
   legs_end bio leg is =
       ap (legs_come setup value bio) is ∙ legs_none (λ k. sum_by value (leg_fragments (tree_at setup bio.dev) bio k)) (legs_of (tree_at setup bio.dev))
 
-  copies_come : (limit : ℕ) (lists : TaskLists) (bio : Bio) (master leg : ℕ) → AllThere setup lists.list0 → AllThere setup lists.list1
+  copies_come : (limit : ℕ) (lists : TaskLists) (bio : Bio) (master leg : ℕ) → AreThere setup lists.list0 → AreThere setup lists.list1
       → line_weight (to_come setup value) limit (copies setup lists bio master leg)
       ≡ legs_come setup value bio leg + sum_by (lined limit) lists.list0 + sum_by (lined limit) lists.list1
-  copies_come limit lists bio master leg first second = by_test (leg == legs_of (tree_at setup bio.dev)) refl
+  copies_come limit lists bio master leg first second = by_test (leg == legs_of (tree_at setup bio.dev)) refl (copies_there setup (to_come setup value) lands limit lists bio master leg first second)
     where
-      by_test : (b : Bool) → (leg == legs_of (tree_at setup bio.dev)) ≡ b
-          → line_weight (to_come setup value) limit (if b then goes_on setup bio.dev lists else record { doing = Copies bio master leg (Takes (first_waits setup bio.dev lists)); lists = lists })
-          ≡ legs_come setup value bio leg + sum_by (lined limit) lists.list0 + sum_by (lined limit) lists.list1
-      by_test true is =
+      by_test : {n : ℕ} (b : Bool) → (leg == legs_of (tree_at setup bio.dev)) ≡ b
+          → n ≡ unless b (legs_come setup value bio leg) + sum_by (lined limit) lists.list0 + sum_by (lined limit) lists.list1
+          → n ≡ legs_come setup value bio leg + sum_by (lined limit) lists.list0 + sum_by (lined limit) lists.list1
+      by_test true is are =
           let same : leg ≡ legs_of (tree_at setup bio.dev) = search (is, arith) in
-          omega (arith, goes_comes limit bio.dev lists first second, legs_end bio leg same)
-      by_test false is = omega arith
+          omega (arith, are, legs_end bio leg same)
+      by_test false is are = are
 
 -- what a completer carries has none
 pub carried_none : (setup : Setup) (value : Fragment → ℕ) (task : ℕ) (carried : Carried) → carried_weight (to_come setup value) task carried ≡ 0
@@ -103,12 +83,6 @@ module _ (scene : Scene) (s : State) (value : Fragment → ℕ) (g : Ground scen
 
   has : (place : ℕ) (x : TaskState) (doing : Doing) (lists : TaskLists) → s.task place ≡ x → HasLine x doing lists → DoingPlaced scene.setup (limit_of x) doing lists
   has place x doing lists is h = line_placed scene.setup x doing lists (subst (TaskPlaced scene.setup) is (a.tasks place)) h
-
-  all_there : (limit : ℕ) (items : List (Item Pad)) → Each (IsPlaced scene.setup limit) items → AllThere scene.setup items
-  all_there limit items placed = each_map (IsPlaced scene.setup limit) (λ (item : Item Pad). IsThere scene.setup item.bio) (λ item h. h.0) items placed
-
-  own_there : (dev limit : ℕ) (items : List (Item Pad)) → Each (IsOwn scene.setup dev limit) items → AllThere scene.setup items
-  own_there dev limit items own = each_map (IsOwn scene.setup dev limit) (λ (item : Item Pad). IsThere scene.setup item.bio) (λ item h. h.0.0) items own
 
   pub comes : (m : Move) → Can scene s m → total scene w (after scene s m) + done value m ≡ total scene w s
   comes (moves.TakesFirst place writer todo later move) c = omega (arith, delta scene w s (moves.TakesFirst place writer todo later move) c)
@@ -128,16 +102,15 @@ module _ (scene : Scene) (s : State) (value : Fragment → ℕ) (g : Ground scen
       omega (
         arith,
         delta scene w s (moves.Pops place dev bio bios) c,
-        settled_comes scene.setup value v dev.0 (bio ∷ []) (r.0.0.0, tt),
+        settled_there scene.setup w (lands scene.setup value v) dev.0 (bio ∷ []) (r.0.0.0, tt),
         sum_by-cons (bio_comes scene.setup value (Lined dev.0)) bio [],
       )
   comes (moves.Pushes place x bio lists) c =
       let d = has place x (Drives bio ToPush) lists c.1 c.2 in
-      let none : AllThere scene.setup lists.list0 = subst (AllThere scene.setup) (sym d.0) tt in
       omega (
         arith,
         delta scene w s (moves.Pushes place x bio lists) c,
-        goes_comes scene.setup value v (limit_of x) bio.bio.dev lists none (all_there (limit_of x) lists.list1 d.1.1),
+        goes_there scene.setup w (lands scene.setup value v) (limit_of x) bio.bio.dev lists (none_there scene.setup (limit_of x) lists d.0) (all_there scene.setup (limit_of x) lists.list1 d.1.1),
         v.disk bio.bio d.1.0.0 d.3,
       )
   comes (moves.Completed place disk index bio status new) c =
@@ -148,7 +121,7 @@ module _ (scene : Scene) (s : State) (value : Fragment → ℕ) (g : Ground scen
       omega (
         arith,
         delta scene w s (moves.Begins place writer todo later item None key) c,
-        settled_comes scene.setup value v 32 (filled_item ∷ []) (t.0.0 key, tt),
+        settled_there scene.setup w (lands scene.setup value v) 32 (filled_item ∷ []) (t.0.0 key, tt),
         sum_by-cons (bio_comes scene.setup value (Lined 32)) filled_item [],
         sum_by-cons (λ todo. sum_by value (todo_fragments scene.setup todo)) todo later,
       )
@@ -158,38 +131,29 @@ module _ (scene : Scene) (s : State) (value : Fragment → ℕ) (g : Ground scen
       omega (
         arith,
         delta scene w s (moves.Begins place writer todo later item (Some vector) key) c,
-        settled_comes scene.setup value v 32 (filled_item ∷ []) (t.0.0 key, tt),
+        settled_there scene.setup w (lands scene.setup value v) 32 (filled_item ∷ []) (t.0.0 key, tt),
         sum_by-cons (bio_comes scene.setup value (Lined 32)) filled_item [],
         sum_by-cons (λ todo. sum_by value (todo_fragments scene.setup todo)) todo later,
       )
   comes (moves.Chained place x bio lists hand number kind sizes members key node) c =
       let n = first_length kind sizes bio.bio.range in
-      let child = piece bio hand n key kind sizes members in
-      let rest = split_rest bio n in
-      let P : Item Pad → Type 0 = λ item. IsThere scene.setup item.bio in
       let d = has place x (Drives bio (ToCut (Links hand))) lists c.1 c.2 in
-      let suits : AskFits (Split number kind sizes members) bio.bio.range bio.bio.dev.0 (ToCut (Links hand)) =
-      subst (λ t. AskFits t bio.bio.range bio.bio.dev.0 (ToCut (Links hand))) c.3 d.3 in
-      let cuts = g.cut_piece bio hand key number kind sizes members d.1.0.0 c.3 suits.0 in
-      let none : AllThere scene.setup lists.list0 = subst (AllThere scene.setup) (sym d.0) tt in
-      let first : AllThere scene.setup (cut_lists bio lists hand n key kind sizes members).list0 =
-      each_append P (lists.list0 ++ child ∷ []) (rest ∷ []) (each_append P lists.list0 (child ∷ []) none (cuts.0, tt)) (cuts.2, tt) in
+      let cuts = cut_there scene.setup (limit_of x) g bio hand lists key number kind sizes members d c.3 in
       let fits : over bio.bio ≡ 0 = cut_fits over scene s counted place x bio hand lists c.0 c.1 c.2 in
       let small : IsCounted bio.bio = omega (arith, fits) in
       omega (
         arith,
         delta scene w s (moves.Chained place x bio lists hand number kind sizes members key node) c,
-        goes_comes scene.setup value v (limit_of x) bio.bio.dev (cut_lists bio lists hand n key kind sizes members) first (all_there (limit_of x) lists.list1 d.1.1),
+        goes_there scene.setup w (lands scene.setup value v) (limit_of x) bio.bio.dev (cut_lists bio lists hand n key kind sizes members) cuts.1 (all_there scene.setup (limit_of x) lists.list1 d.1.1),
         cut_weight (bio_comes scene.setup value (Lined (limit_of x))) bio lists hand n key kind sizes members,
-        v.cut bio hand key number kind sizes members d.1.0.0 small c.3 suits.0,
+        v.cut bio hand key number kind sizes members d.1.0.0 small c.3 cuts.0,
       )
   comes (moves.Mastered place x bio lists slip key node) c =
       let d = has place x (Drives bio (ToMaster slip)) lists c.1 c.2 in
-      let none : AllThere scene.setup lists.list0 = subst (AllThere scene.setup) (sym d.0) tt in
       omega (
         arith,
         delta scene w s (moves.Mastered place x bio lists slip key node) c,
-        copies_come scene.setup value v (limit_of x) lists bio.bio key 0 none (all_there (limit_of x) lists.list1 d.1.1),
+        copies_come scene.setup value v (limit_of x) lists bio.bio key 0 (none_there scene.setup (limit_of x) lists d.0) (all_there scene.setup (limit_of x) lists.list1 d.1.1),
         mirror_worth (tree_at scene.setup bio.bio.dev) value bio.bio bio.bio.range bio.bio.dev.0 slip d.3,
       )
   comes (moves.Legged place x bio lists master leg hand key node) c =
@@ -197,13 +161,11 @@ module _ (scene : Scene) (s : State) (value : Fragment → ℕ) (g : Ground scen
       let lt = line_fits scene x (Copies bio master leg (Links hand)) lists (subst (TaskFits scene) c.1 (i.tasks place)) c.2 in
       let item = leg_at bio hand leg key (tree_at scene.setup bio.dev) in
       let more = submitted item lists in
-      let l = g.leg bio hand leg key d.0 lt in
-      let P : Item Pad → Type 0 = λ item. IsThere scene.setup item.bio in
-      let first : AllThere scene.setup more.list0 = each_append P lists.list0 (item ∷ []) (own_there bio.dev.0 (limit_of x) lists.list0 d.2) (l.0, tt) in
+      let first = leg_there scene.setup (limit_of x) g bio hand lists master leg key d lt in
       omega (
         arith,
         delta scene w s (moves.Legged place x bio lists master leg hand key node) c,
-        copies_come scene.setup value v (limit_of x) more bio master (leg + 1) first (all_there (limit_of x) lists.list1 d.3),
+        copies_come scene.setup value v (limit_of x) more bio master (leg + 1) first (all_there scene.setup (limit_of x) lists.list1 d.3),
         sum_by_push (bio_comes scene.setup value (Lined (limit_of x))) lists.list0 item,
         v.leg bio hand leg key d.0 lt,
         legs_next (λ k. sum_by value (leg_fragments (tree_at scene.setup bio.dev) bio k)) (legs_of (tree_at scene.setup bio.dev)) leg lt,

@@ -13,12 +13,12 @@ use Rattle.layout_model.specs.Writes.{IsWrite}
 use Rattle.layout_model.proofs.RangeSums.{sum_next, sum_same, sum_swapped, sum_of_zero}
 use Rattle.bio_records.specs.Runs.{place_number, place_at}
 use Rattle.model_disks.specs.Disks.{DiskState}
-use Rattle.task_core.specs.declared.event.Event.{Event}
-use Rattle.task_core.specs.Scene.{Scene}
-use Rattle.task_core.specs.Lines.{rests}
-use Rattle.task_core.specs.Tasks.{TaskState, Writer, Duty, Todo, NoBio, first_bio}
-use Rattle.task_core.specs.Opened.{Scenario, scene, start, tasks as opened_tasks, todos, todos_of, is_by, writers, duties, keepers, setup as setup_in}
-use Rattle.task_core.specs.Runs.{State, IsRun}
+use Rattle.run_machine.specs.declared.event.Event.{Event}
+use Rattle.run_machine.specs.Scene.{Scene}
+use Rattle.run_machine.specs.Lines.{rests}
+use Rattle.run_machine.specs.Tasks.{TaskState, Writer, Duty, Todo, NoBio, first_bio}
+use Rattle.run_machine.specs.Opened.{Scenario, scene, start, tasks as opened_tasks, todos, todos_of, is_by, writers, duties, keepers, setup as setup_in}
+use Rattle.run_machine.specs.Runs.{State, IsRun}
 use Rattle.block_core.specs.Weights.{Weight, Pending, Rescued, total, sum_at, task_weight, book_weight}
 use Rattle.block_core.specs.Sound.{IsScenario}
 use Rattle.block_core.specs.Fragments.{todo_fragments, to_come, completed_by, completed, planned, FragmentsAddUp}

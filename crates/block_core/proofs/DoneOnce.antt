@@ -12,21 +12,21 @@ use Rattle.bio_books.specs.declared.node.Role.{Role}
 use Rattle.bio_books.specs.declared.node.Role.TheVariants as role
 use Rattle.bio_books.specs.Books.{VectorItem, Holding, told, parent_of}
 use Rattle.bio_books.specs.Drops.{Closed, closed_of}
-use Rattle.task_core.specs.Scene.{Setup, Scene, tree_at}
-use Rattle.task_core.specs.Lines.{Takes, Punts as WantsPunt, Links, ToPush, ToCut, ToRecord, ToMaster, Doing, Rests, Drives, Copies, Breaks, Line, settled, goes_on, copies, first_length, leg_at, punted}
-use Rattle.task_core.specs.Tasks.{Completer, Todo, Carried, Empty, Brings, Carries, Fails}
-use Rattle.task_core.specs.Runs.{State}
+use Rattle.run_machine.specs.Scene.{Setup, Scene, tree_at}
+use Rattle.run_machine.specs.Lines.{Takes, Punts as WantsPunt, Links, ToPush, ToCut, ToRecord, ToMaster, Doing, Rests, Drives, Copies, Breaks, Line, settled, goes_on, copies, first_length, leg_at, punted}
+use Rattle.run_machine.specs.Tasks.{Completer, Todo, Carried, Empty, Brings, Carries, Fails}
+use Rattle.run_machine.specs.Runs.{State}
 use Rattle.block_core.specs.Weights.{Weight, Pending, total, one, doing_weight, line_weight, carried_weight}
 use Rattle.block_core.proofs.Moves.{Move, IsTaking, place_of, Can, after, lost, gained, limit_of, with_line, HasLine, Wants, with_want, taken_of, filled_of, vector_of, cut_lists, IsTake, Tells, Hands, piece, with_pool, with_book}
 use Rattle.block_core.proofs.Moves as moves
 use Rattle.block_core.proofs.Listed.{IsBlind}
 use Rattle.block_core.proofs.Deltas.{delta}
-use Rattle.task_core.specs.declared.event.What.{What}
-use Rattle.task_core.specs.Events.{what_of, resize_of}
-use Rattle.task_core.specs.Lines.{line_request}
-use Rattle.task_core.specs.Requests as requests
-use Rattle.task_core.specs.Requests.{Request, Reply, Opening}
-use Rattle.task_core.specs.Tasks.{request, closed_request, with_bio, needs_vector}
+use Rattle.run_machine.specs.declared.event.What.{What}
+use Rattle.run_machine.specs.Events.{what_of, resize_of}
+use Rattle.run_machine.specs.Lines.{line_request}
+use Rattle.run_machine.specs.Requests as requests
+use Rattle.run_machine.specs.Requests.{Request, Reply, Opening}
+use Rattle.run_machine.specs.Tasks.{request, closed_request, with_bio, needs_vector}
 use Rattle.bio_books.specs.Links.{Made, NoRoom, Stray}
 use Rattle.bio_books.specs.Drops.{Ended}
 use Rattle.bio_books.specs.Drops as end

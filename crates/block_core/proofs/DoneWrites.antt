@@ -14,15 +14,15 @@ use Rattle.bio_records.specs.declared.bio.Bio.{Bio}
 use Rattle.bio_records.specs.declared.bio.Pad.{Pad}
 use Rattle.bio_records.specs.Items.{Item}
 use Rattle.bio_books.specs.Books.{Node, node_at, parent_of}
-use Rattle.task_core.specs.declared.event.Event.{Event}
-use Rattle.task_core.specs.declared.event.What.TheVariants as what
-use Rattle.task_core.specs.Events.{what_of}
-use Rattle.task_core.specs.Scene.{Setup, Scene, tree_at}
-use Rattle.task_core.specs.Tasks.{Todo}
-use Rattle.task_core.specs.Opened.{Scenario, scene, start, setup as setup_in}
-use Rattle.task_core.specs.Requests as requests
-use Rattle.task_core.specs.Requests.{Request, Reply}
-use Rattle.task_core.specs.Runs.{State, IsRun, Happens}
+use Rattle.run_machine.specs.declared.event.Event.{Event}
+use Rattle.run_machine.specs.declared.event.What.TheVariants as what
+use Rattle.run_machine.specs.Events.{what_of}
+use Rattle.run_machine.specs.Scene.{Setup, Scene, tree_at}
+use Rattle.run_machine.specs.Tasks.{Todo}
+use Rattle.run_machine.specs.Opened.{Scenario, scene, start, setup as setup_in}
+use Rattle.run_machine.specs.Requests as requests
+use Rattle.run_machine.specs.Requests.{Request, Reply}
+use Rattle.run_machine.specs.Runs.{State, IsRun, Happens}
 use Rattle.stack_base.specs.declared.ids.Status.{Status}
 use Rattle.block_core.specs.Weights.{Spot, Lined, Rescued, Pending, Brought, total, one, refs, legs_left}
 use Rattle.block_core.specs.Sound.{IsScenario, IsNaming, done_in}

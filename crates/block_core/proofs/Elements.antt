@@ -16,10 +16,10 @@ use Rattle.layout_model.specs.Need.{needed, vectors}
 use Rattle.stack_base.specs.declared.ids.Status.{Status}
 use Rattle.bio_books.specs.Books.{Node, VectorItem, SlipItem, Holding, node_at, later_part}
 use Rattle.model_disks.specs.Disks.{DiskState}
-use Rattle.task_core.specs.Scene.{Setup, Scene, tree_at}
-use Rattle.task_core.specs.Lines.{Want, Takes, Punts, Links, ToPush, ToCut, ToRecord, ToMaster, Doing, Rests, Drives, Copies, Breaks, Line, rests, settled, goes_on, copies, first_waits, first_length, landed, legs_of, leg_at}
-use Rattle.task_core.specs.Tasks.{TaskState, Writer, Rescuer, Completer, Keeper, Todo, Taken, NoBio, HasBio, HasBoth, Carried, Empty, Brings, Carries, Fails}
-use Rattle.task_core.specs.Runs.{State}
+use Rattle.run_machine.specs.Scene.{Setup, Scene, tree_at}
+use Rattle.run_machine.specs.Lines.{Want, Takes, Punts, Links, ToPush, ToCut, ToRecord, ToMaster, Doing, Rests, Drives, Copies, Breaks, Line, rests, settled, goes_on, copies, first_waits, first_length, landed, legs_of, leg_at}
+use Rattle.run_machine.specs.Tasks.{TaskState, Writer, Rescuer, Completer, Keeper, Todo, Taken, NoBio, HasBio, HasBoth, Carried, Empty, Brings, Carries, Fails}
+use Rattle.run_machine.specs.Runs.{State}
 use Rattle.block_core.specs.Weights.{Weight, Spot, Lined, Rescued, Pending, total, sum_at, weigh_option, want_weight, doing_weight, line_weight, taken_weight, carried_weight, task_weight, book_weight, elements, holding_elements, one}
 use Rattle.block_core.specs.Charges.{there}
 use Rattle.block_core.specs.Rooms.{to_open, todo_need, legs_need}
@@ -32,9 +32,9 @@ use Rattle.block_core.proofs.Orders.{Each, IsPlaced, IsOwn, AskFits, DoingPlaced
 use Rattle.block_core.proofs.Deltas.{delta}
 use Rattle.block_core.proofs.Lines.{line_fits}
 use Rattle.block_core.proofs.OrdersKept.{line_placed}
-use Rattle.block_core.proofs.Places.{cut_weight}
+use Rattle.block_core.proofs.Places.{cut_weight, unless_less}
 use Rattle.block_core.proofs.NodeNeeds.{Needs, mirror_need, cut_need, legs_on, legs_few}
-use Rattle.block_core.proofs.Rooms.{AllThere}
+use Rattle.block_core.proofs.Landings.{AreThere, IsLanding, settled_there, goes_there, copies_there, all_there, none_there, cut_there, leg_there}
 use Rattle.block_core.proofs.Charged.{hands_charge}
 use Rattle.block_core.proofs.Totals.{some_of}
 use Rattle.std.proofs.lemmas.List.Sums.{sum_by-le-sum_by}
@@ -71,35 +71,14 @@ landed_worth : (setup : Setup) → Needs setup → (limit : ℕ) (item : Item Pa
     → (worth setup).bio (Lined limit) (record item { bio = landed (tree_at setup item.bio.dev) item.bio }) ≡ (worth setup).bio (Lined limit) item
 landed_worth setup n limit item is = ap (λ v. 1 + v) (n.lands item.bio is)
 
-settled_worth : (setup : Setup) → Needs setup → (limit : ℕ) (items : List (Item Pad)) → AllThere setup items
-    → line_weight (worth setup) limit (settled setup items) ≡ sum_by ((worth setup).bio (Lined limit)) items
-settled_worth setup n limit [] are = refl
-settled_worth setup n limit (item ∷ waiting) are =
-    let at : Bio = landed (tree_at setup item.bio.dev) item.bio in
-    let lists : TaskLists = record { list0 = []; list1 = waiting } in
-    let a = asks_weight (worth setup) limit setup lists (record item { bio = at }) (tree_at setup at.dev) in
-    omega (arith, a, landed_worth setup n limit item are.0, sum_by-cons ((worth setup).bio (Lined limit)) item waiting)
-
-goes_worth : (setup : Setup) → Needs setup → (limit : ℕ) (dev : DevId) (lists : TaskLists) → AllThere setup lists.list0 → AllThere setup lists.list1
-    → line_weight (worth setup) limit (goes_on setup dev lists) ≡ sum_by ((worth setup).bio (Lined limit)) lists.list0 + sum_by ((worth setup).bio (Lined limit)) lists.list1
-goes_worth setup n limit dev lists first second =
-    let P : Item Pad → Type 0 = λ item. IsThere setup item.bio in
-    let low = filter (is_lower dev) lists.list0 in
-    let same = filter (is_same dev) lists.list0 in
-    settled_worth setup n limit (order dev lists)
-    (each_append P low (same ++ lists.list1) (each_less P (is_lower dev) lists.list0 first) (each_append P same lists.list1 (each_less P (is_same dev) lists.list0 first) second))
-    ∙ order_weight ((worth setup).bio (Lined limit)) dev lists
-
-copies_worth : (setup : Setup) → Needs setup → (limit : ℕ) (lists : TaskLists) (bio : Bio) (master leg : ℕ) → AllThere setup lists.list0 → AllThere setup lists.list1
+copies_worth : (setup : Setup) (n : Needs setup) (limit : ℕ) (lists : TaskLists) (bio : Bio) (master leg : ℕ) → AreThere setup lists.list0 → AreThere setup lists.list1
     → line_weight (worth setup) limit (copies setup lists bio master leg)
     ≤ legs_need setup bio leg + sum_by ((worth setup).bio (Lined limit)) lists.list0 + sum_by ((worth setup).bio (Lined limit)) lists.list1
-copies_worth setup n limit lists bio master leg first second =
-    elim (leg == legs_of (tree_at setup bio.dev))
-    as (λ v. line_weight (worth setup) limit (if v then goes_on setup bio.dev lists else record { doing = Copies bio master leg (Takes (first_waits setup bio.dev lists)); lists = lists })
-    ≤ legs_need setup bio leg + sum_by ((worth setup).bio (Lined limit)) lists.list0 + sum_by ((worth setup).bio (Lined limit)) lists.list1) [
-      | true ↦ omega (arith, goes_worth setup n limit bio.dev lists first second)
-      | false ↦ omega arith
-    ]
+copies_worth setup n limit lists bio master leg first second = omega (
+  arith,
+  copies_there setup (worth setup) (landed_worth setup n) limit lists bio master leg first second,
+  unless_less (leg == legs_of (tree_at setup bio.dev)) (legs_need setup bio leg),
+)
 
 -- a part that comes with an end
 later_worth : (held part : Option (Item Pad)) → there (later_part held part) ≤ there held + there part
@@ -121,21 +100,18 @@ module _ (scene : Scene) (s : State) (g : Ground scene.setup) (n : Needs scene.s
   has : (place : ℕ) (x : TaskState) (doing : Doing) (lists : TaskLists) → s.task place ≡ x → HasLine x doing lists → DoingPlaced scene.setup (limit_of x) doing lists
   has place x doing lists is h = line_placed scene.setup x doing lists (subst (TaskPlaced scene.setup) is (a.tasks place)) h
 
-  all_there : (limit : ℕ) (items : List (Item Pad)) → Each (IsPlaced scene.setup limit) items → AllThere scene.setup items
-  all_there limit items placed = each_map (IsPlaced scene.setup limit) (λ (item : Item Pad). IsThere scene.setup item.bio) (λ item h. h.0) items placed
-
-  own_there : (dev limit : ℕ) (items : List (Item Pad)) → Each (IsOwn scene.setup dev limit) items → AllThere scene.setup items
-  own_there dev limit items own = each_map (IsOwn scene.setup dev limit) (λ (item : Item Pad). IsThere scene.setup item.bio) (λ item h. h.0.0) items own
+  lands : IsLanding scene.setup (worth scene.setup)
+  lands = landed_worth scene.setup n
 
   begins : (place writer : ℕ) (todo : Todo) (later : List Todo) (item : Item Pad) (vector : Option VectorItem) (key : ℕ) → TodoThere scene.setup writer todo
       → Fits (moves.Begins place writer todo later item vector key)
   begins place writer todo later item None key there =
       let filled_item : Item Pad = filled_of writer todo item None key in
-      let b = settled_worth scene.setup n 32 (filled_item ∷ []) (there key, tt) in
+      let b = settled_there scene.setup (worth scene.setup) lands 32 (filled_item ∷ []) (there key, tt) in
       omega (arith, b, sum_by-cons ((worth scene.setup).bio (Lined 32)) filled_item [])
   begins place writer todo later item (Some vector) key there =
       let filled_item : Item Pad = filled_of writer todo item (Some vector) key in
-      let b = settled_worth scene.setup n 32 (filled_item ∷ []) (there key, tt) in
+      let b = settled_there scene.setup (worth scene.setup) lands 32 (filled_item ∷ []) (there key, tt) in
       omega (arith, b, sum_by-cons ((worth scene.setup).bio (Lined 32)) filled_item [])
 
   pub fits : (m : Move) → Can scene s m → Fits m
@@ -150,53 +126,41 @@ module _ (scene : Scene) (s : State) (g : Ground scene.setup) (n : Needs scene.s
   fits (moves.Punts place x doing lists dev) c = omega arith
   fits (moves.Pops place dev bio bios) c =
       let r : Each (IsOwn scene.setup dev.0 dev.0) (bio ∷ bios) = subst (Each (IsOwn scene.setup dev.0 dev.0)) c.3 (a.rescued dev.0) in
-      omega (arith, settled_worth scene.setup n dev.0 (bio ∷ []) (r.0.0.0, tt), sum_by-cons ((worth scene.setup).bio (Lined dev.0)) bio [])
+      omega (arith, settled_there scene.setup (worth scene.setup) lands dev.0 (bio ∷ []) (r.0.0.0, tt), sum_by-cons ((worth scene.setup).bio (Lined dev.0)) bio [])
   fits (moves.Pushes place x bio lists) c =
       let d = has place x (Drives bio ToPush) lists c.1 c.2 in
-      let none : AllThere scene.setup lists.list0 = subst (AllThere scene.setup) (sym d.0) tt in
-      omega (arith, goes_worth scene.setup n (limit_of x) bio.bio.dev lists none (all_there (limit_of x) lists.list1 d.1.1))
+      omega (arith, goes_there scene.setup (worth scene.setup) lands (limit_of x) bio.bio.dev lists (none_there scene.setup (limit_of x) lists d.0) (all_there scene.setup (limit_of x) lists.list1 d.1.1))
   fits (moves.Completed place disk index bio status new) c = omega arith
   fits (moves.Begins place writer todo later item vector key) c =
       let t : TaskPlaced scene.setup (Writer writer (todo ∷ later) (taken_of item vector) rests) = subst (TaskPlaced scene.setup) c.1 (a.tasks place) in
       begins place writer todo later item vector key t.0.0
   fits (moves.Chained place x bio lists hand number kind sizes members key node) c =
       let k = first_length kind sizes bio.bio.range in
-      let child = piece bio hand k key kind sizes members in
-      let rest = split_rest bio k in
-      let P : Item Pad → Type 0 = λ item. IsThere scene.setup item.bio in
       let d = has place x (Drives bio (ToCut (Links hand))) lists c.1 c.2 in
-      let suits : AskFits (Split number kind sizes members) bio.bio.range bio.bio.dev.0 (ToCut (Links hand)) =
-      subst (λ t. AskFits t bio.bio.range bio.bio.dev.0 (ToCut (Links hand))) c.3 d.3 in
-      let cuts = g.cut_piece bio hand key number kind sizes members d.1.0.0 c.3 suits.0 in
-      let none : AllThere scene.setup lists.list0 = subst (AllThere scene.setup) (sym d.0) tt in
-      let first : AllThere scene.setup (cut_lists bio lists hand k key kind sizes members).list0 =
-      each_append P (lists.list0 ++ child ∷ []) (rest ∷ []) (each_append P lists.list0 (child ∷ []) none (cuts.0, tt)) (cuts.2, tt) in
-      let part = n.cut bio hand key number kind sizes members d.1.0.0 c.3 suits.0 in
+      let cuts = cut_there scene.setup (limit_of x) g bio hand lists key number kind sizes members d c.3 in
+      let part = n.cut bio hand key number kind sizes members d.1.0.0 c.3 cuts.0 in
       omega (
         arith,
-        goes_worth scene.setup n (limit_of x) bio.bio.dev (cut_lists bio lists hand k key kind sizes members) first (all_there (limit_of x) lists.list1 d.1.1),
+        goes_there scene.setup (worth scene.setup) lands (limit_of x) bio.bio.dev (cut_lists bio lists hand k key kind sizes members) cuts.1 (all_there scene.setup (limit_of x) lists.list1 d.1.1),
         cut_weight ((worth scene.setup).bio (Lined (limit_of x))) bio lists hand k key kind sizes members,
         part,
       )
   fits (moves.Mastered place x bio lists slip key node) c =
       let d = has place x (Drives bio (ToMaster slip)) lists c.1 c.2 in
-      let none : AllThere scene.setup lists.list0 = subst (AllThere scene.setup) (sym d.0) tt in
       let is = d.1.0.0 in
       let part = mirror_need (tree_at scene.setup bio.bio.dev) bio.bio.range bio.bio.dev.0 slip d.3 is.some in
-      omega (arith, copies_worth scene.setup n (limit_of x) lists bio.bio key 0 none (all_there (limit_of x) lists.list1 d.1.1), part)
+      omega (arith, copies_worth scene.setup n (limit_of x) lists bio.bio key 0 (none_there scene.setup (limit_of x) lists d.0) (all_there scene.setup (limit_of x) lists.list1 d.1.1), part)
   fits (moves.Legged place x bio lists master leg hand key node) c =
       let d = has place x (Copies bio master leg (Links hand)) lists c.1 c.2 in
       let lt = line_fits scene x (Copies bio master leg (Links hand)) lists (subst (TaskFits scene) c.1 (i.tasks place)) c.2 in
       let item = leg_at bio hand leg key (tree_at scene.setup bio.dev) in
       let more = submitted item lists in
-      let l = g.leg bio hand leg key d.0 lt in
-      let P : Item Pad → Type 0 = λ item. IsThere scene.setup item.bio in
-      let first : AllThere scene.setup more.list0 = each_append P lists.list0 (item ∷ []) (own_there bio.dev.0 (limit_of x) lists.list0 d.2) (l.0, tt) in
+      let first = leg_there scene.setup (limit_of x) g bio hand lists master leg key d lt in
       let next = legs_on (tree_at scene.setup bio.dev) bio.range leg lt in
       let part = n.leg bio hand leg key d.0 lt in
       omega (
         arith,
-        copies_worth scene.setup n (limit_of x) more bio master (leg + 1) first (all_there (limit_of x) lists.list1 d.3),
+        copies_worth scene.setup n (limit_of x) more bio master (leg + 1) first (all_there scene.setup (limit_of x) lists.list1 d.3),
         sum_by_push ((worth scene.setup).bio (Lined (limit_of x))) lists.list0 item,
         next,
         part,

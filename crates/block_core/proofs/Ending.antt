@@ -1,11 +1,11 @@
 -- A run whose writes are done has ended, and the keeper starts no round that is not there.
 use Rattle.std.proofs.Common.{◌+◌, ◌<◌, ℕ, List, ◌∷◌, length, subst, arith}
 use Rattle.elem_ledger.specs.Ledger.{LedgerId}
-use Rattle.task_core.specs.declared.event.TaskId.{TaskId}
-use Rattle.task_core.specs.Opened.{scene, start, setup as setup_in}
-use Rattle.task_core.specs.Runs.{State}
-use Rattle.task_core.specs.Scene.{Scene}
-use Rattle.task_core.specs.Tasks.{Keeper, Keeps, Starts, Duty}
+use Rattle.run_machine.specs.declared.event.TaskId.{TaskId}
+use Rattle.run_machine.specs.Opened.{scene, start, setup as setup_in}
+use Rattle.run_machine.specs.Runs.{State}
+use Rattle.run_machine.specs.Scene.{Scene}
+use Rattle.run_machine.specs.Tasks.{Keeper, Keeps, Starts, Duty}
 use Rattle.block_core.specs.Ending.{RunsEndWithTheirWrites, StartedRoundsAreThere}
 use Rattle.block_core.proofs.Ends.{zero_at}
 use Rattle.block_core.proofs.Grounds.{ground}

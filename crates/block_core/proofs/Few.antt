@@ -8,12 +8,12 @@ use Rattle.layout_model.specs.Needs.{elements}
 use Rattle.layout_model.specs.Bound.{all_elements}
 use Rattle.bio_books.specs.Books.{Node, node_at}
 use Rattle.model_disks.specs.Disks.{DiskState}
-use Rattle.task_core.specs.declared.event.Event.{Event}
-use Rattle.task_core.specs.Scene.{Scene}
-use Rattle.task_core.specs.Lines.{rests}
-use Rattle.task_core.specs.Tasks.{TaskState, Writer, Duty, Todo, NoBio}
-use Rattle.task_core.specs.Opened.{Scenario, scene, start, tasks as opened_tasks, todos, todos_of, is_by, writers, duties, keepers, places_of, setup as setup_in}
-use Rattle.task_core.specs.Runs.{State, IsRun}
+use Rattle.run_machine.specs.declared.event.Event.{Event}
+use Rattle.run_machine.specs.Scene.{Scene}
+use Rattle.run_machine.specs.Lines.{rests}
+use Rattle.run_machine.specs.Tasks.{TaskState, Writer, Duty, Todo, NoBio}
+use Rattle.run_machine.specs.Opened.{Scenario, scene, start, tasks as opened_tasks, todos, todos_of, is_by, writers, duties, keepers, places_of, setup as setup_in}
+use Rattle.run_machine.specs.Runs.{State, IsRun}
 use Rattle.block_core.specs.Weights.{Pending, Rescued, total, sum_at, task_weight, book_weight, count_of}
 use Rattle.block_core.specs.Sound.{IsScenario, IsNaming}
 use Rattle.block_core.specs.Breaks.{IsAllowed}

@@ -6,17 +6,17 @@ use Rattle.stack_base.specs.declared.ids.Status.TheVariants as status
 use Rattle.stack_base.specs.declared.stack.Stack.{Stack}
 use Rattle.stack_base.specs.Words.{sector_data, zero_sector}
 use Rattle.layout_model.specs.declared.write.Write.{Write}
-use Rattle.task_core.specs.Opened.{Scenario}
+use Rattle.run_machine.specs.Opened.{Scenario}
 use Rattle.block_core.specs.Images.{held_after}
 use Rattle.elem_ledger.specs.Ledger.{LedgerId}
 use Rattle.layout_model.specs.declared.fragment.Fragment.{Fragment}
 use Rattle.layout_model.specs.May.{bads_of}
 use Rattle.layout_model.specs.Plan.{each, plan, leaves}
-use Rattle.task_core.specs.Maps.{upd}
-use Rattle.task_core.specs.Scene.{Scene}
-use Rattle.task_core.specs.Runs.{State}
-use Rattle.task_core.proofs.Turns.{Turn, behind}
-use Rattle.task_core.proofs.MirrorRun.{setup, todo, start, ledger, begun}
+use Rattle.run_machine.specs.Maps.{upd}
+use Rattle.run_machine.specs.Scene.{Scene}
+use Rattle.run_machine.specs.Runs.{State}
+use Rattle.run_machine.proofs.Turns.{Turn, behind}
+use Rattle.run_machine.proofs.cases.MirrorRun.{setup, todo, start, ledger, begun}
 use Rattle.block_core.specs.Weights.{sum_at, total}
 use Rattle.block_core.specs.Fragments.{todo_fragments, to_come, is_it, times}
 

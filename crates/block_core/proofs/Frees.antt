@@ -15,12 +15,12 @@ use Rattle.bio_books.specs.Books.{Node, BookState, VectorItem, SlipItem, node_at
 use Rattle.bio_books.specs.Links.{IsVacant}
 use Rattle.bio_books.specs.Drops.{Closed, closed_of}
 use Rattle.model_disks.specs.Moves.{pushed}
-use Rattle.task_core.specs.Maps.{upd}
-use Rattle.task_core.specs.Scene.{Setup, Scene, tree_at}
-use Rattle.task_core.specs.Lines.{Takes, Punts as WantsPunt, Links, ToPush, ToCut, ToRecord, ToMaster, Doing, Rests, Drives, Copies, Breaks, Line, rests, legs_of, punted}
-use Rattle.task_core.specs.Tasks.{TaskState, Writer, Rescuer, Completer, Keeper, Todo, Taken, NoBio, HasBio, HasBoth, Carried, Empty, Brings, Carries, Fails, filled_vector}
-use Rattle.task_core.specs.Objects.{Objects, clear_bio, clear_vector, clear_slip, done_one}
-use Rattle.task_core.specs.Runs.{State}
+use Rattle.run_machine.specs.Maps.{upd}
+use Rattle.run_machine.specs.Scene.{Setup, Scene, tree_at}
+use Rattle.run_machine.specs.Lines.{Takes, Punts as WantsPunt, Links, ToPush, ToCut, ToRecord, ToMaster, Doing, Rests, Drives, Copies, Breaks, Line, rests, legs_of, punted}
+use Rattle.run_machine.specs.Tasks.{TaskState, Writer, Rescuer, Completer, Keeper, Todo, Taken, NoBio, HasBio, HasBoth, Carried, Empty, Brings, Carries, Fails, filled_vector}
+use Rattle.run_machine.specs.Objects.{Objects, clear_bio, clear_vector, clear_slip, done_one}
+use Rattle.run_machine.specs.Runs.{State}
 use Rattle.block_core.specs.Weights.{Weight, total, sum_at, one, weigh_option, doing_weight, task_weight, line_weight, book_weight, elements, holding_elements, refs, legs_left, count_of}
 use Rattle.block_core.proofs.Moves.{limit_of, HasLine, with_pool, with_book}
 use Rattle.block_core.proofs.Sums.{upd-same, one-same}
@@ -37,17 +37,17 @@ use Rattle.model_disks.specs.Moves.{Completes, written}
 use Rattle.bio_books.specs.Links.{Linked, Made, ChainsAt, MastersAt, LegsAt}
 use Rattle.bio_books.specs.Drops.{Ended, Drops, DropsAt}
 use Rattle.bio_books.specs.Drops as end
-use Rattle.task_core.specs.declared.event.TaskId.{TaskId}
-use Rattle.task_core.specs.declared.event.Got.TheVariants as got
-use Rattle.task_core.specs.declared.event.What.{What}
-use Rattle.task_core.specs.declared.event.What.TheVariants as what
-use Rattle.task_core.specs.Requests as requests
-use Rattle.task_core.specs.Requests.{Request, Reply, Opening}
-use Rattle.task_core.specs.Objects.{Serves, Opened}
-use Rattle.task_core.specs.Events.{what_of, is_free, id_of}
-use Rattle.task_core.specs.Tasks.{request, look_of, answered, writer_look, needs_vector, with_bio}
-use Rattle.task_core.specs.Lines.{line_request}
-use Rattle.task_core.specs.Runs.{IsLet, HasFree}
+use Rattle.run_machine.specs.declared.event.TaskId.{TaskId}
+use Rattle.run_machine.specs.declared.event.Got.TheVariants as got
+use Rattle.run_machine.specs.declared.event.What.{What}
+use Rattle.run_machine.specs.declared.event.What.TheVariants as what
+use Rattle.run_machine.specs.Requests as requests
+use Rattle.run_machine.specs.Requests.{Request, Reply, Opening}
+use Rattle.run_machine.specs.Objects.{Serves, Opened}
+use Rattle.run_machine.specs.Events.{what_of, is_free, id_of}
+use Rattle.run_machine.specs.Tasks.{request, look_of, answered, writer_look, needs_vector, with_bio}
+use Rattle.run_machine.specs.Lines.{line_request}
+use Rattle.run_machine.specs.Runs.{IsLet, HasFree}
 use Rattle.block_core.specs.Places.{bio_needs, legs_need, writes_need, places, HasPlaces}
 use Rattle.block_core.proofs.Places.{sum_at-ge}
 use Rattle.block_core.proofs.StepMoves.{asks_line}

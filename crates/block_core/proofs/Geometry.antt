@@ -11,8 +11,8 @@ use Rattle.bio_records.specs.declared.bio.Bio.{Bio}
 use Rattle.bio_records.specs.declared.bio.Pad.{Pad}
 use Rattle.bio_records.specs.Items.{Item}
 use Rattle.bio_split.specs.Split.{split_rest}
-use Rattle.task_core.specs.Scene.{Setup, tree_at, number_of}
-use Rattle.task_core.specs.Lines.{first_length, mapped, landed, legs_of, leg_at}
+use Rattle.run_machine.specs.Scene.{Setup, tree_at, number_of}
+use Rattle.run_machine.specs.Lines.{first_length, mapped, landed, legs_of, leg_at}
 use Rattle.block_core.specs.Weights.{one}
 use Rattle.std.proofs.Math.Numerals.{add-one}
 use Rattle.std.proofs.lemmas.Option.{slice_get-get_or, slice_get_cases}
@@ -31,7 +31,7 @@ use Rattle.layout_model.proofs.Over.{can_cut}
 use Rattle.layout_model.proofs.ByShape.{cuts_is, copies_is, keeps_is, member_is}
 use Rattle.layout_model.proofs.FirstRuns.{member_there, first_run_is}
 use Rattle.layout_model.proofs.MirrorLemmas.{leg_size}
-use Rattle.task_core.specs.Scene.{setup_of}
+use Rattle.run_machine.specs.Scene.{setup_of}
 use Rattle.block_core.proofs.Moves.{piece}
 
 -- whether a device cuts a run

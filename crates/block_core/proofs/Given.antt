@@ -30,8 +30,8 @@ use Rattle.bio_records.specs.declared.bio.Pad.{Pad}
 use Rattle.bio_records.specs.Items.{Item}
 use Rattle.bio_split.specs.Split.{split_rest}
 use Rattle.bio_books.specs.Books.{SlipItem}
-use Rattle.task_core.specs.Scene.{Setup, tree_at, number_of, setup_of}
-use Rattle.task_core.specs.Lines.{ToPush, ToMaster, first_length, landed, legs_of, leg_at}
+use Rattle.run_machine.specs.Scene.{Setup, tree_at, number_of, setup_of}
+use Rattle.run_machine.specs.Lines.{ToPush, ToMaster, first_length, landed, legs_of, leg_at}
 use Rattle.block_core.specs.Fragments.{offset_of, fragment_of}
 use Rattle.block_core.specs.Values.{yes, may, bio_may, leg_may}
 use Rattle.block_core.proofs.Moves.{piece}

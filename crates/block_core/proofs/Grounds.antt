@@ -4,7 +4,7 @@ use Rattle.block_core.proofs.Geometry.{lands, cuts, legs, copied}
 use Rattle.block_core.proofs.Orders.{Ground}
 use Rattle.stack_base.specs.declared.stack.Stack.{Stack}
 use Rattle.stack_base.specs.Stack.{IsStack}
-use Rattle.task_core.specs.Scene.{setup_of}
+use Rattle.run_machine.specs.Scene.{setup_of}
 
 pub ground : (stack : Stack) → IsStack stack → (places : ℕ → ℕ) → Ground (setup_of stack places)
 ground stack good places = record {

@@ -1,13 +1,13 @@
 -- What tasks have in hand: something for the first of a writer's writes, and no completer fails.
 use Rattle.std.proofs.Common.{◌≡◌, ℕ, false, List, [], ◌∷◌, refl, sym, ap, subst}
 use Rattle.bio_records.specs.declared.tasks.TaskLists.{TaskLists}
-use Rattle.task_core.specs.declared.event.Event.{Event}
-use Rattle.task_core.specs.Maps.{upd}
-use Rattle.task_core.specs.Scene.{Scene}
-use Rattle.task_core.specs.Lines.{Doing, Line}
-use Rattle.task_core.specs.Tasks.{TaskState, Writer, Rescuer, Completer, Keeper, Todo, Taken, NoBio, HasBio, HasBoth}
-use Rattle.task_core.specs.Opened.{scene, todos, duties}
-use Rattle.task_core.specs.Runs.{State, IsRun}
+use Rattle.run_machine.specs.declared.event.Event.{Event}
+use Rattle.run_machine.specs.Maps.{upd}
+use Rattle.run_machine.specs.Scene.{Scene}
+use Rattle.run_machine.specs.Lines.{Doing, Line}
+use Rattle.run_machine.specs.Tasks.{TaskState, Writer, Rescuer, Completer, Keeper, Todo, Taken, NoBio, HasBio, HasBoth}
+use Rattle.run_machine.specs.Opened.{scene, todos, duties}
+use Rattle.run_machine.specs.Runs.{State, IsRun}
 use Rattle.block_core.specs.Breaks.{failed}
 use Rattle.block_core.proofs.Moves.{Move, Can, after, HasLine, with_line}
 use Rattle.block_core.proofs.Moves as moves

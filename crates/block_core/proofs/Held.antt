@@ -21,16 +21,16 @@ use Rattle.bio_records.specs.Items.{Item}
 use Rattle.model_disks.specs.Disks.{DiskState}
 use Rattle.model_disks.specs.Moves.{pushed, written, Completes}
 use Rattle.model_disks.proofs.MoveLemmas.{bios_write_their_sectors, size_after}
-use Rattle.task_core.specs.declared.event.Event.{Event}
-use Rattle.task_core.specs.Maps.{upd}
-use Rattle.task_core.specs.Scene.{Scene}
-use Rattle.task_core.specs.Lines.{ToPush, Drives}
-use Rattle.task_core.specs.Tasks.{Todo, first_bio}
+use Rattle.run_machine.specs.declared.event.Event.{Event}
+use Rattle.run_machine.specs.Maps.{upd}
+use Rattle.run_machine.specs.Scene.{Scene}
+use Rattle.run_machine.specs.Lines.{ToPush, Drives}
+use Rattle.run_machine.specs.Tasks.{Todo, first_bio}
 use Rattle.layout_model.specs.Writes.{IsWrite}
 use Rattle.layout_model.proofs.RangeSums.{sum_of_two, sum_of_zero}
 use Rattle.std.proofs.lemmas.List.{length-replicate, get_or-replicate}
-use Rattle.task_core.specs.Opened.{Scenario, scene, start, todos, setup as setup_in}
-use Rattle.task_core.specs.Runs.{State, IsRun}
+use Rattle.run_machine.specs.Opened.{Scenario, scene, start, todos, setup as setup_in}
+use Rattle.run_machine.specs.Runs.{State, IsRun}
 use Rattle.block_core.specs.Weights.{total}
 use Rattle.block_core.specs.Sound.{IsScenario}
 use Rattle.block_core.specs.Fragments.{offset_of, fragment_of, completed_by, completed}

@@ -8,10 +8,10 @@ use Rattle.bio_books.specs.declared.node.Role.{Role}
 use Rattle.bio_books.specs.declared.node.Role.TheVariants as role
 use Rattle.bio_books.specs.Books.{Node, SlipItem, node_at}
 use Rattle.model_disks.specs.Disks.{DiskState}
-use Rattle.task_core.specs.Scene.{Scene, tree_at}
-use Rattle.task_core.specs.Lines.{Takes, Punts as WantsPunt, Links, Doing, Rests, Drives, Copies, Breaks, Line, rests, legs_of}
-use Rattle.task_core.specs.Tasks.{TaskState, Writer, Rescuer, Completer, Keeper, Taken, NoBio, HasBio, HasBoth, Empty, Brings, Carries, Fails}
-use Rattle.task_core.specs.Runs.{State}
+use Rattle.run_machine.specs.Scene.{Scene, tree_at}
+use Rattle.run_machine.specs.Lines.{Takes, Punts as WantsPunt, Links, Doing, Rests, Drives, Copies, Breaks, Line, rests, legs_of}
+use Rattle.run_machine.specs.Tasks.{TaskState, Writer, Rescuer, Completer, Keeper, Taken, NoBio, HasBio, HasBoth, Empty, Brings, Carries, Fails}
+use Rattle.run_machine.specs.Runs.{State}
 use Rattle.block_core.specs.Weights.{Weight, Pending, Rescued, Lined, total, one, weigh_option, doing_weight, task_weight, line_weight, taken_weight, book_weight, elements, holding_elements, refs, legs_left, count_of}
 use Rattle.block_core.specs.Fragments.{HasNone, NothingComes, HasBegun, AllIsHome, NothingComesWhereAllIsHome}
 use Rattle.block_core.proofs.Sums.{one-same, within_book}
@@ -20,9 +20,9 @@ use Rattle.block_core.proofs.Kept.{named, away, own_part, own_of, TaskFits, Line
 use Rattle.block_core.proofs.PlannedOnce.{sum_none, node_none}
 use Rattle.block_core.proofs.Slips.{bare_slip, bare_node, bare, no_bare}
 use Rattle.layout_model.proofs.RangeSums.{sum_of_zero}
-use Rattle.task_core.specs.declared.event.Event.{Event}
-use Rattle.task_core.specs.Opened.{scene as opened_scene, start, todos, setup as setup_in}
-use Rattle.task_core.specs.Runs.{IsRun}
+use Rattle.run_machine.specs.declared.event.Event.{Event}
+use Rattle.run_machine.specs.Opened.{scene as opened_scene, start, todos, setup as setup_in}
+use Rattle.run_machine.specs.Runs.{IsRun}
 use Rattle.block_core.proofs.Kept.{Fair}
 use Rattle.block_core.proofs.Orders.{Ground}
 use Rattle.block_core.proofs.Grounds.{ground}

@@ -4,8 +4,8 @@ use Rattle.std.specs.Prelude.{Contains, slice_get, Some}
 use Rattle.std.proofs.lemmas.List.Elements.{All-contains}
 use Rattle.layout_model.specs.Laid.{round_of}
 use Rattle.layout_model.proofs.OneWay.{one_way_a_round}
-use Rattle.task_core.specs.Tasks.{Todo}
-use Rattle.task_core.specs.Opened.{scene, start, todos, setup as setup_in}
+use Rattle.run_machine.specs.Tasks.{Todo}
+use Rattle.run_machine.specs.Opened.{scene, start, todos, setup as setup_in}
 use Rattle.block_core.specs.Images.{OneFragmentARound, ImagesAreLaidOut}
 use Rattle.block_core.proofs.Kept.{Fair}
 use Rattle.block_core.proofs.Grounds.{ground}

@@ -12,7 +12,7 @@ use Rattle.layout_model.specs.Laid.{Lands, round_of}
 use Rattle.layout_model.specs.Plan.{plan, leaves}
 use Rattle.layout_model.specs.Writes.{IsWrite}
 use Rattle.layout_model.proofs.PlanLaws.{plan_gives_fragments, trees_are_sound}
-use Rattle.task_core.specs.Opened.{Scenario}
+use Rattle.run_machine.specs.Opened.{Scenario}
 use Rattle.block_core.specs.Sound.{IsScenario}
 use Rattle.block_core.specs.Images.{writes_at, LaidIsOne, EndedRunsLeaveTheSame}
 use Rattle.block_core.proofs.Sums.{same_or_not}

@@ -22,10 +22,10 @@ use Rattle.layout_model.specs.Way.{Place, place}
 use Rattle.layout_model.specs.Writes.{IsWrite}
 use Rattle.layout_model.proofs.Followed.{fragments_follow}
 use Rattle.layout_model.proofs.PlanLaws.{trees_are_sound}
-use Rattle.task_core.specs.Tasks.{Todo}
-use Rattle.task_core.specs.declared.event.Event.{Event}
-use Rattle.task_core.specs.Opened.{Scenario, scene, start, todos}
-use Rattle.task_core.specs.Runs.{State, IsRun}
+use Rattle.run_machine.specs.Tasks.{Todo}
+use Rattle.run_machine.specs.declared.event.Event.{Event}
+use Rattle.run_machine.specs.Opened.{Scenario, scene, start, todos}
+use Rattle.run_machine.specs.Runs.{State, IsRun}
 use Rattle.block_core.specs.Sound.{IsScenario, IsNaming}
 use Rattle.block_core.specs.Fragments.{completed, times, IsOfScenario, NothingComes}
 use Rattle.block_core.specs.Images.{tag_of, writes_at, put, held_after, round_at, OneARound, ComeInRounds}

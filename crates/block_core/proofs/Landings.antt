@@ -12,8 +12,8 @@ use Rattle.bio_records.specs.Items.{Item}
 use Rattle.bio_records.specs.Sorting.{is_lower, is_same}
 use Rattle.bio_lists.specs.Submission.{order, submitted}
 use Rattle.bio_split.specs.Split.{split_rest}
-use Rattle.task_core.specs.Scene.{Setup, tree_at}
-use Rattle.task_core.specs.Lines.{Takes, Links, ToCut, Drives, Copies, settled, goes_on, copies, first_waits, first_length, landed, legs_of, leg_at}
+use Rattle.run_machine.specs.Scene.{Setup, tree_at}
+use Rattle.run_machine.specs.Lines.{Takes, Links, ToCut, Drives, Copies, settled, goes_on, copies, first_waits, first_length, landed, legs_of, leg_at}
 use Rattle.block_core.specs.Weights.{Weight, Lined, line_weight}
 use Rattle.block_core.proofs.Moves.{cut_lists, piece}
 use Rattle.block_core.proofs.Listed.{asks_weight, order_weight}

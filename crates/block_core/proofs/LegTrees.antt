@@ -9,7 +9,7 @@ use Rattle.stack_base.specs.declared.stack.Stack.{Stack}
 use Rattle.stack_base.specs.Stack.{IsStack}
 use Rattle.stack_base.specs.Tree.{Tree, Leaf, Split, Mirrored, Shape, Keeps as Keeping_, Cuts, Copies as Copying_, shape_of, size, tree}
 use Rattle.layout_model.proofs.ByShape.{cuts_is, copies_is, keeps_is, member_is}
-use Rattle.task_core.specs.Scene.{number_of}
+use Rattle.run_machine.specs.Scene.{number_of}
 use Rattle.block_core.proofs.Geometry.{number_of_tree, members_at, sizes_at}
 
 -- where a mirror has such a leg, what is below it there is the tree of the member's number

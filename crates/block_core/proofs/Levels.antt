@@ -3,8 +3,8 @@
 use Rattle.std.proofs.Common.{◌≡◌, ℕ, Option, None, Some, refl, ap, arith}
 use Rattle.bio_books.specs.Books.{parent_of}
 use Rattle.bio_books.specs.Links.{IsVacant}
-use Rattle.task_core.specs.Scene.{Scene}
-use Rattle.task_core.specs.Runs.{State}
+use Rattle.run_machine.specs.Scene.{Scene}
+use Rattle.run_machine.specs.Runs.{State}
 use Rattle.block_core.specs.Weights.{total, under}
 use Rattle.block_core.specs.Levels.{parent_off, held_off, off_levels}
 use Rattle.block_core.proofs.Kept.{Kept}

@@ -10,10 +10,10 @@ use Rattle.bio_records.specs.Items.{Item}
 use Rattle.bio_lists.specs.Submission.{submitted}
 use Rattle.bio_books.specs.Books.{Node, VectorItem, node_at, told, later_part}
 use Rattle.bio_books.specs.Links.{IsVacant}
-use Rattle.task_core.specs.Scene.{Scene, tree_at}
-use Rattle.task_core.specs.Lines.{Links, ToCut, ToMaster, Doing, Drives, Copies, first_length, legs_of, leg_at}
-use Rattle.task_core.specs.Tasks.{TaskState, Todo, Carried, Empty, Brings, Carries, Fails}
-use Rattle.task_core.specs.Runs.{State}
+use Rattle.run_machine.specs.Scene.{Scene, tree_at}
+use Rattle.run_machine.specs.Lines.{Links, ToCut, ToMaster, Doing, Drives, Copies, first_length, legs_of, leg_at}
+use Rattle.run_machine.specs.Tasks.{TaskState, Todo, Carried, Empty, Brings, Carries, Fails}
+use Rattle.run_machine.specs.Runs.{State}
 use Rattle.block_core.specs.Weights.{total, weigh_option, task_weight, carried_weight}
 use Rattle.block_core.proofs.Moves.{Move, IsTaking, place_of, Can, after, lost, gained, limit_of, with_line, HasLine, Wants, with_want, taken_of, filled_of, vector_of, cut_lists, IsTake, Tells, Hands, piece, with_pool, with_book}
 use Rattle.block_core.proofs.Moves as moves

@@ -13,9 +13,9 @@ use Rattle.bio_records.specs.Items.{Item}
 use Rattle.bio_records.specs.Sorting.{is_lower, is_same}
 use Rattle.bio_lists.specs.Submission.{order}
 use Rattle.bio_books.specs.Books.{keeping}
-use Rattle.task_core.specs.Scene.{Setup, tree_at}
-use Rattle.task_core.specs.Lines.{Want, ToPush, ToCut, ToRecord, ToMaster, Doing, Rests, Drives, Copies, Breaks, Line, settled, goes_on, asks_at, first_length, mapped, landed, is_of, punted, not_punted}
-use Rattle.task_core.specs.Tasks.{TaskState, Writer, Rescuer, Completer, Keeper}
+use Rattle.run_machine.specs.Scene.{Setup, tree_at}
+use Rattle.run_machine.specs.Lines.{Want, ToPush, ToCut, ToRecord, ToMaster, Doing, Rests, Drives, Copies, Breaks, Line, settled, goes_on, asks_at, first_length, mapped, landed, is_of, punted, not_punted}
+use Rattle.run_machine.specs.Tasks.{TaskState, Writer, Rescuer, Completer, Keeper}
 use Rattle.block_core.specs.Weights.{Weight, Lined, want_weight, doing_weight, task_weight, line_weight}
 use Rattle.block_core.proofs.Moves.{limit_of, with_line, HasLine, Wants, with_want}
 

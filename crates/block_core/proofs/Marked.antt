@@ -6,10 +6,10 @@ use Rattle.bio_records.specs.Items.{Item}
 use Rattle.bio_books.specs.Books.{Node, VectorItem, SlipItem, node_at, parent_of}
 use Rattle.bio_books.specs.Links.{IsVacant}
 use Rattle.bio_books.specs.Drops.{Closed}
-use Rattle.task_core.specs.Maps.{upd}
-use Rattle.task_core.specs.Scene.{Scene}
-use Rattle.task_core.specs.Tasks.{Todo, Taken}
-use Rattle.task_core.specs.Runs.{State}
+use Rattle.run_machine.specs.Maps.{upd}
+use Rattle.run_machine.specs.Scene.{Scene}
+use Rattle.run_machine.specs.Tasks.{Todo, Taken}
+use Rattle.run_machine.specs.Runs.{State}
 use Rattle.block_core.specs.Weights.{Weight, Spot, total, one, refs, names, under, legs_left, count_of}
 use Rattle.block_core.proofs.Sums.{upd-same, upd-other, one-same, same_or_not}
 use Rattle.block_core.proofs.Kept.{Kept}

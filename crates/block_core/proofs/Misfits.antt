@@ -11,15 +11,15 @@ use Rattle.bio_records.specs.declared.tasks.TaskLists.{TaskLists}
 use Rattle.bio_records.specs.Items.{Item}
 use Rattle.bio_lists.specs.Submission.{submitted}
 use Rattle.bio_split.specs.Split.{split_front, split_rest}
-use Rattle.task_core.specs.Scene.{Scene, tree_at}
-use Rattle.task_core.specs.Lines.{Links, ToCut, Drives, Copies, first_length, mapped, legs_of, leg_at}
-use Rattle.task_core.specs.Tasks.{TaskState, Todo, first_bio}
-use Rattle.task_core.specs.Runs.{State}
+use Rattle.run_machine.specs.Scene.{Scene, tree_at}
+use Rattle.run_machine.specs.Lines.{Links, ToCut, Drives, Copies, first_length, mapped, legs_of, leg_at}
+use Rattle.run_machine.specs.Tasks.{TaskState, Todo, first_bio}
+use Rattle.run_machine.specs.Runs.{State}
 use Rattle.block_core.specs.Weights.{Weight, total}
 use Rattle.block_core.proofs.Moves.{Move, Can, after, lost, gained, limit_of, with_line, HasLine, Wants, with_want, taken_of, filled_of, vector_of, cut_lists, Tells, Hands, piece}
 use Rattle.block_core.proofs.Moves as moves
 use Rattle.block_core.proofs.Listed.{landed_same, IsBlind, first_weight, goes_weight}
-use Rattle.block_core.proofs.Places.{cut_weight, copies_weight, unless, line_part}
+use Rattle.block_core.proofs.Places.{cut_weight, copies_weight, unless, line_part, unless_less}
 use Rattle.block_core.proofs.Deltas.{delta}
 use Rattle.block_core.proofs.Kept.{TaskFits, Kept}
 use Rattle.block_core.proofs.Lines.{line_fits}
@@ -43,10 +43,6 @@ misfits bad = record {
   node = λ writer place node. 0;
   closed = λ task writer closed. 0;
 }
-
-unless_less : (v : Bool) (n : ℕ) → unless v n ≤ n
-unless_less true n = omega arith
-unless_less false n = omega arith
 
 module _ (bad : Bio → ℕ) (f : Follows bad) where
   abbrev w : Weight

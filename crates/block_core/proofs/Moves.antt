@@ -21,14 +21,14 @@ use Rattle.bio_books.specs.Links.{IsVacant}
 use Rattle.bio_books.specs.Drops.{Closed, closed_of}
 use Rattle.model_disks.specs.Disks.{DiskState}
 use Rattle.model_disks.specs.Moves.{pushed, Completes}
-use Rattle.task_core.specs.Maps.{upd}
-use Rattle.task_core.specs.Scene.{Scene, tree_at}
-use Rattle.task_core.specs.Lines.{Want, Takes, Punts as WantsPunt, Links, ToPush, ToCut, ToRecord, ToMaster, Doing, Drives, Copies, Line, rests, settled, goes_on, copies, first_length, mapped, legs_of, leg_at, punted, not_punted}
-use Rattle.task_core.specs.Tasks.{Todo, Taken, NoBio, HasBio, HasBoth, Carried, Empty, Brings, Carries, Fails, Duty, Resizes, Starts, Keeps, TaskState, Writer, Rescuer, Completer, Keeper, filled, filled_short, filled_vector}
-use Rattle.task_core.specs.Objects.{Objects, clear_bio, clear_vector, clear_slip, done_one}
-use Rattle.task_core.specs.Requests.{Request, TakeBio, TakeVec, TakeSlip}
-use Rattle.task_core.specs.Tasks.{request, needs_vector}
-use Rattle.task_core.specs.Runs.{State}
+use Rattle.run_machine.specs.Maps.{upd}
+use Rattle.run_machine.specs.Scene.{Scene, tree_at}
+use Rattle.run_machine.specs.Lines.{Want, Takes, Punts as WantsPunt, Links, ToPush, ToCut, ToRecord, ToMaster, Doing, Drives, Copies, Line, rests, settled, goes_on, copies, first_length, mapped, legs_of, leg_at, punted, not_punted}
+use Rattle.run_machine.specs.Tasks.{Todo, Taken, NoBio, HasBio, HasBoth, Carried, Empty, Brings, Carries, Fails, Duty, Resizes, Starts, Keeps, TaskState, Writer, Rescuer, Completer, Keeper, filled, filled_short, filled_vector}
+use Rattle.run_machine.specs.Objects.{Objects, clear_bio, clear_vector, clear_slip, done_one}
+use Rattle.run_machine.specs.Requests.{Request, TakeBio, TakeVec, TakeSlip}
+use Rattle.run_machine.specs.Tasks.{request, needs_vector}
+use Rattle.run_machine.specs.Runs.{State}
 use Rattle.block_core.specs.Weights.{Weight, Lined, Rescued, Pending, Brought, line_weight, task_weight, carried_weight}
 
 -- a task with a submission goes on with another one

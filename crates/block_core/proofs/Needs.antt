@@ -9,8 +9,8 @@ use Rattle.bio_records.specs.declared.bio.Bio.{Bio}
 use Rattle.bio_records.specs.declared.bio.Pad.{Pad}
 use Rattle.bio_records.specs.Items.{Item}
 use Rattle.bio_split.specs.Split.{split_rest}
-use Rattle.task_core.specs.Scene.{Setup, tree_at, number_of}
-use Rattle.task_core.specs.Lines.{first_length, landed, legs_of, leg_at}
+use Rattle.run_machine.specs.Scene.{Setup, tree_at, number_of}
+use Rattle.run_machine.specs.Lines.{first_length, landed, legs_of, leg_at}
 use Rattle.std.proofs.lemmas.Option.{slice_get-get_or}
 use Rattle.std.proofs.lemmas.List.{length-map}
 use Rattle.stack_base.specs.declared.stack.Device.{Device}
@@ -19,7 +19,7 @@ use Rattle.stack_base.specs.Stack.{IsStack}
 use Rattle.stack_base.specs.Tree.{Shape, Keeps as Keeping_, Cuts, Copies as Copying_, shape_of, tree}
 use Rattle.layout_model.specs.Need.{needed}
 use Rattle.layout_model.proofs.ByShape.{cuts_is, copies_is, keeps_is, member_is}
-use Rattle.task_core.specs.Scene.{setup_of}
+use Rattle.run_machine.specs.Scene.{setup_of}
 use Rattle.block_core.proofs.Moves.{piece}
 use Rattle.std.specs.List.{range_with_len}
 use Rattle.layout_model.proofs.Begun.{needed_legs}

@@ -17,8 +17,8 @@ use Rattle.bio_records.specs.declared.bio.Pad.{Pad}
 use Rattle.bio_records.specs.Items.{Item}
 use Rattle.bio_split.specs.Split.{split_rest}
 use Rattle.bio_books.specs.Books.{SlipItem}
-use Rattle.task_core.specs.Scene.{Setup, tree_at, number_of, setup_of}
-use Rattle.task_core.specs.Lines.{Want, ToCut, ToMaster, first_length, landed, legs_of, leg_at}
+use Rattle.run_machine.specs.Scene.{Setup, tree_at, number_of, setup_of}
+use Rattle.run_machine.specs.Lines.{Want, ToCut, ToMaster, first_length, landed, legs_of, leg_at}
 use Rattle.block_core.specs.Rooms.{need_at, leg_need}
 use Rattle.block_core.proofs.Moves.{piece}
 use Rattle.block_core.proofs.Geometry.{IsThere, is_cut, number_of_tree, members_at, sizes_at, lands_needs, cuts}

@@ -12,12 +12,12 @@ use Rattle.bio_records.specs.Items.{Item}
 use Rattle.bio_lists.specs.Submission.{submitted}
 use Rattle.bio_books.specs.Books.{Node, VectorItem, node_at, parent_of}
 use Rattle.bio_books.specs.Links.{IsVacant}
-use Rattle.task_core.specs.declared.event.Event.{Event}
-use Rattle.task_core.specs.Scene.{Scene, tree_at}
-use Rattle.task_core.specs.Lines.{Want, Ask, Links, ToCut, ToMaster, Drives, Copies, first_length, legs_of, leg_at}
-use Rattle.task_core.specs.Tasks.{TaskState, Todo, Completer, Carried, Empty, Brings, Carries, Fails}
-use Rattle.task_core.specs.Opened.{Scenario, scene, start, setup as setup_in}
-use Rattle.task_core.specs.Runs.{State, IsRun}
+use Rattle.run_machine.specs.declared.event.Event.{Event}
+use Rattle.run_machine.specs.Scene.{Scene, tree_at}
+use Rattle.run_machine.specs.Lines.{Want, Ask, Links, ToCut, ToMaster, Drives, Copies, first_length, legs_of, leg_at}
+use Rattle.run_machine.specs.Tasks.{TaskState, Todo, Completer, Carried, Empty, Brings, Carries, Fails}
+use Rattle.run_machine.specs.Opened.{Scenario, scene, start, setup as setup_in}
+use Rattle.run_machine.specs.Runs.{State, IsRun}
 use Rattle.block_core.specs.Weights.{total, task_weight, carried_weight, under}
 use Rattle.block_core.specs.Levels.{apart}
 use Rattle.block_core.specs.Sound.{IsScenario}

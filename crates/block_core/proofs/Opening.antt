@@ -6,10 +6,10 @@ use Rattle.elem_ledger.specs.Ledger.{LedgerId}
 use Rattle.mempool_core.specs.Facts.{AddsUp}
 use Rattle.bio_books.specs.Books.{Node, BookState, node_at, keeping}
 use Rattle.model_disks.specs.Disks.{DiskState}
-use Rattle.task_core.specs.Scene.{Scene}
-use Rattle.task_core.specs.Lines.{rests}
-use Rattle.task_core.specs.Tasks.{TaskState, Writer, Rescuer, Completer, Keeper, Keeps, Duty, Todo, NoBio, Empty}
-use Rattle.task_core.specs.Runs.{State}
+use Rattle.run_machine.specs.Scene.{Scene}
+use Rattle.run_machine.specs.Lines.{rests}
+use Rattle.run_machine.specs.Tasks.{TaskState, Writer, Rescuer, Completer, Keeper, Keeps, Duty, Todo, NoBio, Empty}
+use Rattle.run_machine.specs.Runs.{State}
 use Rattle.block_core.specs.Weights.{Weight, Pending, Rescued, total, sum_at, weigh_option, task_weight, book_weight, elements, refs, count_of}
 use Rattle.block_core.proofs.Kept.{named, own_of, GoesOn, TaskFits, IsIn, Kept}
 use Rattle.std.specs.Prelude.{All, replicate, zip}
@@ -22,9 +22,9 @@ use Rattle.block_core.specs.Sound.{IsScenario}
 use Rattle.std.specs.List.{range_with_len, list_any}
 use Rattle.layout_model.specs.declared.write.Write.{Write}
 use Rattle.layout_model.specs.Needs.{nodes}
-use Rattle.task_core.specs.Events.{pool_of}
-use Rattle.task_core.specs.Scene.{is_disk}
-use Rattle.task_core.specs.Opened.{Scenario, scene, start, tasks as opened_tasks, todos, todos_of, is_by, writers, duties, keepers, no_task, places_of, reserve_of, script_at, setup as setup_in, at as device_at}
+use Rattle.run_machine.specs.Events.{pool_of}
+use Rattle.run_machine.specs.Scene.{is_disk}
+use Rattle.run_machine.specs.Opened.{Scenario, scene, start, tasks as opened_tasks, todos, todos_of, is_by, writers, duties, keepers, no_task, places_of, reserve_of, script_at, setup as setup_in, at as device_at}
 
 -- a task that did nothing yet
 abbrev pub Begins : Scene → TaskState → Type 0

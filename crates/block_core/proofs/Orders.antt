@@ -16,10 +16,10 @@ use Rattle.bio_records.specs.Sorting.{is_lower, is_same}
 use Rattle.bio_split.specs.Split.{split_rest}
 use Rattle.bioset_pools.specs.Sets.{bios_of}
 use Rattle.bio_books.specs.Books.{VectorItem, keeping}
-use Rattle.task_core.specs.Scene.{Setup, tree_at}
-use Rattle.task_core.specs.Lines.{Want, Takes, Punts as WantsPunt, Links, Ask, ToPush, ToCut, ToRecord, ToMaster, Doing, Rests, Drives, Copies, Breaks, Line, settled, goes_on, copies, asks_at, first_waits, first_length, landed, legs_of, leg_at, is_of, not_punted}
-use Rattle.task_core.specs.Tasks.{TaskState, Writer, Rescuer, Completer, Keeper, Todo, Taken, NoBio, HasBio, HasBoth, first_bio}
-use Rattle.task_core.specs.Runs.{State}
+use Rattle.run_machine.specs.Scene.{Setup, tree_at}
+use Rattle.run_machine.specs.Lines.{Want, Takes, Punts as WantsPunt, Links, Ask, ToPush, ToCut, ToRecord, ToMaster, Doing, Rests, Drives, Copies, Breaks, Line, settled, goes_on, copies, asks_at, first_waits, first_length, landed, legs_of, leg_at, is_of, not_punted}
+use Rattle.run_machine.specs.Tasks.{TaskState, Writer, Rescuer, Completer, Keeper, Todo, Taken, NoBio, HasBio, HasBoth, first_bio}
+use Rattle.run_machine.specs.Runs.{State}
 use Rattle.block_core.proofs.Moves.{Wants, with_want, filled_of, cut_lists, piece}
 use Rattle.block_core.proofs.Geometry.{is_cut, IsThere, IsCopied, Settles, Lands}
 use Rattle.block_core.proofs.Listed.{landed_same}

@@ -10,12 +10,12 @@ use Rattle.bio_records.specs.Items.{Item}
 use Rattle.bio_lists.specs.Submission.{submitted}
 use Rattle.bioset_pools.specs.Sets.{bios_of}
 use Rattle.bio_books.specs.Books.{VectorItem, keeping}
-use Rattle.task_core.specs.Maps.{upd}
-use Rattle.task_core.specs.Scene.{Setup, Scene, tree_at}
-use Rattle.task_core.specs.Lines.{Takes, Punts as WantsPunt, Links, ToPush, ToCut, ToRecord, ToMaster, Doing, Rests, Drives, Copies, Breaks, Line, rests, leg_at, is_of, punted, not_punted}
-use Rattle.task_core.specs.Tasks.{TaskState, Writer, Rescuer, Completer, Keeper}
-use Rattle.task_core.specs.Objects.{clear_bio, clear_slip}
-use Rattle.task_core.specs.Runs.{State}
+use Rattle.run_machine.specs.Maps.{upd}
+use Rattle.run_machine.specs.Scene.{Setup, Scene, tree_at}
+use Rattle.run_machine.specs.Lines.{Takes, Punts as WantsPunt, Links, ToPush, ToCut, ToRecord, ToMaster, Doing, Rests, Drives, Copies, Breaks, Line, rests, leg_at, is_of, punted, not_punted}
+use Rattle.run_machine.specs.Tasks.{TaskState, Writer, Rescuer, Completer, Keeper}
+use Rattle.run_machine.specs.Objects.{clear_bio, clear_slip}
+use Rattle.run_machine.specs.Runs.{State}
 use Rattle.block_core.proofs.Moves.{Move, IsTaking, place_of, Can, after, lost, gained, limit_of, with_line, HasLine, Wants, with_want, taken_of, filled_of, vector_of, cut_lists, IsTake, Tells, Hands, piece, with_pool, with_book}
 use Rattle.block_core.proofs.Moves as moves
 use Rattle.block_core.proofs.Sums.{upd-same, upd-other, same_or_not}

@@ -7,9 +7,9 @@ use Rattle.mempool_core.specs.Move.{PoolState, after_move, resizes}
 use Rattle.bio_records.specs.declared.bio.Pad.{Pad}
 use Rattle.bio_records.specs.Items.{Item}
 use Rattle.bio_lists.specs.Submission.{submitted}
-use Rattle.task_core.specs.Scene.{Scene, tree_at}
-use Rattle.task_core.specs.Lines.{ToMaster, Drives, first_length, legs_of, leg_at}
-use Rattle.task_core.specs.Runs.{State}
+use Rattle.run_machine.specs.Scene.{Scene, tree_at}
+use Rattle.run_machine.specs.Lines.{ToMaster, Drives, first_length, legs_of, leg_at}
+use Rattle.run_machine.specs.Runs.{State}
 use Rattle.block_core.specs.Weights.{total, one, weigh_option, elements, holding_elements}
 use Rattle.block_core.proofs.Moves.{Move, IsTaking, place_of, Can, after, lost, gained, limit_of, with_line, HasLine, Wants, with_want, taken_of, filled_of, vector_of, cut_lists, IsTake, Tells, Hands, piece, with_pool, with_book}
 use Rattle.block_core.proofs.Moves as moves

@@ -8,10 +8,10 @@ use Rattle.bio_records.specs.Items.{Item}
 use Rattle.bio_books.specs.Books.{Node, VectorItem, SlipItem, node_at}
 use Rattle.bio_books.specs.Drops.{Closed}
 use Rattle.model_disks.specs.Disks.{DiskState}
-use Rattle.task_core.specs.Scene.{Scene, tree_at}
-use Rattle.task_core.specs.Lines.{Want, Takes, Punts, Links, Ask, ToPush, ToCut, ToRecord, ToMaster, Doing, Rests, Drives, Copies, Breaks, Line, legs_of}
-use Rattle.task_core.specs.Tasks.{Todo, Taken, NoBio, HasBio, HasBoth, Carried, Empty, Brings, Carries, Fails, TaskState, Writer, Rescuer, Completer, Keeper}
-use Rattle.task_core.specs.Runs.{State}
+use Rattle.run_machine.specs.Scene.{Scene, tree_at}
+use Rattle.run_machine.specs.Lines.{Want, Takes, Punts, Links, Ask, ToPush, ToCut, ToRecord, ToMaster, Doing, Rests, Drives, Copies, Breaks, Line, legs_of}
+use Rattle.run_machine.specs.Tasks.{Todo, Taken, NoBio, HasBio, HasBoth, Carried, Empty, Brings, Carries, Fails, TaskState, Writer, Rescuer, Completer, Keeper}
+use Rattle.run_machine.specs.Runs.{State}
 use Rattle.block_core.specs.Weights.{Weight, Spot, Lined, Rescued, Pending, Brought, total, sum_at, weigh_option, want_weight, ask_weight, doing_weight, line_weight, taken_weight, carried_weight, task_weight, book_weight}
 use Rattle.block_core.proofs.Kept.{DoingFits, TaskFits, Kept}
 use Rattle.block_core.proofs.Totals.{part_of}

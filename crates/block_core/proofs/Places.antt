@@ -15,11 +15,11 @@ use Rattle.bio_split.specs.Split.{split_rest}
 use Rattle.bio_books.specs.declared.node.Role.{Role}
 use Rattle.bio_books.specs.declared.node.Role.TheVariants as role
 use Rattle.bio_books.specs.Books.{Node, VectorItem, Holding, node_at, top_node, keeping, told}
-use Rattle.task_core.specs.Maps.{upd}
-use Rattle.task_core.specs.Scene.{Setup, Scene, tree_at}
-use Rattle.task_core.specs.Lines.{Takes, Doing, Copies, rests, settled, goes_on, copies, first_waits, legs_of}
-use Rattle.task_core.specs.Tasks.{TaskState, Writer, Rescuer, Completer, Keeper, Todo, Carried, Empty, Brings, Carries, Fails}
-use Rattle.task_core.specs.Runs.{State}
+use Rattle.run_machine.specs.Maps.{upd}
+use Rattle.run_machine.specs.Scene.{Setup, Scene, tree_at}
+use Rattle.run_machine.specs.Lines.{Takes, Doing, Copies, rests, settled, goes_on, copies, first_waits, legs_of}
+use Rattle.run_machine.specs.Tasks.{TaskState, Writer, Rescuer, Completer, Keeper, Todo, Carried, Empty, Brings, Carries, Fails}
+use Rattle.run_machine.specs.Runs.{State}
 use Rattle.block_core.specs.Weights.{Weight, Lined, total, sum_at, one, doing_weight, task_weight, line_weight, carried_weight, elements, holding_elements, names}
 use Rattle.block_core.proofs.Moves.{limit_of, HasLine, taken_of, filled_of, vector_of, cut_lists, IsTake, Tells, Hands, piece}
 use Rattle.block_core.proofs.Sums.{weight-upd, one-same, same_or_not}
@@ -81,6 +81,10 @@ hands_elements q number old new (inr (inr h)) = rw (h.3, h.1, h.2) (omega arith)
 -- what is left to copy behind the last leg, and before
 abbrev pub unless : Bool → ℕ → ℕ
 unless v n = if v then 0 else n
+
+pub unless_less : (v : Bool) (n : ℕ) → unless v n ≤ n
+unless_less true n = omega arith
+unless_less false n = omega arith
 
 pub unless_none : (v : Bool) → unless v 0 ≡ 0
 unless_none true = refl

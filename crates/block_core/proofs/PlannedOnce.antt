@@ -12,10 +12,10 @@ use Rattle.layout_model.specs.Fragments.{IsFragmentOf, AreOther}
 use Rattle.layout_model.specs.Writes.{IsWrite}
 use Rattle.layout_model.proofs.PlanLaws.{plan_gives_fragments, plan_fragments_differ, trees_are_sound}
 use Rattle.model_disks.specs.Disks.{DiskState}
-use Rattle.task_core.specs.Scene.{Scene}
-use Rattle.task_core.specs.Tasks.{TaskState, Writer, Rescuer, Completer, Keeper, Taken, NoBio, HasBio, HasBoth, Todo}
-use Rattle.task_core.specs.Opened.{Scenario, scene, todos, setup as setup_in}
-use Rattle.task_core.specs.Runs.{State}
+use Rattle.run_machine.specs.Scene.{Scene}
+use Rattle.run_machine.specs.Tasks.{TaskState, Writer, Rescuer, Completer, Keeper, Taken, NoBio, HasBio, HasBoth, Todo}
+use Rattle.run_machine.specs.Opened.{Scenario, scene, todos, setup as setup_in}
+use Rattle.run_machine.specs.Runs.{State}
 use Rattle.block_core.specs.Weights.{Weight, Pending, Rescued, one, total, sum_at, weigh_option, task_weight, taken_weight, book_weight}
 use Rattle.block_core.specs.Sound.{IsScenario}
 use Rattle.block_core.specs.Fragments.{todo_fragments, to_come, planned, is_same, is_it, times, IsOfScenario, HasNone, NothingComes, NoneIsCompletedTwice, NoOtherIsCompleted, EachIsCompletedOnce}

@@ -3,8 +3,8 @@ use Rattle.std.proofs.Common.{◌≡◌, ◌≢◌, ◌+◌, ◌-◌, ◌<◌, �
 use Rattle.std.specs.Prelude.{slice_get}
 use Rattle.stack_base.specs.declared.stack.Kind.{Kind}
 use Rattle.elem_ledger.specs.Ledger.{LedgerId}
-use Rattle.task_core.specs.Lines.{rests}
-use Rattle.task_core.specs.Tasks.{TaskState, Writer, Rescuer, Completer, Duty, Resizes, Starts, Todo, NoBio, Empty}
+use Rattle.run_machine.specs.Lines.{rests}
+use Rattle.run_machine.specs.Tasks.{TaskState, Writer, Rescuer, Completer, Duty, Resizes, Starts, Todo, NoBio, Empty}
 use Rattle.block_core.proofs.Sums.{same_or_not}
 use Rattle.block_core.proofs.Orders.{Each}
 use Rattle.std.specs.Prelude.{zip, All}
@@ -18,16 +18,16 @@ use Rattle.stack_base.specs.declared.stack.Device.{Device}
 use Rattle.stack_base.specs.Tree.{tree, shape_of}
 use Rattle.layout_model.proofs.ByShape.{cuts_is, keeps_is}
 use Rattle.layout_model.specs.declared.write.Write.{Write}
-use Rattle.task_core.specs.Scene.{keeps_data, is_mirror, is_disk, is_device}
-use Rattle.task_core.specs.Objects.{TallyState}
-use Rattle.task_core.specs.Events.{id_of, pool_of}
-use Rattle.task_core.specs.declared.event.TaskId.{TaskId}
-use Rattle.task_core.specs.declared.event.TaskId.TheVariants as id
-use Rattle.task_core.specs.Opened.{Scenario, Change, scene, start, tasks as opened_tasks, todos, todos_of, is_by, writers, duties, duties_of, keepers, no_task, round_count, writes_in, writes_from, reserve_of, records_of, setup as setup_in, at as device_at}
+use Rattle.run_machine.specs.Scene.{keeps_data, is_mirror, is_disk, is_device}
+use Rattle.run_machine.specs.Objects.{TallyState}
+use Rattle.run_machine.specs.Events.{id_of, pool_of}
+use Rattle.run_machine.specs.declared.event.TaskId.{TaskId}
+use Rattle.run_machine.specs.declared.event.TaskId.TheVariants as id
+use Rattle.run_machine.specs.Opened.{Scenario, Change, scene, start, tasks as opened_tasks, todos, todos_of, is_by, writers, duties, duties_of, keepers, no_task, round_count, writes_in, writes_from, reserve_of, records_of, setup as setup_in, at as device_at}
 use Rattle.std.specs.Option.{option_map_or}
 use Rattle.std.proofs.lemmas.Bool.Decides.{nat_tests}
 use Rattle.stack_base.specs.Tree.{Cuts}
-use Rattle.task_core.proofs.Frames.{pools_are_numbered}
+use Rattle.run_machine.proofs.Frames.{pools_are_numbered}
 use Rattle.block_core.specs.Sound.{IsScenario, AreInOrder, KeepsSome, HasReserves}
 use Rattle.block_core.proofs.Calm.{IsPool}
 use Rattle.block_core.proofs.Geometry.{at_device}

@@ -14,12 +14,12 @@ use Rattle.bio_books.specs.Books.{keeping}
 use Rattle.bio_books.specs.Drops.{Closed}
 use Rattle.model_disks.specs.Disks.{DiskState}
 use Rattle.model_disks.specs.Moves.{pushed}
-use Rattle.task_core.specs.Maps.{upd}
-use Rattle.task_core.specs.Scene.{Scene, tree_at}
-use Rattle.task_core.specs.Lines.{Links, ToPush, ToCut, ToRecord, ToMaster, Doing, Drives, Copies, Line, rests}
-use Rattle.task_core.specs.Tasks.{TaskState, Writer, Rescuer, Completer, Keeper, Keeps, Stops, Duty, Resizes, Starts, Todo, Taken, NoBio, HasBio, HasBoth, Carried, Empty, Brings, Carries, Fails}
-use Rattle.task_core.specs.Objects.{done_one}
-use Rattle.task_core.specs.Runs.{State}
+use Rattle.run_machine.specs.Maps.{upd}
+use Rattle.run_machine.specs.Scene.{Scene, tree_at}
+use Rattle.run_machine.specs.Lines.{Links, ToPush, ToCut, ToRecord, ToMaster, Doing, Drives, Copies, Line, rests}
+use Rattle.run_machine.specs.Tasks.{TaskState, Writer, Rescuer, Completer, Keeper, Keeps, Stops, Duty, Resizes, Starts, Todo, Taken, NoBio, HasBio, HasBoth, Carried, Empty, Brings, Carries, Fails}
+use Rattle.run_machine.specs.Objects.{done_one}
+use Rattle.run_machine.specs.Runs.{State}
 use Rattle.block_core.proofs.Moves.{Move, IsTaking, place_of, Can, after, lost, gained, limit_of, with_line, HasLine, Wants, with_want, taken_of, filled_of, vector_of, cut_lists, IsTake, Tells, Hands, piece, with_pool, with_book}
 use Rattle.block_core.proofs.Moves as moves
 use Rattle.block_core.proofs.Sums.{upd-same, upd-other, same_or_not}
@@ -29,10 +29,10 @@ use Rattle.block_core.proofs.Orders.{Each}
 use Rattle.block_core.proofs.OrdersKept.{all_at}
 use Rattle.block_core.proofs.Rounds.{TaskRounds, Tallied}
 use Rattle.block_core.proofs.Calm.{IsPool}
-use Rattle.task_core.specs.Scene.{keeps_data, is_disk, is_device}
-use Rattle.task_core.specs.Objects.{TallyState}
-use Rattle.task_core.specs.Events.{id_of}
-use Rattle.task_core.specs.declared.event.TaskId.{TaskId}
+use Rattle.run_machine.specs.Scene.{keeps_data, is_disk, is_device}
+use Rattle.run_machine.specs.Objects.{TallyState}
+use Rattle.run_machine.specs.Events.{id_of}
+use Rattle.run_machine.specs.declared.event.TaskId.{TaskId}
 
 -- the writes of a writer stand by their rounds
 abbrev pub ByRounds : List Todo → Type 0

@@ -1,11 +1,11 @@
 -- The rank at the start of a write to a mirror of two, and behind each event up to the link of its first leg.
 use Rattle.std.proofs.Common.{◌≡◌, ◌+◌, ◌*◌, ℕ, List, [], ◌∷◌, true, refl}
 use Rattle.elem_ledger.specs.Ledger.{LedgerId}
-use Rattle.task_core.specs.Maps.{upd}
-use Rattle.task_core.specs.Scene.{Scene}
-use Rattle.task_core.specs.Runs.{State}
-use Rattle.task_core.proofs.Turns.{Turn, behind}
-use Rattle.task_core.proofs.MirrorRun.{setup, mirror, start, ledger, begun}
+use Rattle.run_machine.specs.Maps.{upd}
+use Rattle.run_machine.specs.Scene.{Scene}
+use Rattle.run_machine.specs.Runs.{State}
+use Rattle.run_machine.proofs.Turns.{Turn, behind}
+use Rattle.run_machine.proofs.cases.MirrorRun.{setup, mirror, start, ledger, begun}
 use Rattle.block_core.specs.Weights.{sum_at, one}
 use Rattle.block_core.specs.Charges.{begun_charge, run_charge, rank}
 

@@ -16,20 +16,20 @@ use Rattle.bio_books.specs.Books.{VectorItem, SlipItem}
 use Rattle.bio_books.specs.Drops.{Closed}
 use Rattle.bio_books.specs.Drops as end
 use Rattle.bio_books.specs.Links.{Made, NoRoom, Stray}
-use Rattle.task_core.specs.declared.event.What.{What}
-use Rattle.task_core.specs.Maps.{upd}
-use Rattle.task_core.specs.Scene.{Setup, Scene}
-use Rattle.task_core.specs.Lines.{Takes, Punts, Links, ToPush, ToCut, ToRecord, ToMaster, Doing, Rests, Drives, Copies, Breaks, Line, line_request, line_answered}
-use Rattle.task_core.specs.Requests as requests
-use Rattle.task_core.specs.Requests.{Request, Reply}
-use Rattle.task_core.specs.Tasks.{TaskState, Writer, Rescuer, Completer, Keeper, Keeps, Stops, Duty, Resizes, Starts, Todo, Taken, NoBio, HasBio, HasBoth, Empty, Brings, Carries, Fails, request, answered, with_bio, needs_vector, closed_request, look_of}
-use Rattle.task_core.specs.Objects.{Objects, Serves}
-use Rattle.task_core.specs.Events.{what_of, resize_of, id_of}
-use Rattle.task_core.specs.Opened.{scene}
-use Rattle.task_core.specs.Runs.{State, IsLet}
+use Rattle.run_machine.specs.declared.event.What.{What}
+use Rattle.run_machine.specs.Maps.{upd}
+use Rattle.run_machine.specs.Scene.{Setup, Scene}
+use Rattle.run_machine.specs.Lines.{Takes, Punts, Links, ToPush, ToCut, ToRecord, ToMaster, Doing, Rests, Drives, Copies, Breaks, Line, line_request, line_answered}
+use Rattle.run_machine.specs.Requests as requests
+use Rattle.run_machine.specs.Requests.{Request, Reply}
+use Rattle.run_machine.specs.Tasks.{TaskState, Writer, Rescuer, Completer, Keeper, Keeps, Stops, Duty, Resizes, Starts, Todo, Taken, NoBio, HasBio, HasBoth, Empty, Brings, Carries, Fails, request, answered, with_bio, needs_vector, closed_request, look_of}
+use Rattle.run_machine.specs.Objects.{Objects, Serves}
+use Rattle.run_machine.specs.Events.{what_of, resize_of, id_of}
+use Rattle.run_machine.specs.Opened.{scene}
+use Rattle.run_machine.specs.Runs.{State, IsLet}
 use Rattle.block_core.specs.Replies.{IsEventOrNothing}
 use Rattle.block_core.proofs.Sums.{upd-same, upd-other, same_or_not}
-use Rattle.task_core.proofs.Idle.{IsFair, IsIdle, fair_task, same_pool, task_stays}
+use Rattle.run_machine.proofs.Idle.{IsFair, IsIdle, fair_task, same_pool, task_stays}
 use Rattle.block_core.proofs.Ready.{IsReady, not_refused}
 
 abbrev IsTold : Request → Reply → Type 0

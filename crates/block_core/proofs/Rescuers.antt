@@ -5,10 +5,10 @@ use Rattle.stack_base.specs.declared.ids.DevId.{DevId}
 use Rattle.stack_base.specs.declared.stack.Kind.{Kind}
 use Rattle.stack_base.specs.Tree.{Tree, size}
 use Rattle.bio_books.specs.Books.{keeping}
-use Rattle.task_core.specs.Scene.{Scene}
-use Rattle.task_core.specs.Lines.{legs_of}
-use Rattle.task_core.specs.Tasks.{TaskState, Writer, Rescuer, Completer, Keeper}
-use Rattle.task_core.specs.Runs.{State}
+use Rattle.run_machine.specs.Scene.{Scene}
+use Rattle.run_machine.specs.Lines.{legs_of}
+use Rattle.run_machine.specs.Tasks.{TaskState, Writer, Rescuer, Completer, Keeper}
+use Rattle.run_machine.specs.Runs.{State}
 use Rattle.std.proofs.lemmas.List.{length-map}
 use Rattle.stack_base.specs.declared.stack.Device.{Device}
 use Rattle.stack_base.specs.declared.stack.Kind.TheVariants as kind
@@ -16,7 +16,7 @@ use Rattle.stack_base.specs.declared.stack.Stack.{Stack}
 use Rattle.stack_base.specs.Stack.{IsStack, HasRescuers}
 use Rattle.stack_base.specs.Tree.{shape_of, tree}
 use Rattle.layout_model.proofs.ByShape.{cuts_is, copies_is, keeps_is}
-use Rattle.task_core.specs.Scene.{setup_of, rescuer_at}
+use Rattle.run_machine.specs.Scene.{setup_of, rescuer_at}
 use Rattle.block_core.proofs.Geometry.{at_device}
 use Rattle.block_core.proofs.Waits.{TaskWaits, Waits, AreRescued}
 use Rattle.block_core.proofs.Opening.{Begins, IsOpened}

@@ -7,11 +7,11 @@ use Rattle.bio_books.specs.declared.node.Role.{Role}
 use Rattle.bio_books.specs.declared.node.Role.TheVariants as role
 use Rattle.bio_books.specs.Books.{Node, node_at, parent_of}
 use Rattle.bio_books.specs.Drops.{Closed}
-use Rattle.task_core.specs.Scene.{Scene}
-use Rattle.task_core.specs.Lines.{Line}
-use Rattle.task_core.specs.Requests as requests
-use Rattle.task_core.specs.Tasks.{Writer, Completer, Keeper, Keeps, Resizes, Duty, Todo, Taken, NoBio, HasBio, HasBoth, Carries}
-use Rattle.task_core.specs.Runs.{State, IsLet}
+use Rattle.run_machine.specs.Scene.{Scene}
+use Rattle.run_machine.specs.Lines.{Line}
+use Rattle.run_machine.specs.Requests as requests
+use Rattle.run_machine.specs.Tasks.{Writer, Completer, Keeper, Keeps, Resizes, Duty, Todo, Taken, NoBio, HasBio, HasBoth, Carries}
+use Rattle.run_machine.specs.Runs.{State, IsLet}
 use Rattle.block_core.specs.Weights.{total, one}
 use Rattle.block_core.specs.Levels.{HasLevels, off_levels, parent_off}
 use Rattle.block_core.specs.Rounds.{round_of, is_of_round, tops, tops_left, unfinished_of, begun_of}

@@ -14,11 +14,11 @@ use Rattle.bio_records.specs.Sorting.{is_lower, is_same}
 use Rattle.bio_lists.specs.Submission.{order, submitted}
 use Rattle.bio_split.specs.Split.{split_rest}
 use Rattle.bio_books.specs.Books.{Node, BookState, VectorItem, with_node}
-use Rattle.task_core.specs.Maps.{upd}
-use Rattle.task_core.specs.Scene.{Setup, Scene, tree_at}
-use Rattle.task_core.specs.Lines.{Takes, Links, ToPush, ToCut, ToMaster, Doing, Drives, Copies, settled, goes_on, copies, first_waits, first_length, landed, legs_of, leg_at}
-use Rattle.task_core.specs.Tasks.{TaskState, Todo, Carried, Empty, Brings, Carries, Fails, first_bio}
-use Rattle.task_core.specs.Runs.{State}
+use Rattle.run_machine.specs.Maps.{upd}
+use Rattle.run_machine.specs.Scene.{Setup, Scene, tree_at}
+use Rattle.run_machine.specs.Lines.{Takes, Links, ToPush, ToCut, ToMaster, Doing, Drives, Copies, settled, goes_on, copies, first_waits, first_length, landed, legs_of, leg_at}
+use Rattle.run_machine.specs.Tasks.{TaskState, Todo, Carried, Empty, Brings, Carries, Fails, first_bio}
+use Rattle.run_machine.specs.Runs.{State}
 use Rattle.block_core.specs.Weights.{total, one, line_weight, carried_weight}
 use Rattle.block_core.proofs.Moves.{Move, IsTaking, place_of, Can, after, lost, gained, limit_of, with_line, HasLine, Wants, with_want, taken_of, filled_of, vector_of, cut_lists, IsTake, Tells, Hands, piece, with_pool, with_book}
 use Rattle.block_core.proofs.Moves as moves

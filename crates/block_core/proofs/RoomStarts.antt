@@ -5,16 +5,16 @@ use Rattle.std.proofs.lemmas.List.Sums.{sum_by-cons, sum_by-append}
 use Rattle.elem_ledger.specs.Ledger.{LedgerId}
 use Rattle.bio_books.specs.Books.{Node}
 use Rattle.model_disks.specs.Disks.{DiskState}
-use Rattle.task_core.specs.Lines.{rests}
-use Rattle.task_core.specs.Tasks.{TaskState, Writer, Rescuer, Completer, Duty, Todo, NoBio, Empty}
+use Rattle.run_machine.specs.Lines.{rests}
+use Rattle.run_machine.specs.Tasks.{TaskState, Writer, Rescuer, Completer, Duty, Todo, NoBio, Empty}
 use Rattle.block_core.specs.Weights.{Pending, Rescued, sum_at, one, task_weight, book_weight}
 use Rattle.block_core.proofs.Sums.{one-same, one-other, same_or_not}
 use Rattle.std.specs.Prelude.{take}
 use Rattle.std.specs.List.{range_with_len, list_any}
 use Rattle.std.proofs.lemmas.List.{take_all, length-replicate}
 use Rattle.layout_model.specs.Needs.{nodes}
-use Rattle.task_core.specs.Scene.{is_disk}
-use Rattle.task_core.specs.Opened.{Scenario, scene, start, tasks as opened_tasks, todos, todos_of, is_by, writers, duties, keepers, no_task, places_of, setup as setup_in, at as device_at}
+use Rattle.run_machine.specs.Scene.{is_disk}
+use Rattle.run_machine.specs.Opened.{Scenario, scene, start, tasks as opened_tasks, todos, todos_of, is_by, writers, duties, keepers, no_task, places_of, setup as setup_in, at as device_at}
 use Rattle.block_core.specs.Sound.{IsScenario}
 use Rattle.block_core.specs.Places.{writes_need, places, HasPlaces}
 use Rattle.block_core.proofs.Opening.{start_opened, nodes_zero, sum_at-zero}

@@ -13,11 +13,11 @@ use Rattle.bio_records.specs.Sorting.{is_lower, is_same}
 use Rattle.bio_lists.specs.Submission.{order, submitted}
 use Rattle.bio_split.specs.Split.{split_rest}
 use Rattle.bio_books.specs.Books.{Node, BookState, VectorItem, with_node}
-use Rattle.task_core.specs.Maps.{upd}
-use Rattle.task_core.specs.Scene.{Setup, Scene, tree_at}
-use Rattle.task_core.specs.Lines.{Takes, Links, ToPush, ToCut, ToMaster, Doing, Drives, Copies, rests, settled, goes_on, copies, first_waits, first_length, landed, legs_of, leg_at}
-use Rattle.task_core.specs.Tasks.{TaskState, Writer, Todo}
-use Rattle.task_core.specs.Runs.{State}
+use Rattle.run_machine.specs.Maps.{upd}
+use Rattle.run_machine.specs.Scene.{Setup, Scene, tree_at}
+use Rattle.run_machine.specs.Lines.{Takes, Links, ToPush, ToCut, ToMaster, Doing, Drives, Copies, rests, settled, goes_on, copies, first_waits, first_length, landed, legs_of, leg_at}
+use Rattle.run_machine.specs.Tasks.{TaskState, Writer, Todo}
+use Rattle.run_machine.specs.Runs.{State}
 use Rattle.block_core.specs.Weights.{Lined, line_weight, one}
 use Rattle.block_core.specs.Rooms.{need_at, todo_need, legs_need, room, HasRoom}
 use Rattle.block_core.proofs.Moves.{Move, Can, after, lost, gained, limit_of, HasLine, taken_of, filled_of, cut_lists, piece, with_book}
@@ -28,13 +28,11 @@ use Rattle.block_core.proofs.Kept.{TaskFits, Kept}
 use Rattle.block_core.proofs.Geometry.{IsThere}
 use Rattle.block_core.proofs.Orders.{Each, IsPlaced, IsOwn, AskFits, DoingPlaced, TodoThere, TaskPlaced, Placed, Ground, each_map, each_less, each_append}
 use Rattle.block_core.proofs.Deltas.{delta}
+use Rattle.block_core.proofs.Landings.{AreThere, IsLanding, settled_there, goes_there, copies_there, all_there, none_there, cut_there, leg_there}
 use Rattle.block_core.proofs.Lines.{line_fits}
 use Rattle.block_core.proofs.OrdersKept.{line_placed}
-use Rattle.block_core.proofs.Places.{cut_weight}
+use Rattle.block_core.proofs.Places.{cut_weight, unless_less}
 use Rattle.block_core.proofs.NodeNeeds.{Needs, mirror_need, legs_on}
-
-abbrev pub AllThere : Setup → List (Item Pad) → Type 0
-AllThere setup items = Each (λ (item : Item Pad). IsThere setup item.bio) items
 
 -- bios of a line need what they needed, the first of them where it lands
 pub landed_room : (setup : Setup) → Needs setup → (w limit : ℕ) (item : Item Pad) → IsThere setup item.bio
@@ -44,35 +42,14 @@ landed_room setup n w limit item is =
     ap (λ v. one v w * need_at setup at) (landed_same (λ (bio : Bio). bio.writer) (λ to members bio. refl) (tree_at setup item.bio.dev) item.bio)
     ∙ ap (λ v. one item.bio.writer w * v) (n.lands item.bio is)
 
-settled_room : (setup : Setup) → Needs setup → (w limit : ℕ) (items : List (Item Pad)) → AllThere setup items
-    → line_weight (room setup w) limit (settled setup items) ≡ sum_by ((room setup w).bio (Lined limit)) items
-settled_room setup n w limit [] are = refl
-settled_room setup n w limit (item ∷ waiting) are =
-    let at : Bio = landed (tree_at setup item.bio.dev) item.bio in
-    let lists : TaskLists = record { list0 = []; list1 = waiting } in
-    let a = asks_weight (room setup w) limit setup lists (record item { bio = at }) (tree_at setup at.dev) in
-    omega (arith, a, landed_room setup n w limit item are.0, sum_by-cons ((room setup w).bio (Lined limit)) item waiting)
-
-goes_room : (setup : Setup) → Needs setup → (w limit : ℕ) (dev : DevId) (lists : TaskLists) → AllThere setup lists.list0 → AllThere setup lists.list1
-    → line_weight (room setup w) limit (goes_on setup dev lists) ≡ sum_by ((room setup w).bio (Lined limit)) lists.list0 + sum_by ((room setup w).bio (Lined limit)) lists.list1
-goes_room setup n w limit dev lists first second =
-    let P : Item Pad → Type 0 = λ item. IsThere setup item.bio in
-    let low = filter (is_lower dev) lists.list0 in
-    let same = filter (is_same dev) lists.list0 in
-    settled_room setup n w limit (order dev lists)
-    (each_append P low (same ++ lists.list1) (each_less P (is_lower dev) lists.list0 first) (each_append P same lists.list1 (each_less P (is_same dev) lists.list0 first) second))
-    ∙ order_weight ((room setup w).bio (Lined limit)) dev lists
-
-copies_room : (setup : Setup) → Needs setup → (w limit : ℕ) (lists : TaskLists) (bio : Bio) (master leg : ℕ) → AllThere setup lists.list0 → AllThere setup lists.list1
+copies_room : (setup : Setup) (n : Needs setup) (w limit : ℕ) (lists : TaskLists) (bio : Bio) (master leg : ℕ) → AreThere setup lists.list0 → AreThere setup lists.list1
     → line_weight (room setup w) limit (copies setup lists bio master leg)
     ≤ one bio.writer w * legs_need setup bio leg + sum_by ((room setup w).bio (Lined limit)) lists.list0 + sum_by ((room setup w).bio (Lined limit)) lists.list1
-copies_room setup n w limit lists bio master leg first second =
-    elim (leg == legs_of (tree_at setup bio.dev))
-    as (λ v. line_weight (room setup w) limit (if v then goes_on setup bio.dev lists else record { doing = Copies bio master leg (Takes (first_waits setup bio.dev lists)); lists = lists })
-    ≤ one bio.writer w * legs_need setup bio leg + sum_by ((room setup w).bio (Lined limit)) lists.list0 + sum_by ((room setup w).bio (Lined limit)) lists.list1) [
-      | true ↦ omega (arith, goes_room setup n w limit bio.dev lists first second)
-      | false ↦ omega arith
-    ]
+copies_room setup n w limit lists bio master leg first second = omega (
+  arith,
+  copies_there setup (room setup w) (landed_room setup n w) limit lists bio master leg first second,
+  unless_less (leg == legs_of (tree_at setup bio.dev)) (one bio.writer w * legs_need setup bio leg),
+)
 
 -- places of books that change none of their number
 kept_places : (f : ℕ → BookState) (places : ℕ → ℕ) (writer : ℕ) (book : BookState) → ((w : ℕ) → length (f w).nodes ≡ places w) → length book.nodes ≡ length (f writer).nodes
@@ -93,22 +70,19 @@ module _ (scene : Scene) (s : State) (g : Ground scene.setup) (n : Needs scene.s
   has : (place : ℕ) (x : TaskState) (doing : Doing) (lists : TaskLists) → s.task place ≡ x → HasLine x doing lists → DoingPlaced scene.setup (limit_of x) doing lists
   has place x doing lists is h = line_placed scene.setup x doing lists (subst (TaskPlaced scene.setup) is (a.tasks place)) h
 
-  all_there : (limit : ℕ) (items : List (Item Pad)) → Each (IsPlaced scene.setup limit) items → AllThere scene.setup items
-  all_there limit items placed = each_map (IsPlaced scene.setup limit) (λ (item : Item Pad). IsThere scene.setup item.bio) (λ item h. h.0) items placed
-
-  own_there : (dev limit : ℕ) (items : List (Item Pad)) → Each (IsOwn scene.setup dev limit) items → AllThere scene.setup items
-  own_there dev limit items own = each_map (IsOwn scene.setup dev limit) (λ (item : Item Pad). IsThere scene.setup item.bio) (λ item h. h.0.0) items own
+  lands : (w : ℕ) → IsLanding scene.setup (room scene.setup w)
+  lands w = landed_room scene.setup n w
 
   begins : (w place writer : ℕ) (todo : Todo) (later : List Todo) (item : Item Pad) (vector : Option VectorItem) (key : ℕ) → TodoThere scene.setup writer todo
       → Fits w (moves.Begins place writer todo later item vector key)
   begins w place writer todo later item None key there =
       let filled_item : Item Pad = filled_of writer todo item None key in
-      let b = settled_room scene.setup n w 32 (filled_item ∷ []) (there key, tt) in
+      let b = settled_there scene.setup (room scene.setup w) (lands w) 32 (filled_item ∷ []) (there key, tt) in
       let all = ap (λ k. one writer w * k) (sum_by-cons (todo_need scene.setup) todo later) in
       omega (arith, b, sum_by-cons ((room scene.setup w).bio (Lined 32)) filled_item [], all)
   begins w place writer todo later item (Some vector) key there =
       let filled_item : Item Pad = filled_of writer todo item (Some vector) key in
-      let b = settled_room scene.setup n w 32 (filled_item ∷ []) (there key, tt) in
+      let b = settled_there scene.setup (room scene.setup w) (lands w) 32 (filled_item ∷ []) (there key, tt) in
       let all = ap (λ k. one writer w * k) (sum_by-cons (todo_need scene.setup) todo later) in
       omega (arith, b, sum_by-cons ((room scene.setup w).bio (Lined 32)) filled_item [], all)
 
@@ -122,54 +96,42 @@ module _ (scene : Scene) (s : State) (g : Ground scene.setup) (n : Needs scene.s
   fits w (moves.Punts place x doing lists dev) c = omega arith
   fits w (moves.Pops place dev bio bios) c =
       let r : Each (IsOwn scene.setup dev.0 dev.0) (bio ∷ bios) = subst (Each (IsOwn scene.setup dev.0 dev.0)) c.3 (a.rescued dev.0) in
-      omega (arith, settled_room scene.setup n w dev.0 (bio ∷ []) (r.0.0.0, tt), sum_by-cons ((room scene.setup w).bio (Lined dev.0)) bio [])
+      omega (arith, settled_there scene.setup (room scene.setup w) (lands w) dev.0 (bio ∷ []) (r.0.0.0, tt), sum_by-cons ((room scene.setup w).bio (Lined dev.0)) bio [])
   fits w (moves.Pushes place x bio lists) c =
       let d = has place x (Drives bio ToPush) lists c.1 c.2 in
-      let none : AllThere scene.setup lists.list0 = subst (AllThere scene.setup) (sym d.0) tt in
-      omega (arith, goes_room scene.setup n w (limit_of x) bio.bio.dev lists none (all_there (limit_of x) lists.list1 d.1.1))
+      omega (arith, goes_there scene.setup (room scene.setup w) (lands w) (limit_of x) bio.bio.dev lists (none_there scene.setup (limit_of x) lists d.0) (all_there scene.setup (limit_of x) lists.list1 d.1.1))
   fits w (moves.Completed place disk index bio status new) c = omega arith
   fits w (moves.Begins place writer todo later item vector key) c =
       let t : TaskPlaced scene.setup (Writer writer (todo ∷ later) (taken_of item vector) rests) = subst (TaskPlaced scene.setup) c.1 (a.tasks place) in
       begins w place writer todo later item vector key t.0.0
   fits w (moves.Chained place x bio lists hand number kind sizes members key node) c =
       let k = first_length kind sizes bio.bio.range in
-      let child = piece bio hand k key kind sizes members in
-      let rest = split_rest bio k in
-      let P : Item Pad → Type 0 = λ item. IsThere scene.setup item.bio in
       let d = has place x (Drives bio (ToCut (Links hand))) lists c.1 c.2 in
-      let suits : AskFits (Split number kind sizes members) bio.bio.range bio.bio.dev.0 (ToCut (Links hand)) =
-      subst (λ t. AskFits t bio.bio.range bio.bio.dev.0 (ToCut (Links hand))) c.3 d.3 in
-      let cuts = g.cut_piece bio hand key number kind sizes members d.1.0.0 c.3 suits.0 in
-      let none : AllThere scene.setup lists.list0 = subst (AllThere scene.setup) (sym d.0) tt in
-      let first : AllThere scene.setup (cut_lists bio lists hand k key kind sizes members).list0 =
-      each_append P (lists.list0 ++ child ∷ []) (rest ∷ []) (each_append P lists.list0 (child ∷ []) none (cuts.0, tt)) (cuts.2, tt) in
-      let part = ap (λ v. one bio.bio.writer w * v) (n.cut bio hand key number kind sizes members d.1.0.0 c.3 suits.0) in
+      let cuts = cut_there scene.setup (limit_of x) g bio hand lists key number kind sizes members d c.3 in
+      let part = ap (λ v. one bio.bio.writer w * v) (n.cut bio hand key number kind sizes members d.1.0.0 c.3 cuts.0) in
       omega (
         arith,
-        goes_room scene.setup n w (limit_of x) bio.bio.dev (cut_lists bio lists hand k key kind sizes members) first (all_there (limit_of x) lists.list1 d.1.1),
+        goes_there scene.setup (room scene.setup w) (lands w) (limit_of x) bio.bio.dev (cut_lists bio lists hand k key kind sizes members) cuts.1 (all_there scene.setup (limit_of x) lists.list1 d.1.1),
         cut_weight ((room scene.setup w).bio (Lined (limit_of x))) bio lists hand k key kind sizes members,
         part,
       )
   fits w (moves.Mastered place x bio lists slip key node) c =
       let d = has place x (Drives bio (ToMaster slip)) lists c.1 c.2 in
-      let none : AllThere scene.setup lists.list0 = subst (AllThere scene.setup) (sym d.0) tt in
       let is = d.1.0.0 in
       let part = ap (λ v. one bio.bio.writer w * v) (mirror_need (tree_at scene.setup bio.bio.dev) bio.bio.range bio.bio.dev.0 slip d.3 is.some) in
-      omega (arith, copies_room scene.setup n w (limit_of x) lists bio.bio key 0 none (all_there (limit_of x) lists.list1 d.1.1), part)
+      omega (arith, copies_room scene.setup n w (limit_of x) lists bio.bio key 0 (none_there scene.setup (limit_of x) lists d.0) (all_there scene.setup (limit_of x) lists.list1 d.1.1), part)
   fits w (moves.Legged place x bio lists master leg hand key node) c =
       let d = has place x (Copies bio master leg (Links hand)) lists c.1 c.2 in
       let lt = line_fits scene x (Copies bio master leg (Links hand)) lists (subst (TaskFits scene) c.1 (i.tasks place)) c.2 in
       let item = leg_at bio hand leg key (tree_at scene.setup bio.dev) in
       let more = submitted item lists in
-      let l = g.leg bio hand leg key d.0 lt in
-      let P : Item Pad → Type 0 = λ item. IsThere scene.setup item.bio in
-      let first : AllThere scene.setup more.list0 = each_append P lists.list0 (item ∷ []) (own_there bio.dev.0 (limit_of x) lists.list0 d.2) (l.0, tt) in
+      let first = leg_there scene.setup (limit_of x) g bio hand lists master leg key d lt in
       let next = ap (λ v. one bio.writer w * v) (legs_on (tree_at scene.setup bio.dev) bio.range leg lt) in
       let part = ap (λ v. one bio.writer w * v) (n.leg bio hand leg key d.0 lt) in
       let own = ap (λ v. one v w * need_at scene.setup item.bio) (leg_writer bio hand leg key (tree_at scene.setup bio.dev) lt) in
       omega (
         arith,
-        copies_room scene.setup n w (limit_of x) more bio master (leg + 1) first (all_there (limit_of x) lists.list1 d.3),
+        copies_room scene.setup n w (limit_of x) more bio master (leg + 1) first (all_there scene.setup (limit_of x) lists.list1 d.3),
         sum_by_push ((room scene.setup w).bio (Lined (limit_of x))) lists.list0 item,
         next,
         part,

@@ -1,10 +1,10 @@
 -- Every run of every scenario keeps room in all books, and no task of it breaks off.
 use Rattle.std.proofs.Common.{ℕ, List, [], ◌∷◌, refl, sym, subst}
 use Rattle.elem_ledger.specs.Ledger.{LedgerId}
-use Rattle.task_core.specs.declared.event.Event.{Event}
-use Rattle.task_core.specs.Scene.{Scene}
-use Rattle.task_core.specs.Opened.{Scenario, scene, start, setup as setup_in}
-use Rattle.task_core.specs.Runs.{State, Steps, IsRun}
+use Rattle.run_machine.specs.declared.event.Event.{Event}
+use Rattle.run_machine.specs.Scene.{Scene}
+use Rattle.run_machine.specs.Opened.{Scenario, scene, start, setup as setup_in}
+use Rattle.run_machine.specs.Runs.{State, Steps, IsRun}
 use Rattle.block_core.specs.Sound.{IsScenario, IsNaming}
 use Rattle.block_core.specs.Rooms.{HasRoom, BooksHaveRoom}
 use Rattle.block_core.proofs.Kept.{Fair}

@@ -10,10 +10,10 @@ use Rattle.layout_model.specs.Laid.{round_of}
 use Rattle.layout_model.proofs.Lists.{all_pairs_append}
 use Rattle.bio_records.specs.declared.bio.Pad.{Pad}
 use Rattle.bio_records.specs.Items.{Item}
-use Rattle.task_core.specs.declared.event.Event.{Event}
-use Rattle.task_core.specs.Scene.{Scene}
-use Rattle.task_core.specs.Opened.{Scenario, scene, start, setup as setup_in}
-use Rattle.task_core.specs.Runs.{State, IsRun}
+use Rattle.run_machine.specs.declared.event.Event.{Event}
+use Rattle.run_machine.specs.Scene.{Scene}
+use Rattle.run_machine.specs.Opened.{Scenario, scene, start, setup as setup_in}
+use Rattle.run_machine.specs.Runs.{State, IsRun}
 use Rattle.block_core.specs.Fragments.{fragment_of, completed_by, completed}
 use Rattle.block_core.specs.Images.{round_at, RoundsComeInOrder}
 use Rattle.block_core.specs.Present.{AreSuch, IsOfPresent}

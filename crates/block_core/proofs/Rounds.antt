@@ -6,11 +6,11 @@ use Rattle.std.proofs.lemmas.List.Sums.{sum_by-set}
 use Rattle.stack_base.specs.declared.ids.DevId.{DevId}
 use Rattle.bio_books.specs.Books.{keeping}
 use Rattle.bio_books.specs.Drops.{Closed}
-use Rattle.task_core.specs.Maps.{upd}
-use Rattle.task_core.specs.Scene.{Scene}
-use Rattle.task_core.specs.Lines.{Line, rests}
-use Rattle.task_core.specs.Tasks.{TaskState, Writer, Rescuer, Completer, Keeper, Keeping, Keeps, Stops, Duty, Resizes, Starts, Todo, Taken, NoBio, Carries}
-use Rattle.task_core.specs.Runs.{State}
+use Rattle.run_machine.specs.Maps.{upd}
+use Rattle.run_machine.specs.Scene.{Scene}
+use Rattle.run_machine.specs.Lines.{Line, rests}
+use Rattle.run_machine.specs.Tasks.{TaskState, Writer, Rescuer, Completer, Keeper, Keeping, Keeps, Stops, Duty, Resizes, Starts, Todo, Taken, NoBio, Carries}
+use Rattle.run_machine.specs.Runs.{State}
 use Rattle.block_core.specs.Weights.{Weight, total, one, task_weight}
 use Rattle.block_core.proofs.Moves.{Move, IsTaking, place_of, Can, after, lost, gained, limit_of, with_line, HasLine, Wants, with_want, taken_of, filled_of, vector_of, cut_lists, IsTake, Tells, Hands, piece, with_pool, with_book}
 use Rattle.block_core.proofs.Moves as moves
@@ -19,7 +19,7 @@ use Rattle.block_core.proofs.Orders.{Each}
 use Rattle.block_core.proofs.Places.{sum_at-ge}
 use Rattle.std.specs.Prelude.{nat_le}
 use Rattle.std.proofs.lemmas.Bool.Decides.{nat_tests}
-use Rattle.task_core.specs.Objects.{TallyState}
+use Rattle.run_machine.specs.Objects.{TallyState}
 use Rattle.block_core.specs.Rounds.{round_of, is_of_round, tops_left, all_worth, taken_worth, unfinished_of, begun_of}
 use Rattle.block_core.proofs.Staged.{staged, ended_worth, to_come_before, to_come_after}
 use Rattle.block_core.proofs.OrdersKept.{all_at}

@@ -22,8 +22,8 @@ use Rattle.decl_text.proofs.Fits.{accepted_fit}
 use Rattle.work_text.specs.Work.{last_round}
 use Rattle.work_text.specs.declared.Resize.{Resize}
 use Rattle.work_text.proofs.Fit.{work_is_fit}
-use Rattle.task_core.specs.Opened.{Change}
-use Rattle.task_core.specs.Scenario.{change_of}
+use Rattle.run_machine.specs.Opened.{Change}
+use Rattle.run_machine.specs.Scenario.{change_of}
 use Rattle.block_core.specs.Runnable.{AcceptedTextsAreRunnable, StepsAreFew}
 use Rattle.block_core.specs.Sound.{KeepsSome, AreInOrder}
 

@@ -1,14 +1,14 @@
 -- What every run keeps, and how often it tells a write done.
 use Rattle.std.proofs.Common.{◌≡◌, ◌+◌, ℕ, sym, ap, subst, arith}
-use Rattle.task_core.specs.Scene.{Scene}
-use Rattle.task_core.specs.Runs.{State}
+use Rattle.run_machine.specs.Scene.{Scene}
+use Rattle.run_machine.specs.Runs.{State}
 use Rattle.block_core.specs.Weights.{total}
 use Rattle.block_core.proofs.Moves.{place_of, after}
 use Rattle.block_core.proofs.Kept.{IsIn, Fair, Kept}
-use Rattle.task_core.specs.declared.event.Event.{Event}
-use Rattle.task_core.specs.Events.{what_of}
-use Rattle.task_core.specs.Tasks.{request}
-use Rattle.task_core.specs.Runs.{Steps}
+use Rattle.run_machine.specs.declared.event.Event.{Event}
+use Rattle.run_machine.specs.Events.{what_of}
+use Rattle.run_machine.specs.Tasks.{request}
+use Rattle.run_machine.specs.Runs.{Steps}
 use Rattle.block_core.specs.Sound.{done_in}
 use Rattle.block_core.proofs.StepMoves.{step_is_move}
 use Rattle.block_core.proofs.Keeps.{keeps}

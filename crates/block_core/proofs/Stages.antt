@@ -3,16 +3,16 @@ use Rattle.std.proofs.Common.{◌≡◌, ◌+◌, ◌*◌, ◌<◌, ◌≤◌, �
 use Rattle.std.specs.Prelude.{sum_by}
 use Rattle.std.proofs.lemmas.List.Sums.{sum_by-cons, sum_by-append, sum_by_push}
 use Rattle.std.proofs.lemmas.List.Filters.{sum_by-filter_both}
-use Rattle.task_core.specs.Lines.{rests}
-use Rattle.task_core.specs.Tasks.{TaskState, Writer, Rescuer, Completer, Duty, Todo, NoBio, Empty}
+use Rattle.run_machine.specs.Lines.{rests}
+use Rattle.run_machine.specs.Tasks.{TaskState, Writer, Rescuer, Completer, Duty, Todo, NoBio, Empty}
 use Rattle.block_core.specs.Weights.{sum_at, one, task_weight}
 use Rattle.block_core.proofs.Sums.{one-same, one-other, same_or_not}
 use Rattle.std.specs.Prelude.{zip, take}
 use Rattle.std.specs.List.{range_with_len, list_any}
 use Rattle.std.proofs.Math.Seq.{take-suc}
 use Rattle.layout_model.specs.declared.write.Write.{Write}
-use Rattle.task_core.specs.Scene.{is_disk}
-use Rattle.task_core.specs.Opened.{Scenario, tasks as opened_tasks, todos, todos_of, is_by, writers, duties, keepers, setup as setup_in, at as device_at}
+use Rattle.run_machine.specs.Scene.{is_disk}
+use Rattle.run_machine.specs.Opened.{Scenario, tasks as opened_tasks, todos, todos_of, is_by, writers, duties, keepers, setup as setup_in, at as device_at}
 use Rattle.block_core.proofs.DoneOnce.{stage, to_begin}
 
 -- a sum over the places of a list is one over the list

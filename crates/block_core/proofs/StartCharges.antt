@@ -11,9 +11,9 @@ use Rattle.elem_ledger.specs.Ledger.{LedgerId}
 use Rattle.layout_model.specs.Need.{vectors}
 use Rattle.layout_model.proofs.RangeSums.{sum_next}
 use Rattle.model_disks.specs.Disks.{DiskState}
-use Rattle.task_core.specs.Scene.{tree_at}
-use Rattle.task_core.specs.Lines.{rests}
-use Rattle.task_core.specs.Tasks.{TaskState, Writer, Rescuer, Completer, Duty, Resizes, Starts, Todo, NoBio, Empty}
+use Rattle.run_machine.specs.Scene.{tree_at}
+use Rattle.run_machine.specs.Lines.{rests}
+use Rattle.run_machine.specs.Tasks.{TaskState, Writer, Rescuer, Completer, Duty, Resizes, Starts, Todo, NoBio, Empty}
 use Rattle.block_core.specs.Weights.{Pending, Rescued, total, sum_at, task_weight, book_weight}
 use Rattle.block_core.specs.Charges.{run_charge, write_charge, todo_charge, charge, task_duties, entries_left, charged}
 use Rattle.block_core.proofs.Sums.{same_or_not}
@@ -27,8 +27,8 @@ use Rattle.layout_model.specs.declared.write.Write.{Write}
 use Rattle.layout_model.specs.Needs.{elements, parts}
 use Rattle.layout_model.specs.Bound.{all_elements, all_parts}
 use Rattle.layout_model.proofs.RangeSums.{sum_of_one, sum_of_zero, sum_of_two}
-use Rattle.task_core.specs.Scene.{is_disk}
-use Rattle.task_core.specs.Opened.{Scenario, Change, scene, start, tasks as opened_tasks, todos, todos_of, is_by, writers, duties, duties_of, keepers, no_task, round_count, writes_from, script_at, is_numbered, setup as setup_in, at as device_at}
+use Rattle.run_machine.specs.Scene.{is_disk}
+use Rattle.run_machine.specs.Opened.{Scenario, Change, scene, start, tasks as opened_tasks, todos, todos_of, is_by, writers, duties, duties_of, keepers, no_task, round_count, writes_from, script_at, is_numbered, setup as setup_in, at as device_at}
 use Rattle.block_core.specs.Sound.{IsScenario}
 use Rattle.block_core.specs.Bounded.{most_steps}
 use Rattle.block_core.proofs.Opening.{start_opened, nodes_zero, sum_at-zero}

@@ -2,15 +2,15 @@
 use Rattle.std.proofs.Common.{◌<◌, ◌≤◌, ◌⊎◌, ◌++◌, ℕ, List, [], ◌∷◌, length, map, filter, inl, inr, sym, subst, arith}
 use Rattle.std.proofs.lemmas.List.{get_or_past}
 use Rattle.elem_ledger.specs.Ledger.{LedgerId}
-use Rattle.task_core.specs.Lines.{rests}
-use Rattle.task_core.specs.Tasks.{TaskState, Writer, Rescuer, Completer, Keeper, Keeps, Duty, Todo, NoBio, Empty}
+use Rattle.run_machine.specs.Lines.{rests}
+use Rattle.run_machine.specs.Tasks.{TaskState, Writer, Rescuer, Completer, Keeper, Keeps, Duty, Todo, NoBio, Empty}
 use Rattle.block_core.proofs.Orders.{Each, TodoThere, TaskPlaced, Placed}
 use Rattle.std.specs.Prelude.{All}
 use Rattle.std.proofs.lemmas.List.Elements.{All-nil, All-cons, All-head, All-tail, All-map, All-append, All-filter, All-get_or}
 use Rattle.std.specs.List.{range_with_len}
 use Rattle.layout_model.specs.Writes.{IsWrite}
-use Rattle.task_core.specs.Scene.{is_disk}
-use Rattle.task_core.specs.Opened.{Scenario, start, tasks as opened_tasks, todos, todos_of, is_by, writers, duties, keepers, no_task, setup as setup_in, at as device_at}
+use Rattle.run_machine.specs.Scene.{is_disk}
+use Rattle.run_machine.specs.Opened.{Scenario, start, tasks as opened_tasks, todos, todos_of, is_by, writers, duties, keepers, no_task, setup as setup_in, at as device_at}
 use Rattle.block_core.specs.Sound.{IsScenario}
 use Rattle.block_core.proofs.Opening.{all_map, todos_all}
 

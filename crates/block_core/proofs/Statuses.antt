@@ -19,17 +19,17 @@ use Rattle.bio_books.specs.declared.node.Role.{Role}
 use Rattle.bio_books.specs.declared.node.Role.TheVariants as role
 use Rattle.bio_books.specs.Books.{Holding}
 use Rattle.bio_books.specs.Drops.{Closed}
-use Rattle.task_core.specs.declared.event.Event.{Event}
-use Rattle.task_core.specs.declared.event.What.TheVariants as what
-use Rattle.task_core.specs.Events.{what_of}
-use Rattle.task_core.specs.Maps.{upd}
-use Rattle.task_core.specs.Scene.{Scene}
-use Rattle.task_core.specs.Lines.{Doing, Line}
-use Rattle.task_core.specs.Tasks.{TaskState, Writer, Rescuer, Completer, Keeper, Todo, Empty, Brings, Carries, request, closed_request}
-use Rattle.task_core.specs.Opened.{Scenario, scene, start, todos, setup as setup_in}
-use Rattle.task_core.specs.Requests as requests
-use Rattle.task_core.specs.Requests.{Request, Reply}
-use Rattle.task_core.specs.Runs.{State, IsRun, Happens, HasEnded}
+use Rattle.run_machine.specs.declared.event.Event.{Event}
+use Rattle.run_machine.specs.declared.event.What.TheVariants as what
+use Rattle.run_machine.specs.Events.{what_of}
+use Rattle.run_machine.specs.Maps.{upd}
+use Rattle.run_machine.specs.Scene.{Scene}
+use Rattle.run_machine.specs.Lines.{Doing, Line}
+use Rattle.run_machine.specs.Tasks.{TaskState, Writer, Rescuer, Completer, Keeper, Todo, Empty, Brings, Carries, request, closed_request}
+use Rattle.run_machine.specs.Opened.{Scenario, scene, start, todos, setup as setup_in}
+use Rattle.run_machine.specs.Requests as requests
+use Rattle.run_machine.specs.Requests.{Request, Reply}
+use Rattle.run_machine.specs.Runs.{State, IsRun, Happens, HasEnded}
 use Rattle.block_core.specs.Weights.{total, one}
 use Rattle.block_core.specs.Rounds.{round_of, is_of_round, tops, tops_left, all_worth, unfinished_of}
 use Rattle.block_core.specs.Sound.{IsScenario, IsNaming}

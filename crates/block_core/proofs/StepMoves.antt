@@ -17,29 +17,29 @@ use Rattle.bio_records.specs.Items.{Item}
 use Rattle.bio_lists.specs.Submission.{no_lists}
 use Rattle.bio_books.specs.Books.{Node, VectorItem, SlipItem, node_at, keeping, told}
 use Rattle.bio_books.specs.Drops.{Closed, closed_of}
-use Rattle.task_core.specs.Maps.{upd}
-use Rattle.task_core.specs.Scene.{Setup, Scene, tree_at}
-use Rattle.task_core.specs.Lines.{Want, Takes, Punts as WantsPunt, Links, ToPush, ToCut, ToRecord, ToMaster, Doing, Rests, Drives, Copies, Breaks, Line, rests, legs_of, punted, not_punted}
-use Rattle.task_core.specs.Tasks.{TaskState, Writer, Rescuer, Completer, Keeper, Keeping, Keeps, Stops, Duty, Resizes, Starts, Todo, Taken, NoBio, HasBio, HasBoth, Carried, Empty, Brings, Carries, Fails}
-use Rattle.task_core.specs.Objects.{Objects}
-use Rattle.task_core.specs.Runs.{State}
+use Rattle.run_machine.specs.Maps.{upd}
+use Rattle.run_machine.specs.Scene.{Setup, Scene, tree_at}
+use Rattle.run_machine.specs.Lines.{Want, Takes, Punts as WantsPunt, Links, ToPush, ToCut, ToRecord, ToMaster, Doing, Rests, Drives, Copies, Breaks, Line, rests, legs_of, punted, not_punted}
+use Rattle.run_machine.specs.Tasks.{TaskState, Writer, Rescuer, Completer, Keeper, Keeping, Keeps, Stops, Duty, Resizes, Starts, Todo, Taken, NoBio, HasBio, HasBoth, Carried, Empty, Brings, Carries, Fails}
+use Rattle.run_machine.specs.Objects.{Objects}
+use Rattle.run_machine.specs.Runs.{State}
 use Rattle.block_core.proofs.Moves.{Move, IsTaking, place_of, Can, after, lost, gained, limit_of, with_line, HasLine, Wants, with_want, taken_of, filled_of, vector_of, cut_lists, IsTake, Tells, Hands, piece, with_pool, with_book}
 use Rattle.block_core.proofs.Moves as moves
 use Rattle.block_core.proofs.Kept.{Suits, TaskFits, DoingIsIn, IsIn, Fair, Kept}
 use Rattle.bio_books.specs.Links.{Made, NoRoom, Stray, ChainsAt, MastersAt, LegsAt}
 use Rattle.bio_books.specs.Drops.{Ended, DropsAt}
 use Rattle.bio_books.specs.Drops as end
-use Rattle.task_core.specs.declared.event.Event.{Event}
-use Rattle.task_core.specs.declared.event.Got.{Got}
-use Rattle.task_core.specs.declared.event.Got.TheVariants as got
-use Rattle.task_core.specs.declared.event.What.{What}
-use Rattle.task_core.specs.Events.{what_of, miss_of, resize_of}
-use Rattle.task_core.specs.Lines.{line_request, line_answered, after_miss, cut_at}
-use Rattle.task_core.specs.Requests as requests
-use Rattle.task_core.specs.Requests.{Request, Reply}
-use Rattle.task_core.specs.Tasks.{request, answered, look_of, later_of, with_bio, needs_vector, after_drop, after_resize}
-use Rattle.task_core.specs.Objects.{Serves}
-use Rattle.task_core.specs.Runs.{IsLet, Steps}
+use Rattle.run_machine.specs.declared.event.Event.{Event}
+use Rattle.run_machine.specs.declared.event.Got.{Got}
+use Rattle.run_machine.specs.declared.event.Got.TheVariants as got
+use Rattle.run_machine.specs.declared.event.What.{What}
+use Rattle.run_machine.specs.Events.{what_of, miss_of, resize_of}
+use Rattle.run_machine.specs.Lines.{line_request, line_answered, after_miss, cut_at}
+use Rattle.run_machine.specs.Requests as requests
+use Rattle.run_machine.specs.Requests.{Request, Reply}
+use Rattle.run_machine.specs.Tasks.{request, answered, look_of, later_of, with_bio, needs_vector, after_drop, after_resize}
+use Rattle.run_machine.specs.Objects.{Serves}
+use Rattle.run_machine.specs.Runs.{IsLet, Steps}
 use Rattle.block_core.proofs.Lines.{line_fits, IsBusy, wants_busy}
 
 pub record IsMove (scene : Scene) (s : State) (place : ℕ) (new : State) : Type 0 where

@@ -8,23 +8,23 @@ use Rattle.mempool_core.specs.Move.{resizes}
 use Rattle.bio_records.specs.declared.tasks.TaskLists.{TaskLists}
 use Rattle.bio_books.specs.Books.{Node, node_at, keeping}
 use Rattle.model_disks.specs.Disks.{DiskState}
-use Rattle.task_core.specs.Scene.{Setup, Scene}
-use Rattle.task_core.specs.Lines.{Doing, Rests, Drives, Copies, Breaks, Line}
-use Rattle.task_core.specs.Tasks.{TaskState, Writer, Rescuer, Completer, Keeper, Keeping, Keeps, Stops, Resizes, Starts, Todo, Taken, NoBio, HasBio, HasBoth, Carried, Empty, Brings, Carries, Fails}
-use Rattle.task_core.specs.Runs.{State}
+use Rattle.run_machine.specs.Scene.{Setup, Scene}
+use Rattle.run_machine.specs.Lines.{Doing, Rests, Drives, Copies, Breaks, Line}
+use Rattle.run_machine.specs.Tasks.{TaskState, Writer, Rescuer, Completer, Keeper, Keeping, Keeps, Stops, Resizes, Starts, Todo, Taken, NoBio, HasBio, HasBoth, Carried, Empty, Brings, Carries, Fails}
+use Rattle.run_machine.specs.Runs.{State}
 use Rattle.block_core.specs.Weights.{Weight, Pending, Rescued, sum_at, weigh_option, task_weight, taken_weight, book_weight}
 use Rattle.block_core.proofs.Moves.{with_pool}
 use Rattle.block_core.proofs.Sums.{one-other, same_or_not}
 use Rattle.block_core.proofs.Kept.{DoingFits, TaskFits, Fair}
 use Rattle.block_core.proofs.Lines.{IsBusy}
 use Rattle.block_core.proofs.Orders.{Each, DoingPlaced, TaskPlaced, each_map}
-use Rattle.task_core.specs.Scene.{is_disk}
-use Rattle.task_core.specs.declared.event.TaskId.{TaskId}
-use Rattle.task_core.specs.declared.event.TaskId.TheVariants as id
-use Rattle.task_core.specs.declared.event.What.TheVariants as what
-use Rattle.task_core.specs.Requests as requests
-use Rattle.task_core.specs.Events.{id_of}
-use Rattle.task_core.specs.Runs.{HasFree, HasEnded, unfinished}
+use Rattle.run_machine.specs.Scene.{is_disk}
+use Rattle.run_machine.specs.declared.event.TaskId.{TaskId}
+use Rattle.run_machine.specs.declared.event.TaskId.TheVariants as id
+use Rattle.run_machine.specs.declared.event.What.TheVariants as what
+use Rattle.run_machine.specs.Requests as requests
+use Rattle.run_machine.specs.Events.{id_of}
+use Rattle.run_machine.specs.Runs.{HasFree, HasEnded, unfinished}
 use Rattle.block_core.specs.Places.{HasPlaces}
 use Rattle.block_core.specs.Levels.{off_levels}
 use Rattle.block_core.specs.Rounds.{round_of, is_of_round, all_worth, unfinished_of}

@@ -3,7 +3,7 @@ use Rattle.std.proofs.Common.{◌≡◌, ◌≢◌, ◌+◌, ◌*◌, ◌<◌, �
 use Rattle.std.proofs.lemmas.Bool.{eq-eqb, ne_eqb}
 use Rattle.std.proofs.lemmas.List.{length-set, get_or-set_same, get_or-set_other, get_or_past}
 use Rattle.bio_books.specs.Books.{Node, BookState, node_at, with_node}
-use Rattle.task_core.specs.Maps.{upd}
+use Rattle.run_machine.specs.Maps.{upd}
 use Rattle.block_core.specs.Weights.{Weight, sum_at, one, weigh_option, book_weight}
 
 pub upd-same : {X : Type 0} (f : ℕ → X) (i : ℕ) (v : X) → upd f i v i ≡ v

@@ -9,8 +9,8 @@ use Rattle.layout_model.specs.declared.write.Write.{Write}
 use Rattle.bio_records.specs.declared.bio.Bio.{Bio}
 use Rattle.bio_records.specs.Runs.{place_number, place_at}
 use Rattle.bio_split.specs.Split.{split_rest}
-use Rattle.task_core.specs.Tasks.{Todo, first_bio}
-use Rattle.task_core.specs.Opened.{Scenario, todos}
+use Rattle.run_machine.specs.Tasks.{Todo, first_bio}
+use Rattle.run_machine.specs.Opened.{Scenario, todos}
 use Rattle.block_core.specs.Fragments.{offset_of}
 use Rattle.block_core.specs.Images.{tag_of}
 use Rattle.block_core.proofs.Opening.{all_map}

@@ -11,12 +11,12 @@ use Rattle.layout_model.specs.declared.write.Write.{Write}
 use Rattle.layout_model.specs.Needs.{elements, nodes}
 use Rattle.layout_model.specs.Bound.{most_elements}
 use Rattle.bio_records.specs.declared.tasks.TaskLists.{TaskLists}
-use Rattle.task_core.specs.declared.event.Event.{Event}
-use Rattle.task_core.specs.Scene.{Scene, is_disk}
-use Rattle.task_core.specs.Lines.{Doing, Rests, Drives, Copies, Breaks, rests}
-use Rattle.task_core.specs.Tasks.{TaskState, Writer, Rescuer, Completer, Keeper, Keeps, Stops, Duty, Todo, NoBio, Empty, look_of}
-use Rattle.task_core.specs.Opened.{Scenario, scene, start, tasks as opened_tasks, todos, todos_of, is_by, writers, duties, keepers, places_of, setup as setup_in, at as device_at}
-use Rattle.task_core.specs.Runs.{State, IsRun, IsLet}
+use Rattle.run_machine.specs.declared.event.Event.{Event}
+use Rattle.run_machine.specs.Scene.{Scene, is_disk}
+use Rattle.run_machine.specs.Lines.{Doing, Rests, Drives, Copies, Breaks, rests}
+use Rattle.run_machine.specs.Tasks.{TaskState, Writer, Rescuer, Completer, Keeper, Keeps, Stops, Duty, Todo, NoBio, Empty, look_of}
+use Rattle.run_machine.specs.Opened.{Scenario, scene, start, tasks as opened_tasks, todos, todos_of, is_by, writers, duties, keepers, places_of, setup as setup_in, at as device_at}
+use Rattle.run_machine.specs.Runs.{State, IsRun, IsLet}
 use Rattle.block_core.specs.Sound.{IsScenario, IsNaming}
 use Rattle.block_core.specs.Breaks.{IsAllowed, broke_in, is_broken, GoesUnrefused, NoTaskBreaks}
 use Rattle.block_core.proofs.Kept.{DoingFits, TaskFits, Fair}

@@ -6,12 +6,12 @@ use Rattle.stack_base.specs.declared.ids.Status.TheVariants.{Ok, Io, Medium, NoS
 use Rattle.layout_model.specs.declared.fragment.Fragment.{Fragment}
 use Rattle.layout_model.specs.May.{may_end, some_may_end}
 use Rattle.layout_model.specs.Plan.{each, plan}
-use Rattle.task_core.specs.Maps.{upd}
-use Rattle.task_core.specs.Scene.{Scene}
-use Rattle.task_core.specs.Tasks.{first_bio}
-use Rattle.task_core.specs.Runs.{State}
-use Rattle.task_core.proofs.Turns.{Turn, behind}
-use Rattle.task_core.proofs.MirrorRun.{setup, mirror, todo, start, ledger, begun}
+use Rattle.run_machine.specs.Maps.{upd}
+use Rattle.run_machine.specs.Scene.{Scene}
+use Rattle.run_machine.specs.Tasks.{first_bio}
+use Rattle.run_machine.specs.Runs.{State}
+use Rattle.run_machine.proofs.Turns.{Turn, behind}
+use Rattle.run_machine.proofs.cases.MirrorRun.{setup, mirror, todo, start, ledger, begun}
 use Rattle.block_core.specs.Weights.{Weight, sum_at, one, total}
 use Rattle.block_core.specs.Values.{leg_may, todo_may, Mark, unallowed, deciding}
 

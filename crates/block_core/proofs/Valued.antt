@@ -21,11 +21,11 @@ use Rattle.bio_books.specs.declared.node.Role.TheVariants as role
 use Rattle.bio_books.specs.Books.{Node, BookState, node_at, with_node, top_node, child_node, master_node, leg_node, keeping, raised, lowered, told, parent_of, kept_with, closing}
 use Rattle.bio_books.specs.Links.{IsVacant}
 use Rattle.bio_books.specs.Drops.{Closed, closed_of}
-use Rattle.task_core.specs.Maps.{upd}
-use Rattle.task_core.specs.Scene.{Setup, Scene, tree_at}
-use Rattle.task_core.specs.Lines.{Links, ToPush, ToCut, ToMaster, Doing, Drives, Copies, rests, first_length, landed, legs_of, leg_at, punted}
-use Rattle.task_core.specs.Tasks.{TaskState, Writer, Completer, HasBio, HasBoth, Carried, Empty, Brings, Carries, Fails}
-use Rattle.task_core.specs.Runs.{State}
+use Rattle.run_machine.specs.Maps.{upd}
+use Rattle.run_machine.specs.Scene.{Setup, Scene, tree_at}
+use Rattle.run_machine.specs.Lines.{Links, ToPush, ToCut, ToMaster, Doing, Drives, Copies, rests, first_length, landed, legs_of, leg_at, punted}
+use Rattle.run_machine.specs.Tasks.{TaskState, Writer, Completer, HasBio, HasBoth, Carried, Empty, Brings, Carries, Fails}
+use Rattle.run_machine.specs.Runs.{State}
 use Rattle.block_core.specs.Weights.{Weight, Lined, Rescued, total, one, carried_weight, refs, names, under, legs_left, count_of}
 use Rattle.block_core.specs.Fragments.{fragment_of}
 use Rattle.block_core.specs.Values.{is, bio_may, leg_may, todo_may, Mark, IsMark, allowed, allowed_by, decides, lack, mismatch, above, unallowed, deciding, IsValued}
@@ -36,7 +36,7 @@ use Rattle.block_core.proofs.Kept.{TaskFits, named, own_part, Kept}
 use Rattle.block_core.proofs.Lines.{line_fits}
 use Rattle.block_core.proofs.Deltas.{vacant_at, delta}
 use Rattle.block_core.proofs.BookMaps.{made, chained}
-use Rattle.block_core.proofs.Places.{unless, cut_weight, line_part, named_away}
+use Rattle.block_core.proofs.Places.{unless, cut_weight, line_part, named_away, unless_less}
 use Rattle.block_core.proofs.Totals.{IsWithin, within, task_part}
 use Rattle.block_core.proofs.Listed.{landed_same}
 use Rattle.block_core.proofs.Idle.{node_part}
@@ -138,10 +138,6 @@ left_none x leg legs f = by_test (leg == legs) refl
         let none : legs - leg ≡ 0 = omega (arith, e) in
         omega (arith, ap (λ n. x * sum_by f (range_with_len leg n)) none)
     by_test false same = refl
-
-unless_less : (v : Bool) (n : ℕ) → unless v n ≤ n
-unless_less true n = omega arith
-unless_less false n = omega arith
 
 -- a leg's bio names the node that was made for it
 leg_named_by : (P : ℕ → ℕ → ℕ) (bio : Bio) (hand : Item Pad) (leg key : ℕ) (t : Tree) → leg < legs_of t

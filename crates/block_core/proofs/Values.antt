@@ -9,7 +9,7 @@ use Rattle.layout_model.specs.declared.fragment.Fragment.{Fragment}
 use Rattle.bio_books.specs.declared.node.Role.{Role}
 use Rattle.bio_books.specs.declared.node.Role.TheVariants as role
 use Rattle.bio_books.specs.Books.{parent_of, kept_with, closing}
-use Rattle.task_core.specs.Scene.{Setup, tree_at}
+use Rattle.run_machine.specs.Scene.{Setup, tree_at}
 use Rattle.block_core.specs.Weights.{under, legs_left}
 use Rattle.block_core.specs.Values.{is, Mark, IsMark, allowed_by, allowed, decides, mismatch, bio_may, leg_may, above, unallowed, deciding}
 use Rattle.block_core.proofs.Given.{few_yes}

@@ -4,17 +4,17 @@ use Rattle.std.specs.Prelude.{sum_by}
 use Rattle.elem_ledger.specs.Ledger.{LedgerId}
 use Rattle.bio_books.specs.Books.{node_at}
 use Rattle.model_disks.specs.Disks.{DiskState}
-use Rattle.task_core.specs.Scene.{Scene}
-use Rattle.task_core.specs.Tasks.{TaskState}
-use Rattle.task_core.specs.Runs.{State}
+use Rattle.run_machine.specs.Scene.{Scene}
+use Rattle.run_machine.specs.Tasks.{TaskState}
+use Rattle.run_machine.specs.Runs.{State}
 use Rattle.block_core.specs.Weights.{Pending, Rescued, total, task_weight, book_weight, count_of}
 use Rattle.block_core.proofs.Kept.{Fair, Kept}
 use Rattle.block_core.proofs.Orders.{Placed, Ground}
-use Rattle.task_core.specs.Opened.{Scenario, scene, start, tasks as opened_tasks, no_task, setup as setup_in}
+use Rattle.run_machine.specs.Opened.{Scenario, scene, start, tasks as opened_tasks, no_task, setup as setup_in}
 use Rattle.block_core.specs.Sound.{IsScenario}
 use Rattle.block_core.specs.Sound.{IsNaming, IsSound, EveryRunIsSound, times_done, EachIsDoneOnce, NoTaskWaitsForItself}
-use Rattle.task_core.specs.declared.event.Event.{Event}
-use Rattle.task_core.specs.Runs.{Steps, IsRun}
+use Rattle.run_machine.specs.declared.event.Event.{Event}
+use Rattle.run_machine.specs.Runs.{Steps, IsRun}
 use Rattle.block_core.proofs.Opening.{total_zero, opened_kept, start_opened, nodes_zero, sum_at-zero}
 use Rattle.block_core.proofs.DoneOnce.{stage}
 use Rattle.block_core.proofs.Stages.{stage_at_start, places_sum}
@@ -36,9 +36,9 @@ use Rattle.block_core.proofs.Room.{stays_roomy}
 use Rattle.block_core.proofs.RoomStarts.{start_roomy}
 use Rattle.block_core.specs.Sound.{HasReserves, AreInOrder, NoStateIsStuck}
 use Rattle.std.proofs.lemmas.List.FromFn.{length-map-range_with_len}
-use Rattle.task_core.specs.declared.event.TaskId.{TaskId}
-use Rattle.task_core.specs.Opened.{round_count, writes_in}
-use Rattle.task_core.specs.Runs.{HasFree, HasEnded, unfinished}
+use Rattle.run_machine.specs.declared.event.TaskId.{TaskId}
+use Rattle.run_machine.specs.Opened.{round_count, writes_in}
+use Rattle.run_machine.specs.Runs.{HasFree, HasEnded, unfinished}
 use Rattle.block_core.proofs.Rounds.{from_round}
 use Rattle.block_core.proofs.RoundStarts.{from_none}
 use Rattle.block_core.proofs.Posts.{Posted, stays_posted, left_long}

@@ -24,8 +24,8 @@ use Rattle.bio_records.specs.Items.{Item}
 use Rattle.bio_records.specs.Runs.{place_number, place_at}
 use Rattle.bio_split.specs.Split.{split_rest}
 use Rattle.bio_books.specs.Books.{SlipItem}
-use Rattle.task_core.specs.Scene.{Setup, tree_at, number_of, setup_of}
-use Rattle.task_core.specs.Lines.{ToPush, ToMaster, first_length, landed, legs_of, leg_at}
+use Rattle.run_machine.specs.Scene.{Setup, tree_at, number_of, setup_of}
+use Rattle.run_machine.specs.Lines.{ToPush, ToMaster, first_length, landed, legs_of, leg_at}
 use Rattle.block_core.specs.Fragments.{offset_of, fragment_of, fragments_of, leg_fragments}
 use Rattle.block_core.proofs.Moves.{piece}
 use Rattle.block_core.proofs.Geometry.{IsThere, IsWhole, is_cut, falls, goes, number_of_tree, members_at, sizes_at}

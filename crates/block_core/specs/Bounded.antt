@@ -4,9 +4,9 @@ use Rattle.elem_ledger.specs.Ledger.{LedgerId}
 use Rattle.fail_script.specs.Script.{Answers, entries_of}
 use Rattle.stack_base.specs.declared.ids.PoolId.{PoolId}
 use Rattle.layout_model.specs.Bound.{all_elements, all_parts}
-use Rattle.task_core.specs.declared.event.Event.{Event}
-use Rattle.task_core.specs.Opened.{Scenario, round_count, scene, start}
-use Rattle.task_core.specs.Runs.{State, IsRun}
+use Rattle.run_machine.specs.declared.event.Event.{Event}
+use Rattle.run_machine.specs.Opened.{Scenario, round_count, scene, start}
+use Rattle.run_machine.specs.Runs.{State, IsRun}
 use Rattle.block_core.specs.Charges.{rank}
 use Rattle.block_core.specs.Sound.{IsScenario, IsNaming}
 

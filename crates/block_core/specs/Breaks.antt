@@ -6,14 +6,14 @@ use Rattle.layout_model.specs.Bound.{all_elements, most_elements}
 use Rattle.bio_books.specs.Links.{Linked, Made, NoRoom, Stray}
 use Rattle.bio_books.specs.Drops.{Ended}
 use Rattle.bio_books.specs.Drops as end
-use Rattle.task_core.specs.declared.event.Event.{Event}
-use Rattle.task_core.specs.Scene.{Scene}
-use Rattle.task_core.specs.Lines.{Doing, Rests, Drives, Copies, Breaks}
-use Rattle.task_core.specs.Requests.{Reply, LinkedTo, DroppedTo, Spent}
-use Rattle.task_core.specs.Tasks.{TaskState, Writer, Rescuer, Completer, Keeper, Carried, Empty, Brings, Carries, Fails, Keeping, Keeps, Stops, Duty, Resizes, request, look_of}
-use Rattle.task_core.specs.Objects.{Objects, Serves}
-use Rattle.task_core.specs.Opened.{Scenario, scene, start}
-use Rattle.task_core.specs.Runs.{State, IsLet, IsRun}
+use Rattle.run_machine.specs.declared.event.Event.{Event}
+use Rattle.run_machine.specs.Scene.{Scene}
+use Rattle.run_machine.specs.Lines.{Doing, Rests, Drives, Copies, Breaks}
+use Rattle.run_machine.specs.Requests.{Reply, LinkedTo, DroppedTo, Spent}
+use Rattle.run_machine.specs.Tasks.{TaskState, Writer, Rescuer, Completer, Keeper, Carried, Empty, Brings, Carries, Fails, Keeping, Keeps, Stops, Duty, Resizes, request, look_of}
+use Rattle.run_machine.specs.Objects.{Objects, Serves}
+use Rattle.run_machine.specs.Opened.{Scenario, scene, start}
+use Rattle.run_machine.specs.Runs.{State, IsLet, IsRun}
 use Rattle.block_core.specs.Sound.{IsScenario, IsNaming}
 
 -- a text is accepted only where its writes need no more elements than a scenario may

@@ -10,11 +10,11 @@ use Rattle.decl_text.specs.Reading.{declarations}
 use Rattle.decl_text.specs.declared.accepted.Accepted.{Accepted}
 use Rattle.work_text.specs.Reading.{ReadsWork, work_lines}
 use Rattle.work_text.specs.declared.Work.{Work}
-use Rattle.task_core.specs.declared.event.Event.{Event}
-use Rattle.task_core.specs.declared.event.What.TheVariants as what
-use Rattle.task_core.specs.Opened.{Scenario, scene, start}
-use Rattle.task_core.specs.Scenario.{scenario_of}
-use Rattle.task_core.specs.Runs.{State, Happens, IsRun, unfinished, HasFree, HasEnded}
+use Rattle.run_machine.specs.declared.event.Event.{Event}
+use Rattle.run_machine.specs.declared.event.What.TheVariants as what
+use Rattle.run_machine.specs.Opened.{Scenario, scene, start}
+use Rattle.run_machine.specs.Scenario.{scenario_of}
+use Rattle.run_machine.specs.Runs.{State, Happens, IsRun, unfinished, HasFree, HasEnded}
 use Rattle.block_core.specs.Bounded.{most_steps}
 use Rattle.block_core.specs.DoneWrites.{IsCompleted, IsGiven, HasGivenStatuses}
 use Rattle.block_core.specs.Fragments.{completed}

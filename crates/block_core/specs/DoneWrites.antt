@@ -5,10 +5,10 @@ use Rattle.stack_base.specs.declared.ids.Status.{Status}
 use Rattle.layout_model.specs.declared.fragment.Fragment.{Fragment}
 use Rattle.layout_model.specs.declared.write.Write.{Write}
 use Rattle.layout_model.specs.May.{MayEnd}
-use Rattle.task_core.specs.declared.event.Event.{Event}
-use Rattle.task_core.specs.declared.event.What.TheVariants as what
-use Rattle.task_core.specs.Opened.{Scenario, scene, start}
-use Rattle.task_core.specs.Runs.{State, Happens, IsRun, HasEnded}
+use Rattle.run_machine.specs.declared.event.Event.{Event}
+use Rattle.run_machine.specs.declared.event.What.TheVariants as what
+use Rattle.run_machine.specs.Opened.{Scenario, scene, start}
+use Rattle.run_machine.specs.Runs.{State, Happens, IsRun, HasEnded}
 use Rattle.block_core.specs.Sound.{IsScenario, IsNaming}
 use Rattle.block_core.specs.Fragments.{completed, times, IsOfScenario}
 

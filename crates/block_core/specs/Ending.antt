@@ -1,10 +1,10 @@
 -- Where a run ends, and that the rounds are there which its keeper starts.
 use Rattle.std.specs.Prelude.{◌≡◌, ◌+◌, ◌<◌, ℕ, List, ◌∷◌, length}
 use Rattle.elem_ledger.specs.Ledger.{LedgerId}
-use Rattle.task_core.specs.declared.event.Event.{Event}
-use Rattle.task_core.specs.Opened.{Scenario, scene, start}
-use Rattle.task_core.specs.Runs.{State, IsRun, unfinished, HasEnded}
-use Rattle.task_core.specs.Tasks.{Keeper, Keeps, Starts, Duty}
+use Rattle.run_machine.specs.declared.event.Event.{Event}
+use Rattle.run_machine.specs.Opened.{Scenario, scene, start}
+use Rattle.run_machine.specs.Runs.{State, IsRun, unfinished, HasEnded}
+use Rattle.run_machine.specs.Tasks.{Keeper, Keeps, Starts, Duty}
 use Rattle.block_core.specs.Sound.{IsScenario, IsNaming, HasReserves, AreInOrder}
 
 -- once no write is unfinished, the run has ended: each element is at home

@@ -10,13 +10,13 @@ use Rattle.bio_records.specs.declared.bio.Bio.{Bio}
 use Rattle.bio_records.specs.declared.bio.Pad.{Pad}
 use Rattle.bio_records.specs.Items.{Item}
 use Rattle.bio_records.specs.Runs.{place_number}
-use Rattle.task_core.specs.declared.event.Event.{Event}
-use Rattle.task_core.specs.Scene.{Setup, Scene, tree_at}
-use Rattle.task_core.specs.Requests.{Reply, Completed}
-use Rattle.task_core.specs.Lines.{rests}
-use Rattle.task_core.specs.Tasks.{Todo, TaskState, Writer, Rescuer, Completer, Keeper}
-use Rattle.task_core.specs.Opened.{Scenario, scene, start, setup, todos}
-use Rattle.task_core.specs.Runs.{State, IsRun, HasEnded}
+use Rattle.run_machine.specs.declared.event.Event.{Event}
+use Rattle.run_machine.specs.Scene.{Setup, Scene, tree_at}
+use Rattle.run_machine.specs.Requests.{Reply, Completed}
+use Rattle.run_machine.specs.Lines.{rests}
+use Rattle.run_machine.specs.Tasks.{Todo, TaskState, Writer, Rescuer, Completer, Keeper}
+use Rattle.run_machine.specs.Opened.{Scenario, scene, start, setup, todos}
+use Rattle.run_machine.specs.Runs.{State, IsRun, HasEnded}
 use Rattle.block_core.specs.Weights.{Weight, Spot, Lined, Rescued, Pending, Brought, total, legs_left}
 use Rattle.block_core.specs.Sound.{IsScenario, IsNaming}
 

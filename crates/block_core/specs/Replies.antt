@@ -1,14 +1,14 @@
 -- That whatever is answered to a task is an event that comes next, or changes nothing.
 use Rattle.std.specs.Prelude.{◌≡◌, ◌⊎◌, ◌<◌, ℕ, List}
 use Rattle.elem_ledger.specs.Ledger.{LedgerId}
-use Rattle.task_core.specs.declared.event.Event.{Event}
-use Rattle.task_core.specs.Maps.{upd}
-use Rattle.task_core.specs.Scene.{Scene}
-use Rattle.task_core.specs.Requests.{Reply}
-use Rattle.task_core.specs.Tasks.{request, look_of, answered}
-use Rattle.task_core.specs.Objects.{Objects, Serves}
-use Rattle.task_core.specs.Opened.{Scenario, scene, start}
-use Rattle.task_core.specs.Runs.{State, IsLet, Steps, IsRun}
+use Rattle.run_machine.specs.declared.event.Event.{Event}
+use Rattle.run_machine.specs.Maps.{upd}
+use Rattle.run_machine.specs.Scene.{Scene}
+use Rattle.run_machine.specs.Requests.{Reply}
+use Rattle.run_machine.specs.Tasks.{request, look_of, answered}
+use Rattle.run_machine.specs.Objects.{Objects, Serves}
+use Rattle.run_machine.specs.Opened.{Scenario, scene, start}
+use Rattle.run_machine.specs.Runs.{State, IsLet, Steps, IsRun}
 use Rattle.block_core.specs.Sound.{IsScenario, IsNaming}
 use Rattle.block_core.specs.Breaks.{IsAllowed}
 

@@ -7,8 +7,8 @@ use Rattle.decl_text.specs.Reading.{declarations}
 use Rattle.decl_text.specs.declared.accepted.Accepted.{Accepted}
 use Rattle.work_text.specs.Reading.{ReadsWork, work_lines}
 use Rattle.work_text.specs.declared.Work.{Work}
-use Rattle.task_core.specs.Opened.{Scenario}
-use Rattle.task_core.specs.Scenario.{scenario_of}
+use Rattle.run_machine.specs.Opened.{Scenario}
+use Rattle.run_machine.specs.Scenario.{scenario_of}
 use Rattle.block_core.specs.Bounded.{waits, most_steps}
 use Rattle.block_core.specs.Breaks.{IsAllowed}
 use Rattle.block_core.specs.Sound.{IsScenario, HasReserves, AreInOrder}

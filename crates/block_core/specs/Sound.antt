@@ -9,12 +9,12 @@ use Rattle.mempool_core.specs.Facts.{AddsUp}
 use Rattle.layout_model.specs.declared.write.Write.{Write}
 use Rattle.layout_model.specs.Writes.{IsWrite}
 use Rattle.bio_books.specs.Books.{Node, node_at}
-use Rattle.task_core.specs.declared.event.Event.{Event}
-use Rattle.task_core.specs.declared.event.What.{What}
-use Rattle.task_core.specs.declared.event.What.TheVariants as what
-use Rattle.task_core.specs.Scene.{Scene}
-use Rattle.task_core.specs.Opened.{Change, Scenario, scene, start}
-use Rattle.task_core.specs.Runs.{State, IsRun, unfinished, HasFree}
+use Rattle.run_machine.specs.declared.event.Event.{Event}
+use Rattle.run_machine.specs.declared.event.What.{What}
+use Rattle.run_machine.specs.declared.event.What.TheVariants as what
+use Rattle.run_machine.specs.Scene.{Scene}
+use Rattle.run_machine.specs.Opened.{Change, Scenario, scene, start}
+use Rattle.run_machine.specs.Runs.{State, IsRun, unfinished, HasFree}
 use Rattle.block_core.specs.Levels.{HasLevels}
 use Rattle.block_core.specs.Places.{HasPlaces}
 use Rattle.block_core.specs.Rounds.{IsTallied}

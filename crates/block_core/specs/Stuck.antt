@@ -1,9 +1,9 @@
 -- That no state of a run is stuck, however long the run is.
 use Rattle.std.specs.Prelude.{◌≤◌, ◌⊎◌, ℕ, List}
 use Rattle.elem_ledger.specs.Ledger.{LedgerId}
-use Rattle.task_core.specs.declared.event.Event.{Event}
-use Rattle.task_core.specs.Opened.{Scenario, scene, start}
-use Rattle.task_core.specs.Runs.{State, IsRun, unfinished, HasFree, HasEnded}
+use Rattle.run_machine.specs.declared.event.Event.{Event}
+use Rattle.run_machine.specs.Opened.{Scenario, scene, start}
+use Rattle.run_machine.specs.Runs.{State, IsRun, unfinished, HasFree, HasEnded}
 use Rattle.stack_base.specs.Stack.{HasRescuers}
 use Rattle.block_core.specs.Sound.{IsScenario, IsNaming, HasReserves, AreInOrder}
 use Rattle.block_core.specs.Breaks.{IsAllowed}

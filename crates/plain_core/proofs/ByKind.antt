@@ -3,8 +3,8 @@ use Rattle.std.proofs.Common.{◌≡◌, ◌∙◌, ℕ, List, refl, ap}
 use Rattle.stack_base.specs.declared.stack.Kind.{Kind}
 use Rattle.stack_base.specs.declared.stack.Stack.{Stack}
 use Rattle.stack_base.specs.Tree.{Keeps, Cuts, Copies, Shape, Tree, over, over_shape, shape_of, tree}
-use Rattle.task_core.specs.Routed.{keeps}
-use Rattle.task_core.specs.Scene.{keeps_data}
+use Rattle.task_steps.specs.Routed.{keeps}
+use Rattle.run_machine.specs.Scene.{keeps_data}
 
 by_shape : (shape : Shape) (number : ℕ) (kind : Kind) (members : List Tree) → keeps_data (over_shape shape number kind members) ≡ keeps shape
 unfolding over_shape

@@ -9,19 +9,19 @@ use Rattle.stack_base.specs.Stack.{IsStack}
 use Rattle.bio_records.specs.declared.bio.Pad.{Pad}
 use Rattle.bio_records.specs.Items.{Item}
 use Rattle.bio_books.specs.Links.{Linked, Made, NoRoom, Stray}
-use Rattle.task_core.specs.declared.event.Event.{Event}
-use Rattle.task_core.specs.declared.event.What.{What}
-use Rattle.task_core.specs.Maps.{upd}
-use Rattle.task_core.specs.Scene.{Setup}
-use Rattle.task_core.specs.Requests.{Request, Reply, HadBio, HadVec, HadSlip, Missed, Did, Popped, Completed, LinkedTo, DroppedTo, OutIs, Present, LeftOver, Nothing, Spent, Pop}
-use Rattle.task_core.specs.Lines as line
-use Rattle.task_core.specs.Tasks as task
-use Rattle.task_core.specs.Objects.{Objects, Serves}
-use Rattle.task_core.specs.Events.{id_of, what_of}
-use Rattle.task_core.specs.Runs.{IsLet}
-use Rattle.task_core.specs.Opened.{no_task}
-use Rattle.task_core.specs.Routed.{Routing, setup, places_at}
-use Rattle.task_core.specs.Within.{AreWithin, TaskFits, ReplyFits, TasksStayWithin}
+use Rattle.run_machine.specs.declared.event.Event.{Event}
+use Rattle.run_machine.specs.declared.event.What.{What}
+use Rattle.run_machine.specs.Maps.{upd}
+use Rattle.run_machine.specs.Scene.{Setup}
+use Rattle.run_machine.specs.Requests.{Request, Reply, HadBio, HadVec, HadSlip, Missed, Did, Popped, Completed, LinkedTo, DroppedTo, OutIs, Present, LeftOver, Nothing, Spent, Pop}
+use Rattle.run_machine.specs.Lines as line
+use Rattle.run_machine.specs.Tasks as task
+use Rattle.run_machine.specs.Objects.{Objects, Serves}
+use Rattle.run_machine.specs.Events.{id_of, what_of}
+use Rattle.run_machine.specs.Runs.{IsLet}
+use Rattle.run_machine.specs.Opened.{no_task}
+use Rattle.task_steps.specs.Routed.{Routing, setup, places_at}
+use Rattle.task_steps.specs.Within.{AreWithin, TaskFits, ReplyFits, TasksStayWithin}
 use Rattle.plain_core.specs.Ledgers.{ledger_of}
 use Rattle.plain_core.specs.declared.task.Task.{Task}
 use Rattle.plain_core.specs.declared.fault.CoreFault.{CoreFault}

@@ -11,7 +11,7 @@ use Rattle.std.proofs.lemmas.List.{map-append}
 use Rattle.std.proofs.lemmas.List.FromFn.{get_or-map-range_with_len, length-map-range_with_len, map-range_with_len_more}
 use Rattle.layout_model.proofs.RangeSums.{range_joined}
 use Rattle.stack_base.proofs.Zones.{fold_max_le}
-use Rattle.task_core.specs.Tasks.{Duty, Starts}
+use Rattle.run_machine.specs.Tasks.{Duty, Starts}
 use Rattle.work_text.specs.declared.Resize.{Resize}
 use Rattle.work_text.specs.declared.Work.{Work}
 use Rattle.plain_core.specs.Opening.{changes_in, count_from, count_in, counts_of, duties_for, duties_up_to, last_of}

@@ -2,12 +2,12 @@
 use Rattle.std.proofs.Common.{◌≡◌, ◌+◌, ◌<◌, ◌⊎◌, inl, inr, ℕ, zero, suc, List, [], ◌∷◌, length, map, refl, sym, ap, ◌∙◌, subst, arith, Some}
 use Rattle.std.specs.Prelude.{slice_get}
 use Rattle.std.proofs.lemmas.List.{length-map}
-use Rattle.task_core.specs.declared.event.TaskId.{TaskId}
-use Rattle.task_core.specs.Events.{id_of}
-use Rattle.task_core.specs.Maps.{upd}
-use Rattle.task_core.specs.Routed.{Routing, setup}
-use Rattle.task_core.specs.Runs.{HasFree}
-use Rattle.task_core.specs.Tasks.{answered}
+use Rattle.run_machine.specs.declared.event.TaskId.{TaskId}
+use Rattle.run_machine.specs.Events.{id_of}
+use Rattle.run_machine.specs.Maps.{upd}
+use Rattle.task_steps.specs.Routed.{Routing, setup}
+use Rattle.run_machine.specs.Runs.{HasFree}
+use Rattle.run_machine.specs.Tasks.{answered}
 use Rattle.plain_core.specs.declared.task.Task.{Task}
 use Rattle.plain_core.specs.Plain.{Plain}
 use Rattle.plain_core.specs.Views.{task_of}

@@ -21,14 +21,14 @@ use Rattle.bio_books.specs.Books.{BookState, Node, node_at, parent_of, with_node
 use Rattle.bio_books.specs.Drops.{Drops, DropsAt, DropsNode, closed_of}
 use Rattle.bio_books.specs.Drops as drop
 use Rattle.bio_books.specs.Links.{Linked, Made, NoRoom, Stray, ChainsAt, MastersAt, LegsAt}
-use Rattle.task_core.specs.declared.event.Got.TheVariants as got
-use Rattle.task_core.specs.declared.event.What.{What}
-use Rattle.task_core.specs.declared.event.What.TheVariants as what
-use Rattle.task_core.specs.Events.{is_free, what_of, take_of, miss_of, pool_of, how_of, link_of, drop_of, resize_of}
-use Rattle.task_core.specs.Maps.{upd}
-use Rattle.task_core.specs.Objects.{Objects, Opened, Serves, clear_bio, clear_vector, clear_slip}
-use Rattle.task_core.specs.Requests.{Request, Reply, Opening, Write, Chain, Master, Leg, TakeBio, TakeVec, TakeSlip, GiveBio, GiveVec, GiveSlip, Punt, Pop, Push, Complete, Link, Drop, Done, Resize, NextRound, LookRound, LookLeft, Rest, HadBio, HadVec, HadSlip, Missed, Did, Popped, Completed, LinkedTo, DroppedTo, OutIs, Nothing}
-use Rattle.task_core.proofs.Frames.{upd_same}
+use Rattle.run_machine.specs.declared.event.Got.TheVariants as got
+use Rattle.run_machine.specs.declared.event.What.{What}
+use Rattle.run_machine.specs.declared.event.What.TheVariants as what
+use Rattle.run_machine.specs.Events.{is_free, what_of, take_of, miss_of, pool_of, how_of, link_of, drop_of, resize_of}
+use Rattle.run_machine.specs.Maps.{upd}
+use Rattle.run_machine.specs.Objects.{Objects, Opened, Serves, clear_bio, clear_vector, clear_slip}
+use Rattle.run_machine.specs.Requests.{Request, Reply, Opening, Write, Chain, Master, Leg, TakeBio, TakeVec, TakeSlip, GiveBio, GiveVec, GiveSlip, Punt, Pop, Push, Complete, Link, Drop, Done, Resize, NextRound, LookRound, LookLeft, Rest, HadBio, HadVec, HadSlip, Missed, Did, Popped, Completed, LinkedTo, DroppedTo, OutIs, Nothing}
+use Rattle.run_machine.proofs.Frames.{upd_same}
 use Rattle.plain_core.specs.Free.{CanFree, IsMet, Tells, link_need, need_of}
 use Rattle.plain_core.specs.Ledgers.{ledger_of}
 use Rattle.plain_core.specs.Plain.{Plain, pool_at, rescue_at, disk_at, book_at, objects_of}

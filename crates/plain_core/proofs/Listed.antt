@@ -11,8 +11,8 @@ use Rattle.layout_model.specs.declared.write.Write.{Write}
 use Rattle.layout_model.specs.Bound.{all_elements}
 use Rattle.layout_model.specs.Needs.{elements, nodes}
 use Rattle.layout_model.specs.Writes.{IsWrite}
-use Rattle.task_core.specs.Opened.{is_by}
-use Rattle.task_core.specs.Tasks.{Todo}
+use Rattle.run_machine.specs.Opened.{is_by}
+use Rattle.run_machine.specs.Tasks.{Todo}
 use Rattle.plain_core.specs.Opening.{listed, listed_from, nodes_of}
 
 -- one of them

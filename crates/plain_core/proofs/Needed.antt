@@ -1,11 +1,11 @@
 -- What tasks need is what their requests do, and when what they look at lets them ask.
 use Rattle.std.proofs.Common.{◌≡◌, ℕ, Bool, true, false, nat_le, ◌==◌, List, ◌∷◌, sum, refl, sym, ap, ◌∙◌, subst, IsTrue}
 use Rattle.stack_base.specs.declared.ids.DevId.{DevId}
-use Rattle.task_core.specs.Lines as line
-use Rattle.task_core.specs.Objects.{Serves}
-use Rattle.task_core.specs.Requests.{Reply, Present, LeftOver, LookRound, LookLeft}
-use Rattle.task_core.specs.Scene.{Setup}
-use Rattle.task_core.specs.Tasks as task
+use Rattle.run_machine.specs.Lines as line
+use Rattle.run_machine.specs.Objects.{Serves}
+use Rattle.run_machine.specs.Requests.{Reply, Present, LeftOver, LookRound, LookLeft}
+use Rattle.run_machine.specs.Scene.{Setup}
+use Rattle.run_machine.specs.Tasks as task
 use Rattle.plain_core.specs.Free.{TaskIsLet, Tells}
 use Rattle.plain_core.specs.Ledgers.{ledger_of}
 use Rattle.plain_core.specs.Plain.{Plain, objects_of}

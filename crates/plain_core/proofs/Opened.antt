@@ -22,14 +22,14 @@ use Rattle.bio_records.specs.declared.bio.Pad.{Pad}
 use Rattle.bio_records.specs.Items.{Item}
 use Rattle.model_disks.specs.Disks.{DiskState}
 use Rattle.work_text.specs.declared.Work.{Work}
-use Rattle.task_core.specs.Events.{pool_of}
-use Rattle.task_core.specs.Lines.{rests}
-use Rattle.task_core.specs.Opened.{Scenario, at, is_by, is_numbered, keepers, no_task, objects, places_of, records_of, reserve_of, script_at, tasks}
-use Rattle.task_core.specs.Opened as opening
-use Rattle.task_core.specs.Routed.{Routing, places_at, setup}
-use Rattle.task_core.specs.Scene.{keeps_data, setup_of}
-use Rattle.task_core.specs.Tasks.{Duty, TaskState, Todo, Writer, Rescuer, Completer, Keeper, Keeps, NoBio, Empty}
-use Rattle.task_core.specs.Within.{AreWithin, IsItemWithin, LineFits, TaskFits}
+use Rattle.run_machine.specs.Events.{pool_of}
+use Rattle.run_machine.specs.Lines.{rests}
+use Rattle.run_machine.specs.Opened.{Scenario, at, is_by, is_numbered, keepers, no_task, objects, places_of, records_of, reserve_of, script_at, tasks}
+use Rattle.run_machine.specs.Opened as opening
+use Rattle.task_steps.specs.Routed.{Routing, places_at, setup}
+use Rattle.run_machine.specs.Scene.{keeps_data, setup_of}
+use Rattle.run_machine.specs.Tasks.{Duty, TaskState, Todo, Writer, Rescuer, Completer, Keeper, Keeps, NoBio, Empty}
+use Rattle.task_steps.specs.Within.{AreWithin, IsItemWithin, LineFits, TaskFits}
 use Rattle.plain_core.specs.Cores.{CoreState, AreFound, IsCore}
 use Rattle.plain_core.specs.Ledgers.{ledger_of}
 use Rattle.plain_core.specs.Opening.{CanOpen, IsOpened, completers_of, counts_of, duties_up_to, has_rescuer, has_write, is_disk, last_of, listed, new_book, new_books, new_disk, new_disks, new_pool, new_pools, nodes_of, rescuers_of, scenario_by, tasks_of, todos_by, writers_of}

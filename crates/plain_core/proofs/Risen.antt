@@ -10,16 +10,16 @@ use Rattle.stack_base.specs.declared.ids.PoolId.TheVariants.{FsBios, FsVecs, Bio
 use Rattle.stack_base.specs.PoolId.{IsOfStack}
 use Rattle.stack_base.specs.Stack.{IsStack}
 use Rattle.task_core.specs.declared.opened.Opened.{Opened}
-use Rattle.task_core.specs.Events.{id_of}
-use Rattle.task_core.specs.Homes.{DutyFits, IsTaskOf}
-use Rattle.task_core.specs.Lines.{rests}
+use Rattle.run_machine.specs.Events.{id_of}
+use Rattle.task_steps.specs.Homes.{DutyFits, IsTaskOf}
+use Rattle.run_machine.specs.Lines.{rests}
 use Rattle.task_core.specs.OfOne.{IsOpened as AreTheFirst, scenario_in, states}
-use Rattle.task_core.specs.Opened.{Scenario, at, duties, is_by, keepers, no_task, setup, tasks, todos, todos_of, writers}
+use Rattle.run_machine.specs.Opened.{Scenario, at, duties, is_by, keepers, no_task, setup, tasks, todos, todos_of, writers}
 use Rattle.task_core.specs.Plains.{stage_of}
-use Rattle.task_core.specs.Scene.{is_disk}
-use Rattle.task_core.specs.Stage.{Stage, is_pool}
-use Rattle.task_core.specs.TaskViews.{TaskOf}
-use Rattle.task_core.specs.Tasks.{TaskState, Duty, Resizes, Starts, NoBio, Empty, Keeps, Writer, Rescuer, Completer, Keeper}
+use Rattle.run_machine.specs.Scene.{is_disk}
+use Rattle.task_steps.specs.Stage.{Stage, is_pool}
+use Rattle.task_steps.specs.TaskViews.{TaskOf}
+use Rattle.run_machine.specs.Tasks.{TaskState, Duty, Resizes, Starts, NoBio, Empty, Keeps, Writer, Rescuer, Completer, Keeper}
 use Rattle.plain_core.specs.declared.task.Task.{Task}
 use Rattle.plain_core.specs.Cores.{slot_of}
 use Rattle.plain_core.specs.Opening.{AreSeated, Seats}

@@ -5,9 +5,9 @@ use Rattle.std.proofs.lemmas.List.{append-nil, append_assoc, get_or-set_other, g
 use Rattle.std.proofs.lemmas.List.Elements.{All-push, All-weaker}
 use Rattle.std.proofs.lemmas.Option.{slice_get-get_or, slice_get_within, get_or_from_slice_get}
 use Rattle.std.proofs.Math.Seq.{get_or-append_seam}
-use Rattle.task_core.specs.Events.{id_of}
-use Rattle.task_core.specs.Opened.{no_task}
-use Rattle.task_core.specs.Tasks.{TaskState}
+use Rattle.run_machine.specs.Events.{id_of}
+use Rattle.run_machine.specs.Opened.{no_task}
+use Rattle.run_machine.specs.Tasks.{TaskState}
 use Rattle.plain_core.specs.declared.task.Task.{Task}
 use Rattle.plain_core.specs.Cores.{AreFound, slot_of, task_at}
 use Rattle.plain_core.specs.Opening.{AreSeated, Seats}

@@ -3,11 +3,11 @@ use Rattle.std.proofs.Common.{◌≡◌, ℕ, List, [], length, replicate, sym, 
 use Rattle.work_text.specs.declared.Work.{Work}
 use Rattle.task_core.specs.declared.opened.Opened.{Opened}
 use Rattle.task_core.specs.OfOne.{IsOpened as AreTheFirst, scenario_in, states}
-use Rattle.task_core.specs.Opened.{Scenario, objects}
+use Rattle.run_machine.specs.Opened.{Scenario, objects}
 use Rattle.task_core.specs.Plains.{stage_of}
-use Rattle.task_core.specs.Routed.{Routing, places_at}
-use Rattle.task_core.specs.Scene.{Setup}
-use Rattle.task_core.specs.Tasks.{TaskState}
+use Rattle.task_steps.specs.Routed.{Routing, places_at}
+use Rattle.run_machine.specs.Scene.{Setup}
+use Rattle.run_machine.specs.Tasks.{TaskState}
 use Rattle.plain_core.specs.Cores.{CoreState, AreFound, IsCore}
 use Rattle.plain_core.specs.Opening.{IsOpened, duties_up_to, last_of, new_books, new_disks, new_pools, nodes_of, tasks_of, todos_by}
 use Rattle.plain_core.specs.Plain.{Plain}

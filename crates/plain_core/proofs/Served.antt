@@ -20,17 +20,17 @@ use Rattle.bio_books.specs.Books.{BookState, VectorItem, SlipItem}
 use Rattle.bio_books.specs.Drops.{Drops}
 use Rattle.bio_books.specs.Drops as drop
 use Rattle.bio_books.specs.Links.{Made, NoRoom, Stray}
-use Rattle.task_core.specs.declared.event.End.{End}
-use Rattle.task_core.specs.declared.event.End.TheVariants as ends
-use Rattle.task_core.specs.declared.event.Got.{Got}
-use Rattle.task_core.specs.declared.event.Got.TheVariants as got
-use Rattle.task_core.specs.declared.event.What.{What}
-use Rattle.task_core.specs.declared.event.What.TheVariants as told
-use Rattle.task_core.specs.Requests.{Reply, Opening, TakeBio, TakeVec, TakeSlip, GiveBio, GiveVec, GiveSlip, Punt, Pop, Push, Complete, Link, Drop, Done, Resize, NextRound, HadBio, HadVec, HadSlip, Missed, Did, Popped, Completed, LinkedTo, DroppedTo, OutIs, Nothing}
-use Rattle.task_core.specs.Events.{take_of, miss_of, pool_of, how_of, drop_of, resize_of}
-use Rattle.task_core.specs.Lines.{punted}
-use Rattle.task_core.specs.Maps.{upd}
-use Rattle.task_core.specs.Objects.{Objects, Opened, Has, clear_bio, clear_vector, clear_slip, done_one}
+use Rattle.run_machine.specs.declared.event.End.{End}
+use Rattle.run_machine.specs.declared.event.End.TheVariants as ends
+use Rattle.run_machine.specs.declared.event.Got.{Got}
+use Rattle.run_machine.specs.declared.event.Got.TheVariants as got
+use Rattle.run_machine.specs.declared.event.What.{What}
+use Rattle.run_machine.specs.declared.event.What.TheVariants as told
+use Rattle.run_machine.specs.Requests.{Reply, Opening, TakeBio, TakeVec, TakeSlip, GiveBio, GiveVec, GiveSlip, Punt, Pop, Push, Complete, Link, Drop, Done, Resize, NextRound, HadBio, HadVec, HadSlip, Missed, Did, Popped, Completed, LinkedTo, DroppedTo, OutIs, Nothing}
+use Rattle.run_machine.specs.Events.{take_of, miss_of, pool_of, how_of, drop_of, resize_of}
+use Rattle.run_machine.specs.Lines.{punted}
+use Rattle.run_machine.specs.Maps.{upd}
+use Rattle.run_machine.specs.Objects.{Objects, Opened, Has, clear_bio, clear_vector, clear_slip, done_one}
 use Rattle.plain_core.specs.Ledgers.{ledger_of}
 use Rattle.plain_core.specs.Pools.{uses, move_of, CanTake, IsTold}
 use Rattle.plain_core.specs.Books.{ended_of, end_of, IsToldBy}

@@ -9,10 +9,10 @@ use Rattle.bio_records.specs.Items.{Item}
 use Rattle.bio_lists.specs.Submission.{submitted}
 use Rattle.bio_books.specs.Books.{SlipItem}
 use Rattle.bio_books.specs.Links.{Made}
-use Rattle.task_core.specs.declared.event.What.{What}
-use Rattle.task_core.specs.Requests.{Chain, Master, Leg, Punt, TakeSlip, HadSlip, Missed, Did, LinkedTo}
-use Rattle.task_core.specs.Lines as line
-use Rattle.task_core.specs.Routed.{Routing, setup}
+use Rattle.run_machine.specs.declared.event.What.{What}
+use Rattle.run_machine.specs.Requests.{Chain, Master, Leg, Punt, TakeSlip, HadSlip, Missed, Did, LinkedTo}
+use Rattle.run_machine.specs.Lines as line
+use Rattle.task_steps.specs.Routed.{Routing, setup}
 use Rattle.plain_core.specs.declared.task.Ask.{Ask}
 use Rattle.plain_core.specs.declared.task.Ask.TheVariants as ask
 use Rattle.plain_core.specs.declared.task.Want.{Want}

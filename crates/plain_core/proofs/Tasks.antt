@@ -8,11 +8,11 @@ use Rattle.bio_records.specs.Items.{Item}
 use Rattle.bio_books.specs.Books.{VectorItem, SlipItem, Holding}
 use Rattle.bio_books.specs.Drops.{Closed}
 use Rattle.bio_books.specs.Links.{Made}
-use Rattle.task_core.specs.declared.event.What.{What}
-use Rattle.task_core.specs.Requests.{Request, Reply, GiveBio, GiveVec, GiveSlip, Complete, Drop, Done, Did, Completed, DroppedTo, LeftOver, LookRound, Present, HadBio, HadVec, Missed, Pop, Popped, TakeVec, Link, LinkedTo, Write}
-use Rattle.task_core.specs.Tasks as task
-use Rattle.task_core.specs.Lines as line
-use Rattle.task_core.specs.Runs.{IsLet}
+use Rattle.run_machine.specs.declared.event.What.{What}
+use Rattle.run_machine.specs.Requests.{Request, Reply, GiveBio, GiveVec, GiveSlip, Complete, Drop, Done, Did, Completed, DroppedTo, LeftOver, LookRound, Present, HadBio, HadVec, Missed, Pop, Popped, TakeVec, Link, LinkedTo, Write}
+use Rattle.run_machine.specs.Tasks as task
+use Rattle.run_machine.specs.Lines as line
+use Rattle.run_machine.specs.Runs.{IsLet}
 use Rattle.std.specs.Prelude.{nat_le}
 use Rattle.std.proofs.lemmas.Bool.Decides.{nat_tests}
 use Rattle.stack_base.specs.declared.ids.SetId.TheVariants.{Fs}
@@ -20,7 +20,7 @@ use Rattle.bio_records.specs.declared.tasks.TaskLists.{TaskLists}
 use Rattle.plain_core.specs.Ledgers.{ledger_of}
 use Rattle.plain_core.specs.declared.fault.CoreFault.{CoreFault}
 use Rattle.plain_core.specs.declared.fault.CoreFault.TheVariants as fault
-use Rattle.task_core.specs.Routed.{Routing, setup}
+use Rattle.task_steps.specs.Routed.{Routing, setup}
 use Rattle.plain_core.specs.declared.book.Ended.{Ended}
 use Rattle.plain_core.specs.Books.{ended_of}
 use Rattle.plain_core.specs.declared.task.Carried.{Carried}

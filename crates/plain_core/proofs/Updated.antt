@@ -3,8 +3,8 @@ use Rattle.std.proofs.Common.{◌≡◌, ◌≢◌, inl, inr, ℕ, refl, sym, ap
 use Rattle.std.proofs.lemmas.Bool.{cases_eq}
 use Rattle.std.proofs.lemmas.List.{get_or-set_other}
 use Rattle.mempool_core.specs.Move.{Move}
-use Rattle.task_core.specs.Maps.{upd}
-use Rattle.task_core.specs.Objects.{PoolMoves}
+use Rattle.run_machine.specs.Maps.{upd}
+use Rattle.run_machine.specs.Objects.{PoolMoves}
 use Rattle.plain_core.specs.Plain.{Plain, pool_at, with_pool, rescue_at, with_rescue, kept_disk, disk_at, disk_or, opened_disk, with_disk, book_at, with_book, objects_of}
 use Rattle.plain_core.specs.Told.{Moves}
 

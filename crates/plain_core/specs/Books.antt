@@ -6,8 +6,8 @@ use Rattle.bio_records.specs.Items.{Item}
 use Rattle.bio_books.specs.Books.{BookState}
 use Rattle.bio_books.specs.Drops.{Drops, Closed}
 use Rattle.bio_books.specs.Drops as drop
-use Rattle.task_core.specs.declared.event.End.{End}
-use Rattle.task_core.specs.declared.event.End.TheVariants as told
+use Rattle.run_machine.specs.declared.event.End.{End}
+use Rattle.run_machine.specs.declared.event.End.TheVariants as told
 use Rattle.plain_core.specs.declared.book.Ended.{Ended}
 use Rattle.plain_core.specs.declared.book.Ended.TheVariants as ended
 use Rattle.plain_core.specs.declared.fault.CoreFault.{CoreFault}

@@ -1,16 +1,16 @@
 -- A plain core: what tasks know of a stack, the objects, and the tasks in their order; and the state of the machine that it is.
 use Rattle.std.specs.Prelude.{◌≡◌, ◌+◌, ◌<◌, ℕ, List, length, slice_get, slice_set, slice_index_or, All, Option, Some, Result, Ok, Err}
-use Rattle.task_core.specs.declared.event.TaskId.{TaskId}
-use Rattle.task_core.specs.declared.event.TaskId.TheVariants as id
-use Rattle.task_core.specs.declared.event.Event.{Event}
-use Rattle.task_core.specs.Scene.{Scene}
-use Rattle.task_core.specs.Tasks.{TaskState}
-use Rattle.task_core.specs.Events.{id_of}
-use Rattle.task_core.specs.Runs.{State, Happens, IsEnabled}
-use Rattle.task_core.specs.Opened.{most_writers, no_task}
-use Rattle.task_core.specs.Routed.{Routing, setup}
-use Rattle.task_core.specs.Within.{TaskFits}
-use Rattle.task_core.specs.declared.event.What.{What}
+use Rattle.run_machine.specs.declared.event.TaskId.{TaskId}
+use Rattle.run_machine.specs.declared.event.TaskId.TheVariants as id
+use Rattle.run_machine.specs.declared.event.Event.{Event}
+use Rattle.run_machine.specs.Scene.{Scene}
+use Rattle.run_machine.specs.Tasks.{TaskState}
+use Rattle.run_machine.specs.Events.{id_of}
+use Rattle.run_machine.specs.Runs.{State, Happens, IsEnabled}
+use Rattle.run_machine.specs.Opened.{most_writers, no_task}
+use Rattle.task_steps.specs.Routed.{Routing, setup}
+use Rattle.task_steps.specs.Within.{TaskFits}
+use Rattle.run_machine.specs.declared.event.What.{What}
 use Rattle.plain_core.specs.declared.task.Task.{Task}
 use Rattle.plain_core.specs.Views.{task_of}
 use Rattle.plain_core.specs.Steps.{Submits, TaskMoves}

@@ -1,7 +1,7 @@
 -- Duties of the keeper as plain data.
 use Rattle.std.specs.Prelude.{ℕ, Option, None, Some}
 use Rattle.stack_base.specs.declared.ids.PoolId.{PoolId}
-use Rattle.task_core.specs.Tasks.{Duty, Resizes, Starts}
+use Rattle.run_machine.specs.Tasks.{Duty, Resizes, Starts}
 
 -- a pool gets a reserve of this number, or, with none, the round of this number starts
 abbrev pub duty_of : Option PoolId → ℕ → ℕ → Duty

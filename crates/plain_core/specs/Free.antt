@@ -6,15 +6,15 @@ use Rattle.mempool_core.specs.Move.{PoolState, takes_spare, CanMove}
 use Rattle.bioset_pools.specs.Sets.{bios_of}
 use Rattle.bio_books.specs.Books.{Node, node_at}
 use Rattle.bio_books.specs.Links.{IsVacant}
-use Rattle.task_core.specs.declared.event.Event.{Event}
-use Rattle.task_core.specs.declared.event.TaskId.{TaskId}
-use Rattle.task_core.specs.declared.event.What.{What}
-use Rattle.task_core.specs.Events.{id_of, is_free, what_of}
-use Rattle.task_core.specs.Objects.{Objects, Serves}
-use Rattle.task_core.specs.Requests.{Request, Reply, Opening, Write, Chain, Master, Leg, TakeBio, TakeVec, TakeSlip, GiveBio, GiveVec, GiveSlip, Punt, Pop, Push, Complete, Link, Drop, Done, Resize, NextRound, LookRound, LookLeft, Rest}
-use Rattle.task_core.specs.Routed.{Routing, setup}
-use Rattle.task_core.specs.Runs.{State, Steps, IsLet}
-use Rattle.task_core.specs.Tasks.{TaskState, look_of, request}
+use Rattle.run_machine.specs.declared.event.Event.{Event}
+use Rattle.run_machine.specs.declared.event.TaskId.{TaskId}
+use Rattle.run_machine.specs.declared.event.What.{What}
+use Rattle.run_machine.specs.Events.{id_of, is_free, what_of}
+use Rattle.run_machine.specs.Objects.{Objects, Serves}
+use Rattle.run_machine.specs.Requests.{Request, Reply, Opening, Write, Chain, Master, Leg, TakeBio, TakeVec, TakeSlip, GiveBio, GiveVec, GiveSlip, Punt, Pop, Push, Complete, Link, Drop, Done, Resize, NextRound, LookRound, LookLeft, Rest}
+use Rattle.task_steps.specs.Routed.{Routing, setup}
+use Rattle.run_machine.specs.Runs.{State, Steps, IsLet}
+use Rattle.run_machine.specs.Tasks.{TaskState, look_of, request}
 use Rattle.plain_core.specs.declared.need.Need.{Need}
 use Rattle.plain_core.specs.declared.need.Need.TheVariants as need
 use Rattle.plain_core.specs.Cores.{CoreState, task_at, scene_of, state_of}

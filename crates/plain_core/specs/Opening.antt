@@ -16,13 +16,13 @@ use Rattle.bio_books.specs.Books.{BookState}
 use Rattle.model_disks.specs.Disks.{DiskState}
 use Rattle.work_text.specs.declared.Resize.{Resize}
 use Rattle.work_text.specs.declared.Work.{Work}
-use Rattle.task_core.specs.Events.{id_of, pool_of}
-use Rattle.task_core.specs.Lines.{rests}
-use Rattle.task_core.specs.Opened.{Change, Scenario, at, is_by, keepers, reserve_of, scene, script_at, start}
-use Rattle.task_core.specs.Routed.{places_at}
-use Rattle.task_core.specs.Scenario.{change_of}
-use Rattle.task_core.specs.Scene.{keeps_data, rescuer_at}
-use Rattle.task_core.specs.Tasks.{TaskState, Todo, Duty, Resizes, Starts, NoBio, Empty, Writer, Rescuer, Completer}
+use Rattle.run_machine.specs.Events.{id_of, pool_of}
+use Rattle.run_machine.specs.Lines.{rests}
+use Rattle.run_machine.specs.Opened.{Change, Scenario, at, is_by, keepers, reserve_of, scene, script_at, start}
+use Rattle.task_steps.specs.Routed.{places_at}
+use Rattle.run_machine.specs.Scenario.{change_of}
+use Rattle.run_machine.specs.Scene.{keeps_data, rescuer_at}
+use Rattle.run_machine.specs.Tasks.{TaskState, Todo, Duty, Resizes, Starts, NoBio, Empty, Writer, Rescuer, Completer}
 use Rattle.plain_core.specs.declared.task.Task.{Task}
 use Rattle.plain_core.specs.Cores.{CoreState, AreFound, scene_of, slot_of, state_of}
 use Rattle.plain_core.specs.Ledgers.{ledger_of}

@@ -10,10 +10,10 @@ use Rattle.bio_records.specs.Items.{Item}
 use Rattle.bio_books.specs.Books.{BookState}
 use Rattle.model_disks.specs.Disks.{DiskState}
 use Rattle.model_disks.specs.Moves as disk
-use Rattle.task_core.specs.Scene.{keeps_data}
-use Rattle.task_core.specs.Within.{AreWithin}
-use Rattle.task_core.specs.Objects.{TallyState, Objects}
-use Rattle.task_core.specs.Opened.{at}
+use Rattle.run_machine.specs.Scene.{keeps_data}
+use Rattle.task_steps.specs.Within.{AreWithin}
+use Rattle.run_machine.specs.Objects.{TallyState, Objects}
+use Rattle.run_machine.specs.Opened.{at}
 use Rattle.plain_core.specs.declared.fault.CoreFault.{CoreFault}
 use Rattle.plain_core.specs.declared.fault.CoreFault.TheVariants as fault
 

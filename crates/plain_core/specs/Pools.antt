@@ -2,8 +2,8 @@
 use Rattle.std.specs.Prelude.{◌≡◌, Bool, true}
 use Rattle.mempool_core.specs.Position.{uses_entry}
 use Rattle.mempool_core.specs.Move.{PoolState, Move, takes_ordinary, takes_spare, misses, CanMove}
-use Rattle.task_core.specs.declared.event.Got.{Got}
-use Rattle.task_core.specs.declared.event.Got.TheVariants as got
+use Rattle.run_machine.specs.declared.event.Got.{Got}
+use Rattle.run_machine.specs.declared.event.Got.TheVariants as got
 
 -- whether a take uses up an entry of the pool's script
 abbrev pub uses : PoolState → Bool

@@ -1,9 +1,9 @@
 -- Tasks that have not begun, in the order of their slots.
 use Rattle.std.specs.Prelude.{◌≡◌, ◌+◌, ◌≤◌, ℕ, All, List, [], ◌∷◌}
 use Rattle.stack_base.specs.PoolId.{IsOfStack}
-use Rattle.task_core.specs.Events.{id_of}
-use Rattle.task_core.specs.Lines.{rests}
-use Rattle.task_core.specs.Tasks.{TaskState, Duty, Resizes, Starts, NoBio, Empty, Keeps, Stops, Writer, Rescuer, Completer, Keeper}
+use Rattle.run_machine.specs.Events.{id_of}
+use Rattle.run_machine.specs.Lines.{rests}
+use Rattle.run_machine.specs.Tasks.{TaskState, Duty, Resizes, Starts, NoBio, Empty, Keeps, Stops, Writer, Rescuer, Completer, Keeper}
 use Rattle.plain_core.specs.Cores.{slot_of}
 
 -- a change of reserves names a pool that a stack can have

@@ -9,18 +9,18 @@ use Rattle.bio_records.specs.declared.tasks.TaskLists.{TaskLists}
 use Rattle.bio_records.specs.Items.{Item}
 use Rattle.bio_books.specs.Books.{VectorItem, SlipItem}
 use Rattle.bio_books.specs.Drops.{Closed}
-use Rattle.task_core.specs.declared.event.Got.{Got}
-use Rattle.task_core.specs.declared.event.What.{What}
-use Rattle.task_core.specs.Requests.{Request, Reply, TakeBio, TakeVec, TakeSlip, HadBio, HadVec, HadSlip, Missed, Did, OutIs}
-use Rattle.task_core.specs.Events.{what_of}
-use Rattle.task_core.specs.Objects.{Objects, Serves}
-use Rattle.task_core.specs.Lines as line
-use Rattle.task_core.specs.Tasks as task
-use Rattle.task_core.specs.Tasks.{TaskState, request, answered, look_of}
-use Rattle.task_core.specs.Runs.{IsLet}
-use Rattle.task_core.specs.Routed.{Routing, setup}
-use Rattle.task_core.specs.Scene.{Setup}
-use Rattle.task_core.specs.Within.{ListsAreWithin}
+use Rattle.run_machine.specs.declared.event.Got.{Got}
+use Rattle.run_machine.specs.declared.event.What.{What}
+use Rattle.run_machine.specs.Requests.{Request, Reply, TakeBio, TakeVec, TakeSlip, HadBio, HadVec, HadSlip, Missed, Did, OutIs}
+use Rattle.run_machine.specs.Events.{what_of}
+use Rattle.run_machine.specs.Objects.{Objects, Serves}
+use Rattle.run_machine.specs.Lines as line
+use Rattle.run_machine.specs.Tasks as task
+use Rattle.run_machine.specs.Tasks.{TaskState, request, answered, look_of}
+use Rattle.run_machine.specs.Runs.{IsLet}
+use Rattle.task_steps.specs.Routed.{Routing, setup}
+use Rattle.run_machine.specs.Scene.{Setup}
+use Rattle.task_steps.specs.Within.{ListsAreWithin}
 use Rattle.plain_core.specs.declared.line.Next.{Next}
 use Rattle.plain_core.specs.declared.line.Next.TheVariants as next
 use Rattle.plain_core.specs.declared.lists.Lists.{Lists}

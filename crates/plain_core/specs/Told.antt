@@ -13,14 +13,14 @@ use Rattle.bio_books.specs.Books.{BookState}
 use Rattle.bio_books.specs.Drops.{Drops}
 use Rattle.bio_books.specs.Drops as drop
 use Rattle.bio_books.specs.Links.{Made}
-use Rattle.task_core.specs.declared.event.End.{End}
-use Rattle.task_core.specs.declared.event.Got.{Got}
-use Rattle.task_core.specs.declared.event.What.{What}
-use Rattle.task_core.specs.declared.event.What.TheVariants as told
-use Rattle.task_core.specs.Events.{take_of, how_of}
-use Rattle.task_core.specs.Lines.{punted, not_punted}
-use Rattle.task_core.specs.Requests.{Opening}
-use Rattle.task_core.specs.Objects.{Opened}
+use Rattle.run_machine.specs.declared.event.End.{End}
+use Rattle.run_machine.specs.declared.event.Got.{Got}
+use Rattle.run_machine.specs.declared.event.What.{What}
+use Rattle.run_machine.specs.declared.event.What.TheVariants as told
+use Rattle.run_machine.specs.Events.{take_of, how_of}
+use Rattle.run_machine.specs.Lines.{punted, not_punted}
+use Rattle.run_machine.specs.Requests.{Opening}
+use Rattle.run_machine.specs.Objects.{Opened}
 use Rattle.plain_core.specs.Pools.{move_of, CanTake}
 use Rattle.plain_core.specs.declared.book.Ended.{Ended}
 use Rattle.plain_core.specs.Books.{ended_of, end_of, IsToldBy}

@@ -1,7 +1,7 @@
 -- Plain tasks as tasks of the machine.
 use Rattle.std.specs.Prelude.{drop}
-use Rattle.task_core.specs.Lines as line
-use Rattle.task_core.specs.Tasks as task
+use Rattle.run_machine.specs.Lines as line
+use Rattle.run_machine.specs.Tasks as task
 use Rattle.plain_core.specs.Lists.{lists_of}
 use Rattle.plain_core.specs.declared.task.Want.{Want}
 use Rattle.plain_core.specs.declared.task.Want.TheVariants as want

@@ -1,6 +1,6 @@
 //! Requests of tasks to objects.
 ghost use Rattle.std.specs.Prelude.{◌<◌};
-ghost use Rattle.task_core.specs.Requests.{GiveBio, GiveVec, GiveSlip, Pop, Complete, Drop, Done, Resize, NextRound, Link, Write, LinkedTo, Did, Popped, Completed, DroppedTo, OutIs};
+ghost use Rattle.run_machine.specs.Requests.{GiveBio, GiveVec, GiveSlip, Pop, Complete, Drop, Done, Resize, NextRound, Link, Write, LinkedTo, Did, Popped, Completed, DroppedTo, OutIs};
 ghost use Rattle.bio_books.specs.Links.{Made};
 ghost use Rattle.stack_base.specs.PoolId.{pool_number};
 ghost use Rattle.plain_core.specs.Books.{ended_of};

@@ -1,7 +1,7 @@
 //! Which task can go on without ordinary memory.
 ghost use Rattle.std.specs.Prelude.{◌≡◌};
-ghost use Rattle.task_core.specs.Lines.{Rests as AtRest};
-ghost use Rattle.task_core.specs.Routed.{Routing};
+ghost use Rattle.run_machine.specs.Lines.{Rests as AtRest};
+ghost use Rattle.task_steps.specs.Routed.{Routing};
 ghost use Rattle.plain_core.specs.Free.{IsMet, TaskIsFree, TaskIsLet, Tells};
 ghost use Rattle.plain_core.specs.Views.{doing_of, keeper_of, task_of, writer_of};
 ghost use Rattle.plain_core.specs.declared.need.Need.TheVariants as need;

@@ -2,7 +2,7 @@
 ghost use Rattle.std.specs.Prelude.{◌≡◌, ℕ, ◌&&◌, ◌+◌, ◌*◌, ◌-◌, ◌^◌, ◌<◌, ◌≤◌, ◌++◌, [], ◌∷◌, not, min, length, filter, drop, MatchOption, OnOk, OnErr};
 ghost use Rattle.std.specs.VecDeque.{deque_capacity};
 ghost use Rattle.bio_lists.specs.Submission.{no_lists, submitted, order};
-ghost use Rattle.task_core.specs.Lines.{is_empty, is_of, punted, not_punted};
+ghost use Rattle.run_machine.specs.Lines.{is_empty, is_of, punted, not_punted};
 ghost use Rattle.plain_core.specs.Lists.{lists_of, is_picked, HasRoom};
 
 use crate::part::Part;

@@ -1,9 +1,9 @@
 //! What tasks need so that they can go on without ordinary memory.
 ghost use Rattle.std.specs.Prelude.{◌≡◌, None, Some};
 ghost use Rattle.bio_records.specs.declared.tasks.TaskLists.{TaskLists};
-ghost use Rattle.task_core.specs.Lines.{line_request, Rests as AtRest};
-ghost use Rattle.task_core.specs.Scene.{Setup};
-ghost use Rattle.task_core.specs.Tasks.{closed_request, request};
+ghost use Rattle.run_machine.specs.Lines.{line_request, Rests as AtRest};
+ghost use Rattle.run_machine.specs.Scene.{Setup};
+ghost use Rattle.run_machine.specs.Tasks.{closed_request, request};
 ghost use Rattle.plain_core.specs.Free.{need_of};
 ghost use Rattle.plain_core.specs.Lists.{lists_of};
 ghost use Rattle.plain_core.specs.Steps.{copies_for, cuts_for, drives_for};

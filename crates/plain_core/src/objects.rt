@@ -6,12 +6,12 @@ ghost use Rattle.bio_records.specs.declared.bio.Pad.{Pad};
 ghost use Rattle.bio_records.specs.Items.{Item};
 ghost use Rattle.mempool_core.specs.Move.{gives, resizes, takes_spare, CanMove};
 ghost use Rattle.model_disks.specs.Disks.{DiskState};
-ghost use Rattle.task_core.specs.declared.event.What.TheVariants as told;
-ghost use Rattle.task_core.specs.Events.{pool_of};
-ghost use Rattle.task_core.specs.Requests.{Write, Chain, Master, Leg};
-ghost use Rattle.task_core.specs.Objects.{done_one};
-ghost use Rattle.task_core.specs.Scene.{keeps_data};
-ghost use Rattle.task_core.specs.Within.{IsWithin, ListsAreWithin};
+ghost use Rattle.run_machine.specs.declared.event.What.TheVariants as told;
+ghost use Rattle.run_machine.specs.Events.{pool_of};
+ghost use Rattle.run_machine.specs.Requests.{Write, Chain, Master, Leg};
+ghost use Rattle.run_machine.specs.Objects.{done_one};
+ghost use Rattle.run_machine.specs.Scene.{keeps_data};
+ghost use Rattle.task_steps.specs.Within.{IsWithin, ListsAreWithin};
 ghost use Rattle.bio_books.specs.Books.{node_at};
 ghost use Rattle.bio_books.specs.Links.{IsVacant};
 ghost use Rattle.plain_core.specs.Free.{IsCountAt, IsShort, Tells};
@@ -44,7 +44,7 @@ pub struct Tally {
 
 impl Model for Tally {
     ghost use Rattle.std.specs.Prelude.{◌≡◌, ◌<◌, ◌^◌, length, sum};
-    ghost use Rattle.task_core.specs.Objects.{TallyState};
+    ghost use Rattle.run_machine.specs.Objects.{TallyState};
 
     ghost Value = { TallyState };
 

@@ -5,7 +5,7 @@ ghost use Rattle.stack_base.specs.Stack.{IsStack};
 ghost use Rattle.stack_base.specs.declared.ids.PoolId.{PoolId as Pools};
 ghost use Rattle.stack_base.specs.declared.ids.Status.TheVariants.{Ok as Well};
 ghost use Rattle.fail_script.specs.Script.{Answers};
-ghost use Rattle.task_core.specs.Opened.{records_of, reserve_of, script_at};
+ghost use Rattle.run_machine.specs.Opened.{records_of, reserve_of, script_at};
 ghost use Rattle.plain_core.specs.Opening.{counts_of, new_books, new_disk, new_disks, new_pools};
 
 use crate::book::Book;

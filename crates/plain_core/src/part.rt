@@ -1,7 +1,7 @@
 //! Elements without boxes and shares.
 ghost use Rattle.std.specs.Prelude.{◌≡◌, ◌<◌, ◌≤◌};
 ghost use Rattle.bio_records.specs.Segments.{segments_of};
-ghost use Rattle.task_core.specs.Objects.{clear_bio, clear_vector, clear_slip};
+ghost use Rattle.run_machine.specs.Objects.{clear_bio, clear_vector, clear_slip};
 ghost use Rattle.plain_core.specs.Ledgers.{ledger_of};
 
 use bio_records::{Bio, Pad};
@@ -96,7 +96,7 @@ impl Model for Hand {
     ghost use Rattle.std.specs.Prelude.{◌<◌};
     ghost use Rattle.bio_records.specs.declared.bio.Pad.{Pad};
     ghost use Rattle.bio_records.specs.Items.{Item};
-    ghost use Rattle.task_core.specs.Objects.{clear_bio};
+    ghost use Rattle.run_machine.specs.Objects.{clear_bio};
     ghost use Rattle.plain_core.specs.Ledgers.{ledger_of};
 
     ghost Value = { Item Pad };

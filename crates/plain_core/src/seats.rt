@@ -3,11 +3,11 @@ ghost use Rattle.std.specs.Prelude.{◌≡◌, ◌≤◌, ◌<◌, ◌+◌, ◌^
 ghost use Rattle.std.specs.List.{range_with_len};
 ghost use Rattle.stack_base.specs.Stack.{IsStack};
 ghost use Rattle.stack_base.specs.Tree.{tree};
-ghost use Rattle.task_core.specs.Events.{id_of};
-ghost use Rattle.task_core.specs.Opened.{keepers};
-ghost use Rattle.task_core.specs.Scene.{keeps_data};
+ghost use Rattle.run_machine.specs.Events.{id_of};
+ghost use Rattle.run_machine.specs.Opened.{keepers};
+ghost use Rattle.run_machine.specs.Scene.{keeps_data};
 ghost use Rattle.plain_core.specs.Cores.{slot_of, AreFound};
-ghost use Rattle.task_core.specs.Lines.{rests};
+ghost use Rattle.run_machine.specs.Lines.{rests};
 ghost use Rattle.plain_core.specs.Opening.{AreSeated, Seats, completers_of, rescuers_of, tasks_of, writers_of};
 ghost use Rattle.plain_core.specs.Views.{line_of, task_of};
 

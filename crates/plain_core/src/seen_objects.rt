@@ -1,11 +1,11 @@
 //! Opened objects as plain data.
 ghost use Rattle.std.specs.Prelude.{◌≡◌, ◌<◌, [], IfOk, length, replicate};
 ghost use Rattle.task_core.specs.OfOne.{scenario_in, IsOpened as AreTheFirst};
-ghost use Rattle.task_core.specs.Opened.{objects as objects_at};
+ghost use Rattle.run_machine.specs.Opened.{objects as objects_at};
 ghost use Rattle.task_core.specs.Plains.{stage_of};
-ghost use Rattle.task_core.specs.Routed.{setup};
-ghost use Rattle.task_core.specs.Scene.{is_mirror, keeps_data};
-ghost use Rattle.task_core.specs.Stage.{is_pool};
+ghost use Rattle.task_steps.specs.Routed.{setup};
+ghost use Rattle.run_machine.specs.Scene.{is_mirror, keeps_data};
+ghost use Rattle.task_steps.specs.Stage.{is_pool};
 ghost use Rattle.plain_core.specs.Opening.{new_books, new_disk, new_disks, new_pool, new_pools};
 
 use crate::disk::Disk;

@@ -1,11 +1,11 @@
 //! A state of the machine of a run as a running value.
 ghost use Rattle.std.specs.Prelude.{◌≡◌, ◌<◌, map, length, slice_get, MatchBool, MatchOption, IfOk};
-ghost use Rattle.task_core.specs.Routed.{setup};
-ghost use Rattle.task_core.specs.Within.{TaskFits};
+ghost use Rattle.task_steps.specs.Routed.{setup};
+ghost use Rattle.task_steps.specs.Within.{TaskFits};
 ghost use Rattle.task_core.specs.OfOne.{IsOpened as AreTheFirst, scenario_in};
 ghost use Rattle.plain_core.specs.Views.{task_of};
 ghost use Rattle.plain_core.specs.Opening.{CanOpen, IsOpened, scenario_by};
-ghost use Rattle.task_core.specs.Runs.{HasFree};
+ghost use Rattle.run_machine.specs.Runs.{HasFree};
 ghost use Rattle.plain_core.specs.Free.{IsFirstFree};
 ghost use Rattle.plain_core.specs.Cores.{scene_of, state_of, task_at, AreFound, IsPlace, HasNone, StepsAt, Applies};
 

@@ -1,14 +1,14 @@
 //! Steps of tasks.
 ghost use Rattle.std.specs.Prelude.{◌≡◌, ℕ, ◌+◌, ◌<◌, [], ◌∷◌, true, false, List, drop, length, None, MatchOption};
 ghost use Rattle.layout_model.specs.Writes.{IsWrite};
-ghost use Rattle.task_core.specs.Lines.{settled, Rests as AtRest};
-ghost use Rattle.task_core.specs.Routed.{setup};
-ghost use Rattle.task_core.specs.Tasks.{needs_vector, first_bio, NoBio, HasBio, HasBoth, Writer as Writing, Todo as Later};
-ghost use Rattle.task_core.specs.Within.{IsWithin, TaskFits};
+ghost use Rattle.run_machine.specs.Lines.{settled, Rests as AtRest};
+ghost use Rattle.task_steps.specs.Routed.{setup};
+ghost use Rattle.run_machine.specs.Tasks.{needs_vector, first_bio, NoBio, HasBio, HasBoth, Writer as Writing, Todo as Later};
+ghost use Rattle.task_steps.specs.Within.{IsWithin, TaskFits};
 ghost use Rattle.plain_core.specs.Views.{line_of, doing_of, task_of, taken_of, carried_of, writer_of, rescuer_of, completer_of, keeper_of};
 ghost use Rattle.stack_base.specs.declared.ids.DevId.{DevId as Device};
-ghost use Rattle.task_core.specs.Tasks.{Carries as CarriesOn, duty_request, later_of, after_drop};
-ghost use Rattle.task_core.specs.Routed.{Routing};
+ghost use Rattle.run_machine.specs.Tasks.{Carries as CarriesOn, duty_request, later_of, after_drop};
+ghost use Rattle.task_steps.specs.Routed.{Routing};
 ghost use Rattle.plain_core.specs.Books.{ended_of};
 ghost use Rattle.plain_core.specs.Steps.{TaskMoves, TakesVector, Answers, GivesFirst, PassesOn, ClosesOn, IsCarried, duty_reply};
 

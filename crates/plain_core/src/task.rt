@@ -1,10 +1,10 @@
 //! Tasks as plain data.
 ghost use Rattle.std.specs.Prelude.{◌≡◌, MatchBool};
-ghost use Rattle.task_core.specs.Events.{id_of};
-ghost use Rattle.task_core.specs.Lines.{Rests};
+ghost use Rattle.run_machine.specs.Events.{id_of};
+ghost use Rattle.run_machine.specs.Lines.{Rests};
 ghost use Rattle.plain_core.specs.Views.{doing_of, taken_of, task_of};
 ghost use Rattle.plain_core.specs.Steps.{IsBusy};
-ghost use Rattle.task_core.specs.Tasks.{later_of};
+ghost use Rattle.run_machine.specs.Tasks.{later_of};
 
 use crate::book::Closed;
 use crate::lists::Lists;
@@ -82,7 +82,7 @@ pub struct Todo {
 }
 
 impl Model for Todo {
-    ghost use Rattle.task_core.specs.Tasks.{Todo as Later};
+    ghost use Rattle.run_machine.specs.Tasks.{Todo as Later};
 
     ghost Value = { Later };
 
@@ -142,7 +142,7 @@ pub struct Duty {
 
 impl Model for Duty {
     ghost use Rattle.std.specs.Prelude.{IfSome};
-    ghost use Rattle.task_core.specs.Tasks.{Duty as Ahead};
+    ghost use Rattle.run_machine.specs.Tasks.{Duty as Ahead};
     ghost use Rattle.stack_base.specs.PoolId.{IsOfStack};
     ghost use Rattle.plain_core.specs.Duties.{duty_of};
 

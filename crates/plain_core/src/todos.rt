@@ -4,8 +4,8 @@ ghost use Rattle.stack_base.specs.Stack.{IsStack};
 ghost use Rattle.layout_model.specs.declared.write.Write.{Write as Writes};
 ghost use Rattle.layout_model.specs.Bound.{all_elements, most_elements};
 ghost use Rattle.layout_model.specs.Writes.{IsWrite};
-ghost use Rattle.task_core.specs.Routed.{places_at};
-ghost use Rattle.task_core.specs.Tasks.{Todo as Later};
+ghost use Rattle.task_steps.specs.Routed.{places_at};
+ghost use Rattle.run_machine.specs.Tasks.{Todo as Later};
 ghost use Rattle.plain_core.specs.Opening.{nodes_of, todos_by};
 
 use crate::task::Todo;

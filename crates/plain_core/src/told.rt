@@ -1,10 +1,10 @@
 //! What an event tells, as what a request could have had.
 ghost use Rattle.std.specs.Prelude.{◌≡◌, ◌<◌, ℕ, MatchOption, MatchBool};
 ghost use Rattle.stack_base.specs.declared.ids.PoolId.{PoolId as Pools};
-ghost use Rattle.task_core.specs.declared.event.Got.{Got as Had};
-ghost use Rattle.task_core.specs.declared.event.How.{How as Hows};
-ghost use Rattle.task_core.specs.declared.event.What.TheVariants as told;
-ghost use Rattle.task_core.specs.Events.{take_of, pool_of};
+ghost use Rattle.run_machine.specs.declared.event.Got.{Got as Had};
+ghost use Rattle.run_machine.specs.declared.event.How.{How as Hows};
+ghost use Rattle.run_machine.specs.declared.event.What.TheVariants as told;
+ghost use Rattle.run_machine.specs.Events.{take_of, pool_of};
 
 use stack_base::{DevId, PoolId, Status};
 use task_core::{End, Got, How, What};

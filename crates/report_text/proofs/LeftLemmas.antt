@@ -8,8 +8,8 @@ use Rattle.mempool_core.specs.declared.Facts.{Facts}
 use Rattle.model_disks.specs.Disks.{DiskState}
 use Rattle.task_core.specs.declared.ended.Ended.{Ended}
 use Rattle.task_core.specs.Leaving.{IsLeft, disks_of, falling_pools}
-use Rattle.task_core.specs.Objects.{Objects}
-use Rattle.task_core.specs.Opened.{at}
+use Rattle.run_machine.specs.Objects.{Objects}
+use Rattle.run_machine.specs.Opened.{at}
 use Rattle.report_text.specs.Views.{IsOf, image_of, told_by, told_of}
 
 module _ (objects : Objects) (named : (number : ℕ) → (objects.disk number).dev ≡ at number) where

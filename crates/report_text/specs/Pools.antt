@@ -8,7 +8,7 @@ use Rattle.stack_base.specs.declared.stack.Kind.{Kind}
 use Rattle.stack_base.specs.declared.stack.Kind.TheVariants.{Disk, Linear, Stripe, Zoned, Limit, Mirror}
 use Rattle.stack_base.specs.declared.stack.Device.{Device}
 use Rattle.stack_base.specs.declared.stack.Stack.{Stack}
-pub use Rattle.task_core.specs.Opened.{at}
+pub use Rattle.run_machine.specs.Opened.{at}
 pub use Rattle.task_core.specs.Leaving.{disk_at, pools_at, disks_of, falling_pools}
 unfoldable pub use Rattle.task_core.specs.Leaving.{disks_from, falling_from}
 

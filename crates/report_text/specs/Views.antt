@@ -8,7 +8,7 @@ use Rattle.stack_base.specs.PoolId.{pool_number}
 use Rattle.mempool_core.specs.declared.Facts.{Facts}
 use Rattle.model_disks.specs.Disks.{DiskState}
 use Rattle.task_core.specs.declared.ended.Ended.{Ended}
-use Rattle.task_core.specs.Objects.{Objects}
+use Rattle.run_machine.specs.Objects.{Objects}
 use Rattle.report_text.specs.Pools.{HasPool, disks_of, falling_pools, pool_name, pools_at}
 use Rattle.report_text.specs.Report.{Told, pool_line}
 

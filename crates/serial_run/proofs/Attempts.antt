@@ -5,30 +5,30 @@ use Rattle.std.proofs.lemmas.List.Elements.{All-get_or, All-set}
 use Rattle.rand_pcg.specs.Lcg.{Lcg}
 use Rattle.stack_base.specs.declared.ids.DevId.{DevId}
 use Rattle.stack_base.specs.declared.stack.Stack.{Stack}
-use Rattle.task_core.specs.declared.event.Event.{Event}
-use Rattle.task_core.specs.declared.event.What.{What}
-use Rattle.task_core.specs.declared.event.What.TheVariants as what
+use Rattle.run_machine.specs.declared.event.Event.{Event}
+use Rattle.run_machine.specs.declared.event.What.{What}
+use Rattle.run_machine.specs.declared.event.What.TheVariants as what
 use Rattle.task_core.specs.declared.plain.Plain.{Plain}
-use Rattle.task_core.specs.declared.step.Step.{Step}
-use Rattle.task_core.specs.declared.step.Step.TheVariants.{Stepped, Blocked, Waiting, Ended, Broken}
-use Rattle.task_core.specs.Maps.{upd}
-use Rattle.task_core.specs.Choosing.{IsAsked}
-use Rattle.task_core.specs.Homes.{IsTaskOf}
+use Rattle.task_steps.specs.declared.step.Step.{Step}
+use Rattle.task_steps.specs.declared.step.Step.TheVariants.{Stepped, Blocked, Waiting, Ended, Broken}
+use Rattle.run_machine.specs.Maps.{upd}
+use Rattle.task_steps.specs.Choosing.{IsAsked}
+use Rattle.task_steps.specs.Homes.{IsTaskOf}
 use Rattle.task_core.specs.OfOne.{states, tasks_at, run_state, AreOfOne}
-use Rattle.task_core.specs.Opened.{no_task}
+use Rattle.run_machine.specs.Opened.{no_task}
 use Rattle.task_core.specs.Plains.{objects_of, stage_of, Holds, Tells, Picks as PicksIn}
 use Rattle.task_core.specs.PlainSteps.{scene_of, state_of, HasRound, TakesStep, IsStill}
-use Rattle.task_core.specs.Routed.{setup}
-use Rattle.task_core.specs.Runs.{State, Steps}
-use Rattle.task_core.specs.Scene.{Scene}
-use Rattle.task_core.specs.Stage.{Stage, Owes}
-use Rattle.task_core.specs.Tasks.{TaskState, Writer, Rescuer, Completer, Keeper, request}
-use Rattle.task_core.specs.TaskViews.{TaskOf, ChosenBy}
-use Rattle.task_core.specs.Turns.{Turns, Chosen}
-use Rattle.task_core.proofs.Frames.{upd_same, upd_other, upd_own}
-use Rattle.task_core.proofs.Named.{tasks_name_the_stack}
+use Rattle.task_steps.specs.Routed.{setup}
+use Rattle.run_machine.specs.Runs.{State, Steps}
+use Rattle.run_machine.specs.Scene.{Scene}
+use Rattle.task_steps.specs.Stage.{Stage, Owes}
+use Rattle.run_machine.specs.Tasks.{TaskState, Writer, Rescuer, Completer, Keeper, request}
+use Rattle.task_steps.specs.TaskViews.{TaskOf, ChosenBy}
+use Rattle.task_steps.specs.Turns.{Turns, Chosen}
+use Rattle.run_machine.proofs.Frames.{upd_same, upd_other, upd_own}
+use Rattle.task_steps.proofs.Named.{tasks_name_the_stack}
 use Rattle.task_core.proofs.Seen.{steps_are_events}
-use Rattle.task_core.proofs.Turned.{turns_home}
+use Rattle.task_steps.proofs.Turned.{turns_home}
 use Rattle.block_core.proofs.Sums.{same_or_not}
 use Rattle.serial_run.specs.Schedule.{word, behind, Picks}
 use Rattle.serial_run.specs.Turning.{GoesWell, Hands, Tried}

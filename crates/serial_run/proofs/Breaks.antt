@@ -6,26 +6,26 @@ use Rattle.stack_base.specs.declared.ids.PoolId.{PoolId}
 use Rattle.stack_base.specs.PoolId.{pool_number}
 use Rattle.bio_books.specs.Drops as end
 use Rattle.bio_books.specs.Links.{Made, NoRoom, Stray}
-use Rattle.task_core.specs.declared.event.Breach.{Breach}
-use Rattle.task_core.specs.declared.event.TaskId.{TaskId}
+use Rattle.run_machine.specs.declared.event.Breach.{Breach}
+use Rattle.run_machine.specs.declared.event.TaskId.{TaskId}
 use Rattle.task_core.specs.declared.plain.Plain.{Plain}
-use Rattle.task_core.specs.declared.step.Step.{Step}
-use Rattle.task_core.specs.declared.step.Step.TheVariants.{Ended, Waiting, Broken}
-use Rattle.task_core.specs.Events.{id_of, resize_of}
-use Rattle.task_core.specs.Lines.{Doing, Rests, Drives, Copies, Breaks}
-use Rattle.task_core.specs.Objects.{Objects, Serves}
+use Rattle.task_steps.specs.declared.step.Step.{Step}
+use Rattle.task_steps.specs.declared.step.Step.TheVariants.{Ended, Waiting, Broken}
+use Rattle.run_machine.specs.Events.{id_of, resize_of}
+use Rattle.run_machine.specs.Lines.{Doing, Rests, Drives, Copies, Breaks}
+use Rattle.run_machine.specs.Objects.{Objects, Serves}
 use Rattle.task_core.specs.Plains.{objects_of, stage_of, Tells}
 use Rattle.task_core.specs.PlainSteps.{HasRound, TakesStep, scene_of, state_of}
-use Rattle.task_core.specs.Requests.{Request, Reply}
-use Rattle.task_core.specs.Requests as requests
-use Rattle.task_core.specs.Runs.{IsLet}
-use Rattle.task_core.specs.Scene.{Setup}
-use Rattle.task_core.specs.Routed.{setup}
-use Rattle.task_core.specs.Stage.{Stage, Owes}
-use Rattle.task_core.specs.Tasks.{TaskState, Writer, Rescuer, Completer, Keeper, Empty, Brings, Carries, Fails, Keeps, Stops, request, look_of, lets}
-use Rattle.task_core.specs.Turns.{step_by, step_of, resting_step, idle_step, breach_of, doing_breach, Acts, ActsIf, TurnsBy, Asks}
-use Rattle.task_core.proofs.Turned.{acts}
-use Rattle.task_core.proofs.Idle.{IsFair, fair_task}
+use Rattle.run_machine.specs.Requests.{Request, Reply}
+use Rattle.run_machine.specs.Requests as requests
+use Rattle.run_machine.specs.Runs.{IsLet}
+use Rattle.run_machine.specs.Scene.{Setup}
+use Rattle.task_steps.specs.Routed.{setup}
+use Rattle.task_steps.specs.Stage.{Stage, Owes}
+use Rattle.run_machine.specs.Tasks.{TaskState, Writer, Rescuer, Completer, Keeper, Empty, Brings, Carries, Fails, Keeps, Stops, request, look_of, lets}
+use Rattle.task_steps.specs.Turns.{step_by, step_of, resting_step, idle_step, breach_of, doing_breach, Acts, ActsIf, TurnsBy, Asks}
+use Rattle.task_steps.proofs.Turned.{acts}
+use Rattle.run_machine.proofs.Idle.{IsFair, fair_task}
 use Rattle.task_core.proofs.Seen.{followed, has_seen, lets_ask, served, told_serves}
 use Rattle.block_core.specs.Breaks.{GoesUnrefused, is_refusal, is_broken, broke_in}
 

@@ -5,16 +5,16 @@ use Rattle.stack_base.specs.declared.ids.PoolId.{PoolId}
 use Rattle.bio_books.specs.Drops as end
 use Rattle.bio_books.specs.Links.{Made, NoRoom, Stray}
 use Rattle.bio_records.specs.declared.tasks.TaskLists.{TaskLists}
-use Rattle.task_core.specs.declared.event.What.{What}
-use Rattle.task_core.specs.declared.event.What.TheVariants as what
-use Rattle.task_core.specs.Events.{what_of, resize_of}
-use Rattle.task_core.specs.Lines.{Doing, Rests, Drives, Copies, Breaks, Takes, Punts, Links, ToPush, ToCut, ToRecord, ToMaster, Line, line_request}
-use Rattle.task_core.specs.Objects.{Objects}
+use Rattle.run_machine.specs.declared.event.What.{What}
+use Rattle.run_machine.specs.declared.event.What.TheVariants as what
+use Rattle.run_machine.specs.Events.{what_of, resize_of}
+use Rattle.run_machine.specs.Lines.{Doing, Rests, Drives, Copies, Breaks, Takes, Punts, Links, ToPush, ToCut, ToRecord, ToMaster, Line, line_request}
+use Rattle.run_machine.specs.Objects.{Objects}
 use Rattle.task_core.specs.PlainSteps.{HasRound}
-use Rattle.task_core.specs.Requests.{Request, Reply}
-use Rattle.task_core.specs.Requests as requests
-use Rattle.task_core.specs.Scene.{Setup}
-use Rattle.task_core.specs.Tasks.{TaskState, Writer, Rescuer, Completer, Keeper, Keeps, Stops, Duty, Resizes, Starts, Todo, Taken, NoBio, HasBio, HasBoth, Empty, Brings, Carries, Fails, request, closed_request, needs_vector, with_bio, writer_request, rescuer_request}
+use Rattle.run_machine.specs.Requests.{Request, Reply}
+use Rattle.run_machine.specs.Requests as requests
+use Rattle.run_machine.specs.Scene.{Setup}
+use Rattle.run_machine.specs.Tasks.{TaskState, Writer, Rescuer, Completer, Keeper, Keeps, Stops, Duty, Resizes, Starts, Todo, Taken, NoBio, HasBio, HasBoth, Empty, Brings, Carries, Fails, request, closed_request, needs_vector, with_bio, writer_request, rescuer_request}
 
 abbrev pub is_complete : What → Bool
 is_complete (what.Complete disk index status) = true

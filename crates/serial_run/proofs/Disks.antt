@@ -15,10 +15,10 @@ use Rattle.stack_base.specs.Tree.{Tree, over, over_shape, tree}
 use Rattle.stack_base.proofs.Unfolded.{tree_is}
 use Rattle.task_core.specs.declared.plain.Plain.{Plain}
 use Rattle.task_core.specs.Leaving.{disk_at, disks_from, disks_of}
-use Rattle.task_core.specs.Opened.{at}
+use Rattle.run_machine.specs.Opened.{at}
 use Rattle.task_core.specs.Plains.{disk_number, no_disk, objects_of, stage_of, Holds}
-use Rattle.task_core.specs.Scene.{keeps_data}
-use Rattle.task_core.specs.Stage.{has_disk}
+use Rattle.run_machine.specs.Scene.{keeps_data}
+use Rattle.task_steps.specs.Stage.{has_disk}
 use Rattle.task_core.specs.Tables.{has_number, look_up}
 
 -- whether a device is a disk

@@ -1,9 +1,9 @@
 -- Events that follow a stream of words are a run, and one more turn follows them.
 use Rattle.std.proofs.Common.{◌++◌, List, [], ◌∷◌, refl, subst}
 use Rattle.rand_pcg.specs.Lcg.{Lcg}
-use Rattle.task_core.specs.declared.event.Event.{Event}
-use Rattle.task_core.specs.Runs.{State}
-use Rattle.task_core.specs.Scene.{Scene}
+use Rattle.run_machine.specs.declared.event.Event.{Event}
+use Rattle.run_machine.specs.Runs.{State}
+use Rattle.run_machine.specs.Scene.{Scene}
 use Rattle.serial_run.specs.Schedule.{IsTurn, Follows}
 use Rattle.serial_run.specs.Serial.{HandsOn}
 use Rattle.serial_run.specs.Laws.{TurnsAreARun}

@@ -14,14 +14,14 @@ use Rattle.stack_base.specs.Tree.{tree}
 use Rattle.stack_base.proofs.Unfolded.{tree_is}
 use Rattle.task_core.specs.declared.opened.Opened.{Opened}
 use Rattle.task_core.specs.OfOne.{tasks_at, run_state, scenario_in, IsOpened}
-use Rattle.task_core.specs.Objects.{Objects}
-use Rattle.task_core.specs.Opened.{Scenario, most_writers, no_task, objects, scene, setup as setup_in, start, tasks}
+use Rattle.run_machine.specs.Objects.{Objects}
+use Rattle.run_machine.specs.Opened.{Scenario, most_writers, no_task, objects, scene, setup as setup_in, start, tasks}
 use Rattle.task_core.specs.Plains.{stage_of}
 use Rattle.task_core.specs.PlainSteps.{scene_of}
-use Rattle.task_core.specs.Runs.{State}
-use Rattle.task_core.specs.Scene.{Scene, Setup, is_disk, keeps_data}
-use Rattle.task_core.specs.TaskViews.{TaskOf}
-use Rattle.task_core.specs.Tasks.{TaskState}
+use Rattle.run_machine.specs.Runs.{State}
+use Rattle.run_machine.specs.Scene.{Scene, Setup, is_disk, keeps_data}
+use Rattle.task_steps.specs.TaskViews.{TaskOf}
+use Rattle.run_machine.specs.Tasks.{TaskState}
 use Rattle.block_core.specs.Sound.{IsScenario, HasReserves, AreInOrder}
 use Rattle.block_core.proofs.PostStarts.{start_crew}
 use Rattle.serial_run.proofs.Disks.{is_disk_kind, by_kind}

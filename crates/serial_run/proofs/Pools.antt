@@ -16,8 +16,8 @@ use Rattle.stack_base.specs.PoolId.{pool_number}
 use Rattle.mempool_core.specs.declared.Facts.{Facts}
 use Rattle.stack_base.proofs.Unfolded.{tree_is}
 use Rattle.task_core.specs.Leaving.{falling_from, falling_pools, pools_at}
-use Rattle.task_core.specs.Objects.{Objects}
-use Rattle.task_core.specs.Opened.{at}
+use Rattle.run_machine.specs.Objects.{Objects}
+use Rattle.run_machine.specs.Opened.{at}
 use Rattle.serial_run.specs.Pools.{facts_in, pools_by, falling_pools_from}
 
 -- the pools of a device go by its kind

@@ -4,21 +4,21 @@ use Rattle.std.specs.Prelude.{IsTrue}
 use Rattle.std.proofs.Math.Nat.{add-mod_right, mod-add-mod, mod-eq_of_lt}
 use Rattle.std.proofs.lemmas.Nat.{mod_below}
 use Rattle.rand_pcg.specs.Lcg.{Lcg}
-use Rattle.task_core.specs.declared.event.Event.{Event}
-use Rattle.task_core.specs.declared.event.Got.TheVariants as got
-use Rattle.task_core.specs.declared.event.What.{What}
-use Rattle.task_core.specs.declared.event.What.TheVariants as what
+use Rattle.run_machine.specs.declared.event.Event.{Event}
+use Rattle.run_machine.specs.declared.event.Got.TheVariants as got
+use Rattle.run_machine.specs.declared.event.What.{What}
+use Rattle.run_machine.specs.declared.event.What.TheVariants as what
 use Rattle.task_core.specs.declared.plain.Plain.{Plain}
-use Rattle.task_core.specs.Events.{is_free}
+use Rattle.run_machine.specs.Events.{is_free}
 use Rattle.task_core.specs.OfOne.{run_state, AreOfOne}
-use Rattle.task_core.specs.Opened.{most_writers}
+use Rattle.run_machine.specs.Opened.{most_writers}
 use Rattle.task_core.specs.Plains.{stage_of}
 use Rattle.task_core.specs.PlainSteps.{is_ordinary, scene_of, IsPassedOver}
-use Rattle.task_core.specs.Routed.{setup}
-use Rattle.task_core.specs.Runs.{State, HasFree}
-use Rattle.task_core.specs.Scene.{Scene}
-use Rattle.task_core.specs.Stage.{Stage}
-use Rattle.task_core.specs.TaskViews.{TaskOf}
+use Rattle.task_steps.specs.Routed.{setup}
+use Rattle.run_machine.specs.Runs.{State, HasFree}
+use Rattle.run_machine.specs.Scene.{Scene}
+use Rattle.task_steps.specs.Stage.{Stage}
+use Rattle.task_steps.specs.TaskViews.{TaskOf}
 use Rattle.serial_run.specs.Turning.{Tried}
 
 -- the place behind, round all

@@ -6,21 +6,21 @@ use Rattle.elem_ledger.specs.Ledger.{LedgerId}
 use Rattle.rand_pcg.specs.Lcg.{Lcg}
 use Rattle.stack_base.specs.Stack.{HasRescuers}
 use Rattle.task_core.specs.declared.ended.Ended.{Ended}
-use Rattle.task_core.specs.declared.event.Event.{Event}
+use Rattle.run_machine.specs.declared.event.Event.{Event}
 use Rattle.task_core.specs.declared.opened.Opened.{Opened}
 use Rattle.task_core.specs.declared.plain.Plain.{Plain}
 use Rattle.task_core.specs.Leaving.{IsLeft}
-use Rattle.task_core.specs.Named.{IsEventOf}
+use Rattle.task_steps.specs.Named.{IsEventOf}
 use Rattle.task_core.specs.OfOne.{run_state, AreOfOne, IsOpened, scenario_in}
-use Rattle.task_core.specs.Opened.{Scenario, scene, start}
+use Rattle.run_machine.specs.Opened.{Scenario, scene, start}
 use Rattle.task_core.specs.Plains.{objects_of, stage_of}
 use Rattle.task_core.specs.PlainSteps.{scene_of}
-use Rattle.task_core.specs.Routed.{setup}
-use Rattle.task_core.specs.Runs.{IsRun, HasFree, unfinished}
-use Rattle.task_core.specs.Scene.{Scene}
-use Rattle.task_core.specs.Stage.{Stage}
-use Rattle.task_core.specs.Opened.{most_writers}
-use Rattle.task_core.specs.TaskViews.{TaskOf}
+use Rattle.task_steps.specs.Routed.{setup}
+use Rattle.run_machine.specs.Runs.{IsRun, HasFree, unfinished}
+use Rattle.run_machine.specs.Scene.{Scene}
+use Rattle.task_steps.specs.Stage.{Stage}
+use Rattle.run_machine.specs.Opened.{most_writers}
+use Rattle.task_steps.specs.TaskViews.{TaskOf}
 use Rattle.block_core.specs.Bounded.{most_steps}
 use Rattle.block_core.specs.Runnable.{IsRunnable}
 use Rattle.block_core.specs.Sound.{IsNaming}

@@ -1,9 +1,9 @@
 -- That what follows a stream of words is a run.
 use Rattle.std.specs.Prelude.{List}
 use Rattle.rand_pcg.specs.Lcg.{Lcg}
-use Rattle.task_core.specs.declared.event.Event.{Event}
-use Rattle.task_core.specs.Runs.{State, IsRun}
-use Rattle.task_core.specs.Scene.{Scene}
+use Rattle.run_machine.specs.declared.event.Event.{Event}
+use Rattle.run_machine.specs.Runs.{State, IsRun}
+use Rattle.run_machine.specs.Scene.{Scene}
 use Rattle.serial_run.specs.Schedule.{Follows}
 
 -- whatever the stream, and from whatever state

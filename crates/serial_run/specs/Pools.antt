@@ -8,7 +8,7 @@ use Rattle.stack_base.specs.PoolId.{pool_number}
 use Rattle.stack_base.specs.Tree.{Tree, Leaf, Split, Mirrored}
 use Rattle.mempool_core.specs.declared.Facts.{Facts}
 use Rattle.task_core.specs.Leaving.{falling_from}
-use Rattle.task_core.specs.Objects.{Objects}
+use Rattle.run_machine.specs.Objects.{Objects}
 
 -- pools with their facts
 abbrev pub facts_in : Objects → List PoolId → List (PoolId × Facts)

@@ -2,12 +2,12 @@
 use Rattle.std.specs.Prelude.{◌≡◌, ◌+◌, ◌%◌, ◌<◌, ◌≤◌, min, ℕ, List, [], ◌∷◌, length}
 use Rattle.rand_pcg.specs.Lcg.{Lcg}
 use Rattle.rand_pcg.specs.Pcg.{pcg32}
-use Rattle.task_core.specs.declared.event.Event.{Event}
-use Rattle.task_core.specs.declared.event.What.{What}
-use Rattle.task_core.specs.declared.event.What.TheVariants as what
+use Rattle.run_machine.specs.declared.event.Event.{Event}
+use Rattle.run_machine.specs.declared.event.What.{What}
+use Rattle.run_machine.specs.declared.event.What.TheVariants as what
 use Rattle.task_core.specs.PlainSteps.{IsPassedOver}
-use Rattle.task_core.specs.Runs.{State, Steps, unfinished}
-use Rattle.task_core.specs.Scene.{Scene}
+use Rattle.run_machine.specs.Runs.{State, Steps, unfinished}
+use Rattle.run_machine.specs.Scene.{Scene}
 
 -- the next word of the stream, and the stream behind it
 abbrev pub word : Lcg → ℕ

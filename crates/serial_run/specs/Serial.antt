@@ -2,14 +2,14 @@
 use Rattle.std.specs.Prelude.{◌≡◌, ℕ, List, [], ◌∷◌, All, length}
 use Rattle.rand_pcg.specs.Lcg.{Lcg}
 use Rattle.task_core.specs.declared.ended.Ended.{Ended}
-use Rattle.task_core.specs.declared.event.Event.{Event}
+use Rattle.run_machine.specs.declared.event.Event.{Event}
 use Rattle.task_core.specs.declared.opened.Opened.{Opened}
 use Rattle.task_core.specs.Leaving.{IsLeft}
-use Rattle.task_core.specs.Named.{IsEventOf}
+use Rattle.task_steps.specs.Named.{IsEventOf}
 use Rattle.task_core.specs.OfOne.{scenario_in}
-use Rattle.task_core.specs.Opened.{at, scene, start}
+use Rattle.run_machine.specs.Opened.{at, scene, start}
 use Rattle.task_core.specs.Plains.{stage_of}
-use Rattle.task_core.specs.Runs.{State, HasEnded}
+use Rattle.run_machine.specs.Runs.{State, HasEnded}
 use Rattle.serial_run.specs.Schedule.{Follows}
 
 -- these events were handed on, one after the other, to what they are handed to

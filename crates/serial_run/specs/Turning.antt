@@ -2,14 +2,14 @@
 use Rattle.std.specs.Prelude.{◌≡◌, ◌+◌, ◌<◌, ℕ, Bool, true, false, List, ◌∷◌, length}
 use Rattle.rand_pcg.specs.Lcg.{Lcg}
 use Rattle.stack_base.specs.declared.stack.Stack.{Stack}
-use Rattle.task_core.specs.declared.event.Event.{Event}
-use Rattle.task_core.specs.declared.step.Step.{Step}
-use Rattle.task_core.specs.declared.step.Step.TheVariants.{Stepped}
-use Rattle.task_core.specs.Named.{IsEventOf}
+use Rattle.run_machine.specs.declared.event.Event.{Event}
+use Rattle.task_steps.specs.declared.step.Step.{Step}
+use Rattle.task_steps.specs.declared.step.Step.TheVariants.{Stepped}
+use Rattle.task_steps.specs.Named.{IsEventOf}
 use Rattle.task_core.specs.PlainSteps.{IsPassedOver}
-use Rattle.task_core.specs.Runs.{State, Steps}
-use Rattle.task_core.specs.Scene.{Scene}
-use Rattle.task_core.specs.Tasks.{Keeper, Keeps, Starts, Duty}
+use Rattle.run_machine.specs.Runs.{State, Steps}
+use Rattle.run_machine.specs.Scene.{Scene}
+use Rattle.run_machine.specs.Tasks.{Keeper, Keeps, Starts, Duty}
 use Rattle.block_core.specs.Breaks.{GoesUnrefused}
 use Rattle.serial_run.specs.Schedule.{Picks, IsTurn}
 

@@ -1,6 +1,6 @@
 //! What the events of a run are handed to.
 ghost use Rattle.std.specs.Prelude.{◌≡◌};
-ghost use Rattle.task_core.specs.declared.event.Event.{Event as Told};
+ghost use Rattle.run_machine.specs.declared.event.Event.{Event as Told};
 
 use task_core::Event;
 

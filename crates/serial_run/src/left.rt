@@ -4,9 +4,9 @@ ghost use Rattle.stack_base.specs.PoolId.{pool_number};
 ghost use Rattle.task_core.specs.Leaving.{HasRoom, IsLeft};
 ghost use Rattle.task_core.specs.OfOne.{AreOfOne};
 ghost use Rattle.task_core.specs.Plains.{objects_of, stage_of, Holds};
-ghost use Rattle.task_core.specs.Scene.{tree_at};
-ghost use Rattle.task_core.specs.Routed.{setup};
-ghost use Rattle.task_core.specs.Stage.{is_pool};
+ghost use Rattle.run_machine.specs.Scene.{tree_at};
+ghost use Rattle.task_steps.specs.Routed.{setup};
+ghost use Rattle.task_steps.specs.Stage.{is_pool};
 ghost use Rattle.serial_run.specs.Pools.{facts_in, pools_by, falling_pools_from};
 
 use mempool_core::Facts;

@@ -3,7 +3,7 @@ ghost use Rattle.std.specs.Prelude.{◌≡◌, ◌+◌, ◌%◌, ◌<◌, ◌≤
 ghost use Rattle.task_core.specs.OfOne.{run_state, AreOfOne};
 ghost use Rattle.task_core.specs.Plains.{stage_of};
 ghost use Rattle.task_core.specs.PlainSteps.{scene_of};
-ghost use Rattle.task_core.specs.Runs.{HasFree, unfinished};
+ghost use Rattle.run_machine.specs.Runs.{HasFree, unfinished};
 ghost use Rattle.serial_run.specs.Turning.{GoesWell, Hands, Tried, Turned};
 
 use crate::events::Events;

@@ -5,15 +5,15 @@ use Rattle.elem_ledger.specs.Ledger.{LedgerId}
 use Rattle.task_core.specs.declared.opened.Opened.{Opened}
 use Rattle.task_core.specs.Begins.{OpenedBegins}
 use Rattle.task_core.specs.OfOne.{run_state, scenario_in, states, IsOpened}
-use Rattle.task_core.specs.Objects.{Objects}
-use Rattle.task_core.specs.Opened.{no_task, start, scene, most_writers}
-use Rattle.task_core.specs.Opened as opened
+use Rattle.run_machine.specs.Objects.{Objects}
+use Rattle.run_machine.specs.Opened.{no_task, start, scene, most_writers}
+use Rattle.run_machine.specs.Opened as opened
 use Rattle.task_core.specs.PlainSteps.{scene_of}
 use Rattle.task_core.specs.Plains.{stage_of}
-use Rattle.task_core.specs.Runs.{State}
-use Rattle.task_core.specs.Scene.{Scene, Setup}
-use Rattle.task_core.specs.TaskViews.{TaskOf}
-use Rattle.task_core.specs.Tasks.{TaskState}
+use Rattle.run_machine.specs.Runs.{State}
+use Rattle.run_machine.specs.Scene.{Scene, Setup}
+use Rattle.task_steps.specs.TaskViews.{TaskOf}
+use Rattle.run_machine.specs.Tasks.{TaskState}
 
 -- a state and a scene by their parts
 abbrev state_with : Objects → List TaskState → State

@@ -41,11 +41,11 @@ use Rattle.work_text.specs.declared.Work.{Work}
 use Rattle.work_text.proofs.Fit.{work_is_fit}
 use Rattle.task_core.specs.NewTasks.{AreShared, reserves_in}
 use Rattle.task_core.specs.OfOne.{IsReadBehind}
-use Rattle.task_core.specs.Opened.{at, is_numbered, records_of as records_at, reserve_of, script_at}
+use Rattle.run_machine.specs.Opened.{at, is_numbered, records_of as records_at, reserve_of, script_at}
 use Rattle.task_core.specs.Openings.{has_pool, uses_set, uses_slips}
-use Rattle.task_core.specs.Routed.{Routing, copies, keeps, setup}
-use Rattle.task_core.specs.Scene.{has_set, is_mirror, keeps_data}
-use Rattle.task_core.specs.Stage.{Stage, is_pool}
+use Rattle.task_steps.specs.Routed.{Routing, copies, keeps, setup}
+use Rattle.run_machine.specs.Scene.{has_set, is_mirror, keeps_data}
+use Rattle.task_steps.specs.Stage.{Stage, is_pool}
 use Rattle.task_core.proofs.Sharing.{few_writes}
 
 clash : (b : Bool) → b ≡ true → b ≡ false → ⊥

@@ -28,18 +28,18 @@ use Rattle.bio_books.specs.Books.{VectorItem, SlipItem, Node, BookState, node_at
 use Rattle.bio_books.specs.Links.{Linked, Made, NoRoom, Stray, Opens, ChainsAt, MastersAt, LegsAt}
 use Rattle.bio_books.specs.Drops.{Closed, Ended, DropsAt, closed_of, Left, Up, Top}
 use Rattle.bio_books.specs.Drops as end
-use Rattle.task_core.specs.declared.event.Got.{Got}
-use Rattle.task_core.specs.declared.event.Got.TheVariants.{Ordinary, Spare}
-use Rattle.task_core.specs.declared.event.Got.TheVariants as got
-use Rattle.task_core.specs.Maps.{upd}
-use Rattle.task_core.specs.Scene.{has_set}
-use Rattle.task_core.specs.Routed.{setup}
-use Rattle.task_core.specs.Requests.{Request, Reply, Opening, Write, Chain, Master, Leg, TakeBio, TakeVec, TakeSlip, GiveBio, GiveVec, GiveSlip, Punt, Pop, Push, Complete, Link, Drop, Done, Resize, NextRound, LookRound, LookLeft, HadBio, HadVec, HadSlip, Missed, Did, Popped, Completed, LinkedTo, DroppedTo, OutIs, Present, LeftOver, Nothing}
-use Rattle.task_core.specs.Objects.{TallyState, Objects, Has, Opened, Serves, done_one}
-use Rattle.task_core.specs.Opened.{at}
-use Rattle.task_core.specs.Stage.{Stage, has_mirror, is_set, is_bios, is_vecs, is_slips, IsHome, IsTaken, IsBioHome, IsVecHome, HoldsHome, IsServed, AreServed, OpeningFits, Fits, LinkFits, TopFits, ClosedFits, DropFits, Owes}
+use Rattle.run_machine.specs.declared.event.Got.{Got}
+use Rattle.run_machine.specs.declared.event.Got.TheVariants.{Ordinary, Spare}
+use Rattle.run_machine.specs.declared.event.Got.TheVariants as got
+use Rattle.run_machine.specs.Maps.{upd}
+use Rattle.run_machine.specs.Scene.{has_set}
+use Rattle.task_steps.specs.Routed.{setup}
+use Rattle.run_machine.specs.Requests.{Request, Reply, Opening, Write, Chain, Master, Leg, TakeBio, TakeVec, TakeSlip, GiveBio, GiveVec, GiveSlip, Punt, Pop, Push, Complete, Link, Drop, Done, Resize, NextRound, LookRound, LookLeft, HadBio, HadVec, HadSlip, Missed, Did, Popped, Completed, LinkedTo, DroppedTo, OutIs, Present, LeftOver, Nothing}
+use Rattle.run_machine.specs.Objects.{TallyState, Objects, Has, Opened, Serves, done_one}
+use Rattle.run_machine.specs.Opened.{at}
+use Rattle.task_steps.specs.Stage.{Stage, has_mirror, is_set, is_bios, is_vecs, is_slips, IsHome, IsTaken, IsBioHome, IsVecHome, HoldsHome, IsServed, AreServed, OpeningFits, Fits, LinkFits, TopFits, ClosedFits, DropFits, Owes}
 use Rattle.task_core.specs.ObjectsOf.{IsDiskOf, IsNodeOf, IsBookOf, IsTallyOf, AreObjectsOf, AreNumbered}
-use Rattle.task_core.proofs.Frames.{upd_same, upd_other}
+use Rattle.run_machine.proofs.Frames.{upd_same, upd_other}
 
 same_by : (a b : ℕ) → (a == b) ≡ true → b ≡ a
 same_by a b e = grind (arith, nat_tests)

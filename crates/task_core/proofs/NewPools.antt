@@ -9,10 +9,10 @@ use Rattle.stack_base.specs.declared.ids.PoolId.TheVariants.{Bios}
 use Rattle.stack_base.specs.declared.stack.Device.{Device}
 use Rattle.stack_base.specs.declared.stack.Stack.{Stack}
 use Rattle.stack_base.specs.PoolId.{pool_number}
-use Rattle.task_core.specs.Opened.{reserve_of}
+use Rattle.run_machine.specs.Opened.{reserve_of}
 use Rattle.task_core.specs.Openings.{widest, set_index, slip_index, uses_set, uses_slips}
-use Rattle.task_core.specs.Routed.{Routing, setup}
-use Rattle.task_core.specs.Scene.{keeps_data, is_mirror}
+use Rattle.task_steps.specs.Routed.{Routing, setup}
+use Rattle.run_machine.specs.Scene.{keeps_data, is_mirror}
 
 -- a pool is never narrower than it begins
 pub widest_least : (reserves : List (PoolId × ℕ)) (number most : ℕ) → most ≤ widest reserves number most

@@ -25,25 +25,25 @@ use Rattle.work_text.specs.Fit.{IsPoolIn}
 use Rattle.work_text.specs.declared.Resize.{Resize}
 use Rattle.work_text.specs.declared.Work.{Work}
 use Rattle.task_core.specs.declared.opened.Opened.{Opened}
-use Rattle.task_core.specs.declared.task.Kind.{Kind}
-use Rattle.task_core.specs.Events.{pool_of}
-use Rattle.task_core.specs.Homes.{TodoFits, IsLineOf, IsOwned, DutyFits, IsTaskOf}
+use Rattle.task_steps.specs.declared.task.Kind.{Kind}
+use Rattle.run_machine.specs.Events.{pool_of}
+use Rattle.task_steps.specs.Homes.{TodoFits, IsLineOf, IsOwned, DutyFits, IsTaskOf}
 use Rattle.task_core.specs.Leaving.{HasRoom}
-use Rattle.task_core.specs.Lines.{rests}
+use Rattle.run_machine.specs.Lines.{rests}
 use Rattle.task_core.specs.NewTasks.{AreShared, ArePlaced, writers_of, others_in, tally_in, reserves_in, shown, with_routing}
-use Rattle.task_core.specs.Objects.{Objects, TallyState}
+use Rattle.run_machine.specs.Objects.{Objects, TallyState}
 use Rattle.task_core.specs.OfOne.{states, AreOfOne, IsOpened, IsReadBehind, scenario_in}
-use Rattle.task_core.specs.Opened.{Change, Scenario, at, is_by, todos, todos_of, writers, places_of, reserve_of, script_at, keepers, duties, duties_of, writes_from, round_count, tasks}
-use Rattle.task_core.specs.Opened as opened
+use Rattle.run_machine.specs.Opened.{Change, Scenario, at, is_by, todos, todos_of, writers, places_of, reserve_of, script_at, keepers, duties, duties_of, writes_from, round_count, tasks}
+use Rattle.run_machine.specs.Opened as opened
 use Rattle.task_core.specs.Openings.{widest, AreOpened}
 use Rattle.task_core.specs.Plains.{objects_of, stage_of}
-use Rattle.task_core.specs.Routed.{Routing, places_at, setup}
-use Rattle.task_core.specs.Scenario.{change_of}
-use Rattle.task_core.specs.Scene.{Setup, setup_of, is_disk}
-use Rattle.task_core.specs.Stage.{Stage, has_book, is_pool}
-use Rattle.task_core.specs.TaskViews.{TaskOf}
-use Rattle.task_core.specs.Tasks.{Todo, NoBio, Empty, Duty, Resizes, Starts, TaskState, Writer, Rescuer, Completer, Keeper, Keeps}
-use Rattle.task_core.specs.Within.{IsItemWithin}
+use Rattle.task_steps.specs.Routed.{Routing, places_at, setup}
+use Rattle.run_machine.specs.Scenario.{change_of}
+use Rattle.run_machine.specs.Scene.{Setup, setup_of, is_disk}
+use Rattle.task_steps.specs.Stage.{Stage, has_book, is_pool}
+use Rattle.task_steps.specs.TaskViews.{TaskOf}
+use Rattle.run_machine.specs.Tasks.{Todo, NoBio, Empty, Duty, Resizes, Starts, TaskState, Writer, Rescuer, Completer, Keeper, Keeps}
+use Rattle.task_steps.specs.Within.{IsItemWithin}
 use Rattle.task_core.proofs.Behind.{all_flat, fit_work, is_below, pool_known, pool_there, shared}
 use Rattle.task_core.proofs.NewPools.{widest_least}
 use Rattle.task_core.proofs.Sharing.{any_some, numbered_all, numbers_below}

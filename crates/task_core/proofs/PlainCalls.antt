@@ -15,13 +15,13 @@ use Rattle.bio_books.specs.Drops.{Ended, Drops}
 use Rattle.model_disks.specs.Disks.{DiskState}
 use Rattle.model_disks.specs.Moves.{pushed, Completes}
 use Rattle.task_core.specs.declared.plain.Plain.{Plain}
-use Rattle.task_core.specs.Maps.{upd}
-use Rattle.task_core.specs.Requests.{Opening, Punt, Pop, Push, Complete, Link, Drop, Did, Completed, LinkedTo, DroppedTo, Nothing}
-use Rattle.task_core.specs.Objects.{Opened, Serves}
-use Rattle.task_core.specs.Stage.{has_rescuer, has_disk, has_book, IsServed, AreServed, IsBioHome, OpeningFits, Owes}
-use Rattle.task_core.specs.Views.{popped}
+use Rattle.run_machine.specs.Maps.{upd}
+use Rattle.run_machine.specs.Requests.{Opening, Punt, Pop, Push, Complete, Link, Drop, Did, Completed, LinkedTo, DroppedTo, Nothing}
+use Rattle.run_machine.specs.Objects.{Opened, Serves}
+use Rattle.task_steps.specs.Stage.{has_rescuer, has_disk, has_book, IsServed, AreServed, IsBioHome, OpeningFits, Owes}
+use Rattle.task_steps.specs.Views.{popped}
 use Rattle.task_core.specs.Plains.{objects_of, stage_of, Holds}
-use Rattle.task_core.proofs.Frames.{upd_own}
+use Rattle.run_machine.proofs.Frames.{upd_own}
 use Rattle.task_core.proofs.PlainLemmas.{kept_by, owed_by, with_lists, with_disks, with_books, list_there, list_changes, list_now, lists_seated, disk_there, disk_changes, disk_now, disks_seated, book_there, book_changes, book_now, books_seated}
 
 -- lists of rescuers

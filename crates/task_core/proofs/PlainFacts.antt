@@ -10,7 +10,7 @@ use Rattle.mempool_core.specs.Pool.{LedgerPool}
 use Rattle.bioset_pools.specs.Sets.{bios_of}
 use Rattle.task_core.specs.declared.plain.Plain.{Plain}
 use Rattle.task_core.specs.Plains.{objects_of, stage_of, Holds}
-use Rattle.task_core.specs.Stage.{Stage, is_bios, is_pool, is_set, is_slips}
+use Rattle.task_steps.specs.Stage.{Stage, is_bios, is_pool, is_set, is_slips}
 use Rattle.task_core.proofs.Keeping.{set_is_bios, mirror_is_slips}
 use Rattle.task_core.proofs.PlainLemmas.{bios_there, records_there}
 

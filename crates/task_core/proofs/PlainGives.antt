@@ -11,9 +11,9 @@ use Rattle.bio_records.specs.declared.bio.Pad.{Pad}
 use Rattle.bio_records.specs.Items.{Item}
 use Rattle.bio_books.specs.Books.{VectorItem, SlipItem}
 use Rattle.task_core.specs.declared.plain.Plain.{Plain}
-use Rattle.task_core.specs.Requests.{GiveBio, GiveVec, GiveSlip, Did}
-use Rattle.task_core.specs.Objects.{PoolMoves, Serves}
-use Rattle.task_core.specs.Stage.{is_bios, is_vecs, is_slips, IsHome}
+use Rattle.run_machine.specs.Requests.{GiveBio, GiveVec, GiveSlip, Did}
+use Rattle.run_machine.specs.Objects.{PoolMoves, Serves}
+use Rattle.task_steps.specs.Stage.{is_bios, is_vecs, is_slips, IsHome}
 use Rattle.task_core.specs.Plains.{pool_at, objects_of, stage_of, Holds}
 use Rattle.task_core.proofs.PlainLemmas.{kept_by, with_bios, with_records, with_vecs, bios_there, bios_seated, bios_move, bios_stage, records_there, records_seated, records_move, records_stage, vecs_seated, vecs_move, vecs_stage}
 

@@ -17,15 +17,15 @@ use Rattle.bio_records.specs.Rescue.{Rescue}
 use Rattle.bio_books.specs.Books.{BookState}
 use Rattle.model_disks.specs.Disks.{DiskState}
 use Rattle.task_core.specs.declared.plain.Plain.{Plain}
-use Rattle.task_core.specs.Maps.{upd}
+use Rattle.run_machine.specs.Maps.{upd}
 use Rattle.task_core.specs.Tables.{look_up}
-use Rattle.task_core.specs.Requests.{Request, Reply}
-use Rattle.task_core.specs.Objects.{Objects, PoolMoves, Serves}
-use Rattle.task_core.specs.Opened.{at}
-use Rattle.task_core.specs.Stage.{Stage, has_rescuer, has_disk, has_book, is_bios, is_slips, Fits, Owes}
+use Rattle.run_machine.specs.Requests.{Request, Reply}
+use Rattle.run_machine.specs.Objects.{Objects, PoolMoves, Serves}
+use Rattle.run_machine.specs.Opened.{at}
+use Rattle.task_steps.specs.Stage.{Stage, has_rescuer, has_disk, has_book, is_bios, is_slips, Fits, Owes}
 use Rattle.task_core.specs.ObjectsOf.{AreObjectsOf, AreNumbered}
 use Rattle.task_core.specs.Plains.{set_number, records_number, list_number, disk_number, book_number, no_pool, no_disk, no_book, is_of_set, by_kind, bios_at, records_at, pool_at, objects_of, stage_of, AreSeated, Holds}
-use Rattle.task_core.proofs.Frames.{upd_same}
+use Rattle.run_machine.proofs.Frames.{upd_same}
 use Rattle.task_core.proofs.Keeping.{objects_stay, objects_owe}
 use Rattle.task_core.proofs.TableLemmas.{looked, changed, places_stay, numbers_stay}
 use Rattle.task_core.proofs.PoolLemmas.{stands_for_bios, stands_for_records, bios_change, records_change, vecs_change, moves_pool, stage_kept}

@@ -14,11 +14,11 @@ use Rattle.mempool_core.specs.Pool.{LedgerPool}
 use Rattle.mempool_core.specs.Pool as pool
 use Rattle.bioset_pools.specs.Sets.{bios_of}
 use Rattle.task_core.specs.declared.plain.Plain.{Plain}
-use Rattle.task_core.specs.Maps.{upd}
+use Rattle.run_machine.specs.Maps.{upd}
 use Rattle.task_core.specs.Tables.{look_up}
-use Rattle.task_core.specs.Requests.{Resize, OutIs}
-use Rattle.task_core.specs.Objects.{Objects, PoolMoves, Serves}
-use Rattle.task_core.specs.Stage.{Stage, is_set, is_pool, is_bios, is_slips, Fits}
+use Rattle.run_machine.specs.Requests.{Resize, OutIs}
+use Rattle.run_machine.specs.Objects.{Objects, PoolMoves, Serves}
+use Rattle.task_steps.specs.Stage.{Stage, is_set, is_pool, is_bios, is_slips, Fits}
 use Rattle.task_core.specs.Resizing.{Resizes}
 use Rattle.task_core.specs.Plains.{set_number, records_number, no_pool, by_kind, bios_at, records_at, pool_at, objects_of, stage_of, Holds}
 use Rattle.task_core.proofs.Keeping.{set_is_bios, mirror_is_slips}

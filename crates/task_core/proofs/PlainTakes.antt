@@ -21,10 +21,10 @@ use Rattle.bio_records.specs.Items.{item_of}
 use Rattle.bioset_pools.specs.Sets.{bios_of}
 use Rattle.bio_books.specs.Views.{slip_item}
 use Rattle.task_core.specs.declared.plain.Plain.{Plain}
-use Rattle.task_core.specs.Requests.{TakeBio, TakeVec, TakeSlip}
-use Rattle.task_core.specs.Objects.{Serves, clear_bio, clear_vector, clear_slip}
-use Rattle.task_core.specs.Stage.{is_set, has_mirror, is_bios, is_slips, Owes}
-use Rattle.task_core.specs.Views.{took_bio, took_vec, took_slip, vec_item}
+use Rattle.run_machine.specs.Requests.{TakeBio, TakeVec, TakeSlip}
+use Rattle.run_machine.specs.Objects.{Serves, clear_bio, clear_vector, clear_slip}
+use Rattle.task_steps.specs.Stage.{is_set, has_mirror, is_bios, is_slips, Owes}
+use Rattle.task_steps.specs.Views.{took_bio, took_vec, took_slip, vec_item}
 use Rattle.task_core.specs.Plains.{objects_of, stage_of, Holds}
 use Rattle.task_core.proofs.Keeping.{set_is_bios, mirror_is_slips}
 use Rattle.task_core.proofs.PlainLemmas.{kept_by, owed_by, take_moves, with_bios, with_records, with_vecs, bios_there, bios_seated, bios_move, bios_stage, records_there, records_seated, records_move, records_stage, vecs_seated, vecs_move, vecs_stage}

@@ -6,8 +6,8 @@ use Rattle.mempool_core.specs.Move.{PoolState, Move}
 use Rattle.mempool_core.specs.Pool.{LedgerPool}
 use Rattle.mempool_core.specs.Pool as pool
 use Rattle.task_core.specs.declared.plain.Plain.{Plain}
-use Rattle.task_core.specs.Maps.{upd}
-use Rattle.task_core.specs.Objects.{PoolMoves}
+use Rattle.run_machine.specs.Maps.{upd}
+use Rattle.run_machine.specs.Objects.{PoolMoves}
 use Rattle.task_core.specs.Plains.{is_of_set, by_kind, pool_at, objects_of, stage_of}
 
 same_by : (a b : ℕ) → (a == b) ≡ true → a ≡ b

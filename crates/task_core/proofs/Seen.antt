@@ -9,29 +9,30 @@ use Rattle.mempool_core.specs.Move.{opened}
 use Rattle.bioset_pools.specs.Sets.{bios_of}
 use Rattle.bio_books.specs.Drops as end
 use Rattle.bio_books.specs.Links.{NoRoom, Stray}
-use Rattle.task_core.specs.declared.event.Breach.{Breach}
-use Rattle.task_core.specs.declared.event.Event.{Event}
-use Rattle.task_core.specs.declared.event.TaskId.{TaskId}
-use Rattle.task_core.specs.declared.event.What.{What}
+use Rattle.run_machine.specs.declared.event.Breach.{Breach}
+use Rattle.run_machine.specs.declared.event.Event.{Event}
+use Rattle.run_machine.specs.declared.event.TaskId.{TaskId}
+use Rattle.run_machine.specs.declared.event.What.{What}
 use Rattle.task_core.specs.declared.plain.Plain.{Plain}
-use Rattle.task_core.specs.declared.step.Step.{Step}
-use Rattle.task_core.specs.declared.step.Step.TheVariants.{Stepped, Waiting, Ended}
-use Rattle.task_core.specs.Maps.{upd}
-use Rattle.task_core.specs.Scene.{Setup}
-use Rattle.task_core.specs.Lines.{Doing, Rests, Drives, Copies, Breaks}
-use Rattle.task_core.specs.Requests as requests
-use Rattle.task_core.specs.Requests.{Request, Reply}
-use Rattle.task_core.specs.Tasks.{TaskState, Writer, Rescuer, Completer, Keeper, Keeps, Stops, Todo, Taken, NoBio, HasBio, HasBoth, request, writer_look, look_of, lets, answered}
-use Rattle.task_core.specs.Objects.{Objects, Serves, clear_bio, clear_vector, clear_slip}
-use Rattle.task_core.specs.Events.{id_of, what_of}
-use Rattle.task_core.specs.Runs.{IsLet, Steps}
+use Rattle.task_steps.specs.declared.step.Step.{Step}
+use Rattle.task_steps.specs.declared.step.Step.TheVariants.{Stepped, Waiting, Ended}
+use Rattle.run_machine.specs.Maps.{upd}
+use Rattle.run_machine.specs.Scene.{Setup}
+use Rattle.run_machine.specs.Lines.{Doing, Rests, Drives, Copies, Breaks}
+use Rattle.run_machine.specs.Requests as requests
+use Rattle.run_machine.specs.Requests.{Request, Reply}
+use Rattle.run_machine.specs.Tasks.{TaskState, Writer, Rescuer, Completer, Keeper, Keeps, Stops, Todo, Taken, NoBio, HasBio, HasBoth, request, writer_look, look_of, lets, answered}
+use Rattle.run_machine.specs.Objects.{Objects, Serves, clear_bio, clear_vector, clear_slip}
+use Rattle.run_machine.specs.Events.{id_of, what_of}
+use Rattle.run_machine.specs.Runs.{IsLet, Steps}
 use Rattle.task_core.specs.Plains.{objects_of, stage_of, Tells, StaysLast}
 use Rattle.task_core.specs.PlainSteps.{state_of, scene_of, HasRound, IsStill, IsPassedOver, StepsAreEvents}
-use Rattle.task_core.specs.Routed.{setup}
-use Rattle.task_core.specs.Stage.{Stage, Owes}
-use Rattle.task_core.specs.Turns.{silent_step, step_by, step_of, resting_step, breach_of, idle_step, Follows, Asks, Acts, ActsIf, TurnsBy}
-use Rattle.task_core.proofs.Idle.{IsFair, fair_task, task_stays, quiet, passed}
-use Rattle.task_core.proofs.Turned.{acts}
+use Rattle.task_steps.specs.Routed.{setup}
+use Rattle.task_steps.specs.Stage.{Stage, Owes}
+use Rattle.task_steps.specs.Turns.{silent_step, step_by, step_of, resting_step, breach_of, idle_step, Follows, Asks, Acts, ActsIf, TurnsBy}
+use Rattle.run_machine.proofs.Idle.{IsFair, fair_task, task_stays}
+use Rattle.task_core.proofs.Quiet.{quiet, passed}
+use Rattle.task_steps.proofs.Turned.{acts}
 
 -- what a task looks at
 abbrev IsLook : Request → Type 0

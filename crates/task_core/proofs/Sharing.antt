@@ -11,11 +11,11 @@ use Rattle.stack_base.specs.declared.stack.Stack.{Stack}
 use Rattle.layout_model.specs.declared.write.Write.{Write}
 use Rattle.layout_model.specs.Needs.{nodes}
 use Rattle.layout_model.specs.Writes.{IsWrite}
-use Rattle.task_core.specs.declared.task.Kind.{Kind}
-use Rattle.task_core.specs.Lines.{rests}
+use Rattle.task_steps.specs.declared.task.Kind.{Kind}
+use Rattle.run_machine.specs.Lines.{rests}
 use Rattle.task_core.specs.NewTasks.{numbered, numbered_from, share_of, nodes_of, is_writer, writer_with, writers_of, shown, Adds, AreShared, ArePlaced}
-use Rattle.task_core.specs.Opened.{is_by}
-use Rattle.task_core.specs.Tasks.{Todo, TaskState, NoBio, Writer}
+use Rattle.run_machine.specs.Opened.{is_by}
+use Rattle.run_machine.specs.Tasks.{Todo, TaskState, NoBio, Writer}
 use Rattle.task_core.proofs.Filling as fill
 
 -- how many there are, and which stands at a place

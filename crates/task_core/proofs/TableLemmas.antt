@@ -7,9 +7,9 @@ use Rattle.std.proofs.lemmas.List.Folds.{find_at, find-set, find_past, position_
 use Rattle.std.proofs.lemmas.List.Sums.{passes_at_first}
 use Rattle.std.proofs.lemmas.Option.{slice_get-get_or}
 use Rattle.std.proofs.lemmas.Bool.Decides.{nat_tests}
-use Rattle.task_core.specs.Maps.{upd}
+use Rattle.run_machine.specs.Maps.{upd}
 use Rattle.task_core.specs.Tables.{has_number, look_up, IsAt, AreAt}
-use Rattle.task_core.proofs.Frames.{upd_same, upd_other}
+use Rattle.run_machine.proofs.Frames.{upd_same, upd_other}
 
 same_by : (a b : ℕ) → (a == b) ≡ true → a ≡ b
 same_by a b e = grind (arith, nat_tests)

@@ -2,7 +2,7 @@
 use Rattle.std.specs.Prelude.{◌≡◌, length}
 use Rattle.task_core.specs.declared.opened.Opened.{Opened}
 use Rattle.task_core.specs.OfOne.{run_state, scenario_in, IsOpened}
-use Rattle.task_core.specs.Opened.{scene, start}
+use Rattle.run_machine.specs.Opened.{scene, start}
 use Rattle.task_core.specs.PlainSteps.{scene_of}
 use Rattle.task_core.specs.Plains.{stage_of}
 

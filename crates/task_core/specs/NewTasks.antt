@@ -8,15 +8,15 @@ use Rattle.layout_model.specs.declared.write.Write.{Write}
 use Rattle.layout_model.specs.Needs.{nodes}
 use Rattle.layout_model.specs.Writes.{IsWrite}
 use Rattle.work_text.specs.declared.Resize.{Resize}
-use Rattle.task_core.specs.declared.task.Kind.{Kind}
-use Rattle.task_core.specs.Scene.{Setup, is_disk}
-use Rattle.task_core.specs.Routed.{Routing}
-use Rattle.task_core.specs.TaskViews.{TaskOf, task_of}
-use Rattle.task_core.specs.Lines.{rests}
-use Rattle.task_core.specs.Tasks.{Todo, NoBio, Empty, Duty, Resizes, Starts, TaskState, Writer, Rescuer, Completer}
-use Rattle.task_core.specs.Objects.{TallyState}
-use Rattle.task_core.specs.Opened.{Change, is_by, at, keepers}
-use Rattle.task_core.specs.Scenario.{change_of}
+use Rattle.task_steps.specs.declared.task.Kind.{Kind}
+use Rattle.run_machine.specs.Scene.{Setup, is_disk}
+use Rattle.task_steps.specs.Routed.{Routing}
+use Rattle.task_steps.specs.TaskViews.{TaskOf, task_of}
+use Rattle.run_machine.specs.Lines.{rests}
+use Rattle.run_machine.specs.Tasks.{Todo, NoBio, Empty, Duty, Resizes, Starts, TaskState, Writer, Rescuer, Completer}
+use Rattle.run_machine.specs.Objects.{TallyState}
+use Rattle.run_machine.specs.Opened.{Change, is_by, at, keepers}
+use Rattle.run_machine.specs.Scenario.{change_of}
 
 -- writes, each with its round and its number, the first of which is this
 abbrev pub numbered_from : ℕ → List ℕ → List Write → List Todo

@@ -4,10 +4,10 @@ use Rattle.stack_base.specs.Tree.{tree, size}
 use Rattle.layout_model.specs.May.{bads_of}
 use Rattle.bio_books.specs.Books.{Node, BookState}
 use Rattle.model_disks.specs.Disks.{DiskState}
-use Rattle.task_core.specs.Requests.{Request, Reply}
-use Rattle.task_core.specs.Objects.{TallyState, Objects, Serves}
-use Rattle.task_core.specs.Opened.{at}
-use Rattle.task_core.specs.Stage.{Stage, IsServed, AreServed, HoldsHome, Fits, Owes}
+use Rattle.run_machine.specs.Requests.{Request, Reply}
+use Rattle.run_machine.specs.Objects.{TallyState, Objects, Serves}
+use Rattle.run_machine.specs.Opened.{at}
+use Rattle.task_steps.specs.Stage.{Stage, IsServed, AreServed, HoldsHome, Fits, Owes}
 
 -- a disk of the stack, in which bios wait that can be served and are at it
 pub record IsDiskOf (stage : Stage) (dev : ℕ) (disk : DiskState) : Type 0 where

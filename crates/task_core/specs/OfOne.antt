@@ -8,17 +8,17 @@ use Rattle.work_text.specs.Reading.{ReadsWork, work_lines}
 use Rattle.work_text.specs.declared.Work.{Work}
 use Rattle.task_core.specs.declared.opened.Opened.{Opened}
 use Rattle.task_core.specs.declared.plain.Plain.{Plain}
-use Rattle.task_core.specs.Homes.{IsTaskOf}
+use Rattle.task_steps.specs.Homes.{IsTaskOf}
 use Rattle.task_core.specs.Leaving.{HasRoom}
-use Rattle.task_core.specs.Opened.{Scenario, objects, tasks, no_task}
-use Rattle.task_core.specs.Opened as opened
+use Rattle.run_machine.specs.Opened.{Scenario, objects, tasks, no_task}
+use Rattle.run_machine.specs.Opened as opened
 use Rattle.task_core.specs.Plains.{objects_of, stage_of, Holds}
 use Rattle.task_core.specs.PlainSteps.{state_of}
-use Rattle.task_core.specs.Routed.{setup}
-use Rattle.task_core.specs.Runs.{State}
-use Rattle.task_core.specs.Scenario.{scenario_of}
-use Rattle.task_core.specs.TaskViews.{TaskOf}
-use Rattle.task_core.specs.Tasks.{TaskState}
+use Rattle.task_steps.specs.Routed.{setup}
+use Rattle.run_machine.specs.Runs.{State}
+use Rattle.run_machine.specs.Scenario.{scenario_of}
+use Rattle.task_steps.specs.TaskViews.{TaskOf}
+use Rattle.run_machine.specs.Tasks.{TaskState}
 
 abbrev pub states : List TaskOf → List TaskState
 states tasks = map (λ (task : TaskOf). task.state) tasks

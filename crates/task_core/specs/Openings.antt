@@ -15,13 +15,13 @@ use Rattle.bio_records.specs.Rescue.{Rescue}
 use Rattle.bio_books.specs.Books.{BookState}
 use Rattle.model_disks.specs.Disks.{DiskState}
 use Rattle.task_core.specs.declared.plain.Plain.{Plain}
-use Rattle.task_core.specs.Events.{pool_of}
+use Rattle.run_machine.specs.Events.{pool_of}
 use Rattle.task_core.specs.Filled.{AreMade, IsNext}
-use Rattle.task_core.specs.Objects.{TallyState, Objects}
-use Rattle.task_core.specs.Opened.{at, reserve_of, script_at}
+use Rattle.run_machine.specs.Objects.{TallyState, Objects}
+use Rattle.run_machine.specs.Opened.{at, reserve_of, script_at}
 use Rattle.task_core.specs.Plains.{set_number, records_number, list_number, disk_number, book_number, no_disk, objects_of, stage_of, Holds}
-use Rattle.task_core.specs.Routed.{Routing, places_at, setup}
-use Rattle.task_core.specs.Scene.{is_device, is_disk, is_mirror, has_set}
+use Rattle.task_steps.specs.Routed.{Routing, places_at, setup}
+use Rattle.run_machine.specs.Scene.{is_device, is_disk, is_mirror, has_set}
 
 -- indices are numbers
 abbrev pub itself : ℕ → ℕ

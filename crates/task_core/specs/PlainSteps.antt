@@ -1,23 +1,23 @@
 -- Steps of tasks over the objects of one thread, as events of the machine.
 use Rattle.std.specs.Prelude.{◌≡◌, ◌+◌, ◌<◌, ℕ, Bool, true, false, IsTrue, length}
-use Rattle.task_core.specs.declared.event.Event.{Event}
-use Rattle.task_core.specs.declared.event.Got.TheVariants.{Ordinary}
-use Rattle.task_core.specs.declared.event.What.{What}
-use Rattle.task_core.specs.declared.event.What.TheVariants.{Take}
+use Rattle.run_machine.specs.declared.event.Event.{Event}
+use Rattle.run_machine.specs.declared.event.Got.TheVariants.{Ordinary}
+use Rattle.run_machine.specs.declared.event.What.{What}
+use Rattle.run_machine.specs.declared.event.What.TheVariants.{Take}
 use Rattle.task_core.specs.declared.plain.Plain.{Plain}
-use Rattle.task_core.specs.declared.step.Step.{Step}
-use Rattle.task_core.specs.declared.step.Step.TheVariants.{Stepped, Blocked, Waiting, Ended, Broken}
-use Rattle.task_core.specs.Maps.{upd}
-use Rattle.task_core.specs.Scene.{Scene}
-use Rattle.task_core.specs.Requests.{Request, NextRound}
-use Rattle.task_core.specs.Tasks.{TaskState, request}
-use Rattle.task_core.specs.Objects.{Objects}
-use Rattle.task_core.specs.Opened.{most_writers}
-use Rattle.task_core.specs.Runs.{State, Steps}
+use Rattle.task_steps.specs.declared.step.Step.{Step}
+use Rattle.task_steps.specs.declared.step.Step.TheVariants.{Stepped, Blocked, Waiting, Ended, Broken}
+use Rattle.run_machine.specs.Maps.{upd}
+use Rattle.run_machine.specs.Scene.{Scene}
+use Rattle.run_machine.specs.Requests.{Request, NextRound}
+use Rattle.run_machine.specs.Tasks.{TaskState, request}
+use Rattle.run_machine.specs.Objects.{Objects}
+use Rattle.run_machine.specs.Opened.{most_writers}
+use Rattle.run_machine.specs.Runs.{State, Steps}
 use Rattle.task_core.specs.Plains.{objects_of, stage_of, Tells}
-use Rattle.task_core.specs.Routed.{setup}
-use Rattle.task_core.specs.Stage.{Owes}
-use Rattle.task_core.specs.Turns.{Turns}
+use Rattle.task_steps.specs.Routed.{setup}
+use Rattle.task_steps.specs.Stage.{Owes}
+use Rattle.task_steps.specs.Turns.{Turns}
 
 -- the objects and these tasks, as a state of the machine
 abbrev pub state_of : Plain → (ℕ → TaskState) → State

@@ -21,12 +21,12 @@ use Rattle.model_disks.specs.Moves as disk
 use Rattle.task_core.specs.declared.plain.Plain.{Plain}
 use Rattle.task_core.specs.declared.tally.Tally.{Tally}
 use Rattle.task_core.specs.Tables.{look_up, AreAt}
-use Rattle.task_core.specs.Requests.{Request, Reply, NextRound, Did}
-use Rattle.task_core.specs.Objects.{TallyState, Objects, Serves}
-use Rattle.task_core.specs.Events.{pool_of}
-use Rattle.task_core.specs.Opened.{at, reserve_of}
+use Rattle.run_machine.specs.Requests.{Request, Reply, NextRound, Did}
+use Rattle.run_machine.specs.Objects.{TallyState, Objects, Serves}
+use Rattle.run_machine.specs.Events.{pool_of}
+use Rattle.run_machine.specs.Opened.{at, reserve_of}
 use Rattle.task_core.specs.ObjectsOf.{AreObjectsOf, AreNumbered}
-use Rattle.task_core.specs.Stage.{Stage, has_book, has_rescuer, has_disk, is_bios, is_slips}
+use Rattle.task_steps.specs.Stage.{Stage, has_book, has_rescuer, has_disk, is_bios, is_slips}
 
 -- of what number each kind of entry is
 abbrev pub set_number : SetId × LedgerPool → ℕ

@@ -2,7 +2,7 @@
 use Rattle.std.specs.Prelude.{◌≡◌, ◌⊎◌, ◌<◌, ◌≤◌, ℕ}
 use Rattle.mempool_core.specs.Move.{resizes}
 use Rattle.mempool_core.specs.Pool.{LedgerPool, PoolMoves}
-use Rattle.task_core.specs.Requests.{Opening, Write, Chain, Master, Leg}
+use Rattle.run_machine.specs.Requests.{Opening, Write, Chain, Master, Leg}
 
 -- what was out of a pool, and its reserve, which changes where nothing was
 abbrev pub Resizes : LedgerPool → ℕ → ℕ → LedgerPool → Type 0

@@ -2,11 +2,11 @@
 ghost use Rattle.std.specs.Prelude.{◌≡◌, ◌≤◌};
 ghost use Rattle.bio_records.specs.Items.{item_of};
 ghost use Rattle.bio_books.specs.Views.{linked_of, IsLinkAlone};
-ghost use Rattle.task_core.specs.Objects.{Opened};
-ghost use Rattle.task_core.specs.Views.{opening_of, IsAskAlone};
+ghost use Rattle.run_machine.specs.Objects.{Opened};
+ghost use Rattle.task_steps.specs.Views.{opening_of, IsAskAlone};
 ghost use Rattle.task_core.specs.Resizing.{HasLegs, Resizes};
 
-use crate::objects::Ask;
+use task_steps::Ask;
 use bio_books::{Book, Link};
 use bio_records::BioElement;
 use elem_ledger::Fresh;

@@ -3,10 +3,10 @@ ghost use Rattle.std.specs.Prelude.{◌≡◌, ◌^◌, ◌<◌, ◌≤◌};
 ghost use Rattle.stack_base.specs.PoolId.{pool_number};
 ghost use Rattle.bioset_pools.specs.Sets.{bios_of};
 
-use crate::objects::{Ask, Chooser, Objects, Unmade};
+use task_steps::{Ask, Chooser, Objects, Unmade};
 use crate::one::{dev_of, link_in, resize_home};
 use crate::place::{Seats, place};
-use crate::routes::Routes;
+use task_steps::Routes;
 use crate::tally::Tally;
 use bio_books::{Book, Dropped, Link};
 use bio_records::{
@@ -55,8 +55,8 @@ impl Plain {
     ghost use Rattle.std.specs.Prelude.{IsTrue};
     ghost use Rattle.stack_base.specs.declared.ids.PoolId.TheVariants.{FsVecs, Records};
     ghost use Rattle.task_core.specs.Plains.{objects_of, stage_of, Holds, Tells};
-    ghost use Rattle.task_core.specs.Requests.{Resize, OutIs};
-    ghost use Rattle.task_core.specs.Stage.{has_disk, is_pool, Fits};
+    ghost use Rattle.run_machine.specs.Requests.{Resize, OutIs};
+    ghost use Rattle.task_steps.specs.Stage.{has_disk, is_pool, Fits};
 
     // Sets the reserve of a set's pool of bios, where nothing of it is out. It answers how much is.
     fn resize_bios(&mut self, set: SetId, min: u32) -> u64

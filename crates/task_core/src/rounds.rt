@@ -1,16 +1,16 @@
 //! The rounds of a text: how many writes each has, the tally, and what the keeper does between them.
 ghost use Rattle.std.specs.Prelude.{◌≡◌, ◌+◌, ◌-◌, ◌<◌, ◌≤◌, ◌^◌, ◌++◌, [], ◌∷◌, IfOk, OnOk, fold, length, map, max, replicate, sum};
 ghost use Rattle.stack_base.specs.declared.ids.Status.TheVariants as status;
-ghost use Rattle.task_core.specs.Tasks.{Starts};
-ghost use Rattle.task_core.specs.KeeperViews.{duty_of};
+ghost use Rattle.run_machine.specs.Tasks.{Starts};
+ghost use Rattle.task_steps.specs.KeeperViews.{duty_of};
 ghost use Rattle.task_core.specs.Plains.{tally_of};
-ghost use Rattle.task_core.specs.Scenario.{change_of};
-ghost use Rattle.task_core.specs.Opened.{keepers};
+ghost use Rattle.run_machine.specs.Scenario.{change_of};
+ghost use Rattle.run_machine.specs.Opened.{keepers};
 ghost use Rattle.task_core.specs.NewTasks.{left_in, rounds_in, changes_at, duties_in, Adds};
 
-use crate::keeper::{Duty, Keeper};
+use task_steps::{Duty, Keeper};
 use crate::tally::Tally;
-use crate::task::Kind;
+use task_steps::Kind;
 use stack_base::Status;
 use std::alloc::{AllocError, Global};
 use work_text::Resize;

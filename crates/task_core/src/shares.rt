@@ -3,12 +3,12 @@ ghost use Rattle.std.specs.Prelude.{◌≡◌, ◌+◌, ◌<◌, ◌^◌, ◌++�
 ghost use Rattle.std.specs.List.{range_with_len};
 ghost use Rattle.stack_base.specs.Stack.{IsStack};
 ghost use Rattle.layout_model.specs.Writes.{IsWrite};
-ghost use Rattle.task_core.specs.Opened.{is_by};
+ghost use Rattle.run_machine.specs.Opened.{is_by};
 ghost use Rattle.task_core.specs.NewTasks.{share_of, nodes_of, writer_with, writers_of, Adds, AreShared, ArePlaced};
 
-use crate::task::Kind;
-use crate::todo::{Todo, Todos};
-use crate::writer::Writer;
+use task_steps::Kind;
+use task_steps::{Todo, Todos};
+use task_steps::Writer;
 use layout_model::need;
 use stack_base::Stack;
 use std::alloc::{AllocError, Global};

@@ -30,7 +30,7 @@ fn total(numbers: &[u32]) -> u32
 }
 
 impl Tally {
-    ghost use Rattle.task_core.specs.Objects.{done_one};
+    ghost use Rattle.run_machine.specs.Objects.{done_one};
     ghost use Rattle.task_core.specs.Plains.{tally_of, Advances};
 
     /// A tally in round 0, with so many unfinished writes in each round.

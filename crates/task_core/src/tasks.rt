@@ -2,15 +2,15 @@
 ghost use Rattle.std.specs.Prelude.{◌≡◌, ◌<◌, [], ◌∷◌, ◌++◌, IfOk, OnOk, length};
 ghost use Rattle.std.specs.List.{range_with_len};
 ghost use Rattle.stack_base.specs.Stack.{IsStack};
-ghost use Rattle.task_core.specs.Routed.{setup};
-ghost use Rattle.task_core.specs.TaskViews.{task_of};
+ghost use Rattle.task_steps.specs.Routed.{setup};
+ghost use Rattle.task_steps.specs.TaskViews.{task_of};
 ghost use Rattle.task_core.specs.NewTasks.{rescuers_of, completers_of, shown, with_routing, Adds};
 
-use crate::carried::Carried;
+use task_steps::Carried;
 use crate::fresh::is_disk;
-use crate::rescuer::Rescuer;
-use crate::routes::Routes;
-use crate::task::{Kind, Task};
+use task_steps::Rescuer;
+use task_steps::Routes;
+use task_steps::{Kind, Task};
 use stack_base::{DevId, Stack};
 use std::alloc::{AllocError, Global};
 use std::sync::Arc;

@@ -2,15 +2,15 @@
 use Rattle.std.proofs.Common.{◌≡◌, ◌<◌, ℕ, List, All, length, set, get_or, sym, ap, ◌∙◌, subst}
 use Rattle.std.proofs.lemmas.List.Elements.{All-get_or, All-set}
 use Rattle.task_core.specs.declared.plain.Plain.{Plain}
-use Rattle.task_core.specs.declared.step.Step.{Step}
-use Rattle.task_core.specs.Homes.{IsTaskOf}
+use Rattle.task_steps.specs.declared.step.Step.{Step}
+use Rattle.task_steps.specs.Homes.{IsTaskOf}
 use Rattle.task_core.specs.OfOne.{AreOfOne}
 use Rattle.task_core.specs.Plains.{stage_of, Holds, Tells}
-use Rattle.task_core.specs.Routed.{setup}
-use Rattle.task_core.specs.Stage.{Stage, Owes}
-use Rattle.task_core.specs.TaskViews.{TaskOf}
-use Rattle.task_core.specs.Turns.{Turns}
-use Rattle.task_core.proofs.Turned.{turns_home}
+use Rattle.task_steps.specs.Routed.{setup}
+use Rattle.task_steps.specs.Stage.{Stage, Owes}
+use Rattle.task_steps.specs.TaskViews.{TaskOf}
+use Rattle.task_steps.specs.Turns.{Turns}
+use Rattle.task_steps.proofs.Turned.{turns_home}
 
 module _ (old new : Plain) (tasks : List TaskOf) (place : ℕ) (lt : place < length tasks) (task next : TaskOf) (is : task ≡ get_or tasks place task)
     (one : AreOfOne old tasks) where

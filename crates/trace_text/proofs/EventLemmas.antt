@@ -15,17 +15,17 @@ use Rattle.stack_base.specs.declared.ids.PoolId.TheVariants.{FsBios, FsVecs, Bio
 use Rattle.stack_base.specs.declared.ids.Status.{Status}
 use Rattle.stack_base.specs.declared.ids.Status.TheVariants as status
 use Rattle.stack_base.specs.declared.stack.Stack.{Stack}
-use Rattle.task_core.specs.declared.event.TaskId.{TaskId}
-use Rattle.task_core.specs.declared.event.TaskId.TheVariants as task
-use Rattle.task_core.specs.declared.event.Got.{Got}
-use Rattle.task_core.specs.declared.event.Got.TheVariants as got
-use Rattle.task_core.specs.declared.event.How.{How}
-use Rattle.task_core.specs.declared.event.How.TheVariants as how
-use Rattle.task_core.specs.declared.event.End.{End}
-use Rattle.task_core.specs.declared.event.End.TheVariants as end
-use Rattle.task_core.specs.declared.event.What.{What}
-use Rattle.task_core.specs.declared.event.What.TheVariants as what
-use Rattle.task_core.specs.declared.event.Event.{Event}
+use Rattle.run_machine.specs.declared.event.TaskId.{TaskId}
+use Rattle.run_machine.specs.declared.event.TaskId.TheVariants as task
+use Rattle.run_machine.specs.declared.event.Got.{Got}
+use Rattle.run_machine.specs.declared.event.Got.TheVariants as got
+use Rattle.run_machine.specs.declared.event.How.{How}
+use Rattle.run_machine.specs.declared.event.How.TheVariants as how
+use Rattle.run_machine.specs.declared.event.End.{End}
+use Rattle.run_machine.specs.declared.event.End.TheVariants as end
+use Rattle.run_machine.specs.declared.event.What.{What}
+use Rattle.run_machine.specs.declared.event.What.TheVariants as what
+use Rattle.run_machine.specs.declared.event.Event.{Event}
 use Rattle.trace_text.specs.Names.{HasDevice, HasPool, IsNamed, has_set, is_any, is_disk, is_mirror}
 use Rattle.trace_text.specs.Lines.{Fits, IsEventOf, end_word, got_word, how_word, line_of, name_of, pool_word, status_word, task_word, what_words, words_of}
 use Rattle.trace_text.specs.Reading.{at_end, both, event_of, field, made, mark_of, task_of, what_of}

@@ -6,11 +6,11 @@ use Rattle.stack_base.specs.declared.ids.DevId.{DevId}
 use Rattle.stack_base.specs.declared.ids.PoolId.TheVariants.{FsBios, FsVecs, Bios, Records}
 use Rattle.stack_base.specs.declared.ids.Status.TheVariants as status
 use Rattle.stack_base.specs.declared.stack.Stack.{Stack}
-use Rattle.task_core.specs.declared.event.TaskId.TheVariants as task
-use Rattle.task_core.specs.declared.event.Got.TheVariants as got
-use Rattle.task_core.specs.declared.event.How.TheVariants as how
-use Rattle.task_core.specs.declared.event.End.TheVariants as end
-use Rattle.task_core.specs.declared.event.What.TheVariants as what
+use Rattle.run_machine.specs.declared.event.TaskId.TheVariants as task
+use Rattle.run_machine.specs.declared.event.Got.TheVariants as got
+use Rattle.run_machine.specs.declared.event.How.TheVariants as how
+use Rattle.run_machine.specs.declared.event.End.TheVariants as end
+use Rattle.run_machine.specs.declared.event.What.TheVariants as what
 use Rattle.trace_text.specs.Lines.{line_of, name_of}
 use Rattle.trace_text.specs.Reading.{long_of, number_of, short_of}
 

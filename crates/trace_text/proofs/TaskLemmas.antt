@@ -7,8 +7,8 @@ use Rattle.std.proofs.lemmas.List.{take-append-drop}
 use Rattle.std.proofs.lemmas.Option.{cond_some, same_Some}
 use Rattle.std.proofs.lemmas.Slice.Eq.{bytes_eq-Decides}
 use Rattle.stack_base.specs.declared.stack.Stack.{Stack}
-use Rattle.task_core.specs.declared.event.TaskId.{TaskId}
-use Rattle.task_core.specs.declared.event.TaskId.TheVariants as task
+use Rattle.run_machine.specs.declared.event.TaskId.{TaskId}
+use Rattle.run_machine.specs.declared.event.TaskId.TheVariants as task
 use Rattle.trace_text.specs.Names.{IsNamed}
 use Rattle.trace_text.specs.Lines.{FitsTask, HasTask, task_word}
 use Rattle.trace_text.specs.Reading.{behind, completer_of, device_of, disk_of, rescuer_of, short_of, task_of, writer_of}

@@ -3,8 +3,8 @@ use Rattle.std.proofs.Common.{◌≡◌, ◌<◌, ◌^◌, ℕ, List, [], ◌∷
 use Rattle.std.specs.Prelude.{codes, decimal}
 use Rattle.std.specs.Option.{option_and_then}
 use Rattle.stack_base.specs.declared.stack.Stack.{Stack}
-use Rattle.task_core.specs.declared.event.What.{What}
-use Rattle.task_core.specs.declared.event.What.TheVariants as what
+use Rattle.run_machine.specs.declared.event.What.{What}
+use Rattle.run_machine.specs.declared.event.What.TheVariants as what
 use Rattle.trace_text.specs.declared.verb.Verb.{Verb}
 use Rattle.trace_text.specs.declared.verb.Verb.TheVariants as verb
 use Rattle.trace_text.specs.Names.{IsNamed}

@@ -11,12 +11,12 @@ use Rattle.std.proofs.lemmas.Slice.Eq.{bytes_eq-Decides}
 use Rattle.std.proofs.lemmas.Fmt.{decimal_digit, decimal_nonempty, first_decimal, digits_decimal, digits_value-decimal, decimal-digits_value}
 use Rattle.stack_base.specs.declared.ids.Status.{Status}
 use Rattle.stack_base.specs.declared.ids.Status.TheVariants as status
-use Rattle.task_core.specs.declared.event.Got.{Got}
-use Rattle.task_core.specs.declared.event.Got.TheVariants as got
-use Rattle.task_core.specs.declared.event.How.{How}
-use Rattle.task_core.specs.declared.event.How.TheVariants as how
-use Rattle.task_core.specs.declared.event.End.{End}
-use Rattle.task_core.specs.declared.event.End.TheVariants as end
+use Rattle.run_machine.specs.declared.event.Got.{Got}
+use Rattle.run_machine.specs.declared.event.Got.TheVariants as got
+use Rattle.run_machine.specs.declared.event.How.{How}
+use Rattle.run_machine.specs.declared.event.How.TheVariants as how
+use Rattle.run_machine.specs.declared.event.End.{End}
+use Rattle.run_machine.specs.declared.event.End.TheVariants as end
 use Rattle.trace_text.specs.declared.verb.Verb.{Verb}
 use Rattle.trace_text.specs.declared.verb.Verb.TheVariants as verb
 use Rattle.trace_text.specs.Lines.{status_word, got_word, how_word, end_word}

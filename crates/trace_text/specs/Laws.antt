@@ -2,7 +2,7 @@
 use Rattle.std.specs.Prelude.{◌≡◌, ◌&&◌, nat_le, nat_lt, ℕ, Bool, true, List, Option, None, Some}
 use Rattle.std.specs.List.{list_all}
 use Rattle.stack_base.specs.declared.stack.Stack.{Stack}
-use Rattle.task_core.specs.declared.event.Event.{Event}
+use Rattle.run_machine.specs.declared.event.Event.{Event}
 use Rattle.trace_text.specs.Names.{IsNamed}
 use Rattle.trace_text.specs.Lines.{Fits, IsEventOf, line_of}
 

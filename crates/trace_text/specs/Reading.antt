@@ -15,17 +15,17 @@ use Rattle.stack_base.specs.declared.ids.Status.TheVariants as status
 use Rattle.stack_base.specs.declared.stack.Kind.{Kind}
 use Rattle.stack_base.specs.declared.stack.Device.{Device}
 use Rattle.stack_base.specs.declared.stack.Stack.{Stack}
-use Rattle.task_core.specs.declared.event.TaskId.{TaskId}
-use Rattle.task_core.specs.declared.event.TaskId.TheVariants as task
-use Rattle.task_core.specs.declared.event.Got.{Got}
-use Rattle.task_core.specs.declared.event.Got.TheVariants as got
-use Rattle.task_core.specs.declared.event.How.{How}
-use Rattle.task_core.specs.declared.event.How.TheVariants as how
-use Rattle.task_core.specs.declared.event.End.{End}
-use Rattle.task_core.specs.declared.event.End.TheVariants as end
-use Rattle.task_core.specs.declared.event.What.{What}
-use Rattle.task_core.specs.declared.event.What.TheVariants as what
-use Rattle.task_core.specs.declared.event.Event.{Event}
+use Rattle.run_machine.specs.declared.event.TaskId.{TaskId}
+use Rattle.run_machine.specs.declared.event.TaskId.TheVariants as task
+use Rattle.run_machine.specs.declared.event.Got.{Got}
+use Rattle.run_machine.specs.declared.event.Got.TheVariants as got
+use Rattle.run_machine.specs.declared.event.How.{How}
+use Rattle.run_machine.specs.declared.event.How.TheVariants as how
+use Rattle.run_machine.specs.declared.event.End.{End}
+use Rattle.run_machine.specs.declared.event.End.TheVariants as end
+use Rattle.run_machine.specs.declared.event.What.{What}
+use Rattle.run_machine.specs.declared.event.What.TheVariants as what
+use Rattle.run_machine.specs.declared.event.Event.{Event}
 use Rattle.trace_text.specs.Names.{has_device, has_set, is_disk, is_mirror}
 use Rattle.trace_text.specs.Lines.{status_word, got_word, how_word, end_word}
 use Rattle.trace_text.specs.declared.verb.Verb.{Verb}

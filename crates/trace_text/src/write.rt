@@ -2,7 +2,7 @@
 ghost use Rattle.std.specs.Prelude.{◌≡◌, ◌+◌, ◌≤◌, ◌++◌, ◌∷◌, [], codes, decimal, length};
 ghost use Rattle.trace_text.specs.Lines.{end_word, how_word, line_of, status_word, name_of, pool_word, task_word, what_words};
 ghost use Rattle.trace_text.specs.Writing.{spaced};
-ghost use Rattle.task_core.specs.declared.event.What.TheVariants as what;
+ghost use Rattle.run_machine.specs.declared.event.What.TheVariants as what;
 
 use crate::verb::{end_word, got_word, how_word, status_word};
 use arrayvec::ArrayVec;

@@ -1,7 +1,7 @@
 -- What was said are the lines of the run, where there is a trace, and the report of what it left.
 use Rattle.std.proofs.Common.{◌++◌, sym, ap, subst, ◌∙◌}
 use Rattle.stack_base.specs.Stack.{HasRescuers}
-use Rattle.task_core.specs.Opened.{Scenario}
+use Rattle.run_machine.specs.Opened.{Scenario}
 use Rattle.block_core.specs.Runnable.{IsRunnable}
 use Rattle.report_text.specs.CheckText.{most_steps}
 use Rattle.report_text.specs.Report.{report}

@@ -2,7 +2,7 @@
 use Rattle.std.proofs.Common.{◌^◌, ◌<◌, List, length, true, sym, subst, ap, ◌∙◌, arith}
 use Rattle.layout_model.specs.declared.write.Write.{Write}
 use Rattle.stack_base.specs.Stack.{HasRescuers}
-use Rattle.task_core.specs.Opened.{Scenario}
+use Rattle.run_machine.specs.Opened.{Scenario}
 use Rattle.block_core.specs.Runnable.{IsRunnable}
 use Rattle.report_text.specs.CheckText.{most_steps}
 use Rattle.report_text.specs.Report.{gen_text}

@@ -1,7 +1,7 @@
 use Rattle.std.proofs.Common.{ℕ, subst}
 use Rattle.mempool_core.specs.Move.{gives}
-use Rattle.task_core.specs.declared.event.What.TheVariants as told
-use Rattle.task_core.specs.Events.{pool_of}
+use Rattle.run_machine.specs.declared.event.What.TheVariants as told
+use Rattle.run_machine.specs.Events.{pool_of}
 use Rattle.plain_core.specs.Told.{MovesAs}
 use Rattle.plain_core.proofs.Served as served
 use Rattle.plain_core.proofs.asks.give_vector.Goals as goal

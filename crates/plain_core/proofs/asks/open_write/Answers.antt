@@ -1,4 +1,4 @@
-use Rattle.task_core.specs.Requests.{Write}
+use Rattle.run_machine.specs.Requests.{Write}
 use Rattle.plain_core.proofs.Served as served
 use Rattle.plain_core.proofs.asks.open_write.Goals as goal
 

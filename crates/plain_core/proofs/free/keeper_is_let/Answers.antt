@@ -1,5 +1,5 @@
 use Rattle.std.proofs.Common.{◌≡◌, ◌+◌, ◌==◌, ◌∷◌, List, drop, sum, ap, sym, subst, ◌∙◌}
-use Rattle.task_core.specs.Tasks.{Duty}
+use Rattle.run_machine.specs.Tasks.{Duty}
 use Rattle.plain_core.proofs.Needed.{keeper_let}
 use Rattle.plain_core.proofs.free.keeper_is_let.Goals as goal
 

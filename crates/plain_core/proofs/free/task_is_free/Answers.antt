@@ -1,5 +1,5 @@
-use Rattle.task_core.specs.Routed.{setup}
-use Rattle.task_core.specs.Tasks.{request}
+use Rattle.task_steps.specs.Routed.{setup}
+use Rattle.run_machine.specs.Tasks.{request}
 use Rattle.plain_core.specs.Free.{CanFree, TaskIsLet}
 use Rattle.plain_core.specs.Views.{task_of}
 use Rattle.plain_core.proofs.Freed.{tells_free}

@@ -1,5 +1,5 @@
 use Rattle.std.proofs.Common.{◌≡◌, ◌+◌, ◌∷◌, List, drop, ap, sym, subst, ◌∙◌, nat_le}
-use Rattle.task_core.specs.Tasks.{Todo}
+use Rattle.run_machine.specs.Tasks.{Todo}
 use Rattle.plain_core.specs.Views.{taken_of, line_of}
 use Rattle.plain_core.proofs.Needed.{writer_let}
 use Rattle.plain_core.proofs.free.write_is_let.Goals as goal

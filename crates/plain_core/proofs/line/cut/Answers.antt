@@ -2,7 +2,7 @@ use Rattle.std.proofs.Common.{ap, ◌∙◌}
 use Rattle.bio_records.specs.declared.bio.Bio.{Bio}
 use Rattle.bio_records.specs.declared.bio.Pad.{Pad}
 use Rattle.bio_records.specs.Items.{Item}
-use Rattle.task_core.specs.Within.{IsWithin}
+use Rattle.task_steps.specs.Within.{IsWithin}
 use Rattle.plain_core.specs.Lists.{lists_of}
 use Rattle.plain_core.proofs.Places.{both_within, same_place}
 use Rattle.plain_core.proofs.line.cut.Goals as goal

@@ -1,6 +1,6 @@
 use Rattle.std.proofs.Common.{ap, ◌∙◌, subst, Ok}
 use Rattle.bio_records.specs.declared.bio.Bio.{Bio}
-use Rattle.task_core.specs.Lines.{legs_of}
+use Rattle.run_machine.specs.Lines.{legs_of}
 use Rattle.stack_base.specs.Tree.{tree}
 use Rattle.plain_core.specs.Views.{ask_of}
 use Rattle.plain_core.specs.Lists.{lists_of}

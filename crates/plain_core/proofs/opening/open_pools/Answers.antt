@@ -1,6 +1,6 @@
 use Rattle.std.proofs.Common.{ap, ◌∙◌}
 use Rattle.mempool_core.specs.Move.{opened}
-use Rattle.task_core.specs.Opened.{reserve_of}
+use Rattle.run_machine.specs.Opened.{reserve_of}
 use Rattle.plain_core.specs.Opening.{new_pool}
 use Rattle.plain_core.proofs.Counted.{mapped_more}
 use Rattle.plain_core.proofs.opening.open_pools.Goals as goal

@@ -1,7 +1,7 @@
 use Rattle.std.proofs.Common.{◌≡◌, ◌+◌, ◌∷◌, [], subst, arith}
 use Rattle.std.specs.List.{range_with_len}
-use Rattle.task_core.specs.Opened.{at}
-use Rattle.task_core.specs.Tasks.{Completer, Empty}
+use Rattle.run_machine.specs.Opened.{at}
+use Rattle.run_machine.specs.Tasks.{Completer, Empty}
 use Rattle.plain_core.specs.Opening.{Seats, completers_of, is_disk}
 use Rattle.plain_core.proofs.Counted.{chosen_more}
 use Rattle.plain_core.proofs.Seated.{seats_then}

@@ -1,8 +1,8 @@
 use Rattle.std.proofs.Common.{◌≡◌, ◌+◌, ◌∷◌, [], subst, arith}
 use Rattle.std.specs.List.{range_with_len}
-use Rattle.task_core.specs.Lines.{rests}
-use Rattle.task_core.specs.Opened.{at}
-use Rattle.task_core.specs.Tasks.{Rescuer}
+use Rattle.run_machine.specs.Lines.{rests}
+use Rattle.run_machine.specs.Opened.{at}
+use Rattle.run_machine.specs.Tasks.{Rescuer}
 use Rattle.plain_core.specs.Opening.{Seats, has_rescuer, rescuers_of}
 use Rattle.plain_core.proofs.Counted.{chosen_more}
 use Rattle.plain_core.proofs.Seated.{seats_then}

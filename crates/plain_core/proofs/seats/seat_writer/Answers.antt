@@ -1,7 +1,7 @@
 use Rattle.std.proofs.Common.{◌≡◌, ◌+◌, ◌<◌, ◌∙◌, sym, subst, length, [], ◌∷◌, OnOk, arith}
 use Rattle.std.specs.Prelude.{List}
 use Rattle.std.proofs.lemmas.Bool.Decides.{nat_tests}
-use Rattle.task_core.specs.Tasks.{TaskState, Writer, NoBio}
+use Rattle.run_machine.specs.Tasks.{TaskState, Writer, NoBio}
 use Rattle.plain_core.specs.Opening.{Seats, todos_by}
 use Rattle.plain_core.proofs.Opened.{is_nothing, no_writer, one_writer}
 use Rattle.plain_core.proofs.Seated.{seats_none}

@@ -1,7 +1,7 @@
 use Rattle.std.proofs.Common.{◌+◌, ◌∷◌, []}
 use Rattle.std.specs.List.{range_with_len}
-use Rattle.task_core.specs.Lines.{rests}
-use Rattle.task_core.specs.Tasks.{Writer, NoBio}
+use Rattle.run_machine.specs.Lines.{rests}
+use Rattle.run_machine.specs.Tasks.{Writer, NoBio}
 use Rattle.plain_core.specs.Opening.{has_write, todos_by, writers_of}
 use Rattle.plain_core.proofs.Counted.{chosen_more}
 use Rattle.plain_core.proofs.Seated.{seats_then}

@@ -1,8 +1,8 @@
 use Rattle.std.proofs.Common.{◌≡◌, true, false, ap, sym, ◌∙◌}
 use Rattle.mempool_core.specs.Move.{opened}
-use Rattle.task_core.specs.Events.{pool_of}
+use Rattle.run_machine.specs.Events.{pool_of}
 use Rattle.task_core.specs.Plains.{stage_of}
-use Rattle.task_core.specs.Stage.{is_pool}
+use Rattle.task_steps.specs.Stage.{is_pool}
 use Rattle.plain_core.proofs.Seen.{adds_up, no_pool_there, pool_is}
 use Rattle.plain_core.proofs.seen_objects.pool_seen.Goals as goal
 

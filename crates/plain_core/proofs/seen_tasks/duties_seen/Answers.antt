@@ -2,9 +2,9 @@ use Rattle.std.proofs.Common.{◌<◌, length, map, subst, arith}
 use Rattle.std.proofs.Math.ListN.{get_or-map}
 use Rattle.std.proofs.lemmas.List.{length-map}
 use Rattle.stack_base.specs.declared.ids.PoolId.TheVariants.{FsBios}
-use Rattle.task_core.specs.declared.keeper.Duty.{Duty}
-use Rattle.task_core.specs.declared.keeper.Duty.TheVariants.{Resizes}
-use Rattle.task_core.specs.KeeperViews.{duty_of}
+use Rattle.task_steps.specs.declared.keeper.Duty.{Duty}
+use Rattle.task_steps.specs.declared.keeper.Duty.TheVariants.{Resizes}
+use Rattle.task_steps.specs.KeeperViews.{duty_of}
 use Rattle.plain_core.specs.Seen.{IsOfPool}
 use Rattle.plain_core.proofs.seen_tasks.duties_seen.Goals as goal
 

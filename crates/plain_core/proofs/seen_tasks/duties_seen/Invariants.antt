@@ -1,5 +1,5 @@
 use Rattle.std.proofs.Common.{◌≡◌, map, take}
-use Rattle.task_core.specs.KeeperViews.{duty_of}
+use Rattle.task_steps.specs.KeeperViews.{duty_of}
 use Rattle.plain_core.proofs.seen_tasks.duties_seen.Given as goal
 
 abbrev pub invariant-seeing : goal.invariant-seeing

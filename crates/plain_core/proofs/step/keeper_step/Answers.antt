@@ -1,6 +1,6 @@
 use Rattle.std.proofs.Common.{◌≡◌, ◌+◌, ◌==◌, true, sum, drop, rules}
 use Rattle.plain_core.proofs.Tasks.{keeper_done}
-use Rattle.task_core.specs.Tasks.{later_of}
+use Rattle.run_machine.specs.Tasks.{later_of}
 use Rattle.plain_core.proofs.step.keeper_step.Goals as goal
 
 pub returns-in-Ok : goal.returns-in-Ok

@@ -1,6 +1,6 @@
 use Rattle.std.proofs.Common.{subst}
 use Rattle.stack_base.specs.declared.stack.Stack.{Stack}
-use Rattle.task_core.specs.Within.{IsWithin}
+use Rattle.task_steps.specs.Within.{IsWithin}
 use Rattle.plain_core.specs.Lists.{lists_of}
 use Rattle.plain_core.specs.Plain.{rescue_at}
 use Rattle.plain_core.specs.Views.{line_of, doing_of}

@@ -1,8 +1,8 @@
 use Rattle.std.proofs.Common.{◌≡◌, ◌+◌, drop, subst, ◌∙◌, None}
 use Rattle.bio_records.specs.Segments.{segments_of}
 use Rattle.bio_books.specs.Links.{Made}
-use Rattle.task_core.specs.Requests.{Link, Write, LinkedTo}
-use Rattle.task_core.specs.Tasks.{Todo, first_bio, filled_short}
+use Rattle.run_machine.specs.Requests.{Link, Write, LinkedTo}
+use Rattle.run_machine.specs.Tasks.{Todo, first_bio, filled_short}
 use Rattle.plain_core.specs.Views.{taken_of, line_of, writer_of}
 use Rattle.plain_core.specs.Steps.{IsAnswer}
 use Rattle.plain_core.proofs.Tasks.{short_begun}

@@ -1,7 +1,7 @@
 use Rattle.std.proofs.Common.{drop, sym, subst, ap, ◌∙◌, Ok}
 use Rattle.bio_records.specs.declared.bio.Pad.{Pad}
 use Rattle.bio_records.specs.Items.{Item}
-use Rattle.task_core.specs.Tasks as task
+use Rattle.run_machine.specs.Tasks as task
 use Rattle.plain_core.specs.Views.{taken_of, line_of, writer_of}
 use Rattle.plain_core.specs.Steps.{TakesVector, TaskMoves}
 use Rattle.plain_core.proofs.Tasks.{vector_taken, vector_missed}

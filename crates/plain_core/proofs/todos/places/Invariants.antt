@@ -1,5 +1,5 @@
 use Rattle.std.proofs.Common.{◌≡◌, ◌<◌, ℕ, length}
-use Rattle.task_core.specs.Routed.{places_at}
+use Rattle.task_steps.specs.Routed.{places_at}
 use Rattle.plain_core.specs.Opening.{nodes_of, todos_by}
 use Rattle.plain_core.proofs.todos.places.Given as goal
 

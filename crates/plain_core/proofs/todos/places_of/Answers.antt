@@ -1,8 +1,8 @@
 use Rattle.std.proofs.Common.{◌∙◌, ap, sym, subst, arith}
 use Rattle.std.specs.Prelude.{All}
 use Rattle.layout_model.specs.Writes.{IsWrite}
-use Rattle.task_core.specs.Opened.{is_by}
-use Rattle.task_core.specs.Tasks.{Todo}
+use Rattle.run_machine.specs.Opened.{is_by}
+use Rattle.run_machine.specs.Tasks.{Todo}
 use Rattle.plain_core.specs.Opening.{nodes_of}
 use Rattle.plain_core.proofs.Listed.{few_nodes, few_writes, served_by}
 use Rattle.plain_core.proofs.todos.places_of.Goals as goal

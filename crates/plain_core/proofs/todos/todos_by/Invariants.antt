@@ -1,6 +1,6 @@
 use Rattle.std.proofs.Common.{◌≡◌, ◌++◌, drop}
 use Rattle.std.specs.Prelude.{filter}
-use Rattle.task_core.specs.Opened.{is_by}
+use Rattle.run_machine.specs.Opened.{is_by}
 use Rattle.plain_core.specs.Opening.{listed, todos_by}
 use Rattle.plain_core.proofs.todos.todos_by.Given as goal
 

@@ -1,7 +1,7 @@
 use Rattle.std.proofs.Common.{◌-◌, sym, subst, arith}
 use Rattle.stack_base.specs.Stack.{IsStack}
 use Rattle.task_core.specs.Plains.{objects_of}
-use Rattle.task_core.specs.Routed.{Routing}
+use Rattle.task_steps.specs.Routed.{Routing}
 use Rattle.serial_run.proofs.Pools.{begins, has_room, one_more}
 use Rattle.serial_run.proofs.left.add_falling.Goals as goal
 

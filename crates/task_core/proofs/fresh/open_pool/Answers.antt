@@ -2,7 +2,7 @@ use Rattle.std.proofs.Common.{◌≡◌, ◌≤◌, ap, ◌∙◌, arith}
 use Rattle.stack_base.specs.PoolId.{pool_number}
 use Rattle.mempool_core.specs.Move.{opened}
 use Rattle.mempool_core.specs.Pool.{LedgerPool}
-use Rattle.task_core.specs.Opened.{script_at}
+use Rattle.run_machine.specs.Opened.{script_at}
 use Rattle.task_core.specs.Openings.{widest}
 use Rattle.task_core.proofs.NewPools.{widest_least}
 use Rattle.task_core.proofs.fresh.open_pool.Goals as goal

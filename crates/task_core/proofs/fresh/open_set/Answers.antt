@@ -2,10 +2,10 @@ use Rattle.std.proofs.Common.{◌≡◌, ◌<◌, inl, false, slice_set, length,
 use Rattle.stack_base.specs.declared.ids.PoolId.TheVariants.{Bios}
 use Rattle.stack_base.specs.declared.ids.SetId.TheVariants.{Of}
 use Rattle.stack_base.specs.declared.stack.Stack.{Stack}
-use Rattle.task_core.specs.Opened.{reserve_of}
+use Rattle.run_machine.specs.Opened.{reserve_of}
 use Rattle.task_core.specs.Openings.{IsOpenPool}
-use Rattle.task_core.specs.Routed.{setup}
-use Rattle.task_core.specs.Scene.{keeps_data}
+use Rattle.task_steps.specs.Routed.{setup}
+use Rattle.run_machine.specs.Scene.{keeps_data}
 use Rattle.task_core.proofs.NewPools.{set_used, reserve_is}
 use Rattle.task_core.proofs.fresh.open_set.Goals as goal
 

@@ -1,10 +1,10 @@
 use Rattle.std.proofs.Common.{◌≡◌, ◌<◌, inl, true, slice_set, length, refl, sym, ap, subst, ◌∙◌}
 use Rattle.stack_base.specs.declared.ids.PoolId.TheVariants.{Records}
 use Rattle.stack_base.specs.declared.stack.Stack.{Stack}
-use Rattle.task_core.specs.Opened.{reserve_of}
+use Rattle.run_machine.specs.Opened.{reserve_of}
 use Rattle.task_core.specs.Openings.{IsOpenPool}
-use Rattle.task_core.specs.Routed.{setup}
-use Rattle.task_core.specs.Scene.{is_mirror}
+use Rattle.task_steps.specs.Routed.{setup}
+use Rattle.run_machine.specs.Scene.{is_mirror}
 use Rattle.task_core.proofs.NewPools.{slips_used}
 use Rattle.task_core.proofs.fresh.open_slips.Goals as goal
 

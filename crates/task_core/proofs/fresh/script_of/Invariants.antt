@@ -1,5 +1,5 @@
 use Rattle.std.proofs.Common.{◌≡◌, drop}
-use Rattle.task_core.specs.Opened.{script_at}
+use Rattle.run_machine.specs.Opened.{script_at}
 use Rattle.task_core.proofs.fresh.script_of.Given as goal
 
 abbrev pub invariant-looking : goal.invariant-looking

@@ -3,7 +3,7 @@ use Rattle.std.specs.List.{range_with_len}
 use Rattle.task_core.specs.Leaving.{HasRoom}
 use Rattle.task_core.specs.NewTasks.{others_in, reserves_in, shown, tally_in, with_routing, writers_of}
 use Rattle.task_core.specs.Openings.{AreOpened}
-use Rattle.task_core.specs.Routed.{Routing, setup}
+use Rattle.task_steps.specs.Routed.{Routing, setup}
 use Rattle.task_core.proofs.Behind.{rounds_few}
 use Rattle.task_core.proofs.Opens.{opened_of}
 use Rattle.task_core.proofs.opened.open.Goals as goal

@@ -11,7 +11,7 @@ use Rattle.decl_text.specs.Accepting.{IsDeclaredSo}
 use Rattle.decl_text.specs.Fit.{IsFitStack}
 use Rattle.decl_text.proofs.Fits.{accepted_fit}
 use Rattle.task_core.specs.NewTasks.{in_round, reserves_in, rounds_in}
-use Rattle.task_core.specs.Opened.{at, reserve_of, script_at}
+use Rattle.run_machine.specs.Opened.{at, reserve_of, script_at}
 use Rattle.task_core.specs.Openings.{has_pool, uses_set, uses_slips}
 use Rattle.task_core.proofs.Behind.{bads_are, reserves_small, rounds_few, scripts_alone, scripts_small, sets_kept, slips_are_kept}
 use Rattle.task_core.proofs.opened.open_plain.Goals as goal

@@ -1,7 +1,7 @@
 use Rattle.std.proofs.Common.{◌≡◌, ◌++◌, map, take}
-use Rattle.task_core.specs.KeeperViews.{duty_of}
+use Rattle.task_steps.specs.KeeperViews.{duty_of}
 use Rattle.task_core.specs.NewTasks.{changes_at}
-use Rattle.task_core.specs.Scenario.{change_of}
+use Rattle.run_machine.specs.Scenario.{change_of}
 use Rattle.task_core.proofs.rounds.add_round.Given as goal
 
 abbrev pub invariant-changing : goal.invariant-changing

@@ -1,9 +1,9 @@
 use Rattle.std.proofs.Common.{◌≡◌, ◌+◌, ◌-◌, ◌++◌, ◌∷◌, [], ◌∙◌, ap, arith, length, map, slice_index_or, sym}
 use Rattle.std.proofs.lemmas.List.FromFn.{length-map-range_with_len}
-use Rattle.task_core.specs.KeeperViews.{duty_of}
+use Rattle.task_steps.specs.KeeperViews.{duty_of}
 use Rattle.task_core.specs.NewTasks.{changes_at, duties_in, from_round, in_round, rounds_in, starts_at}
-use Rattle.task_core.specs.Scenario.{change_of}
-use Rattle.task_core.specs.Tasks.{Starts}
+use Rattle.run_machine.specs.Scenario.{change_of}
+use Rattle.run_machine.specs.Tasks.{Starts}
 use Rattle.task_core.proofs.Rounding.{duties_more, from_first, from_next, left_at}
 use Rattle.task_core.proofs.rounds.duties_of.Goals as goal
 

@@ -1,5 +1,5 @@
 use Rattle.std.proofs.Common.{◌≡◌, map}
-use Rattle.task_core.specs.KeeperViews.{duty_of}
+use Rattle.task_steps.specs.KeeperViews.{duty_of}
 use Rattle.task_core.specs.NewTasks.{duties_in, from_round}
 use Rattle.task_core.proofs.rounds.duties_of.Given as goal
 

@@ -1,7 +1,7 @@
 use Rattle.std.proofs.Common.{◌<◌, ◌^◌, All, List, ap, subst, sym, ◌∙◌}
 use Rattle.layout_model.specs.Writes.{IsWrite}
 use Rattle.task_core.specs.NewTasks.{nodes_of, writer_with, Adds}
-use Rattle.task_core.specs.Tasks.{Todo}
+use Rattle.run_machine.specs.Tasks.{Todo}
 use Rattle.task_core.proofs.Sharing.{few_writes, share_few, share_served, writer_there}
 use Rattle.task_core.proofs.shares.open_writer.Goals as goal
 

@@ -1,6 +1,6 @@
-use Rattle.task_core.specs.Lines.{rests}
+use Rattle.run_machine.specs.Lines.{rests}
 use Rattle.task_core.specs.NewTasks.{is_writer, share_of, writers_of}
-use Rattle.task_core.specs.Tasks.{NoBio, Writer}
+use Rattle.run_machine.specs.Tasks.{NoBio, Writer}
 use Rattle.task_core.proofs.Sharing.{adds_more, kept_split, placed_more}
 use Rattle.task_core.proofs.shares.open_writers.Goals as goal
 

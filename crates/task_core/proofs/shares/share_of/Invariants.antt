@@ -1,6 +1,6 @@
 use Rattle.std.proofs.Common.{◌≡◌, filter, take}
 use Rattle.task_core.specs.NewTasks.{numbered}
-use Rattle.task_core.specs.Opened.{is_by}
+use Rattle.run_machine.specs.Opened.{is_by}
 use Rattle.task_core.proofs.shares.share_of.Given as goal
 
 abbrev pub invariant-sharing : goal.invariant-sharing

@@ -1,12 +1,12 @@
 use Rattle.std.proofs.Common.{◌++◌, ◌∷◌, [], ◌∙◌, Bool, ap, cond, map, sym}
 use Rattle.std.proofs.lemmas.List.{map-append}
-use Rattle.task_core.specs.declared.task.Kind.TheVariants as kind
-use Rattle.task_core.specs.Lines.{rests}
+use Rattle.task_steps.specs.declared.task.Kind.TheVariants as kind
+use Rattle.run_machine.specs.Lines.{rests}
 use Rattle.task_core.specs.NewTasks.{shown}
-use Rattle.task_core.specs.Opened.{at}
-use Rattle.task_core.specs.RescuerViews.{RescuerState, rescuer_task}
-use Rattle.task_core.specs.TaskViews.{task_of}
-use Rattle.task_core.specs.Tasks.{Rescuer}
+use Rattle.run_machine.specs.Opened.{at}
+use Rattle.task_steps.specs.RescuerViews.{RescuerState, rescuer_task}
+use Rattle.task_steps.specs.TaskViews.{task_of}
+use Rattle.run_machine.specs.Tasks.{Rescuer}
 use Rattle.task_core.proofs.tasks.add_rescuer.Goals as goal
 
 pub returns-in_ok-push : goal.returns-in_ok-push

@@ -1,8 +1,8 @@
 use Rattle.task_core.specs.NewTasks.{completers_of}
-use Rattle.task_core.specs.Opened.{at}
-use Rattle.task_core.specs.Routed.{setup}
-use Rattle.task_core.specs.Scene.{is_disk}
-use Rattle.task_core.specs.Tasks.{Completer, Empty}
+use Rattle.run_machine.specs.Opened.{at}
+use Rattle.task_steps.specs.Routed.{setup}
+use Rattle.run_machine.specs.Scene.{is_disk}
+use Rattle.run_machine.specs.Tasks.{Completer, Empty}
 use Rattle.task_core.proofs.Sharing.{adds_more, kept_split}
 use Rattle.task_core.proofs.tasks.open_completers.Goals as goal
 

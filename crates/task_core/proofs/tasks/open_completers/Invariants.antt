@@ -1,6 +1,6 @@
 use Rattle.std.specs.List.{range_with_len}
 use Rattle.task_core.specs.NewTasks.{completers_of, Adds}
-use Rattle.task_core.specs.Routed.{setup}
+use Rattle.task_steps.specs.Routed.{setup}
 use Rattle.task_core.proofs.tasks.open_completers.Given as goal
 
 abbrev pub invariant-opening : goal.invariant-opening

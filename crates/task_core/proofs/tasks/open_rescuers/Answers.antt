@@ -1,8 +1,8 @@
-use Rattle.task_core.specs.Lines.{rests}
+use Rattle.run_machine.specs.Lines.{rests}
 use Rattle.task_core.specs.NewTasks.{rescuers_of}
-use Rattle.task_core.specs.Opened.{at}
-use Rattle.task_core.specs.Routed.{setup}
-use Rattle.task_core.specs.Tasks.{Rescuer}
+use Rattle.run_machine.specs.Opened.{at}
+use Rattle.task_steps.specs.Routed.{setup}
+use Rattle.run_machine.specs.Tasks.{Rescuer}
 use Rattle.task_core.proofs.Sharing.{adds_more, kept_split}
 use Rattle.task_core.proofs.tasks.open_rescuers.Goals as goal
 

@@ -1,7 +1,7 @@
 use Rattle.std.proofs.Common.{◌≡◌, rules, sym, subst, []}
 use Rattle.std.specs.Prelude.{slice_index_or}
 use Rattle.std.proofs.lemmas.List.Elements.{All-drop}
-use Rattle.task_core.specs.Within.{AreWithin, IsItemWithin}
+use Rattle.task_steps.specs.Within.{AreWithin, IsItemWithin}
 use Rattle.plain_core.proofs.Places.{rescued}
 use Rattle.plain_core.proofs.objects.Objects.pop.Goals as goal
 

@@ -1,7 +1,7 @@
 use Rattle.std.proofs.Common.{◌≡◌, rules, sym, subst, []}
 use Rattle.std.specs.Prelude.{slice_index_or}
 use Rattle.std.proofs.lemmas.List.Elements.{All-append}
-use Rattle.task_core.specs.Within.{AreWithin, IsItemWithin, ListsAreWithin}
+use Rattle.task_steps.specs.Within.{AreWithin, IsItemWithin, ListsAreWithin}
 use Rattle.plain_core.specs.Lists.{lists_of}
 use Rattle.plain_core.specs.Plain.{Plain}
 use Rattle.plain_core.proofs.Places.{rescued, punted_within}

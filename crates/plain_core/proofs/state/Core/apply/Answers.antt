@@ -4,7 +4,7 @@ use Rattle.plain_core.specs.declared.task.Task.{Task}
 use Rattle.plain_core.specs.declared.fault.CoreFault.TheVariants as fault
 use Rattle.plain_core.specs.Views.{task_of}
 use Rattle.stack_base.specs.Stack.{IsStack}
-use Rattle.task_core.specs.Routed.{Routing}
+use Rattle.task_steps.specs.Routed.{Routing}
 use Rattle.plain_core.specs.Cores.{CoreState, IsPlace, HasNone, StepsAt, Applies}
 use Rattle.plain_core.proofs.Cores.{stepped, core_kept, applies_at, applies_none}
 use Rattle.plain_core.proofs.state.Core.apply.Goals as goal

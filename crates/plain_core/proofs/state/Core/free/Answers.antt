@@ -1,5 +1,5 @@
 use Rattle.std.proofs.Common.{◌≡◌, ◌<◌, ◌∙◌, ℕ, ap, sym, subst, length, refl, arith}
-use Rattle.task_core.specs.Events.{id_of}
+use Rattle.run_machine.specs.Events.{id_of}
 use Rattle.std.proofs.lemmas.List.{length-map}
 use Rattle.std.proofs.lemmas.Option.{same_Some, slice_get_read}
 use Rattle.plain_core.specs.Cores.{CoreState}

@@ -1,8 +1,8 @@
 use Rattle.std.proofs.Common.{ap, sym, ◌∙◌, List, map, subst}
 use Rattle.std.specs.Prelude.{All}
 use Rattle.task_core.specs.OfOne.{states}
-use Rattle.task_core.specs.TaskViews.{TaskOf}
-use Rattle.task_core.specs.Routed.{Routing}
+use Rattle.task_steps.specs.TaskViews.{TaskOf}
+use Rattle.task_steps.specs.Routed.{Routing}
 use Rattle.plain_core.specs.Seen.{IsFirst, Rises}
 use Rattle.plain_core.specs.Views.{task_of}
 use Rattle.plain_core.proofs.Risen.{firsts, risen}

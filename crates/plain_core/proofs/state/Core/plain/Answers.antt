@@ -1,6 +1,6 @@
 use Rattle.std.proofs.Common.{◌≡◌, ◌∙◌, ap, replicate, [], length, map, arith}
 use Rattle.stack_base.specs.declared.ids.Status.TheVariants as status
-use Rattle.task_core.specs.Routed.{Routing}
+use Rattle.task_steps.specs.Routed.{Routing}
 use Rattle.plain_core.specs.Opening.{counts_of, new_books, new_disks, new_pools, tasks_of}
 use Rattle.plain_core.specs.Plain.{Plain}
 use Rattle.plain_core.specs.Views.{task_of}

@@ -1,0 +1,77 @@
+-- Stacks that are written out for examples, and when a text says a scenario.
+use Rattle.std.proofs.Common.{◌≡◌, ◌≤◌, ◌^◌, ℕ, zero, suc, Bool, IsTrue, nat_lt, List, [], ◌∷◌, length, map, slice_get, None, Some, refl, subst, arith, false}
+use Rattle.std.proofs.lemmas.Bool.{ltb-true}
+use Rattle.std.proofs.lemmas.Option.{none-some, same_Some}
+use Rattle.std.specs.Global.{Global, Vec}
+use denote.RawPtr.{null_ptr}
+use Rattle.stack_base.specs.declared.stack.Kind.{Kind}
+use Rattle.stack_base.specs.declared.stack.Kind.TheVariants.{Disk}
+use Rattle.stack_base.specs.declared.stack.Device.{Device}
+use Rattle.stack_base.specs.declared.stack.Stack.{Stack}
+use Rattle.decl_text.specs.Known.{Resized}
+use Rattle.decl_text.specs.Accepting.{Means, bad_of}
+use Rattle.work_text.specs.Work.{written, last_round, kept_resizes}
+use Rattle.work_text.specs.Whole.{text_refusal, known_of_text}
+use Rattle.run_machine.specs.Opened.{Change, Scenario, at}
+
+pub itself : (n : ℕ) → n ≤ n
+itself n = omega arith
+
+module _ (memory : Global) where
+  -- a vector of these elements, which are few
+  abbrev pub vector : {X : Type 0} (items : List X) → IsTrue (nat_lt (length items) (2 ^ 63)) → Vec X
+  vector items few = record {
+    ptr = null_ptr;
+    len = length items;
+    cap = length items;
+    alloc = memory;
+    items = items;
+    ok = (refl, itself (length items));
+    small = ltb-true (length items) (2 ^ 63) few;
+  }
+
+  -- a device of this name over members of these numbers
+  abbrev pub device : List ℕ → Kind → List ℕ → ℕ → Bool → Device
+  device name kind members reserve rescuer = record {
+    name = record { bytes = name; spare = [] };
+    kind = kind;
+    members = record { items = map at members };
+    reserve = reserve;
+    rescuer = rescuer;
+  }
+
+  -- a disk without bad ranges
+  abbrev pub disk : List ℕ → ℕ → Device
+  disk name sectors = device name (Disk sectors (vector [] refl)) [] 0 false
+
+  -- these devices of these sizes, where the writers' pools have this reserve
+  abbrev pub stack_of : (devices : List Device) → IsTrue (nat_lt (length devices) (2 ^ 63)) → List ℕ → ℕ → Stack
+  stack_of devices few sizes reserve = record {
+    devices = vector devices few;
+    sizes = record { items = sizes };
+    fs_bios = reserve;
+    fs_vecs = reserve;
+  }
+
+-- a `resize` line as a change of a reserve
+abbrev pub change : Resized → Change
+change line = record { round = line.round; pool = line.pool; min = line.min }
+
+-- No line of the text is refused, and they say this scenario.
+pub record Says (text : List ℕ) (s : Scenario) : Type 0 where
+  pub right : text_refusal text ≡ None
+  pub means : Means (known_of_text text) s.stack s.scripts
+  pub writes : map written s.writes ≡ (known_of_text text).writes
+  pub rounds : s.rounds ≡ (known_of_text text).rounds
+  pub changes : s.changes ≡ map change (kept_resizes (last_round (known_of_text text).rounds) (known_of_text text).resizes)
+
+-- devices without bad ranges
+abbrev pub AreSound : List Device → Type 0
+AreSound [] = Unit {0}
+AreSound (device ∷ devices) = (bad_of device.kind ≡ []) × AreSound devices
+
+pub sound_at : (devices : List Device) → AreSound devices → (number : ℕ) (device : Device) → slice_get devices number ≡ Some device
+    → bad_of device.kind ≡ []
+sound_at [] are number device is = absurd (none-some device is)
+sound_at (first ∷ devices) are zero device is = subst (λ d. bad_of d.kind ≡ []) (same_Some first device is) are.0
+sound_at (first ∷ devices) are (suc number) device is = sound_at devices are.1 number device is

@@ -1,0 +1,12 @@
+pub mod Maps
+pub mod Scene
+pub mod Requests
+pub mod Kept
+pub mod Lines
+pub mod Tasks
+pub mod Objects
+pub mod Events
+pub mod Runs
+pub mod Opened
+pub mod Laws
+pub mod Scenario

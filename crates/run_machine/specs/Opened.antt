@@ -1,0 +1,145 @@
+-- The state in which the runs of a scenario begin.
+use Rattle.std.specs.Prelude.{◌+◌, ◌-◌, ◌==◌, ◌++◌, ℕ, Bool, true, nat_le, List, [], ◌∷◌, length, map, filter, find, fold, max, zip, replicate, sum_by, slice_get, slice_index_or, None}
+use Rattle.std.specs.List.{range_with_len, flat_map, list_any}
+use Rattle.std.specs.Option.{option_map_or}
+use Rattle.elem_ledger.specs.Ledger.{LedgerId}
+use Rattle.fail_script.specs.Script.{Answers, only_tail}
+use Rattle.stack_base.specs.declared.ids.DevId.{DevId}
+use Rattle.stack_base.specs.declared.ids.PoolId.{PoolId}
+use Rattle.stack_base.specs.declared.ids.PoolId.TheVariants.{FsBios, FsVecs, Bios, Records}
+use Rattle.stack_base.specs.declared.ids.Status.TheVariants as status
+use Rattle.stack_base.specs.declared.stack.Device.{Device}
+use Rattle.stack_base.specs.declared.stack.Kind.{Kind}
+use Rattle.stack_base.specs.declared.stack.Kind.TheVariants as kind
+use Rattle.stack_base.specs.declared.stack.Stack.{Stack}
+use Rattle.stack_base.specs.PoolId.{pool_number}
+use Rattle.stack_base.specs.Tree.{tree, size}
+use Rattle.layout_model.specs.declared.write.Write.{Write}
+use Rattle.layout_model.specs.May.{bads_of}
+use Rattle.layout_model.specs.Needs.{nodes}
+use Rattle.mempool_core.specs.Move.{opened}
+use Rattle.model_disks.specs.Moves as disk
+use Rattle.run_machine.specs.Scene.{Setup, Scene, setup_of, is_disk}
+use Rattle.run_machine.specs.Lines.{rests}
+use Rattle.run_machine.specs.Tasks.{Todo, NoBio, Empty, Duty, Resizes, Starts, Keeps, TaskState, Writer, Rescuer, Completer, Keeper}
+use Rattle.run_machine.specs.Objects.{Objects}
+use Rattle.run_machine.specs.Events.{pool_of}
+use Rattle.run_machine.specs.Runs.{State}
+
+-- a pool gets another reserve before the round of this number starts
+pub record Change : Type 0 where
+  pub round : ℕ
+  pub pool : PoolId
+  pub min : ℕ
+
+-- what an accepted text means: a stack, the script of each pool, the writes with the round of each, and the changes of reserves, in the order
+-- of their lines
+pub record Scenario : Type 0 where
+  pub stack : Stack
+  pub scripts : List (PoolId × Answers)
+  pub writes : List Write
+  pub rounds : List ℕ
+  pub changes : List Change
+
+-- the writes, each with its number and its round
+abbrev pub todos : Scenario → List Todo
+todos s = map (λ x. record { number = x.0; round = x.1.0; write = x.1.1 }) (zip (range_with_len 0 (length s.writes)) (zip s.rounds s.writes))
+
+abbrev pub is_by : ℕ → Todo → Bool
+is_by writer todo = todo.write.task == writer
+
+-- the writes of a writer, in the order of the text
+abbrev pub todos_of : Scenario → ℕ → List Todo
+todos_of s writer = filter (is_by writer) (todos s)
+
+-- the numbers of writers are below this, and a writer is there for each number that a write names
+abbrev pub most_writers : ℕ
+most_writers = 8
+
+abbrev pub writers : Scenario → List ℕ
+writers s = filter (λ writer. list_any (is_by writer) (todos s)) (range_with_len 0 most_writers)
+
+-- how many places the book of a writer has: one for each node that its writes open
+abbrev pub places_of : Scenario → ℕ → ℕ
+places_of s writer = sum_by (λ todo. nodes s.stack todo.write) (todos_of s writer)
+
+abbrev pub setup : Scenario → Setup
+setup s = setup_of s.stack (places_of s)
+
+-- how many rounds there are: the last one has a write, but where there is no write at all
+abbrev pub round_count : Scenario → ℕ
+round_count s = 1 + fold max 0 s.rounds
+
+-- how many writes a round has, and how many it has with all behind it
+abbrev pub writes_in : Scenario → ℕ → ℕ
+writes_in s round = length (filter (λ r. r == round) s.rounds)
+
+abbrev pub writes_from : Scenario → ℕ → ℕ
+writes_from s round = length (filter (λ r. nat_le round r) s.rounds)
+
+-- what the keeper does before a round and at its start
+abbrev pub duties_of : Scenario → ℕ → List Duty
+duties_of s round =
+    map (λ (change : Change). Resizes change.pool change.min (writes_from s round)) (filter (λ (change : Change). change.round == round) s.changes)
+    ++ Starts round (writes_from s round) ∷ []
+
+abbrev pub duties : Scenario → List Duty
+duties s = flat_map (duties_of s) (range_with_len 1 (round_count s - 1))
+
+-- there is a keeper where there is more than one round
+abbrev pub keepers : List Duty → List TaskState
+keepers [] = []
+keepers (duty ∷ duties) = Keeper (Keeps (duty ∷ duties)) ∷ []
+
+abbrev pub at : ℕ → DevId
+at dev = record { 0 = dev }
+
+-- the tasks in their order: writers, the rescuers of sets, the completers of disks, and the keeper
+abbrev pub tasks : Scenario → List TaskState
+tasks s =
+    map (λ writer. Writer writer (todos_of s writer) NoBio rests) (writers s)
+    ++ (map (λ dev. Rescuer (at dev) rests) (filter (setup s).rescuer (range_with_len 0 (setup s).count))
+    ++ (map (λ dev. Completer (at dev) Empty) (filter (is_disk (setup s)) (range_with_len 0 (setup s).count))
+    ++ keepers (duties s)))
+
+abbrev pub scene : Scenario → (ℕ → LedgerId) → Scene
+scene s ledger = record { setup = setup s; tasks = length (tasks s); books = most_writers; writes = length s.writes; ledger = ledger }
+
+-- the reserve of a pool
+abbrev pub records_of : Kind → ℕ
+records_of (kind.Mirror records) = records
+records_of kind = 0
+
+abbrev pub reserve_of : Stack → PoolId → ℕ
+reserve_of stack FsBios = stack.fs_bios
+reserve_of stack FsVecs = stack.fs_vecs
+reserve_of stack (Bios dev) = option_map_or (λ (device : Device). device.reserve) (slice_get stack.devices.items dev.0) 0
+reserve_of stack (Records dev) = option_map_or (λ (device : Device). records_of device.kind) (slice_get stack.devices.items dev.0) 0
+
+-- the script of a pool, which is told by its number
+abbrev pub is_numbered : ℕ → PoolId × Answers → Bool
+is_numbered number script = pool_number script.0 == number
+
+abbrev pub script_at : List (PoolId × Answers) → ℕ → Answers
+script_at scripts number = option_map_or (λ (script : PoolId × Answers). script.1) (find (is_numbered number) scripts) (only_tail true)
+
+-- pools are full, disks are zeros, nothing waits, no node is open and every write is unfinished
+abbrev pub objects : Scenario → Objects
+objects s = record {
+  pool = λ number. opened (reserve_of s.stack (pool_of number)) (script_at s.scripts number);
+  rescue = λ dev. [];
+  disk = λ dev. disk.opened (at dev) (size (tree s.stack dev)) (bads_of s.stack dev);
+  book = λ writer. record { writer = writer; nodes = replicate (places_of s writer) None };
+  tally = record {
+    round = 0;
+    left = map (writes_in s) (range_with_len 0 (round_count s));
+    statuses = replicate (length s.writes) status.Ok;
+  };
+}
+
+-- no task behind the last
+abbrev pub no_task : TaskState
+no_task = Keeper (Keeps [])
+
+abbrev pub start : Scenario → State
+start s = record { objects = objects s; task = λ place. slice_index_or (tasks s) place no_task }

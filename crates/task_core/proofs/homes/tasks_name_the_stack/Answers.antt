@@ -1,5 +1,0 @@
-use Rattle.task_core.proofs.Named.{tasks_name_the_stack}
-use Rattle.task_core.proofs.homes.tasks_name_the_stack.Goals as goal
-
-pub returns : goal.returns
-returns c = tasks_name_the_stack

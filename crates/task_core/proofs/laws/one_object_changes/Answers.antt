@@ -1,6 +1,0 @@
-use Rattle.task_core.proofs.Frames.{one_object_changes}
-use Rattle.task_core.proofs.laws.one_object_changes.Goals as goal
-
--- src/laws.rt
-pub returns : goal.returns
-returns c = one_object_changes

@@ -1,0 +1,73 @@
+-- An attempt at a bio for a piece or a leg is what its submission asks for.
+use Rattle.std.proofs.Common.{◌≡◌, ◌≢◌, ℕ, [], Bool, true, false, Option, Some, None, refl, sym, ap, subst}
+use Rattle.std.proofs.Common.{true≢false}
+use Rattle.std.specs.Option.{option_map_or}
+use Rattle.stack_base.specs.declared.ids.DevId.{DevId}
+use Rattle.stack_base.specs.declared.ids.SetId.TheVariants.{Of}
+use Rattle.bio_records.specs.declared.tasks.TaskLists.{TaskLists}
+use Rattle.run_machine.specs.declared.event.Breach.TheVariants as breach
+use Rattle.run_machine.specs.declared.event.TaskId.{TaskId}
+use Rattle.task_steps.specs.declared.step.Step.TheVariants.{Broken}
+use Rattle.run_machine.specs.Scene.{Setup}
+use Rattle.run_machine.specs.Requests.{Request, Reply, TakeBio, Spent}
+use Rattle.bio_records.specs.declared.bio.Bio.{Bio}
+use Rattle.bio_records.specs.declared.bio.Pad.{Pad}
+use Rattle.bio_records.specs.Items.{Item}
+use Rattle.run_machine.specs.Lines.{Want, Takes, Punts, Links, Ask, ToPush, ToCut, ToRecord, ToMaster, Doing, Rests, Drives, Copies, Breaks, want_kept, ask_kept, at_hand}
+use Rattle.task_steps.specs.LineViews.{attempt_of}
+use Rattle.task_steps.specs.Answers.{Answers, IsSpent}
+
+none_there : {A : Type 0} (there : A) → ◌≡◌ {A = Option A} None (Some there) → ⊥
+none_there {A = A} there none = true≢false (sym (ap (λ (o : Option A). option_map_or (λ (x : A). true) o false) none))
+
+same_there : {A : Type 0} (one there : A) → Some one ≡ Some there → one ≡ there
+same_there {A = A} one there same = ap (λ (o : Option A). option_map_or (λ (x : A). x) o there) same
+
+-- where a driver takes a bio, it has none at hand for a piece or a leg
+pub cuts_for_none : (bio : Item Pad) (ask : Ask) → attempt_of (Drives bio ask) ≢ None → ask_kept ask ≡ []
+cuts_for_none bio ToPush takes = absurd (takes refl)
+cuts_for_none bio (ToCut (Takes waits)) takes = refl
+cuts_for_none bio (ToCut Punts) takes = absurd (takes refl)
+cuts_for_none bio (ToCut (Links hand)) takes = absurd (takes refl)
+cuts_for_none bio ToRecord takes = absurd (takes refl)
+cuts_for_none bio (ToMaster slip) takes = absurd (takes refl)
+
+pub copies_for_none : (bio : Bio) (master leg : ℕ) (want : Want) → attempt_of (Copies bio master leg want) ≢ None → want_kept want ≡ []
+copies_for_none bio master leg (Takes waits) takes = refl
+copies_for_none bio master leg Punts takes = absurd (takes refl)
+copies_for_none bio master leg (Links hand) takes = absurd (takes refl)
+
+module _ {S : Type 0} (serves : S → Request → Reply → S → Type 0) (owes : Request → Reply → Type 0) (setup : Setup) (task : TaskId) where
+  -- where there was no ticket for an attempt, the submission has broken off
+  pub attempt_spent : (doing : Doing) (lists : TaskLists) (dev : DevId) (waits : Bool) (old new : S) → attempt_of doing ≡ Some (dev, waits)
+      → IsSpent serves owes (TakeBio (Of dev) waits) old new
+      → Answers serves owes setup task doing lists old (record { doing = Breaks breach.Spent (at_hand doing); lists = lists }) new (Broken breach.Spent)
+  attempt_spent (Drives bio (ToCut (Takes waiting))) lists dev waits old new attempts spent =
+      let same = same_there (bio.bio.dev, waiting) (dev, waits) attempts in
+      record {
+        reply = Spent;
+        replied = subst (λ (p : DevId × Bool). serves old (TakeBio (Of p.0) p.1) Spent new) (sym same) spent.0;
+        owed = subst (λ (p : DevId × Bool). owes (TakeBio (Of p.0) p.1) Spent) (sym same) spent.1;
+        found = refl;
+        goes_on = refl;
+        tells = refl;
+      }
+  attempt_spent (Copies bio master leg (Takes waiting)) lists dev waits old new attempts spent =
+      let same = same_there (bio.dev, waiting) (dev, waits) attempts in
+      record {
+        reply = Spent;
+        replied = subst (λ (p : DevId × Bool). serves old (TakeBio (Of p.0) p.1) Spent new) (sym same) spent.0;
+        owed = subst (λ (p : DevId × Bool). owes (TakeBio (Of p.0) p.1) Spent) (sym same) spent.1;
+        found = refl;
+        goes_on = refl;
+        tells = refl;
+      }
+  attempt_spent Rests lists dev waits old new attempts spent = absurd (none_there (dev, waits) attempts)
+  attempt_spent (Breaks why kept) lists dev waits old new attempts spent = absurd (none_there (dev, waits) attempts)
+  attempt_spent (Drives bio ToPush) lists dev waits old new attempts spent = absurd (none_there (dev, waits) attempts)
+  attempt_spent (Drives bio (ToCut Punts)) lists dev waits old new attempts spent = absurd (none_there (dev, waits) attempts)
+  attempt_spent (Drives bio (ToCut (Links hand))) lists dev waits old new attempts spent = absurd (none_there (dev, waits) attempts)
+  attempt_spent (Drives bio ToRecord) lists dev waits old new attempts spent = absurd (none_there (dev, waits) attempts)
+  attempt_spent (Drives bio (ToMaster slip)) lists dev waits old new attempts spent = absurd (none_there (dev, waits) attempts)
+  attempt_spent (Copies bio master leg Punts) lists dev waits old new attempts spent = absurd (none_there (dev, waits) attempts)
+  attempt_spent (Copies bio master leg (Links hand)) lists dev waits old new attempts spent = absurd (none_there (dev, waits) attempts)

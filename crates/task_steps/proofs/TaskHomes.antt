@@ -1,0 +1,219 @@
+-- Tasks of a scenario ask for what fits its objects, and stay such.
+use Rattle.std.proofs.Common.{◌==◌, ℕ, Bool, true, false, IsTrue, All, List, [], ◌∷◌, Option, None, Some, refl}
+use Rattle.std.proofs.lemmas.List.Elements.{All-head, All-tail, All-nil, All-cons}
+use Rattle.stack_base.specs.declared.ids.DevId.{DevId}
+use Rattle.stack_base.specs.declared.ids.PoolId.{PoolId}
+use Rattle.stack_base.specs.Stack.{IsStack}
+use Rattle.bio_records.specs.declared.bio.Pad.{Pad}
+use Rattle.bio_records.specs.Items.{Item}
+use Rattle.bio_books.specs.Books.{VectorItem, SlipItem}
+use Rattle.bio_books.specs.Drops.{Closed, Ended}
+use Rattle.bio_books.specs.Drops as end
+use Rattle.bio_books.specs.Links.{Linked, Made, NoRoom, Stray}
+use Rattle.run_machine.specs.declared.event.Breach.{Breach}
+use Rattle.run_machine.specs.declared.event.Breach.TheVariants as breach
+use Rattle.run_machine.specs.Kept.{Kept}
+use Rattle.run_machine.specs.Requests.{Reply, HadBio, HadVec, Popped, Completed, LinkedTo, DroppedTo, OutIs, Did, Spent}
+use Rattle.run_machine.specs.Lines.{Doing, Rests, Breaks, Line, settled, line_request, line_answered}
+use Rattle.run_machine.specs.Tasks.{Todo, Taken, NoBio, HasBio, HasBoth, besides, Carried, Empty, Brings, Carries, Fails, Duty, Resizes, Starts, Keeping, Keeps, Stops, TaskState, Writer, Rescuer, Completer, Keeper, needs_vector, filled, filled_short, with_bio, write_request, writer_request, rescuer_request, closed_request, carried_request, keeper_request, duty_request, request, begins, write_answered, writer_answered, rescuer_answered, given, after_drop, parent_or, carried_answered, after_resize, keeper_answered, answered}
+use Rattle.task_steps.specs.Routed.{setup}
+use Rattle.task_steps.specs.Within.{IsItemWithin}
+use Rattle.task_steps.specs.Stage.{Stage, has_book, is_vecs, IsHome, IsBioHome, IsVecHome, IsSlipHome, TopFits, DropFits, Fits, Owes, has_rescuer, has_disk}
+use Rattle.task_steps.specs.Homes.{IsOwned, IsLineOf, TodoFits, TakenIsHome, CarriedFits, DutyFits, KeepingFits, IsTaskOf, TasksStayHome}
+use Rattle.task_steps.proofs.LineHomes.{settled_home, line_asks, line_home}
+
+-- what a writer asks for outside of a submission
+with_bio_asks : (stage : Stage) (writer : ℕ) (needs : Bool) (todo : Todo) → IsTrue (has_book stage writer) → TodoFits stage todo
+    → Fits stage (with_bio writer needs todo)
+with_bio_asks stage writer true todo book fits = tt
+with_bio_asks stage writer false todo book fits = (book, (fits.number, tt))
+
+write_asks : (stage : Stage) (writer : ℕ) (todos : List Todo) (taken : Taken) → IsTrue (has_book stage writer) → All (TodoFits stage) todos
+    → TakenIsHome stage taken → Fits stage (write_request writer todos taken)
+write_asks stage writer [] taken book all home = tt
+write_asks stage writer (todo ∷ later) NoBio book all home = refl
+write_asks stage writer (todo ∷ later) (HasBio bio) book all home =
+    with_bio_asks stage writer (needs_vector todo.write) todo book (All-head (TodoFits stage) todo later all)
+write_asks stage writer (todo ∷ later) (HasBoth bio vector) book all home =
+    (book, ((All-head (TodoFits stage) todo later all).number, home.1))
+
+writer_asks : (stage : Stage) → IsStack stage.routing.stack → (writer : ℕ) (todos : List Todo) (taken : Taken) (doing : Doing) (line : Line)
+    → IsTrue (has_book stage writer) → All (TodoFits stage) todos → TakenIsHome stage taken
+    → Fits stage (line_request (setup stage.routing) doing line.lists)
+    → Fits stage (writer_request (setup stage.routing) writer todos taken doing line)
+writer_asks stage good writer todos taken Rests line book all home asks = write_asks stage writer todos taken book all home
+writer_asks stage good writer todos taken doing line book all home asks = asks
+
+rescuer_asks : (stage : Stage) (dev : DevId) (doing : Doing) (line : Line) → IsTrue (has_rescuer stage dev)
+    → Fits stage (line_request (setup stage.routing) doing line.lists) → Fits stage (rescuer_request (setup stage.routing) dev doing line)
+rescuer_asks stage dev Rests line rescuer asks = rescuer
+rescuer_asks stage dev doing line rescuer asks = asks
+
+closed_asks : (stage : Stage) (writer : ℕ) (closed : Closed) (vector : Option VectorItem) (bio : Option (Item Pad)) (slip : Option SlipItem)
+    (parent : Option ℕ) → IsTrue (has_book stage writer) → IsVecHome stage vector → IsBioHome stage bio → IsSlipHome stage slip
+    → TopFits stage closed.write parent → Fits stage (closed_request writer closed vector bio slip parent)
+closed_asks stage writer closed (Some vector) bio slip parent book v b s top = v
+closed_asks stage writer closed None (Some bio) slip parent book v b s top = b
+closed_asks stage writer closed None None (Some slip) parent book v b s top = s
+closed_asks stage writer closed None None None (Some parent) book v b s top = (book, tt)
+closed_asks stage writer closed None None None None book v b s top = top
+
+carried_asks : (stage : Stage) (disk : DevId) (carried : Carried) → IsTrue (has_disk stage disk) → CarriedFits stage carried
+    → Fits stage (carried_request disk carried)
+carried_asks stage disk Empty there fits = there
+carried_asks stage disk (Brings bio status) there fits = (fits.writer, fits.home)
+carried_asks stage disk (Carries writer closed) there fits =
+    closed_asks stage writer closed closed.held.vector closed.held.bio closed.held.slip closed.parent fits.0 fits.1.held.vector fits.1.held.bio fits.1.held.slip fits.1.top
+carried_asks stage disk (Fails breach kept) there fits = tt
+
+duty_asks : (stage : Stage) (duty : Duty) → DutyFits stage duty → Fits stage (duty_request duty)
+duty_asks stage (Resizes pool min later) fits = fits
+duty_asks stage (Starts round later) fits = tt
+
+keeper_asks : (stage : Stage) (keeping : Keeping) → KeepingFits stage keeping → Fits stage (keeper_request keeping)
+keeper_asks stage (Keeps []) fits = tt
+keeper_asks stage (Keeps (duty ∷ duties)) fits = duty_asks stage duty (All-head (DutyFits stage) duty duties fits)
+keeper_asks stage (Stops breach) fits = tt
+
+task_asks : (stage : Stage) (task : TaskState) → IsStack stage.routing.stack → IsTaskOf stage task → Fits stage (request (setup stage.routing) task)
+task_asks stage (Writer number todo taken line) good is =
+    let l = is.3 in
+    writer_asks stage good number todo taken line.doing line is.0 is.1 is.2
+    (line_asks stage good line.doing line.lists l.fits.doing l.doing l.fits.lists (l.list0, l.list1))
+task_asks stage (Rescuer dev line) good is =
+    let l = is.1 in
+    rescuer_asks stage dev line.doing line is.0 (line_asks stage good line.doing line.lists l.fits.doing l.doing l.fits.lists (l.list0, l.list1))
+task_asks stage (Completer disk carried) good is = carried_asks stage disk carried is.0 is.1
+task_asks stage (Keeper keeping) good is = keeper_asks stage keeping is
+
+module _ (stage : Stage) (good : IsStack stage.routing.stack) where
+  -- with these lists a submission broke off
+  broken : (line : Line) (breach : Breach) (kept : List Kept) → IsLineOf stage line → IsLineOf stage (record line { doing = Breaks breach kept })
+  broken line breach kept is = record { fits = record { doing = tt; lists = is.fits.lists }; doing = tt; list0 = is.list0; list1 = is.list1 }
+
+  one : (item : Item Pad) → IsItemWithin stage.routing.stack item → IsOwned stage item → IsLineOf stage (settled (setup stage.routing) (item ∷ []))
+  one item within owned =
+      settled_home stage good (item ∷ [])
+      (All-cons (IsItemWithin stage.routing.stack) item [] within (All-nil (IsItemWithin stage.routing.stack)))
+      (All-cons (IsOwned stage) item [] owned (All-nil (IsOwned stage)))
+
+  -- what is left of what was taken is at home
+  besides_home : (taken : Taken) → TakenIsHome stage taken → TakenIsHome stage (besides taken)
+  besides_home NoBio home = tt
+  besides_home (HasBio bio) home = home
+  besides_home (HasBoth bio vector) home = home.0
+
+  begins_home : (writer : ℕ) (later : List Todo) (bio : ℕ → Item Pad) (taken : Taken) (todo : Todo) (line : Line) (answer : Linked)
+      → IsTrue (has_book stage writer) → All (TodoFits stage) (todo ∷ later) → TakenIsHome stage taken → IsLineOf stage line
+      → ((node : ℕ) → IsItemWithin stage.routing.stack (bio node) × IsOwned stage (bio node))
+      → IsTaskOf stage (begins (setup stage.routing) writer later bio taken todo line answer)
+  begins_home writer later bio taken todo line (Made node) book all home is bios =
+      (book, All-tail (TodoFits stage) todo later all, tt, one (bio node) (bios node).0 (bios node).1)
+  begins_home writer later bio taken todo line (NoRoom back) book all home is bios = (book, all, besides_home taken home, broken line _ _ is)
+  begins_home writer later bio taken todo line (Stray back) book all home is bios = (book, all, besides_home taken home, broken line _ _ is)
+
+  write_home : (writer : ℕ) (todos : List Todo) (taken : Taken) (line : Line) (reply : Reply) → IsTrue (has_book stage writer)
+      → All (TodoFits stage) todos → TakenIsHome stage taken → IsLineOf stage line → Owes stage (write_request writer todos taken) reply
+      → IsTaskOf stage (write_answered (setup stage.routing) writer todos taken line reply)
+  write_home writer todos taken line Spent book all home is owes = (book, all, besides_home taken home, broken line breach.Spent _ is)
+  write_home writer (todo ∷ later) NoBio line (HadBio got bio) book all home is owes = (book, all, owes.home, is)
+  write_home writer (todo ∷ later) (HasBio bio) line (HadVec got vector) book all home is owes =
+      (book, all, (home, vec_home (needs_vector todo.write) owes), is)
+    where
+      vec_home : (needs : Bool) → Owes stage (with_bio writer needs todo) (HadVec got vector) → IsHome stage is_vecs vector.share
+      vec_home true owes = owes.home
+      vec_home false owes = absurd owes
+  write_home writer (todo ∷ later) (HasBio bio) line (LinkedTo answer) book all home is owes =
+      let w = (All-head (TodoFits stage) todo later all).write in
+      begins_home writer later (λ node. filled_short writer todo node bio) (HasBio bio) todo line answer book all home is
+      (λ node. (record { device = w.known; some = w.some; within = w.within }, record { writer = book; home = home }))
+  write_home writer (todo ∷ later) (HasBoth bio vector) line (LinkedTo answer) book all home is owes =
+      let w = (All-head (TodoFits stage) todo later all).write in
+      begins_home writer later (λ node. filled writer todo node bio) (HasBoth bio vector) todo line answer book all home is
+      (λ node. (record { device = w.known; some = w.some; within = w.within }, record { writer = book; home = home.0 }))
+  write_home writer todos taken line _ book all home is owes = (book, all, home, is)
+
+  writer_home : (writer : ℕ) (todos : List Todo) (taken : Taken) (doing : Doing) (line : Line) (reply : Reply) → IsTrue (has_book stage writer)
+      → All (TodoFits stage) todos → TakenIsHome stage taken → IsLineOf stage line
+      → (Owes stage (line_request (setup stage.routing) doing line.lists) reply
+      → IsLineOf stage (line_answered (setup stage.routing) doing line.lists reply))
+      → Owes stage (writer_request (setup stage.routing) writer todos taken doing line) reply
+      → IsTaskOf stage (writer_answered (setup stage.routing) writer todos taken doing line reply)
+  writer_home writer todos taken Rests line reply book all home is on owes = write_home writer todos taken line reply book all home is owes
+  writer_home writer todos taken doing line reply book all home is on owes = (book, all, home, on owes)
+
+  rescuer_home : (dev : DevId) (doing : Doing) (line : Line) (reply : Reply) → IsTrue (has_rescuer stage dev) → IsLineOf stage line
+      → (Owes stage (line_request (setup stage.routing) doing line.lists) reply
+      → IsLineOf stage (line_answered (setup stage.routing) doing line.lists reply))
+      → Owes stage (rescuer_request (setup stage.routing) dev doing line) reply
+      → IsTaskOf stage (rescuer_answered (setup stage.routing) dev doing line reply)
+  rescuer_home dev Rests line (Popped bio) rescuer is on owes =
+      (rescuer, one bio owes.within (record { writer = owes.writer; home = owes.home }))
+  rescuer_home dev Rests line Spent rescuer is on owes = (rescuer, broken line breach.Spent [] is)
+  rescuer_home dev Rests line _ rescuer is on owes = (rescuer, is)
+  rescuer_home dev doing line reply rescuer is on owes = (rescuer, on owes)
+
+  given_home : (writer : ℕ) (closed : Closed) (vector : Option VectorItem) (bio : Option (Item Pad)) (slip : Option SlipItem)
+      → IsTrue (has_book stage writer) → IsBioHome stage bio → IsSlipHome stage slip → TopFits stage closed.write closed.parent
+      → CarriedFits stage (given writer closed vector bio slip)
+  given_home writer closed (Some vector) bio slip book b s top = (book, record { held = record { bio = b; vector = tt; slip = s }; top = top })
+  given_home writer closed None (Some bio) slip book b s top = (book, record { held = record { bio = tt; vector = tt; slip = s }; top = top })
+  given_home writer closed None None (Some slip) book b s top = (book, record { held = record { bio = tt; vector = tt; slip = tt }; top = top })
+  given_home writer closed None None None book b s top = tt
+
+  dropped_home : (writer node : ℕ) (ended : Ended) → IsTrue (has_book stage writer) → DropFits stage ended → CarriedFits stage (after_drop writer node ended)
+  dropped_home writer node end.Left book fits = tt
+  dropped_home writer node (end.Up closed) book fits = (book, fits)
+  dropped_home writer node (end.Top closed) book fits = (book, fits)
+  dropped_home writer node (end.Stray part) book fits = tt
+
+  -- what a completer carries of a closed node
+  closed_home : (writer : ℕ) (closed : Closed) (vector : Option VectorItem) (bio : Option (Item Pad)) (slip : Option SlipItem) (parent : Option ℕ)
+      (ended : Ended) → IsTrue (has_book stage writer) → Owes stage (closed_request writer closed vector bio slip parent) (DroppedTo ended)
+      → CarriedFits stage (after_drop writer (parent_or closed.parent) ended)
+  closed_home writer closed (Some vector) bio slip parent ended book owes = absurd owes
+  closed_home writer closed None (Some bio) slip parent ended book owes = absurd owes
+  closed_home writer closed None None (Some slip) parent ended book owes = absurd owes
+  closed_home writer closed None None None (Some parent) ended book owes = dropped_home writer (parent_or closed.parent) ended book owes
+  closed_home writer closed None None None None ended book owes = absurd owes
+
+  carried_home : (disk : DevId) (carried : Carried) (reply : Reply) → CarriedFits stage carried → Owes stage (carried_request disk carried) reply
+      → CarriedFits stage (carried_answered carried reply)
+  carried_home disk carried Spent fits owes = tt
+  carried_home disk Empty (Completed index bio status) fits owes = record { writer = owes.0.writer; home = owes.0.home }
+  carried_home disk (Brings bio status) (DroppedTo ended) fits owes = dropped_home bio.bio.writer bio.bio.node ended fits.writer owes
+  carried_home disk (Carries writer closed) (DroppedTo ended) fits owes =
+      closed_home writer closed closed.held.vector closed.held.bio closed.held.slip closed.parent ended fits.0 owes
+  carried_home disk (Carries writer closed) Did fits owes =
+      given_home writer closed closed.held.vector closed.held.bio closed.held.slip fits.0 fits.1.held.bio fits.1.held.slip fits.1.top
+  carried_home disk carried _ fits owes = fits
+
+  resized_home : (b : Bool) (pool : PoolId) (out : ℕ) (duties : List Duty) → All (DutyFits stage) duties → KeepingFits stage (after_resize b pool out duties)
+  resized_home true pool out duties fits = fits
+  resized_home false pool out duties fits = tt
+
+  keeper_home : (keeping : Keeping) (reply : Reply) → KeepingFits stage keeping → KeepingFits stage (keeper_answered keeping reply)
+  keeper_home (Keeps (Resizes pool min later ∷ duties)) (OutIs out) fits =
+      resized_home (out == 0) pool out duties (All-tail (DutyFits stage) (Resizes pool min later) duties fits)
+  keeper_home (Keeps (Starts round later ∷ duties)) Did fits = All-tail (DutyFits stage) (Starts round later) duties fits
+  keeper_home (Keeps (duty ∷ duties)) Spent fits = tt
+  keeper_home keeping _ fits = fits
+
+  task_home : (task : TaskState) (reply : Reply) → IsTaskOf stage task → Owes stage (request (setup stage.routing) task) reply
+      → IsTaskOf stage (answered (setup stage.routing) task reply)
+  task_home (Writer number todo taken line) reply is owes =
+      let l = is.3 in
+      writer_home number todo taken line.doing line reply is.0 is.1 is.2 l
+      (λ owes. line_home stage good line.doing line.lists reply l.fits.doing l.doing l.fits.lists (l.list0, l.list1) owes) owes
+  task_home (Rescuer dev line) reply is owes =
+      let l = is.1 in
+      rescuer_home dev line.doing line reply is.0 l
+      (λ owes. line_home stage good line.doing line.lists reply l.fits.doing l.doing l.fits.lists (l.list0, l.list1) owes) owes
+  task_home (Completer disk carried) reply is owes = (is.0, carried_home disk carried reply is.1 owes)
+  task_home (Keeper keeping) reply is owes = keeper_home keeping reply is
+
+pub tasks_stay_home : TasksStayHome
+tasks_stay_home = record {
+  asks = λ stage task good is. task_asks stage task good is;
+  goes_on = λ stage task reply good is owes. task_home stage good task reply is owes;
+}

@@ -1,0 +1,40 @@
+use Rattle.std.proofs.Common.{◌≡◌, List, ◌∷◌, drop, sym, subst, arith}
+use Rattle.std.specs.Prelude.{All}
+use Rattle.task_steps.specs.declared.writing.Taken.{Taken}
+use Rattle.run_machine.specs.Lines.{Rests}
+use Rattle.run_machine.specs.Tasks.{Todo, TaskState, write_request}
+use Rattle.task_steps.specs.Routed.{setup}
+use Rattle.task_steps.specs.Stage.{Owes}
+use Rattle.task_steps.specs.Homes.{TodoFits}
+use Rattle.task_steps.specs.Turns.{Acts}
+use Rattle.task_steps.specs.WriterViews.{WriterState, writer_task, taken_of, next_of, WriteAnswers}
+use Rattle.task_steps.proofs.TurnLemmas.{write_acts}
+use Rattle.task_steps.proofs.writer.Writer.act.Goals as goal
+
+-- what it asks for its next write is what it asks for
+pub returns-clause-acts : goal.returns-clause-acts
+returns-clause-acts g c =
+    let serves = g.O.Objects.serves in
+    let owes = Owes (g.O.Objects.stage c.args.objects.now) in
+    let known = setup c.args.routes.now in
+    let w = c.self.inside in
+    let todo = c.args.todo.now in
+    let later = drop 1 w.todo in
+    let old = c.args.objects.now in
+    let new = c.go_on-next.new.objects in
+    let step = c.go_on-next.result.1 in
+    let after : TaskState = next_of c.go_on-next.result.0 w.number todo later c.go_on-next.new.line in
+    let rests = subst (λ (s : WriterState). s.line.doing ≡ Rests) (sym c.self.view_is) c.requires.rests in
+    let first = subst (λ (s : WriterState). s.todo ≡ todo ∷ drop 1 s.todo) (sym c.self.view_is) c.requires.first in
+    let answers =
+    subst (λ (taken : Taken). WriteAnswers serves owes known w.number (write_request w.number (todo ∷ later) (taken_of taken)) (todo ∷ later) (taken_of taken) w.line old after new step)
+    c.replace-taken.ensures.value (c.go_on-next.ensures.step later) in
+    subst (λ (next : TaskState). Acts serves owes known (writer_task c.args.self.now) old next new step) (sym (c.put.ensures todo first))
+    (subst (λ (s : WriterState). Acts serves owes known (writer_task s) old after new step) c.self.view_is
+    (write_acts serves owes known w.number w.todo (taken_of w.taken) w.line todo later old after new step rests first answers))
+
+-- its next write is the first of those that fit
+pub go_on-next-requires-clause-todo : goal.go_on-next-requires-clause-todo
+go_on-next-requires-clause-todo g c =
+    let fits : List Todo → Type 0 = All (TodoFits (g.O.Objects.stage c.args.objects.now)) in
+    subst fits c.requires.first c.requires.task.1 0 c.args.todo.now (omega arith)

@@ -1,0 +1,111 @@
+-- What a step of a submission does: the task's half of an event, with the reply that the objects gave.
+use Rattle.std.specs.Prelude.{◌≡◌, ◌-◌, ◌^◌, min, ℕ, Bool, true, false, List, length, map, Option, None, Some, Result, Ok, Err}
+use Rattle.stack_base.specs.declared.ids.DevId.{DevId}
+use Rattle.stack_base.specs.declared.ids.SetId.TheVariants.{Of}
+use Rattle.bio_records.specs.declared.tasks.TaskLists.{TaskLists}
+use Rattle.bio_books.specs.Links.{Made, NoRoom, Stray}
+use Rattle.run_machine.specs.declared.event.Breach.{Breach}
+use Rattle.run_machine.specs.declared.event.Breach.TheVariants as breach
+use Rattle.run_machine.specs.declared.event.TaskId.{TaskId}
+use Rattle.run_machine.specs.declared.event.What.TheVariants as what
+use Rattle.task_steps.specs.declared.line.HandedBack.{HandedBack}
+use Rattle.task_steps.specs.declared.line.Want.{Want as RealWant}
+use Rattle.task_steps.specs.declared.objects.Unmade.{Unmade}
+use Rattle.task_steps.specs.declared.objects.Unmade.TheVariants as unmade
+use Rattle.task_steps.specs.declared.step.Step.{Step}
+use Rattle.task_steps.specs.declared.step.Step.TheVariants.{Stepped}
+use Rattle.run_machine.specs.Scene.{Setup}
+use Rattle.run_machine.specs.Requests.{Request, Reply, Opening, TakeBio, Punt, Link, HadBio, Missed, Did, LinkedTo, Nothing, Spent}
+use Rattle.run_machine.specs.Lines.{Want, Links, Doing, Line, punted, not_punted, line_request, after_miss, line_answered}
+use Rattle.task_steps.specs.Turns.{named, step_of}
+use Rattle.run_machine.specs.Kept.{Kept, KeptBio, holding_kept, opening_kept}
+use Rattle.task_steps.specs.LineViews.{want_of, unmade_kept, back_kept}
+use Rattle.task_steps.specs.Routed.{Routing, setup}
+use Rattle.task_steps.specs.Stage.{Stage, Fits, Owes}
+
+-- a reply that is no look which found nothing
+abbrev pub finds : Reply → Bool
+finds Nothing = false
+finds reply = true
+
+-- The objects were asked for what the submission asks for, it goes on with their reply, for which they owe what they do, and the step tells it.
+pub record Answers {S : Type 0} (serves : S → Request → Reply → S → Type 0) (owes : Request → Reply → Type 0) (setup : Setup) (task : TaskId)
+    (doing : Doing) (lists : TaskLists) (old : S) (next : Line) (new : S) (step : Step) : Type 0 where
+  pub reply : Reply
+  pub replied : serves old (line_request setup doing lists) reply new
+  pub owed : owes (line_request setup doing lists) reply
+  pub found : finds reply ≡ true
+  pub goes_on : next ≡ line_answered setup doing lists reply
+  pub tells : step ≡ step_of setup task (line_request setup doing lists) reply
+
+-- the objects hold together, and may be asked this
+abbrev pub Ready : {S : Type 0} → (S → Type 0) → (S → Stage) → S → Request → Type 0
+Ready holds stage objects request = holds objects × Fits (stage objects) request
+
+-- a step of a submission over these objects, which hold together behind it too
+pub record Does {S : Type 0} (holds : S → Type 0) (stage : S → Stage) (serves : S → Request → Reply → S → Type 0) (routing : Routing) (task : TaskId)
+    (doing : Doing) (lists : TaskLists) (old : S) (next : Line) (new : S) (step : Step) : Type 0 where
+  pub answers : Answers serves (Owes (stage old)) (setup routing) task doing lists old next new step
+  pub held : holds new
+  pub same : stage new ≡ stage old
+
+-- what is wanted behind an attempt at a bio: what was had is linked, and a miss is followed by what follows it
+abbrev pub WantsOn : Bool → Reply → Want → Type 0
+WantsOn waits (HadBio got hand) want = want ≡ Links hand
+WantsOn waits (Missed used) want = want ≡ after_miss waits
+WantsOn waits reply want = ⊥
+
+pub record Attempts {S : Type 0} (serves : S → Request → Reply → S → Type 0) (owes : Request → Reply → Type 0) (task : TaskId) (dev : DevId)
+    (waits : Bool) (old : S) (want : Want) (new : S) (step : Step) : Type 0 where
+  pub reply : Reply
+  pub replied : serves old (TakeBio (Of dev) waits) reply new
+  pub owed : owes (TakeBio (Of dev) waits) reply
+  pub wants : WantsOn waits reply want
+  pub tells : (setup : Setup) → step ≡ step_of setup task (TakeBio (Of dev) waits) reply
+
+-- there was no ticket for a call
+abbrev pub IsSpent : {S : Type 0} → (S → Request → Reply → S → Type 0) → (Request → Reply → Type 0) → Request → S → S → Type 0
+IsSpent serves owes asked old new = serves old asked Spent new × owes asked Spent
+
+-- an attempt at a bio of a device's set
+abbrev pub Attempted : {S : Type 0} → (S → Request → Reply → S → Type 0) → (Request → Reply → Type 0) → TaskId → DevId → Bool → S → S
+    → Result (RealWant × Step) Unmade → Type 0
+Attempted serves owes task dev waits old new (Ok made) = Attempts serves owes task dev waits old (want_of made.0) new made.1
+Attempted serves owes task dev waits old new (Err back) = IsSpent serves owes (TakeBio (Of dev) waits) old new × (back ≡ unmade.Nothing)
+
+-- the bios of a device's set go from these lists to its rescuer
+abbrev pub PuntedAll : {S : Type 0} → (S → Request → Reply → S → Type 0) → (Request → Reply → Type 0) → TaskId → DevId → TaskLists → S → TaskLists → S
+    → Result Step Unmade → Type 0
+PuntedAll serves owes task dev lists old after new (Ok step) =
+    serves old (Punt dev (punted dev lists)) Did new × owes (Punt dev (punted dev lists)) Did × (after ≡ not_punted dev lists)
+    × (step ≡ Stepped (record { task = task; what = what.Punt dev (min (length (punted dev lists)) (2 ^ 64 - 1)) }))
+PuntedAll serves owes task dev lists old after new (Err back) =
+    IsSpent serves owes (Punt dev (punted dev lists)) old new × (after ≡ not_punted dev lists) × (unmade_kept back ≡ map KeptBio (punted dev lists))
+
+-- why no node was opened, where none was
+abbrev pub refusal : Setup → ℕ → Opening → Reply → Option Breach
+refusal setup writer opening Spent = Some breach.Spent
+refusal setup writer opening (LinkedTo (NoRoom back)) = Some (breach.NoRoom writer (setup.places writer))
+refusal setup writer opening (LinkedTo (Stray back)) = Some (breach.Stray writer (named opening))
+refusal setup writer opening reply = None
+
+-- what comes back of what was handed over for a node that was not opened
+abbrev pub came_back : Opening → Reply → List Kept
+came_back opening (LinkedTo (NoRoom back)) = holding_kept back
+came_back opening (LinkedTo (Stray back)) = holding_kept back
+came_back opening reply = opening_kept opening
+
+pub record IsRefused {S : Type 0} (serves : S → Request → Reply → S → Type 0) (owes : Request → Reply → Type 0) (setup : Setup) (writer : ℕ)
+    (opening : Opening) (old : S) (breach : Breach) (handed : HandedBack) (new : S) : Type 0 where
+  pub reply : Reply
+  pub replied : serves old (Link writer opening) reply new
+  pub owed : owes (Link writer opening) reply
+  pub refused : refusal setup writer opening reply ≡ Some breach
+  pub back : back_kept handed ≡ came_back opening reply
+
+-- a node is opened, or is not
+abbrev pub NodeOpened : {S : Type 0} → (S → Request → Reply → S → Type 0) → (Request → Reply → Type 0) → Setup → ℕ → Opening → S → S
+    → Result ℕ (Breach × HandedBack) → Type 0
+NodeOpened serves owes setup writer opening old new (Ok node) =
+    serves old (Link writer opening) (LinkedTo (Made node)) new × owes (Link writer opening) (LinkedTo (Made node))
+NodeOpened serves owes setup writer opening old new (Err refused) = IsRefused serves owes setup writer opening old refused.0 refused.1 new

@@ -1,0 +1,15 @@
+-- The keeper, as its definitions have it.
+use Rattle.std.specs.Prelude.{List, Option, None, Some}
+use Rattle.run_machine.specs.declared.event.Breach.{Breach}
+use Rattle.task_steps.specs.declared.keeper.Duty as real
+use Rattle.task_steps.specs.declared.keeper.Duty.TheVariants as duty
+use Rattle.run_machine.specs.Tasks.{Duty, Resizes, Starts, Keeping, Keeps, Stops}
+
+abbrev pub duty_of : real.Duty → Duty
+duty_of (duty.Resizes pool min later) = Resizes pool min later
+duty_of (duty.Starts round later) = Starts round later
+
+-- a keeper with these duties, which may have broken off
+abbrev pub keeping_of : Option Breach → List Duty → Keeping
+keeping_of None duties = Keeps duties
+keeping_of (Some breach) duties = Stops breach

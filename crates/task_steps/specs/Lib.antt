@@ -1,0 +1,15 @@
+pub mod Choosing
+pub mod Within
+pub mod Routed
+pub mod Stage
+pub mod Homes
+pub mod Views
+pub mod Turns
+pub mod CarriedViews
+pub mod KeeperViews
+pub mod LineViews
+pub mod Answers
+pub mod WriterViews
+pub mod RescuerViews
+pub mod TaskViews
+pub mod Named

@@ -1,0 +1,117 @@
+-- What calls of the objects are handed and answer, without its boxes: as requests and replies.
+use Rattle.std.specs.Prelude.{◌≡◌, ◌⊎◌, ℕ, Option, None, Some, Result, Ok, Err}
+use Rattle.elem_ledger.specs.declared.element.Element.{Element}
+use Rattle.mempool_core.specs.declared.Taken.{Taken}
+use Rattle.mempool_core.specs.declared.Taken.TheVariants as taken
+use Rattle.bio_records.specs.declared.bio.Pad.{Pad}
+use Rattle.bio_records.specs.declared.bio.Slip.{Slip}
+use Rattle.bio_records.specs.declared.segment.Vector.{Vector}
+use Rattle.bio_records.specs.declared.body.BioBody.{BioBody}
+use Rattle.bio_records.specs.Items.{item_of, IsAlone}
+use Rattle.bio_books.specs.Books.{VectorItem}
+use Rattle.bio_books.specs.Views.{vector_of, slip_item, linked_of, ended_of, IsAlonePart, IsLinkAlone, IsDroppedAlone}
+use Rattle.bio_books.specs.declared.book.Link.{Link}
+use Rattle.bio_books.specs.declared.book.Dropped.{Dropped}
+use Rattle.model_disks.specs.declared.disk.Done.{Done as DoneBio}
+use Rattle.run_machine.specs.declared.event.Got.TheVariants as got
+use Rattle.task_steps.specs.declared.objects.Ask.{Ask}
+use Rattle.task_steps.specs.declared.objects.Ask.TheVariants as ask
+use Rattle.task_steps.specs.declared.objects.Unmade.{Unmade}
+use Rattle.task_steps.specs.declared.objects.Unmade.TheVariants as unmade
+use Rattle.task_steps.specs.Choosing.{IsAsked}
+use Rattle.run_machine.specs.Requests.{Reply, Opening, Write, Chain, Master, Leg, HadBio, HadVec, HadSlip, Missed, Did, Popped, Completed, LinkedTo, DroppedTo, OutIs, Nothing, Spent}
+
+abbrev pub vec_item : Element Vector → VectorItem
+vec_item element = record { segments = element.body.value.segments.items; share = element.share }
+
+abbrev pub opening_of : Ask → Opening
+opening_of (ask.Write write vector) = Write write (vector_of vector)
+opening_of (ask.Chain parent) = Chain parent
+opening_of (ask.Master parent part slip legs) = Master parent (item_of part) (slip_item slip) legs
+opening_of (ask.Leg master) = Leg master
+
+-- the bio that is handed over, if one is, is in no list
+abbrev pub IsAskAlone : Ask → Type 0
+IsAskAlone (ask.Write write vector) = Unit {0}
+IsAskAlone (ask.Chain parent) = Unit {0}
+IsAskAlone (ask.Master parent part slip legs) = IsAlone part
+IsAskAlone (ask.Leg master) = Unit {0}
+
+abbrev pub took_bio : Result (Taken (BioBody Pad)) Unmade → Reply
+took_bio (Ok (taken.Ordinary element)) = HadBio got.Ordinary (item_of element)
+took_bio (Ok (taken.Spare element)) = HadBio got.Spare (item_of element)
+took_bio (Ok (taken.Miss used)) = Missed used
+took_bio (Err back) = Spent
+
+abbrev pub took_vec : Result (Taken Vector) Unmade → Reply
+took_vec (Ok (taken.Ordinary element)) = HadVec got.Ordinary (vec_item element)
+took_vec (Ok (taken.Spare element)) = HadVec got.Spare (vec_item element)
+took_vec (Ok (taken.Miss used)) = Missed used
+took_vec (Err back) = Spent
+
+abbrev pub took_slip : Result (Taken Slip) Unmade → Reply
+took_slip (Ok (taken.Ordinary element)) = HadSlip got.Ordinary (slip_item element)
+took_slip (Ok (taken.Spare element)) = HadSlip got.Spare (slip_item element)
+took_slip (Ok (taken.Miss used)) = Missed used
+took_slip (Err back) = Spent
+
+-- an element that was had has a body like this
+abbrev pub TookClear : {P : Type 0} → (P → Type 0) → Result (Taken P) Unmade → Type 0
+TookClear is_clear (Ok (taken.Ordinary element)) = is_clear element.body.value
+TookClear is_clear (Ok (taken.Spare element)) = is_clear element.body.value
+TookClear is_clear (Ok (taken.Miss used)) = Unit {0}
+TookClear is_clear (Err back) = Unit {0}
+
+abbrev pub did : Result (Unit {0}) Unmade → Reply
+did (Ok done) = Did
+did (Err back) = Spent
+
+abbrev pub popped : Result (Option (Element (BioBody Pad))) Unmade → Reply
+popped (Ok None) = Nothing
+popped (Ok (Some element)) = Popped (item_of element)
+popped (Err back) = Spent
+
+abbrev pub PoppedAlone : Result (Option (Element (BioBody Pad))) Unmade → Type 0
+PoppedAlone (Ok part) = IsAlonePart part
+PoppedAlone (Err back) = Unit {0}
+
+abbrev pub completed : Result (Option (ℕ × DoneBio)) Unmade → Reply
+completed (Ok None) = Nothing
+completed (Ok (Some done)) = Completed done.0 (item_of done.1.el) done.1.status
+completed (Err back) = Spent
+
+abbrev pub CompletedAlone : Result (Option (ℕ × DoneBio)) Unmade → Type 0
+CompletedAlone (Ok None) = Unit {0}
+CompletedAlone (Ok (Some done)) = IsAlone done.1.el
+CompletedAlone (Err back) = Unit {0}
+
+-- A chooser is asked where a bio was completed. Where none was, it stays, or it was asked for one that had gone before the disk was asked again.
+abbrev pub Choice : {C : Type 0} → (C → ℕ → ℕ → C → Type 0) → (ℕ → ℕ → Option ℕ → Type 0) → C → Reply → C → Type 0
+Choice chooses picks old (Completed index bio status) new = IsAsked chooses picks old (Some index) new
+Choice chooses picks old Nothing new = (new ≡ old) ⊎ IsAsked chooses picks old None new
+Choice chooses picks old reply new = Unit {0}
+
+abbrev pub linked : Result Link Unmade → Reply
+linked (Ok answer) = LinkedTo (linked_of answer)
+linked (Err back) = Spent
+
+abbrev pub LinkedAlone : Result Link Unmade → Type 0
+LinkedAlone (Ok answer) = IsLinkAlone answer
+LinkedAlone (Err back) = Unit {0}
+
+abbrev pub dropped : Result Dropped Unmade → Reply
+dropped (Ok answer) = DroppedTo (ended_of answer)
+dropped (Err back) = Spent
+
+abbrev pub DroppedAlone : Result Dropped Unmade → Type 0
+DroppedAlone (Ok answer) = IsDroppedAlone answer
+DroppedAlone (Err back) = Unit {0}
+
+-- what is handed back of a part that came with an end
+abbrev pub unmade_part : Option (Element (BioBody Pad)) → Unmade
+unmade_part None = unmade.Nothing
+unmade_part (Some element) = unmade.Bio element
+
+abbrev pub resized : Result ℕ Unmade → Reply
+resized (Ok out) = OutIs out
+resized (Err back) = Spent

@@ -1,0 +1,100 @@
+-- A writer outside of its submissions, without its boxes, and what its steps do there.
+use Rattle.std.specs.Prelude.{◌≡◌, ℕ, Bool, true, false, List, [], ◌∷◌, Option, None, Some, Result, Ok, Err}
+use Rattle.bio_records.specs.Items.{item_of, IsAlone}
+use Rattle.bio_books.specs.Links.{Made, NoRoom, Stray}
+use Rattle.run_machine.specs.declared.event.Breach.TheVariants as breach
+use Rattle.run_machine.specs.declared.event.TaskId.TheVariants as id
+use Rattle.task_steps.specs.declared.step.Step.{Step}
+use Rattle.task_steps.specs.declared.writing.Taken.{Taken as RealTaken}
+use Rattle.task_steps.specs.declared.writing.Taken.TheVariants as taken
+use Rattle.task_steps.specs.declared.writing.Attempt.{Attempt}
+use Rattle.task_steps.specs.declared.writing.Attempt.TheVariants as attempt
+use Rattle.task_steps.specs.declared.writing.Next.{Next}
+use Rattle.task_steps.specs.declared.writing.Next.TheVariants as next
+use Rattle.run_machine.specs.Scene.{Setup}
+use Rattle.run_machine.specs.Requests.{Request, Reply, Opening, Link, LinkedTo, Spent}
+use Rattle.run_machine.specs.Kept.{opening_kept}
+use Rattle.run_machine.specs.Lines.{Breaks, Line, refused}
+use Rattle.run_machine.specs.Tasks.{Todo, Taken, NoBio, HasBio, HasBoth, TaskState, Writer, write_answered}
+use Rattle.task_steps.specs.Turns.{step_of}
+use Rattle.task_steps.specs.Views.{vec_item}
+use Rattle.task_steps.specs.Answers.{finds}
+
+-- a writer: its number, the writes that it has still to begin, what it has taken for the first of them, and its submission
+pub record WriterState : Type 0 where
+  pub number : ℕ
+  pub todo : List Todo
+  pub taken : Taken
+  pub line : Line
+
+abbrev pub writer_task : WriterState → TaskState
+writer_task w = Writer w.number w.todo w.taken w.line
+
+-- what it has taken
+abbrev pub taken_of : RealTaken → Taken
+taken_of taken.NoBio = NoBio
+taken_of (taken.HasBio bio) = HasBio (item_of bio)
+taken_of (taken.HasBoth bio vector) = HasBoth (item_of bio) (vec_item vector)
+
+abbrev pub IsTakenAlone : RealTaken → Type 0
+IsTakenAlone taken.NoBio = Unit {0}
+IsTakenAlone (taken.HasBio bio) = IsAlone bio
+IsTakenAlone (taken.HasBoth bio vector) = IsAlone bio
+
+-- what an attempt at the bio of a write makes of a writer
+abbrev pub tried : Attempt → ℕ → List Todo → Line → TaskState
+tried (attempt.Had bio) number todo line = Writer number todo (HasBio (item_of bio)) line
+tried attempt.Missed number todo line = Writer number todo NoBio line
+tried attempt.Spent number todo line = Writer number todo NoBio (record line { doing = Breaks breach.Spent [] })
+
+abbrev pub IsAttemptAtBioAlone : Attempt → Type 0
+IsAttemptAtBioAlone (attempt.Had bio) = IsAlone bio
+IsAttemptAtBioAlone attempt.Missed = Unit {0}
+IsAttemptAtBioAlone attempt.Spent = Unit {0}
+
+-- what a step makes of a writer that was to begin a write
+abbrev pub next_of : Next → ℕ → Todo → List Todo → Line → TaskState
+next_of next.Begins number todo later line = Writer number later NoBio line
+next_of (next.Waits taken) number todo later line = Writer number (todo ∷ later) (taken_of taken) line
+
+abbrev pub IsNextAlone : Next → Type 0
+IsNextAlone next.Begins = Unit {0}
+IsNextAlone (next.Waits taken) = IsTakenAlone taken
+
+-- a writer outside of a submission has asked the objects for this, and goes on with their reply
+pub record WriteAnswers {S : Type 0} (serves : S → Request → Reply → S → Type 0) (owes : Request → Reply → Type 0) (setup : Setup) (number : ℕ)
+    (asked : Request) (todo : List Todo) (taken : Taken) (line : Line) (old : S) (next : TaskState) (new : S) (step : Step) : Type 0 where
+  pub reply : Reply
+  pub replied : serves old asked reply new
+  pub owed : owes asked reply
+  pub found : finds reply ≡ true
+  pub goes_on : next ≡ write_answered setup number todo taken line reply
+  pub tells : step ≡ step_of setup (id.Writer number) asked reply
+
+-- the line of a writer that was refused the node of a write, for which this was handed over
+abbrev pub refused_line : Setup → ℕ → Opening → Line → Reply → Option Line
+refused_line setup number opening line Spent = Some (record line { doing = Breaks breach.Spent (opening_kept opening) })
+refused_line setup number opening line (LinkedTo (NoRoom back)) = Some (record line { doing = refused setup number 0 [] (NoRoom back) })
+refused_line setup number opening line (LinkedTo (Stray back)) = Some (record line { doing = refused setup number 0 [] (Stray back) })
+refused_line setup number opening line reply = None
+
+pub record IsRefusedWrite {S : Type 0} (serves : S → Request → Reply → S → Type 0) (owes : Request → Reply → Type 0) (setup : Setup) (number : ℕ)
+    (opening : Opening) (line : Line) (old : S) (after : Line) (new : S) (step : Step) : Type 0 where
+  pub reply : Reply
+  pub replied : serves old (Link number opening) reply new
+  pub owed : owes (Link number opening) reply
+  pub refused : refused_line setup number opening line reply ≡ Some after
+  pub tells : step ≡ step_of setup (id.Writer number) (Link number opening) reply
+
+-- the node of a write is opened, or is not
+abbrev pub WriteOpened : {S : Type 0} → (S → Request → Reply → S → Type 0) → (Request → Reply → Type 0) → Setup → ℕ → Opening → Line → S → Line → S
+    → Result ℕ Step → Type 0
+WriteOpened serves owes setup number opening line old after new (Ok node) =
+    serves old (Link number opening) (LinkedTo (Made node)) new × owes (Link number opening) (LinkedTo (Made node)) × (after ≡ line)
+WriteOpened serves owes setup number opening line old after new (Err step) = IsRefusedWrite serves owes setup number opening line old after new step
+
+-- whether it has taken a bio
+abbrev pub is_taken : Taken → Bool
+is_taken NoBio = false
+is_taken (HasBio bio) = true
+is_taken (HasBoth bio vector) = true

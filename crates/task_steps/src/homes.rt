@@ -1,0 +1,19 @@
+//! What holds of tasks whose bios can be served and whose elements are at home, as functions that do nothing.
+ghost use Rattle.task_steps.specs.Homes.{LinesStayHome, TasksStayHome};
+ghost use Rattle.task_steps.specs.Named.{TasksNameTheStack};
+
+/// What a submission asks for fits the objects where each of its bios can be served, and with what objects owe for their replies it stays so:
+/// no element is lost to another pool.
+pub fn lines_stay_home()
+    ensures { LinesStayHome }
+{}
+
+/// So it is with each task of the scenario that the objects are of.
+pub fn tasks_stay_home()
+    ensures { TasksStayHome }
+{}
+
+/// Whatever is told of such a task names devices, disks and pools that the stack has.
+pub fn tasks_name_the_stack()
+    ensures { TasksNameTheStack }
+{}

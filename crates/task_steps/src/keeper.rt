@@ -1,0 +1,172 @@
+//! The keeper of the rounds: it changes reserves between them, and starts them.
+ghost use Rattle.std.specs.Prelude.{◌≡◌, ◌+◌, [], ◌∷◌, ℕ, List, Some, MatchOption, map, drop};
+ghost use Rattle.run_machine.specs.declared.event.Breach.TheVariants as Breach';
+ghost use Rattle.run_machine.specs.declared.event.TaskId.TheVariants as TaskId';
+ghost use Rattle.task_steps.specs.declared.step.Step.TheVariants as Step';
+ghost use Rattle.run_machine.specs.Requests.{NextRound, Resize};
+ghost use Rattle.run_machine.specs.Tasks.{Duty as DutyState, Keeper as Keeping', Keeps, Resizes, Starts, later_of};
+ghost use Rattle.task_steps.specs.Routed.{setup};
+ghost use Rattle.task_steps.specs.Stage.{Fits, Owes};
+ghost use Rattle.task_steps.specs.Homes.{DutyFits, IsTaskOf};
+ghost use Rattle.task_steps.specs.Turns.{Acts, Asks, Turns};
+ghost use Rattle.task_steps.specs.KeeperViews.{duty_of, keeping_of};
+
+use run_machine::{Breach, Event, TaskId, What};
+use crate::objects::{Objects, Unmade};
+use crate::step::Step;
+use stack_base::PoolId;
+use std::marker::Model;
+
+/// What the keeper does between two rounds. `later` is how many writes there are of the round that starts next and of those behind it: none
+/// but these is unfinished when it may be done.
+#[derive(Clone, Copy)]
+pub enum Duty {
+    /// A pool gets another reserve (`mempool_resize`, `mm/mempool.c`).
+    Resizes { pool: PoolId, min: u32, later: u32 },
+    /// The round of this number starts.
+    Starts { round: u32, later: u32 },
+}
+
+/// The keeper, with what it has still to do.
+#[derive(Drop)]
+pub struct Keeper {
+    duties: Vec<Duty>,
+    // The place of the next one.
+    next: usize,
+    broken: Option<Breach>,
+}
+
+impl Model for Keeper {
+    ghost use Rattle.std.specs.Prelude.{map, drop};
+    ghost use Rattle.run_machine.specs.Tasks.{Keeping};
+    ghost use Rattle.task_steps.specs.KeeperViews.{duty_of, keeping_of};
+
+    ghost Value = { Keeping };
+
+    ghost view = { λ k. keeping_of k.broken (map duty_of (drop k.next k.duties.items)) };
+}
+
+// The event that the keeper has done this.
+fn keeps(what: What) -> Step
+    ensures { result ≡ Step'.Stepped (record { task = TaskId'.Keeper; what = what }) }
+{
+    Step::Stepped(Event {
+        task: TaskId::Keeper,
+        what,
+    })
+}
+
+// The tally or a pool had no ticket for a call, which was handed nothing.
+fn spent(nothing: Unmade) -> (Option<Breach>, Step)
+    ensures { result ≡ (Some Breach'.Spent, Step'.Broken Breach'.Spent) }
+{
+    drop(nothing);
+    (Some(Breach::Spent), Step::Broken(Breach::Spent))
+}
+
+// Sets the reserve of a pool. It answers why the keeper cannot go on, where it cannot.
+fn resize<O: Objects>(objects: &mut O, pool: PoolId, min: u32) -> (Option<Breach>, Step)
+    requires holds { O.holds objects.old }
+    requires fits { Fits (O.stage objects.old) (Resize pool min) }
+    ensures asks { (later : ℕ) (duties : List DutyState) → Asks O.serves (Owes (O.stage objects.old)) (setup (O.stage objects.old).routing) (Resize pool min)
+        (Keeping' (Keeps (Resizes pool min later ∷ duties))) objects.old (Keeping' (keeping_of result.0 duties)) objects.new result.1 }
+    ensures kept { O.holds objects.new × (O.stage objects.new ≡ O.stage objects.old) }
+{
+    match objects.resize(pool, min) {
+        Ok(0) => (None, keeps(What::Resize { pool, min })),
+        Ok(out) => {
+            let breach = Breach::Out { pool, out };
+            (Some(breach), Step::Broken(breach))
+        }
+        Err(nothing) => spent(nothing),
+    }
+}
+
+// Starts the round of this number. It answers why the keeper cannot go on, where it cannot.
+fn start<O: Objects>(objects: &mut O, round: u32) -> (Option<Breach>, Step)
+    requires holds { O.holds objects.old }
+    ensures asks { (later : ℕ) (duties : List DutyState) → Asks O.serves (Owes (O.stage objects.old)) (setup (O.stage objects.old).routing) (NextRound round)
+        (Keeping' (Keeps (Starts round later ∷ duties))) objects.old (Keeping' (keeping_of result.0 duties)) objects.new result.1 }
+    ensures kept { O.holds objects.new × (O.stage objects.new ≡ O.stage objects.old) }
+{
+    match objects.next_round() {
+        Ok(()) => (None, keeps(What::Round { round })),
+        Err(nothing) => spent(nothing),
+    }
+}
+
+impl Duty {
+    // How many writes there are of the round that starts next and of those behind it.
+    fn later(self) -> u32
+        ensures { result ≡ later_of (duty_of self) }
+    {
+        match self {
+            Duty::Resizes { later, .. } | Duty::Starts { later, .. } => later,
+        }
+    }
+
+    // Does it. It answers why the keeper cannot go on, where it cannot.
+    fn attend<O: Objects>(self, objects: &mut O) -> (Option<Breach>, Step)
+        requires holds { O.holds objects.old }
+        requires fits { DutyFits (O.stage objects.old) (duty_of self) }
+        ensures acts { (duties : List DutyState) → Acts O.serves (Owes (O.stage objects.old)) (setup (O.stage objects.old).routing)
+            (Keeping' (Keeps (duty_of self ∷ duties))) objects.old (Keeping' (keeping_of result.0 duties)) objects.new result.1 }
+        ensures kept { O.holds objects.new × (O.stage objects.new ≡ O.stage objects.old) }
+    {
+        match self {
+            Duty::Resizes { pool, min, .. } => resize(objects, pool, min),
+            Duty::Starts { round, .. } => start(objects, round),
+        }
+    }
+}
+
+// The duty at a place, if there is one.
+#[tactic(auto, using(crate::proofs::KeeperLemmas::duty_there, crate::proofs::KeeperLemmas::duties_over))]
+fn duty_at(duties: &[Duty], next: usize) -> Option<Duty>
+    ensures { MatchOption result (map duty_of (drop next duties.now) ≡ [])
+        (λ duty. map duty_of (drop next duties.now) ≡ duty_of duty ∷ map duty_of (drop (next + 1) duties.now)) }
+{
+    duties.get(next).copied()
+}
+
+impl Keeper {
+    /// A keeper that does this, in its order.
+    pub fn new(duties: Vec<Duty>) -> Keeper
+        ensures { result ≡ Keeps (map duty_of duties.items) }
+    {
+        Keeper {
+            duties,
+            next: 0,
+            broken: None,
+        }
+    }
+
+    /// What it has still to do, in this order. Of a keeper that has broken off nothing is said.
+    pub fn duties(&self) -> &[Duty]
+        ensures { (duties : List DutyState) → self.now ≡ Keeps duties → map duty_of result.now ≡ duties }
+    {
+        self.duties.get(self.next..).unwrap_or(&[])
+    }
+
+    /// A step of the keeper: it looks at the number of unfinished writes, and does what is next where none is left of the rounds so far.
+    pub fn step<O: Objects>(&mut self, objects: &mut O) -> Step
+        requires holds { O.holds objects.old }
+        requires fits { IsTaskOf (O.stage objects.old) (Keeping' self.old) }
+        ensures turns { Turns O.serves (Owes (O.stage objects.old)) (setup (O.stage objects.old).routing) (Keeping' self.old) objects.old (Keeping' self.new) objects.new result }
+        ensures kept { O.holds objects.new × (O.stage objects.new ≡ O.stage objects.old) }
+    {
+        if let Some(breach) = self.broken {
+            return Step::Broken(breach);
+        }
+        let Some(duty) = duty_at(&self.duties, self.next) else {
+            return Step::Ended;
+        };
+        if objects.left() != duty.later() {
+            return Step::Waiting;
+        }
+        let (broken, step) = duty.attend(objects);
+        self.next += 1;
+        self.broken = broken;
+        step
+    }
+}

@@ -1,0 +1,98 @@
+//! Rescuers: each submits the bios of a device's set that were punted (`bio_alloc_rescue`, `block/bio.c`).
+ghost use Rattle.std.specs.Prelude.{◌≡◌, true};
+ghost use Rattle.run_machine.specs.Requests.{Pop};
+ghost use Rattle.run_machine.specs.Lines.{Rests, rests};
+ghost use Rattle.task_steps.specs.Routed.{setup};
+ghost use Rattle.task_steps.specs.Stage.{Fits, Owes};
+ghost use Rattle.task_steps.specs.Homes.{IsTaskOf};
+ghost use Rattle.task_steps.specs.Turns.{Turns};
+ghost use Rattle.task_steps.specs.RescuerViews.{rescuer_task, PopAnswers};
+
+use crate::calls::idle;
+use run_machine::{Breach, Event, TaskId, What};
+use crate::line::{Kept, Line};
+use crate::objects::Objects;
+use crate::routes::Routes;
+use crate::step::Step;
+use stack_base::DevId;
+use std::marker::Model;
+
+/// The rescuer of a device's set.
+#[derive(Drop)]
+pub struct Rescuer {
+    dev: DevId,
+    line: Line,
+}
+
+impl Model for Rescuer {
+    ghost use Rattle.task_steps.specs.RescuerViews.{RescuerState};
+
+    ghost Value = { RescuerState };
+
+    ghost view = { λ r. record { dev = r.dev; line = r.line } };
+}
+
+impl Rescuer {
+    /// The rescuer of this device's set.
+    pub fn new(dev: DevId) -> Rescuer
+        ensures { result ≡ record { dev = dev; line = rests } }
+    {
+        Rescuer {
+            dev,
+            line: Line::rests(),
+        }
+    }
+
+    /// Whose set it is of.
+    pub fn dev(&self) -> DevId
+        ensures { result ≡ self.now.dev }
+    {
+        self.dev
+    }
+
+    // Submits the first bio that waits for it. Where none does, it has ended if no write is unfinished, and nothing moves.
+    fn pop<O: Objects>(&mut self, objects: &mut O, routes: &Routes) -> Step
+        requires holds { O.holds objects.old }
+        requires routing { (O.stage objects.old).routing ≡ routes.now }
+        requires rests { self.old.line.doing ≡ Rests }
+        requires fits { Fits (O.stage objects.old) (Pop self.old.dev) }
+        ensures step { PopAnswers O.serves (Owes (O.stage objects.old)) (setup routes.now) self.old.dev self.old.line objects.old self.new.line objects.new result }
+        ensures dev { self.new.dev ≡ self.old.dev }
+        ensures kept { O.holds objects.new × (O.stage objects.new ≡ O.stage objects.old) }
+    {
+        let dev = self.dev;
+        match objects.pop(dev) {
+            Ok(Some(bio)) => {
+                self.line.becomes(Line::begin(routes, bio));
+                let task = TaskId::Rescuer(dev);
+                let what = What::Pop { dev };
+                Step::Stepped(Event { task, what })
+            }
+            Ok(None) => idle(objects.left()),
+            Err(nothing) => {
+                drop(nothing);
+                self.line.breaks(Breach::Spent, Kept::nothing());
+                Step::Broken(Breach::Spent)
+            }
+        }
+    }
+
+    /// Its next step: it asks one object once, for what its submission needs or for the next bio that waits for it, and goes on with the
+    /// reply. Where none waits, it also looks at how many writes are unfinished.
+    pub fn step<O: Objects>(&mut self, objects: &mut O, routes: &Routes) -> Step
+        requires holds { O.holds objects.old }
+        requires routing { (O.stage objects.old).routing ≡ routes.now }
+        requires task { IsTaskOf (O.stage objects.old) (rescuer_task self.old) }
+        ensures turn { Turns O.serves (Owes (O.stage objects.old)) (setup routes.now) (rescuer_task self.old) objects.old (rescuer_task self.new) objects.new result }
+        ensures kept { O.holds objects.new × (O.stage objects.new ≡ O.stage objects.old) }
+    {
+        if self.line.asks() {
+            let task = TaskId::Rescuer(self.dev);
+            return self.line.step(objects, routes, task);
+        }
+        if let Some(breach) = self.line.breach() {
+            return Step::Broken(breach);
+        }
+        self.pop(objects, routes)
+    }
+}

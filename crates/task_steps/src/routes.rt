@@ -1,0 +1,345 @@
+//! The devices and drivers of a stack, as tasks see them: where a bio comes to, and what becomes of it there.
+ghost use Rattle.std.specs.Prelude.{◌≡◌, ◌+◌, ◌<◌, ◌≤◌, true, length, slice_get, IfOk, MatchOption, Some};
+ghost use Rattle.stack_base.specs.declared.stack.Device.{Device as Devices};
+ghost use Rattle.stack_base.specs.Mapping.{smallest};
+ghost use Rattle.stack_base.specs.Stack.{IsStack};
+ghost use Rattle.stack_base.specs.Tree.{tree};
+ghost use Rattle.run_machine.specs.Scene.{tree_at};
+ghost use Rattle.run_machine.specs.Lines.{first_waits, landed, legs_of};
+ghost use Rattle.task_steps.specs.Within.{IsWithin, is_cut};
+ghost use Rattle.task_steps.specs.Routed.{setup, IsDriver, IsRoute, IsRouteOf, IsManner, map_of, MapHas, IsFirstPiece, manner_by, legs_by, IsLegBy, IsFirst, HasNoFirst, IsBelow, Stays, IsLanded, IsCutAt, IsLegAt};
+
+use arrayvec::ArrayVec;
+use bio_records::{Bio, Pad, TaskLists, Waits};
+use limit_split::Limit;
+use linear_map::Linear;
+use mirror_map::Mirror;
+use stack_base::{DevId, Device, Kind, MapLaw, Piece, Range, SetId, Stack};
+use std::alloc::{AllocError, Global};
+use std::marker::Model;
+use std::snapshot::Snapshot;
+use stripe_map::Stripe;
+use zoned_map::Zoned;
+
+/// The driver of a device.
+#[derive(Drop)]
+pub enum Driver {
+    /// A disk's, which keeps the data.
+    Disk,
+    /// Of members one behind the other (`drivers/md/md-linear.c`).
+    Linear(Linear),
+    /// Of chunks that go round (`drivers/md/raid0.c`).
+    Stripe(Stripe),
+    /// Of chunks that go round members of any sizes, in zones (`drivers/md/raid0.c`).
+    Zoned(Zoned),
+    /// Of pieces of limited length (`block/blk-merge.c`).
+    Limit(Limit),
+    /// Of members that each have a copy (`drivers/md/raid1.c`).
+    Mirror(Mirror),
+}
+
+impl Driver {
+    // The first piece of the run of `len` sectors from `start` on, where the driver is one that cuts.
+    fn piece(&self, start: u64, len: u64) -> Option<Piece>
+        requires some { 1 ≤ len }
+        requires within { MapHas (map_of self.now) (start + len) }
+        ensures { IsFirstPiece (map_of self.now) start len result }
+    {
+        match self {
+            Driver::Linear(map) => Some(map.piece(start, len)),
+            Driver::Stripe(map) => Some(map.piece(start, len)),
+            Driver::Zoned(map) => Some(map.piece(start, len)),
+            Driver::Limit(map) => Some(map.piece(start, len)),
+            Driver::Disk | Driver::Mirror(_) => None,
+        }
+    }
+
+    // What it does with a bio that it does not hand on.
+    fn manner(&self) -> Manner
+        ensures { result ≡ manner_by self.now }
+    {
+        match self {
+            Driver::Disk => Manner::Keeps,
+            Driver::Mirror(_) => Manner::Copies,
+            Driver::Linear(_) | Driver::Stripe(_) | Driver::Zoned(_) | Driver::Limit(_) =>
+                Manner::Cuts,
+        }
+    }
+
+    // How many legs a bio has.
+    fn legs(&self) -> u32
+        ensures { result ≡ legs_by self.now }
+    {
+        match self {
+            Driver::Mirror(mirror) => mirror.legs(),
+            Driver::Disk
+            | Driver::Linear(_)
+            | Driver::Stripe(_)
+            | Driver::Zoned(_)
+            | Driver::Limit(_) => 0,
+        }
+    }
+
+    // A leg of a bio.
+    fn leg(&self, bio: &Bio, leg: u32, node: u32) -> (Bio, Pad)
+        requires { leg < legs_by self.now }
+        ensures { IsLegBy self.now bio.now leg node result }
+    {
+        match self {
+            Driver::Mirror(mirror) => mirror.clone_for(bio, leg, SetId::Of(bio.dev), node),
+            Driver::Disk
+            | Driver::Linear(_)
+            | Driver::Stripe(_)
+            | Driver::Zoned(_)
+            | Driver::Limit(_) => unreachable!(),
+        }
+    }
+}
+
+/// What a device does with a bio that it does not hand on as it is.
+#[derive(Clone, Copy)]
+pub enum Manner {
+    /// It keeps the data, as a disk does.
+    Keeps,
+    /// It cuts the bio in two (`bio_split`, `block/bio.c`).
+    Cuts,
+    /// It gives each member a copy (`raid1_write_request`, `drivers/md/raid1.c`).
+    Copies,
+}
+
+/// The first piece of a bio at a device that cuts it.
+#[derive(Clone, Copy)]
+pub struct Cut {
+    /// How many sectors it has.
+    pub sectors: u64,
+    /// The member that it goes to.
+    pub dev: DevId,
+    /// Its first sector there.
+    pub start: u64,
+}
+
+// What is kept of a device.
+#[derive(Drop)]
+pub struct Route {
+    driver: Driver,
+    members: ArrayVec<DevId, 8>,
+    rescuer: bool,
+}
+
+/// A stack with its drivers, and how many places the book of each writer has: what tasks know of devices, seen as the stack and these
+/// numbers. Each call goes by the number of the device, and takes no memory.
+#[derive(Drop)]
+pub struct Routes {
+    routes: Vec<Route>,
+    places: [u32; 8],
+    // The stack that they are of, which has no bytes here.
+    stack: Snapshot<Stack>,
+}
+
+impl Model for Routes {
+    ghost use Rattle.task_steps.specs.Routed.{Routing, IsRouted};
+
+    ghost Value = { Routing };
+
+    ghost view = { λ r. record { stack = r.stack.value; places = r.places } };
+
+    ghost invariant = { λ r. IsRouted r.stack.value r.routes.items };
+}
+
+// The smallest of some sizes.
+#[tactic(auto, unfolding(stack_base::specs::Mapping::smallest))]
+fn least(sizes: &[u64]) -> u64
+    ensures { result ≡ smallest sizes.now }
+{
+    sizes.iter().copied().reduce(|a, b| a.min(b)).unwrap_or(0)
+}
+
+// The members of a device once more.
+fn members_of(device: &Device) -> ArrayVec<DevId, 8>
+    ensures { result.items ≡ device.now.members.items }
+{
+    ArrayVec::try_from(device.members.as_slice()).unwrap()
+}
+
+// The driver of a device.
+fn driver_of(stack: &Stack, dev: DevId) -> Driver
+    requires stack { IsStack stack.now }
+    requires device { dev.0 < length stack.now.devices.items }
+    ensures { (device : Devices) → slice_get stack.now.devices.items dev.0 ≡ Some device → IsDriver stack.now device result }
+{
+    let device = stack.device(dev);
+    match device.kind {
+        Kind::Disk { .. } => Driver::Disk,
+        Kind::Linear => Driver::Linear(Linear::new(stack.member_sizes(dev))),
+        Kind::Stripe { chunk } => {
+            let sizes = stack.member_sizes(dev);
+            Driver::Stripe(Stripe::new(chunk, sizes.len() as u32, least(&sizes)))
+        }
+        Kind::Zoned { chunk } => Driver::Zoned(Zoned::new(chunk, stack.member_sizes(dev))),
+        Kind::Limit { max, chunk } => Driver::Limit(Limit::new(max, chunk, stack.size(dev))),
+        Kind::Mirror { .. } => Driver::Mirror(Mirror::new(members_of(device), stack.size(dev))),
+    }
+}
+
+// What is kept of a device.
+fn route_of(stack: &Stack, dev: DevId) -> Route
+    requires stack { IsStack stack.now }
+    requires device { dev.0 < length stack.now.devices.items }
+    ensures { (device : Devices) → slice_get stack.now.devices.items dev.0 ≡ Some device → IsRoute stack.now device result }
+{
+    let device = stack.device(dev);
+    Route {
+        driver: driver_of(stack, dev),
+        members: members_of(device),
+        rescuer: device.rescuer,
+    }
+}
+
+impl Routes {
+    /// The devices and drivers of a stack, where the book of each writer has so many places, by the writer's number. Nothing of the stack
+    /// is borrowed, and no name is copied.
+    ///
+    /// # Errors
+    /// Where there is no memory.
+    pub fn new(alloc: Global, stack: &Stack, places: [u32; 8]) -> Result<Routes, AllocError>
+        requires { IsStack stack.now }
+        ensures { IfOk result (λ routes. routes ≡ record { stack = stack.now; places = places }) }
+    {
+        let mut routes = Vec::with_capacity(alloc, stack.devices.len())?;
+        'routing: for number in 0..stack.devices.len() {
+            routes.push(route_of(stack, DevId(number as u32)))?;
+        }
+        Ok(Routes {
+            routes,
+            places,
+            stack: Snapshot::of(stack),
+        })
+    }
+
+    /// A stack that drivers were made of is one that a declaration may have.
+    pub fn known(&self)
+        ensures { IsStack self.now.stack }
+    {
+        let _ = &self.routes;
+    }
+
+    /// How many devices there are.
+    pub fn count(&self) -> u32
+        ensures { result ≡ (setup self.now).count }
+    {
+        self.routes.len() as u32
+    }
+
+    // What is kept of a device.
+    fn route(&self, dev: DevId) -> &Route
+        requires { dev.0 < length self.now.stack.devices.items }
+        ensures { IsRouteOf self.now.stack dev.0 result.now }
+    {
+        &self.routes[dev.0 as usize]
+    }
+
+    /// Whether the device's set has a rescuer.
+    pub fn rescuer(&self, dev: DevId) -> bool
+        requires { dev.0 < length self.now.stack.devices.items }
+        ensures { result ≡ (setup self.now).rescuer dev.0 }
+    {
+        self.route(dev).rescuer
+    }
+
+    /// How many places the writer's book has: none, where there is no such writer.
+    pub fn places(&self, writer: u32) -> u32
+        ensures { result ≡ (setup self.now).places writer }
+    {
+        self.places.get(writer as usize).copied().unwrap_or(0)
+    }
+
+    /// Whether the first attempt at a bio of the device's set waits, where the task has these lists (`bio_alloc_bioset`, `block/bio.c`).
+    pub fn first_waits(&self, dev: DevId, lists: &TaskLists) -> bool
+        requires { dev.0 < length self.now.stack.devices.items }
+        ensures { result ≡ first_waits (setup self.now) dev lists.now }
+    {
+        !self.rescuer(dev) || !lists.busy()
+    }
+
+    // The first piece of a bio, where its device is one that cuts.
+    fn first(&self, bio: &Bio) -> Option<Cut>
+        requires { IsWithin self.now.stack bio.now }
+        ensures { MatchOption result (HasNoFirst self.now.stack bio.now) (IsFirst self.now.stack bio.now) }
+    {
+        let route = self.route(bio.dev);
+        let piece = route.driver.piece(bio.range.start, bio.range.len)?;
+        Some(Cut {
+            sectors: piece.len,
+            dev: route.members[piece.member as usize],
+            start: piece.at,
+        })
+    }
+
+    // The bio as the member gets it, where it is one piece.
+    fn below(&self, bio: &Bio) -> Option<Bio>
+        requires { IsWithin self.now.stack bio.now }
+        ensures { MatchOption result (Stays self.now.stack bio.now) (IsBelow self.now.stack bio.now) }
+    {
+        let cut = self.first(bio)?;
+        if cut.sectors < bio.range.len {
+            return None;
+        }
+        Some(Bio {
+            dev: cut.dev,
+            range: Range {
+                start: cut.start,
+                ..bio.range
+            },
+            ..*bio
+        })
+    }
+
+    /// Where a bio comes to: it is handed on as it is, from device to device, as long as it is one piece (`bio_set_dev` and `bi_sector`,
+    /// `drivers/md/raid0.c`).
+    pub fn land(&self, start: Bio) -> Bio
+        requires { IsWithin self.now.stack start }
+        ensures { IsLanded self.now.stack start result }
+    {
+        let mut bio = start;
+        'down: while let Some(next) = self.below(&bio) {
+            bio = next;
+        }
+        bio
+    }
+
+    /// What the device does with a bio that it does not hand on as it is.
+    pub fn manner(&self, dev: DevId) -> Manner
+        requires { dev.0 < length self.now.stack.devices.items }
+        ensures { IsManner (setup self.now) dev (tree_at (setup self.now) dev) result }
+    {
+        self.route(dev).driver.manner()
+    }
+
+    /// The first piece of a bio that its device cuts: how long it is, and where it goes (`bio_split`, `block/bio.c`, as drivers call it).
+    pub fn cut(&self, bio: &Bio) -> Cut
+        requires within { IsWithin self.now.stack bio.now }
+        requires cut { is_cut (tree_at (setup self.now) bio.now.dev) bio.now.range ≡ true }
+        ensures { IsCutAt (setup self.now) self.now.stack bio.now result }
+    {
+        self.known();
+        self.first(bio).unwrap()
+    }
+
+    /// How many legs a bio has at the device: as many as it has members, if it is a mirror, and else none.
+    pub fn legs(&self, dev: DevId) -> u32
+        requires { dev.0 < length self.now.stack.devices.items }
+        ensures { result ≡ legs_of (tree_at (setup self.now) dev) }
+    {
+        self.route(dev).driver.legs()
+    }
+
+    /// One leg of a bio at a mirror, counted from 0, with the node at this place: what stands in the element that it gets
+    /// (`bio_alloc_clone`, `drivers/md/raid1.c`).
+    pub fn leg(&self, bio: &Bio, leg: u32, node: u32) -> (Bio, Pad)
+        requires within { IsWithin self.now.stack bio.now }
+        requires leg { leg < legs_of (tree_at (setup self.now) bio.now.dev) }
+        ensures { IsLegAt self.now.stack bio.now leg node result }
+    {
+        self.route(bio.dev).driver.leg(bio, leg, node)
+    }
+}

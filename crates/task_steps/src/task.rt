@@ -1,0 +1,96 @@
+//! Tasks.
+ghost use Rattle.std.specs.Prelude.{◌≡◌};
+ghost use Rattle.stack_base.specs.Stack.{IsStack};
+ghost use Rattle.run_machine.specs.Tasks.{Completer, Empty, Keeper as Keeping};
+ghost use Rattle.task_steps.specs.Routed.{setup};
+ghost use Rattle.task_steps.specs.Stage.{Owes};
+ghost use Rattle.task_steps.specs.Homes.{IsTaskOf};
+ghost use Rattle.task_steps.specs.Turns.{Turns};
+ghost use Rattle.task_steps.specs.WriterViews.{writer_task};
+ghost use Rattle.task_steps.specs.RescuerViews.{rescuer_task};
+ghost use Rattle.task_steps.specs.TaskViews.{task_of, ChosenBy};
+
+use crate::carried::Carried;
+use crate::keeper::Keeper;
+use crate::objects::{Chooser, Objects};
+use crate::rescuer::Rescuer;
+use crate::routes::Routes;
+use crate::step::Step;
+use crate::writer::Writer;
+use stack_base::DevId;
+use std::marker::Model;
+use std::sync::Arc;
+
+/// What a task does.
+#[derive(Drop)]
+pub enum Kind {
+    /// Begins writes, and submits their bios.
+    Writer(Writer),
+    /// Submits the bios of a device's set that were punted.
+    Rescuer(Rescuer),
+    /// Ends the bios of a disk.
+    Completer { disk: DevId, carried: Carried },
+    /// Changes reserves between rounds, and starts rounds.
+    Keeper(Keeper),
+}
+
+/// A task of a run, with what it knows of devices, which all tasks share. It takes no memory of its own: what it has at hand are elements, and
+/// what waits is linked through the bios' own boxes.
+#[derive(Drop)]
+pub struct Task {
+    routes: Arc<Routes>,
+    kind: Kind,
+}
+
+impl Model for Task {
+    ghost use Rattle.task_steps.specs.TaskViews.{task_of, TaskOf};
+
+    ghost Value = { TaskOf };
+
+    ghost view = { λ t. record { routing = t.routes.value; state = task_of t.kind } };
+}
+
+impl Task {
+    /// A task of this kind.
+    pub fn new(routes: Arc<Routes>, kind: Kind) -> Task
+        ensures { result ≡ record { routing = routes.value; state = task_of kind } }
+    {
+        Task { routes, kind }
+    }
+
+    /// What the task knows of devices.
+    pub fn routes(&self) -> &Routes
+        ensures { result.now ≡ self.now.routing }
+    {
+        &self.routes
+    }
+
+    /// What it does.
+    pub fn kind(&self) -> &Kind
+        ensures { task_of result.now ≡ self.now.state }
+    {
+        &self.kind
+    }
+
+    /// The next step of the task. It looks where it has to, asks one object once for what it needs next, and goes on with the reply; no memory is
+    /// taken but for an ordinary element. The objects are those of the task's scenario, and all of its elements are at home in them.
+    ///
+    /// `Step::Stepped` tells the event that happened. With any other answer the task is as it was, but where it broke off: then it keeps what it
+    /// was handed back, and answers the same from then on.
+    pub fn step<O: Objects, C: Chooser>(&mut self, objects: &mut O, chooser: &mut C) -> Step
+        requires holds { O.holds objects.old }
+        requires routing { self.old.routing ≡ (O.stage objects.old).routing }
+        requires task { IsTaskOf (O.stage objects.old) self.old.state }
+        ensures turns { Turns O.serves (Owes (O.stage objects.old)) (setup self.old.routing) self.old.state objects.old self.new.state objects.new result }
+        ensures chosen { ChosenBy self.old.state C.chooses (O.picks objects.old) chooser.old result chooser.new }
+        ensures kept { O.holds objects.new × (O.stage objects.new ≡ O.stage objects.old) }
+        ensures same { self.new.routing ≡ self.old.routing }
+    {
+        match &mut self.kind {
+            Kind::Writer(writer) => writer.step(objects, &self.routes),
+            Kind::Rescuer(rescuer) => rescuer.step(objects, &self.routes),
+            Kind::Completer { disk, carried } => carried.step(objects, chooser, *disk),
+            Kind::Keeper(keeper) => keeper.step(objects),
+        }
+    }
+}

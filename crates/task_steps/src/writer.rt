@@ -1,0 +1,177 @@
+//! Writers: each begins its writes one after the other, when their round has come, and submits the bio of each.
+ghost use Rattle.std.specs.Prelude.{◌≡◌, ◌≢◌, ◌∷◌, [], true, false, drop};
+ghost use Rattle.run_machine.specs.Lines.{Rests, rests};
+ghost use Rattle.run_machine.specs.Tasks.{Todo as TodoState, NoBio};
+ghost use Rattle.run_machine.specs.Scene.{Setup};
+ghost use Rattle.task_steps.specs.Routed.{setup};
+ghost use Rattle.task_steps.specs.Stage.{Owes};
+ghost use Rattle.task_steps.specs.Homes.{IsTaskOf};
+ghost use Rattle.task_steps.specs.Turns.{Acts, Turns};
+ghost use Rattle.task_steps.specs.WriterViews.{writer_task, next_of, tried, IsNextAlone, IsAttemptAtBioAlone, is_taken};
+
+use run_machine::{Breach, TaskId};
+use crate::line::{Kept, Line};
+use crate::objects::Objects;
+use crate::routes::Routes;
+use crate::step::Step;
+use crate::todo::{Todo, Todos};
+use crate::writing::{Attempt, Next, Taken, go_on, take_bio};
+use std::marker::Model;
+use std::mem;
+
+/// A writer.
+#[derive(Drop)]
+pub struct Writer {
+    number: u32,
+    todo: Todos,
+    taken: Taken,
+    line: Line,
+}
+
+impl Model for Writer {
+    ghost use Rattle.task_steps.specs.WriterViews.{WriterState, taken_of, IsTakenAlone};
+
+    ghost Value = { WriterState };
+
+    ghost view = { λ w. record { number = w.number; todo = w.todo; taken = taken_of w.taken; line = w.line } };
+
+    ghost invariant = { λ w. IsTakenAlone w.taken };
+}
+
+impl Writer {
+    /// The writer of this number, which is to begin these writes.
+    pub fn new(number: u32, todo: Todos) -> Writer
+        ensures { result ≡ record { number = number; todo = todo; taken = NoBio; line = rests } }
+    {
+        Writer {
+            number,
+            todo,
+            taken: Taken::NoBio,
+            line: Line::rests(),
+        }
+    }
+
+    /// Its number.
+    pub fn number(&self) -> u32
+        ensures { result ≡ self.now.number }
+    {
+        self.number
+    }
+
+    /// The writes that it has still to begin.
+    pub fn todo(&self) -> &Todos
+        ensures { result.now ≡ self.now.todo }
+    {
+        &self.todo
+    }
+
+    // What a step has made of its next write.
+    fn put(&mut self, next: Next)
+        requires todo { self.old.todo ≢ [] }
+        requires none { self.old.taken ≡ NoBio }
+        requires alone { IsNextAlone next }
+        ensures { (todo : TodoState) → self.old.todo ≡ todo ∷ drop 1 self.old.todo → writer_task self.new ≡ next_of next self.old.number todo (drop 1 self.old.todo) self.old.line }
+    {
+        match next {
+            Next::Begins => self.todo.advance(),
+            Next::Waits(taken) => self.taken = taken,
+        }
+    }
+
+    // Asks for what its next write needs, whose bio it has taken.
+    fn act<O: Objects>(&mut self, objects: &mut O, routes: &Routes, todo: &Todo) -> Step
+        requires holds { O.holds objects.old }
+        requires routing { (O.stage objects.old).routing ≡ routes.now }
+        requires task { IsTaskOf (O.stage objects.old) (writer_task self.old) }
+        requires rests { self.old.line.doing ≡ Rests }
+        requires first { self.old.todo ≡ todo.now ∷ drop 1 self.old.todo }
+        requires some { is_taken self.old.taken ≡ true }
+        ensures acts { Acts O.serves (Owes (O.stage objects.old)) (setup routes.now) (writer_task self.old) objects.old (writer_task self.new) objects.new result }
+        ensures kept { O.holds objects.new × (O.stage objects.new ≡ O.stage objects.old) }
+    {
+        let taken = mem::replace(&mut self.taken, Taken::NoBio);
+        let (next, step) = go_on(objects, routes, self.number, todo, taken, &mut self.line);
+        self.put(next);
+        step
+    }
+
+    // What came of an attempt at the bio of its next write. Where there was none yet, nothing moves.
+    fn have(&mut self, attempt: Attempt)
+        requires rests { self.old.line.doing ≡ Rests }
+        requires none { self.old.taken ≡ NoBio }
+        requires alone { IsAttemptAtBioAlone attempt }
+        ensures { writer_task self.new ≡ tried attempt self.old.number self.old.todo self.old.line }
+    {
+        match attempt {
+            Attempt::Had(bio) => self.taken = Taken::HasBio(bio),
+            Attempt::Missed => {}
+            Attempt::Spent => self.line.breaks(Breach::Spent, Kept::nothing()),
+        }
+    }
+
+    // Asks for the bio of its next write.
+    fn take<O: Objects>(&mut self, objects: &mut O) -> Step
+        requires holds { O.holds objects.old }
+        requires rests { self.old.line.doing ≡ Rests }
+        requires none { self.old.taken ≡ NoBio }
+        requires some { self.old.todo ≢ [] }
+        ensures acts { (setup : Setup) → Acts O.serves (Owes (O.stage objects.old)) setup (writer_task self.old) objects.old (writer_task self.new) objects.new result }
+        ensures kept { O.holds objects.new × (O.stage objects.new ≡ O.stage objects.old) }
+    {
+        let (attempt, step) = take_bio(objects, self.number);
+        self.have(attempt);
+        step
+    }
+
+    // Asks for a bio, if the round of its next write has come.
+    fn look<O: Objects>(&mut self, objects: &mut O, todo: &Todo) -> Step
+        requires holds { O.holds objects.old }
+        requires rests { self.old.line.doing ≡ Rests }
+        requires first { self.old.todo ≡ todo.now ∷ drop 1 self.old.todo }
+        requires none { is_taken self.old.taken ≡ false }
+        ensures turn { (setup : Setup) → Turns O.serves (Owes (O.stage objects.old)) setup (writer_task self.old) objects.old (writer_task self.new) objects.new result }
+        ensures kept { O.holds objects.new × (O.stage objects.new ≡ O.stage objects.old) }
+    {
+        let round = objects.round();
+        if round < todo.round {
+            return Step::Waiting;
+        }
+        self.take(objects)
+    }
+
+    // Whether it has taken the bio of its next write.
+    fn has_bio(&self) -> bool
+        ensures { result ≡ is_taken self.now.taken }
+    {
+        match self.taken {
+            Taken::NoBio => false,
+            Taken::HasBio(_) | Taken::HasBoth(..) => true,
+        }
+    }
+
+    /// Its next step: it asks one object once, for what its submission or its next write needs, and goes on with the reply. Before the
+    /// first take of a write it looks at the present round, and waits where the write is of a later one.
+    pub fn step<O: Objects>(&mut self, objects: &mut O, routes: &Routes) -> Step
+        requires holds { O.holds objects.old }
+        requires routing { (O.stage objects.old).routing ≡ routes.now }
+        requires task { IsTaskOf (O.stage objects.old) (writer_task self.old) }
+        ensures turn { Turns O.serves (Owes (O.stage objects.old)) (setup routes.now) (writer_task self.old) objects.old (writer_task self.new) objects.new result }
+        ensures kept { O.holds objects.new × (O.stage objects.new ≡ O.stage objects.old) }
+    {
+        if self.line.asks() {
+            let task = TaskId::Writer(self.number);
+            return self.line.step(objects, routes, task);
+        }
+        if let Some(breach) = self.line.breach() {
+            return Step::Broken(breach);
+        }
+        let Some(todo) = self.todo.first() else {
+            return Step::Ended;
+        };
+        if self.has_bio() {
+            self.act(objects, routes, &todo)
+        } else {
+            self.look(objects, &todo)
+        }
+    }
+}
