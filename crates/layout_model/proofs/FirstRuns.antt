@@ -16,11 +16,12 @@ use Rattle.stack_base.proofs.Unfolded.{size-tree}
 use Rattle.layout_model.specs.Way.{Fits, place}
 use Rattle.layout_model.specs.Need.{needed, fragments_of}
 use Rattle.layout_model.specs.Pieces.{IsFirstRun}
+use Rattle.layout_model.specs.Shown.{shown}
 use Rattle.layout_model.proofs.Over.{can_cut}
 use Rattle.layout_model.proofs.Steps.{cut_piece}
 use Rattle.layout_model.proofs.ByShape.{cuts_is, member_is}
 use Rattle.layout_model.proofs.PieceLemmas.{piece_inside}
-use Rattle.layout_model.proofs.ByPiece.{needed_alone, needed_and_more, fragments_of_both, place_of_piece, fits_of_piece}
+use Rattle.layout_model.proofs.ByPiece.{needed_alone, needed_and_more, fragments_of_both, place_of_piece, fits_of_piece, shown_of_piece}
 
 module _ (stack : Stack) (good : IsStack stack) (number : ℕ) (device : Device) (found : slice_get stack.devices.items number ≡ Some device)
     (cuts : shape_of device.kind ≡ Cuts) (start len : ℕ) (piece : Piece)
@@ -82,6 +83,9 @@ module _ (stack : Stack) (good : IsStack stack) (number : ℕ) (device : Device)
           ap (λ t. needed t piece.at piece.len) leg,
           needed_and_more number device.kind sizes members cut start len piece is goes_on,
         );
+        shows = λ i lt. ap (λ t. shown t (start + i)) whole
+            ∙ shown_of_piece number device.kind sizes members cut start len piece is i lt
+            ∙ ap (λ t. shown t (piece.at + i)) leg;
         leads = λ choices. ap (λ t. place t start choices) whole
             ∙ place_of_piece number device.kind sizes members cut start len piece is choices
             ∙ ap (λ t. place t piece.at choices) leg;

@@ -10,6 +10,7 @@ pub mod Begun
 pub mod ByPieces
 pub mod AtMost
 pub mod Chosen
+pub mod ShownLemmas
 pub mod Closed
 pub mod CountFrags
 pub mod PlanLists

@@ -1,5 +1,5 @@
 -- What a run needs at a mirror, how many fragments it has and where a sector of it goes, by the mirror's members; and the same at a disk.
-use Rattle.std.proofs.Common.{◌≡◌, ℕ, suc, ◌+◌, ◌<◌, ◌≤◌, List, [], ◌∷◌, map, length, sum_by, Some, refl, ap, ◌∙◌, subst, arith}
+use Rattle.std.proofs.Common.{◌≡◌, true, ℕ, suc, ◌+◌, ◌<◌, ◌≤◌, List, [], ◌∷◌, map, length, sum_by, Some, refl, ap, ◌∙◌, subst, arith}
 use Rattle.std.specs.Prelude.{slice_get}
 use Rattle.std.specs.List.{range_with_len}
 use Rattle.std.proofs.lemmas.List.{length-map, get_or-map}
@@ -13,6 +13,7 @@ use Rattle.stack_base.specs.Stack.{IsStack}
 use Rattle.stack_base.proofs.Smallest.{smallest_le}
 use Rattle.layout_model.specs.Way.{Fits, place}
 use Rattle.layout_model.specs.Need.{needed, fragments_of}
+use Rattle.layout_model.specs.Shown.{is_disk, shown}
 use Rattle.layout_model.proofs.RangeSums.{sum_next}
 use Rattle.layout_model.proofs.Begun.{needed_disk, needed_legs, fragments_of_disk, fragments_of_legs}
 use Rattle.layout_model.proofs.ByShape.{copies_is, keeps_is, member_is}
@@ -105,6 +106,12 @@ module _ (stack : Stack) (good : IsStack stack) (number : ℕ) (device : Device)
       ap (λ t. place t s (choice ∷ choices)) (copies_is stack good number device found copies)
       ∙ ap (λ t. place t s choices) (member_is stack good number device found choice m at_choice)
 
+  -- a mirror shows its first member
+  pub leg_shown : (s : ℕ) (m : DevId) → slice_get device.members.items 0 ≡ Some m → shown (tree stack number) s ≡ shown (tree stack m.0) s
+  unfolding shown
+  leg_shown s m at_first =
+      ap (λ t. shown t s) (copies_is stack good number device found copies) ∙ ap (λ t. shown t s) (member_is stack good number device found 0 m at_first)
+
 module _ (stack : Stack) (good : IsStack stack) (number : ℕ) (device : Device) (found : slice_get stack.devices.items number ≡ Some device)
     (sectors : ℕ) (keeps : shape_of device.kind ≡ Keeps sectors) where
   -- a run at a disk needs nothing
@@ -125,6 +132,15 @@ module _ (stack : Stack) (good : IsStack stack) (number : ℕ) (device : Device)
   pub disk_place : (s : ℕ) (choices : List ℕ) → place (tree stack number) s choices ≡ record { disk = number; at = s }
   unfolding place
   disk_place s choices = ap (λ t. place t s choices) (keeps_is stack good number device found sectors keeps)
+
+  -- and shows itself
+  pub disk_shown : (s : ℕ) → shown (tree stack number) s ≡ record { disk = number; at = s }
+  unfolding shown
+  disk_shown s = ap (λ t. shown t s) (keeps_is stack good number device found sectors keeps)
+
+  -- it is a disk
+  pub disk_is : is_disk (tree stack number) ≡ true
+  disk_is = ap is_disk (keeps_is stack good number device found sectors keeps)
 
   -- its size is its number of sectors
   pub disk_size : size (tree stack number) ≡ sectors

@@ -1,4 +1,5 @@
 pub mod Way
+pub mod Shown
 pub mod Fragments
 pub mod Need
 pub mod Plan

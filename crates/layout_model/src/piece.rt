@@ -10,14 +10,14 @@ use arrayvec::ArrayVec;
 use stack_base::{DevId, Device, Kind, MapLaw, Piece, Stack};
 use zoned_map::Zoned;
 
-/// A run of sectors of a device.
+/// The first sectors of a run, and where they are below the device of the run. Places and lengths count sectors.
 #[derive(Clone, Copy, PartialEq, Eq)]
 pub struct FirstRun {
-    /// The device.
+    /// The device that they are on.
     pub dev: DevId,
-    /// Its first sector there.
+    /// The first of them there.
     pub at: u64,
-    /// How many sectors it has.
+    /// How many they are.
     pub len: u64,
 }
 
