@@ -1,7 +1,7 @@
 -- An image: the words of its sectors, and their flags.
 use Rattle.std.proofs.Common.{◌≡◌, ◌+◌, ◌*◌, ◌%◌, ◌^◌, ◌-◌, ◌<◌, ◌≤◌, ◌++◌, ℕ, zero, suc, Bool, true, false, List, [], get_or, map, length, take, drop, replicate, sum, sum_by, refl, sym, ap, subst, ◌∙◌, arith, length-append, length-drop}
 use Rattle.std.specs.List.{concat}
-use Rattle.std.proofs.lemmas.List.{length-replicate, get_or-map, length-take-le, take_all, drop_all, append-nil, map-append}
+use Rattle.std.proofs.lemmas.List.{length-replicate, get_or-map, get_or_append_left, get_or-append_right, get_or-replicate, length-take-le, take_all, drop_all, append-nil, map-append}
 use Rattle.std.proofs.lemmas.List.Sums.{sum_by_push, sum_by-append}
 use Rattle.stack_base.specs.Words.{zero_sector, is_written}
 use Rattle.stack_base.specs.declared.ids.Range.{Range}
@@ -234,3 +234,27 @@ whole_front count words_room flags_room new_words_room new_flags_room front new 
       },
       ap (sectors count) (ap (grown 0 all) made ∙ grown_twice all all front (omega arith)) ∙ is,
     )
+
+-- a sector of the front
+pub sector_within : (count words_room flags_room : ℕ) (front lent : List ℕ) (flags : List Bool) (image : List (List ℕ)) (at : ℕ)
+    → IsFront count words_room flags_room front flags → sectors count (padded count front) ≡ image → lent ≡ front → at < length flags
+    → take (64 * at + 64 - 64 * at) (drop (64 * at) lent) ≡ get_or image at []
+sector_within count words_room flags_room front lent flags image at kept is lends lt =
+    let one : 64 * at + 64 - 64 * at ≡ 64 = omega arith in
+    ap (λ n. take n (drop (64 * at) lent)) one
+    ∙ ap (λ (ws : List ℕ). take 64 (drop (64 * at) ws)) lends
+    ∙ sym (sector_at (length flags) front at lt)
+    ∙ sym (get_or_append_left (sectors (length flags) front) (replicate (count - length flags) zero_sector) [] at (omega (arith, lt, length_sectors (length flags) front)))
+    ∙ ap (λ (sectors : List (List ℕ)). get_or sectors at []) (sym (padded_sectors count front flags kept.noted kept.within) ∙ is)
+
+-- and one behind it
+pub sector_behind : (count words_room flags_room : ℕ) (front zeros : List ℕ) (flags : List Bool) (image : List (List ℕ)) (at : ℕ)
+    → IsFront count words_room flags_room front flags → sectors count (padded count front) ≡ image → zeros ≡ zero_sector → length flags ≤ at → at < length image
+    → zeros ≡ get_or image at []
+sector_behind count words_room flags_room front zeros flags image at kept is none past lt =
+    let n = length flags in
+    let many : count ≡ length image = sym (length_sectors count (padded count front)) ∙ ap length is in
+    none
+    ∙ sym (get_or-replicate (count - n) (at - n) zero_sector [] (omega (arith, lt, many, past)))
+    ∙ sym (get_or-append_right (sectors n front) (replicate (count - n) zero_sector) n at [] (length_sectors n front) past)
+    ∙ ap (λ (sectors : List (List ℕ)). get_or sectors at []) (sym (padded_sectors count front flags kept.noted kept.within) ∙ is)

@@ -40,7 +40,7 @@ pub struct Done {
 }
 
 impl Disk {
-    ghost use Rattle.std.specs.Prelude.{◌≡◌, ◌+◌, ◌-◌, ◌*◌, ◌%◌, ◌^◌, ◌<◌, ◌≤◌, [], ◌∷◌, ◌++◌, length, map, min, replicate, reverse, All, IfOk, MatchOption};
+    ghost use Rattle.std.specs.Prelude.{◌≡◌, ◌+◌, ◌-◌, ◌*◌, ◌%◌, ◌^◌, ◌<◌, ◌≤◌, [], ◌∷◌, ◌++◌, length, map, min, replicate, reverse, slice_index_or, All, IfOk, MatchOption};
     ghost use Rattle.std.specs.Borrow.{sem};
     ghost use Rattle.std.specs.Io.BufRead.{Rests};
     ghost use Rattle.std.specs.List.{concat};
@@ -107,6 +107,14 @@ impl Disk {
         ensures within { length result.now ≤ 64 * length self.now.image }
     {
         self.image.front()
+    }
+
+    /// The words of one of its sectors, 64 of them.
+    pub fn sector(&self, at: u64) -> &[u64]
+        requires { at < length self.now.image }
+        ensures { result.now ≡ slice_index_or self.now.image at [] }
+    {
+        self.image.sector(at)
     }
 
     /// The words of all its sectors, one sector behind the other, each of 64 words. The disk stays as it is. The zeros behind its front are

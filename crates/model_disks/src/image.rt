@@ -1,6 +1,7 @@
 //! The image of a disk.
 ghost use Rattle.std.specs.Prelude.{◌≡◌, ◌+◌, ◌*◌, ◌≤◌, length, take, drop, vec_capacity};
 ghost use Rattle.image_lanes.specs.Lanes.{sum_mod, sectors};
+ghost use Rattle.stack_base.specs.Words.{zero_sector};
 ghost use Rattle.model_disks.specs.Disks.{sum_of_words};
 ghost use Rattle.model_disks.specs.Kept.{IsNoted, grown, filled};
 
@@ -10,6 +11,13 @@ use image_lanes::{fill, sum_words};
 use stack_base::Range;
 use std::alloc::{AllocError, Global};
 use std::marker::Model;
+
+// A sector in which nothing was written.
+fn zeros<'a>() -> &'a [u64]
+    ensures { result.now ≡ zero_sector }
+{
+    &[0; 64]
+}
 
 /// The sectors of a disk, one behind the other.
 ///
@@ -97,7 +105,7 @@ fn sum_of_written(front: &[u64], flags: &[bool]) -> u64
 }
 
 impl Image {
-    ghost use Rattle.std.specs.Prelude.{◌≡◌, ◌+◌, ◌*◌, ◌-◌, ◌%◌, ◌^◌, ◌<◌, ◌≤◌, [], ◌∷◌, ◌++◌, length, map, replicate, IfOk, MatchOption};
+    ghost use Rattle.std.specs.Prelude.{◌≡◌, ◌+◌, ◌*◌, ◌-◌, ◌%◌, ◌^◌, ◌<◌, ◌≤◌, [], ◌∷◌, ◌++◌, length, map, replicate, slice_index_or, IfOk, MatchOption};
     ghost use Rattle.std.specs.Borrow.{sem};
     ghost use Rattle.std.specs.Io.BufRead.{Rests};
     ghost use Rattle.std.specs.List.{concat};
@@ -140,6 +148,18 @@ impl Image {
         ensures within { length result.now ≤ 64 * length self.now }
     {
         &self.front
+    }
+
+    /// The words of one sector.
+    pub fn sector(&self, at: u64) -> &[u64]
+        requires { at < length self.now }
+        ensures { result.now ≡ slice_index_or self.now at [] }
+    {
+        if at >= self.flags.len() as u64 {
+            return zeros();
+        }
+        let start = 64 * at as usize;
+        &self.front[start..start + 64]
     }
 
     /// The words of all sectors, one sector behind the other. The front grows up to the last one, and the image stays as it is.

@@ -1,0 +1,7 @@
+use Rattle.std.proofs.Common.{refl}
+use Rattle.stack_base.specs.Words.{zero_sector}
+use Rattle.model_disks.proofs.image.zeros.Goals as goal
+
+pub returns : goal.returns
+unfolding zero_sector
+returns c = refl
