@@ -12,9 +12,6 @@ pub record IsNumbered (keys : List (Option ℕ)) (free : List ℕ) (count : ℕ)
   pub counted : length free ≡ count
   pub vacant : (place : ℕ) → times place free ≡ vacancy (slice_get keys place)
 
-pub none_numbered : IsNumbered [] [] 0
-none_numbered = record { blank = refl; counted = refl; vacant = λ place. refl }
-
 one_more : {X : Type 0} (x : X) (count : ℕ) → replicate count x ++ x ∷ [] ≡ replicate (suc count) x
 one_more x zero = refl
 one_more x (suc count) = ap (λ xs. x ∷ xs) (one_more x count)

@@ -21,10 +21,6 @@ use Rattle.decl_text.specs.Known.{Known}
 use Rattle.biostack_top.specs.declared.scene.Scene.{Scene}
 use Rattle.biostack_top.specs.Scene.{IsSaid, ReadsScene, Says}
 
-pub too_long : (text : List ℕ) (fault : ReadFault) → ReadsDecl text (Err fault) → ReadsScene text (Err fault)
-too_long text (Refused first) is = rw (lt-ltb most_bytes (length text) is.0, is.1) refl
-too_long text Memory is = tt
-
 pub accept_refuses : (text : List ℕ) (read : Read) (fault : ReadFault) → ReadsDecl text (Ok read) → Accepts read (Err fault) → ReadsScene text (Err fault)
 accept_refuses text read (Refused first) is refuses = refused_first text read first is.0 is.1 refuses
 accept_refuses text read Memory is refuses = tt

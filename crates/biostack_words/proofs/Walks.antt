@@ -34,9 +34,6 @@ rule_for trace = filled (flag (codes "trace"))
 rule_for text = filled (flag (codes "text"))
 rule_for place = with_index 1 (filled (new_rule (codes "number")))
 
-rules_are : rules ≡ rule_for seed ∷ rule_for workers ∷ rule_for trace ∷ rule_for text ∷ rule_for place ∷ []
-rules_are = refl
-
 -- ---- rows
 
 -- an option that has a value, and a word alone

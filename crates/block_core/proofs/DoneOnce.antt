@@ -228,9 +228,6 @@ stage w = record {
   closed = λ task writer closed. top_parent closed.parent * one closed.write w;
 }
 
-blind_stage : (w : ℕ) → IsBlind (stage w)
-blind_stage w limit item t = refl
-
 zeros : (w : ℕ) (items : List (Item Pad)) → sum_by ((stage w).bio Pending) items ≡ 0
 zeros w [] = refl
 zeros w (item ∷ items) = omega (arith, sum_by-cons ((stage w).bio Pending) item items, zeros w items)

@@ -60,12 +60,6 @@ doing_zero limit (Breaks breach kept) = refl
 line_zero : (limit : ℕ) (line : Line) → line_weight bare limit line ≡ 0
 line_zero limit line = omega (arith, doing_zero limit line.doing, zeros line.lists.list0, zeros line.lists.list1)
 
-carried_zero : (task : ℕ) (carried : Carried) → carried_weight bare task carried ≡ 0
-carried_zero task Empty = refl
-carried_zero task (Brings bio status) = refl
-carried_zero task (Carries writer closed) = refl
-carried_zero task (Fails breach kept) = refl
-
 pub no_bare : (scene : Scene) (s : State) → total scene bare s ≡ 0 → (m : Move) → Can scene s m → total scene bare (after scene s m) ≡ 0
 no_bare scene s none (moves.TakesFirst place writer todo later move) c = omega (arith, none, delta scene bare s (moves.TakesFirst place writer todo later move) c)
 no_bare scene s none (moves.TakesVector place writer todo later item move) c = omega (arith, none, delta scene bare s (moves.TakesVector place writer todo later item move) c)

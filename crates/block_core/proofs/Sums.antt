@@ -95,34 +95,3 @@ book_upd w writer book place v lt =
     let a : book_weight w writer (with_node book place v) ≡ sum_at g (length book.nodes) (upd (node_at book) place v) =
     ap (λ n. sum_at g n (node_at (with_node book place v))) same ∙ ap (sum_at g (length book.nodes)) f in
     omega (arith, a, sum_at-upd g (length book.nodes) (node_at book) place v lt)
-
--- what stands at a place once one place of one book is another
-pub node_upd : (g : Option Node → ℕ) (f : ℕ → BookState) (writer place : ℕ) (v : Option Node) (w k : ℕ) → place < length (f writer).nodes
-    → g (node_at (upd f writer (with_node (f writer) place v) w) k) + one writer w * one place k * g (node_at (f writer) place)
-    ≡ g (node_at (f w) k) + one writer w * one place k * g v
-node_upd g f writer place v w k lt =
-    elim (same_or_not writer w) [
-      | inr ne ↦
-          let a : upd f writer (with_node (f writer) place v) w ≡ f w = upd-other f writer (with_node (f writer) place v) w (λ e. ne (sym e)) in
-          let b : one writer w ≡ 0 = one-other writer w ne in
-          rw (a, b) (omega arith)
-      | inl e ↦
-          let P : ℕ → Type 0 = λ x. g (node_at (upd f writer (with_node (f writer) place v) x) k) + one writer x * one place k * g (node_at (f writer) place)
-          ≡ g (node_at (f x) k) + one writer x * one place k * g v in
-          subst P e (here (same_or_not place k))
-    ]
-  where
-    here : (place ≡ k) ⊎ (place ≢ k)
-        → g (node_at (upd f writer (with_node (f writer) place v) writer) k) + one writer writer * one place k * g (node_at (f writer) place)
-        ≡ g (node_at (f writer) k) + one writer writer * one place k * g v
-    here (inl e) =
-        let Q : ℕ → Type 0 = λ x. g (node_at (upd f writer (with_node (f writer) place v) writer) x) + one writer writer * one place x * g (node_at (f writer) place)
-        ≡ g (node_at (f writer) x) + one writer writer * one place x * g v in
-        let a : upd f writer (with_node (f writer) place v) writer ≡ with_node (f writer) place v = upd-same f writer (with_node (f writer) place v) in
-        let c : node_at (with_node (f writer) place v) place ≡ v = get_or-set_same (f writer).nodes place v None lt in
-        subst Q e (rw (a, c, one-same writer, one-same place) (omega arith))
-    here (inr ne) =
-        let a : upd f writer (with_node (f writer) place v) writer ≡ with_node (f writer) place v = upd-same f writer (with_node (f writer) place v) in
-        let c : node_at (with_node (f writer) place v) k ≡ node_at (f writer) k = get_or-set_other (f writer).nodes place k v None (λ q. ne (sym q)) in
-        let z : one place k ≡ 0 = one-other place k ne in
-        rw (a, c, z) (omega arith)

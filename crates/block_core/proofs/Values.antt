@@ -167,10 +167,6 @@ told_lacks mark fair r same old new comes decided =
     let told = told_decides r mark.master old new same in
     omega (arith, told.0, told.1, decided, few_decides mark fair mark.master)
 
-pub told_less : (mark : Mark) (r : Role) → mismatch r mark.master ≡ 0 → (old new : Status)
-    → decides mark.master (mark.ends Ok) - decides mark.master (is Ok (kept_with r old new)) ≤ decides mark.master (mark.ends Ok) - decides mark.master (is Ok old)
-told_less mark r same old new = let told = told_decides r mark.master old new same in omega (arith, told.0)
-
 -- parts decide as their whole
 pub parts_decide : (master : Bool) (whole first rest : Status → ℕ) → 1 - whole Ok ≤ (1 - first Ok) + (1 - rest Ok) → whole Ok ≤ first Ok + rest Ok
     → decides master (whole Ok) ≤ decides master (first Ok) + decides master (rest Ok)

@@ -194,24 +194,3 @@ pub record RightWords (all : List (List ℕ)) (command : Command) : Type 0 where
   pub formed : is_malformed (form command) (drop 1 all) ≡ false
   pub numbered : is_misnumbered (form command) (drop 1 all) ≡ false
   pub said : said all ≡ meaning command (drop 1 all)
-
-pub right_words : (all : List (List ℕ)) (command : Command) → command_first all ≡ first.Command command → malformed all ≡ false → misnumbered all ≡ false → RightWords all command
-right_words [] command first_is formed numbered = absurd (skipped_command command first_is)
-right_words (word ∷ rest) command first_is formed numbered =
-    let parts = command_by (is_comment word) (command_of word) command first_is in
-    record {
-      formed = rw (parts.0, parts.1) at formed;
-      numbered = rw (parts.0, parts.1) at numbered;
-      said = rw (parts.0, parts.1) refl;
-    }
-
--- and of a line that is skipped, or has an unknown first word
-pub said_nothing : (all : List (List ℕ)) → command_first all ≡ first.Skipped → said all ≡ None
-said_nothing [] skipped = refl
-said_nothing (word ∷ rest) skipped = rw (skipped_by (is_comment word) word rest refl skipped) refl
-
-pub unknown_wrong : (all : List (List ℕ)) → command_first all ≡ first.Unknown → malformed all ≡ true
-unknown_wrong [] unknown = absurd (skipped_unknown unknown)
-unknown_wrong (word ∷ rest) unknown =
-    let parts = unknown_by (is_comment word) (command_of word) unknown in
-    rw (parts.0, parts.1) refl

@@ -31,8 +31,3 @@ pub bytes_eq_at :
 bytes_eq_at a s word front back n first rest many =
     ap (bytes_eq (a ++ s)) (sym (take-append-drop n word) ∙ ap (λ x. x ++ drop n word) (sym first) ∙ ap (λ x. front ++ x) (sym rest))
     ∙ bytes_eq_parts a s front back many
-
--- a word that is shorter than the suffix has not got it
-pub bytes_eq_short : (a s word : List ℕ) → length word < length s → bytes_eq (a ++ s) word ≡ false
-bytes_eq_short a s word short =
-    false_from_ne_true (bytes_eq (a ++ s) word) (λ is. omega (arith, ap length ((bytes_eq-Decides (a ++ s) word).0 is), length-append a s))

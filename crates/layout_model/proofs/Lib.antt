@@ -33,7 +33,6 @@ pub mod CountSteps
 pub mod WriteSizes
 pub mod Ways
 pub mod MayLemmas
-pub mod LoneDisk
 pub mod Followed
 pub mod OneSlot
 pub mod OneFragment

@@ -1,8 +1,7 @@
 -- What stands on the disks when all writes have ended.
-use Rattle.std.specs.Prelude.{◌≡◌, ◌+◌, ◌-◌, ◌<◌, ◌≤◌, ◌&&◌, if◌then◌else◌, nat_le, nat_lt, slice_get, slice_index_or, ℕ, List, Some}
+use Rattle.std.specs.Prelude.{◌≡◌, ◌+◌, ◌<◌, ◌≤◌, slice_get, slice_index_or, ℕ, List, Some}
 use Rattle.stack_base.specs.declared.ids.Status.TheVariants as status
 use Rattle.stack_base.specs.declared.stack.Stack.{Stack}
-use Rattle.stack_base.specs.Fault.{status_eq}
 use Rattle.stack_base.specs.Tree.{tree}
 use Rattle.stack_base.specs.Words.{sector_data, zero_sector}
 use Rattle.layout_model.specs.declared.fragment.Fragment.{Fragment}
@@ -44,16 +43,3 @@ pub record IsLaid (stack : Stack) (writes : List Write) (rounds : List ℕ) (dis
   -- and zeros if none does
   pub empty : ((number : ℕ) (write : Write) → slice_get writes number ≡ Some write → Lands stack write number disk at → ⊥)
       → sector ≡ zero_sector
-
--- a write to a disk, as one fragment
-abbrev pub lone_fragment : Write → ℕ → Fragment
-lone_fragment write number = record { write = number; offset = 0; len = write.count; disk = write.dev; at = write.start }
-
--- what a write to a disk puts into sector x, over zeros
-abbrev pub put_sector : Write → ℕ → List ℕ
-put_sector write x =
-    if nat_le write.start x && nat_lt x (write.start + write.count) then sector_data write.tag (x - write.start) else zero_sector
-
--- what stands in sector x of a disk when the first write, which is to it, is the only one and has ended
-abbrev pub lone_sector : Stack → Write → ℕ → List ℕ
-lone_sector stack write x = if status_eq (fault_of stack (lone_fragment write 0)) status.Ok then put_sector write x else zero_sector

@@ -9,10 +9,6 @@ use Rattle.std.proofs.lemmas.Bool.Decides.{nat_tests}
 use Rattle.stack_base.specs.Words.{is_written}
 use Rattle.model_disks.specs.Runs.{flag, starts_run, run_at, runs_from, IsApart, IsFirst}
 
--- the flag of a sector
-pub flag_of : (image : List (List ℕ)) (x : ℕ) → x < length image → flag (map is_written image) x ≡ is_written (get_or image x [])
-flag_of image x within = get_or-map is_written image x [] false within
-
 -- one more place is not of the kind that is looked for
 pub one_more : (flags : List Bool) (from place : ℕ) (kind : Bool) → ((x : ℕ) → from ≤ x → x < place → flag flags x ≡ kind)
     → flag flags place ≡ kind → (x : ℕ) → from ≤ x → x < place + 1 → flag flags x ≡ kind

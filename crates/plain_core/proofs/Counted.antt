@@ -143,11 +143,6 @@ count_at rounds counts k is lt =
 pub count_rounds : (rounds counts : List ℕ) → counts ≡ counts_of rounds → length counts ≡ 1 + last_of rounds
 count_rounds rounds counts is = ap length is ∙ length-map-range_with_len (count_in rounds) 0 (1 + last_of rounds)
 
--- one change more
-pub change_next : (resizes : List Resize) (i round later : ℕ) (r : Resize) → i < length resizes
-    → changes_in (drop i resizes) round later ≡ changes_in (get_or resizes i r ∷ drop (i + 1) resizes) round later
-change_next resizes i round later r lt = at_drop_more (λ rs. changes_in rs round later) resizes i r lt
-
 -- one round more
 pub duties_more : (work : Work) (n m : ℕ) → n + 1 ≡ m → duties_up_to work (n + 1) ≡ duties_up_to work n ++ duties_for work m
 duties_more work n m is = flat_more (duties_for work) 1 n m (omega (arith, is))

@@ -86,12 +86,3 @@ seats_then old mid new one two both before after low slot is first second = (
   second.0 ∙ ap (λ ts. ts ++ two) first.0 ∙ append_assoc (map task_of old) one two ∙ ap (λ ts. map task_of old ++ ts) (sym is),
   second.1,
 )
-
--- none so far
-pub seated_none : (places : List ℕ) → length places ≡ 73 → AreSeated [] places 0
-seated_none places long = record {
-  found = λ k lt. absurd (omega (arith, lt));
-  below = λ k d lt. absurd (omega (arith, lt));
-  few = omega arith;
-  long = long;
-}

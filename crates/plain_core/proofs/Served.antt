@@ -427,11 +427,6 @@ pub slip_failed : (old new : Plain) (dev : DevId) (what : What) (e : CoreFault)
 slip_failed old new dev what fault.NotEnabled t = take_slip old new dev what (Err fault.NotEnabled) t
 slip_failed old new dev what fault.Memory t = absurd t
 
-pub want_failed : (old new : Plain) (dev : DevId) (waits : Bool) (what : What) (e : CoreFault)
-    → TakesPart old (Of dev) waits what (Err e) new → TakesWant old dev waits what (Err e) new
-want_failed old new dev waits what fault.NotEnabled t = t
-want_failed old new dev waits what fault.Memory t = absurd t
-
 -- a take of the pool of a set, by the name of the pool
 of_set : (old new : Plain) (set : SetId) (waits : Bool) (what : What) (pool : PoolId) (r s : Result Got CoreFault) → pool ≡ bios_of set → r ≡ s
     → Takes old (pool_number pool) pool waits what r new → Takes old (pool_number (bios_of set)) (bios_of set) waits what s new

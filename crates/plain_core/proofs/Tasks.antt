@@ -71,11 +71,6 @@ pub gave_part : (old new : Plain) (p : Item Pad) (part : Option (Item Pad)) (sli
 gave_part old new p part slip what is answer =
     subst (λ v. GivesFirst old None v slip what (Ok true) new None None slip) (sym is) (λ writer closed parent. (answer, refl))
 
-pub gave_vector : (old new : Plain) (v : VectorItem) (vector : Option VectorItem) (bio : Option (Item Pad)) (slip : Option SlipItem) (what : What) → vector ≡ Some v
-    → IsAnswer old (GiveVec v) what Did new → GivesFirst old vector bio slip what (Ok true) new None bio slip
-gave_vector old new v vector bio slip what is answer =
-    subst (λ w. GivesFirst old w bio slip what (Ok true) new None bio slip) (sym is) (λ writer closed parent. (answer, refl))
-
 -- it goes on
 pub closed_gave : (old new : Plain) (writer : ℕ) (closed : Closed) (held : Holding) (what : What)
     → GivesFirst old closed.held.vector closed.held.bio closed.held.slip what (Ok true) new held.vector held.bio held.slip
@@ -182,21 +177,6 @@ pub round_come : (old : Plain) (n : ℕ) (next : task.Todo) (later : List task.T
     → IsLet ledger_of (objects_of old) (task.Writer n (next ∷ later) task.NoBio before) (Some LookRound)
 round_come old n next later before come = (Present old.tally.round, (refl, refl), come)
 
-pub round_waits : (r : Routing) (old : Plain) (n : ℕ) (tds later : List task.Todo) (next : task.Todo) (taken : task.Taken) (before : line.Line) (what : What)
-    → before.doing ≡ line.Rests → taken ≡ task.NoBio → tds ≡ next ∷ later → old.tally.round < next.round
-    → TaskMoves r old (task.Writer n tds taken before) what (Err fault.NotEnabled) old (task.Writer n tds taken before)
-round_waits r old n tds later next taken before what rests none is few = (
-  refl,
-  refl,
-  λ let_it. absurd (never (subst (IsLet ledger_of (objects_of old) (task.Writer n (next ∷ later) task.NoBio before)) (ap (λ d. task.writer_look (next ∷ later) task.NoBio d) rests)
-      (subst (λ l. IsLet ledger_of (objects_of old) (task.Writer n l task.NoBio before) (task.look_of (task.Writer n l task.NoBio before))) is
-      (subst (λ t. IsLet ledger_of (objects_of old) (task.Writer n tds t before) (task.look_of (task.Writer n tds t before))) none let_it)))),
-)
-  where
-    never : IsLet ledger_of (objects_of old) (task.Writer n (next ∷ later) task.NoBio before) (Some LookRound) → ⊥
-    never (Present round, serves, come) = let same : round ≡ old.tally.round = serves.0 in let le : next.round ≤ round = grind (arith, nat_tests, come) in omega (arith, le, same, few)
-    never (_, serves, come) = serves
-
 pub bio_taken : (r : Routing) (old new : Plain) (n : ℕ) (tds later : List task.Todo) (next : task.Todo) (taken : task.Taken) (before : line.Line) (what : What) (part : Item Pad)
     → before.doing ≡ line.Rests → taken ≡ task.NoBio → tds ≡ next ∷ later → nat_le next.round old.tally.round ≡ true → TakesPart old Fs true what (Ok (Some part)) new
     → TaskMoves r old (task.Writer n tds taken before) what (Ok (tt {0})) new (task.Writer n tds (task.HasBio part) before)
@@ -222,12 +202,6 @@ rescuer_popped r old new dev before after what part rests answer is = (
   subst (λ q. IsAnswer old q what (Popped part) new) (ap (λ d. task.rescuer_request (setup r) dev d before) (sym rests)) answer,
   ap (task.Rescuer dev) is ∙ ap (λ d. task.rescuer_answered (setup r) dev d before (Popped part)) (sym rests),
 )
-
-pub rescuer_failed : (r : Routing) (old new : Plain) (dev : DevId) (before : line.Line) (what : What) (e : CoreFault) → before.doing ≡ line.Rests → Fails old (Pop dev) what e new
-    → TaskMoves r old (task.Rescuer dev before) what (Err e) new (task.Rescuer dev before)
-rescuer_failed r old new dev before what fault.NotEnabled rests f =
-    (f.0, refl, λ let_it. subst (λ q. Refuses old q what) (ap (λ d. task.rescuer_request (setup r) dev d before) (sym rests)) f.1)
-rescuer_failed r old new dev before what fault.Memory rests f = absurd f
 
 module _ (r : Routing) (old new : Plain) (n : ℕ) (tds later : List task.Todo) (next : task.Todo) (taken : task.Taken) (before : line.Line) (what : What) (rests : before.doing ≡ line.Rests) (is : tds ≡ next ∷ later) where
   -- with a bio, and with a vector too
@@ -293,22 +267,6 @@ module _ (r : Routing) (old new : Plain) (n : ℕ) (tds later : List task.Todo) 
       (subst (λ k. Fails old (task.write_request n tds k) what e new) (sym has)
       (subst (λ l. Fails old (task.write_request n l (task.HasBoth part vector)) what e new) (sym is)
       (subst (λ v. Fails old (Link n (Write next.number (Some v))) what e new) is_full f)))
-
--- with nothing to do
-pub writer_idle : (r : Routing) (old : Plain) (n : ℕ) (tds : List task.Todo) (taken : task.Taken) (before : line.Line) (what : What) → before.doing ≡ line.Rests → tds ≡ []
-    → TaskMoves r old (task.Writer n tds taken before) what (Err fault.NotEnabled) old (task.Writer n tds taken before)
-writer_idle r old n tds taken before what rests none =
-    writer_failed r old old n tds taken before what fault.NotEnabled rests
-    (subst (λ l. Fails old (task.write_request n l taken) what fault.NotEnabled old) (sym none) (refl, λ reply new is serves. absurd serves))
-
--- a request that was answered or not, as a failure
-pub answers_fail : {X : Type 0} (old new : Plain) (request : Request) (what : What) (replied : X → Reply) (e : CoreFault) → Answers old request what replied (Err e) new → Fails old request what e new
-answers_fail old new request what replied fault.NotEnabled a = a
-answers_fail old new request what replied fault.Memory a = absurd a
-
-pub vector_fails : (old new : Plain) (what : What) (e : CoreFault) → TakesVector old what (Err e) new → Fails old TakeVec what e new
-vector_fails old new what fault.NotEnabled a = a
-vector_fails old new what fault.Memory a = absurd a
 
 pub come_by : (mine wanted here present : ℕ) → mine ≡ wanted → here ≡ present → wanted ≤ here → nat_le mine present ≡ true
 come_by mine wanted here present same is le = grind (arith, nat_tests)

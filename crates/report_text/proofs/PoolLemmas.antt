@@ -221,10 +221,6 @@ device_has stack number (Limit longest chunk) lt = one_at_all (HasPool stack) (B
 device_has stack number (Mirror records) lt =
     All-cons (HasPool stack) (Records (at number)) (Bios (at number) ∷ []) lt (one_at_all (HasPool stack) (Bios (at number)) lt)
 
--- the pools of the writers
-pub writers_have : (stack : Stack) → All (HasPool stack) (FsBios ∷ FsVecs ∷ [])
-writers_have stack = All-cons (HasPool stack) FsBios (FsVecs ∷ []) _ (one_at_all (HasPool stack) FsVecs _)
-
 abbrev IsBelow : ℕ → DevId → Type 0
 IsBelow total dev = dev.0 < total
 

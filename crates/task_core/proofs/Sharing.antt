@@ -152,9 +152,6 @@ pub kept_split : {Y : Type 0} (f : ℕ → Y) (p : ℕ → Bool) (n : ℕ)
     → map f (filter p (range_with_len 0 (n + 1))) ≡ map f (filter p (range_with_len 0 n)) ++ map f (filter p (n ∷ []))
 kept_split f p n = ap (map f) (fill.filter_more p n) ∙ map-append f (filter p (range_with_len 0 n)) (filter p (n ∷ []))
 
-pub adds_none : (kinds : List Kind) → Adds kinds [] kinds
-adds_none kinds = sym (append-nil (shown kinds))
-
 -- there is a writer exactly where it has a write
 any_kept : {X : Type 0} (p : X → Bool) (xs : List X) → list_any p xs ≡ false → filter p xs ≡ []
 any_kept p [] none = refl

@@ -131,12 +131,6 @@ module _ (stack : Stack) (bio : Bio) (within : IsWithin stack bio) (cut : Cut) (
 pub stays_if_none : (stack : Stack) (bio : Bio) → HasNoFirst stack bio → Stays stack bio
 stays_if_none stack bio none = ap (λ o. option_map_or (λ (cut : Cut). cut.sectors == bio.range.len) o false) none
 
--- at a disk or a mirror it stays
-pub lands_on_disk : (stack : Stack) → IsStack stack → (bio : Bio) (device : Device) → slice_get stack.devices.items bio.dev.0 ≡ Some device
-    → (shape_of device.kind ≢ Cuts) → landed (tree stack bio.dev.0) bio ≡ bio
-lands_on_disk stack good bio device found other =
-    lands_here (tree stack bio.dev.0) bio (stays_if_none stack bio (no_first stack good bio device found other))
-
 -- a bio has a first piece at its device, or its device does not cut
 pub first_at : (stack : Stack) → IsStack stack → (bio : Bio) → IsWithin stack bio → HasNoFirst stack bio ⊎ ((cut : Cut) × IsFirst stack bio cut)
 first_at stack good bio within =

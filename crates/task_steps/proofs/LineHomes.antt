@@ -56,11 +56,6 @@ cut_keeps_none (Leaf number sectors) range e = absurd (true≢false (sym e))
 cut_keeps_none (Split number kind sizes members) range e = refl
 cut_keeps_none (Mirrored number sizes members) range e = refl
 
-mirror_keeps_none : (t : Tree) → is_mirror t ≡ true → not (keeps_data t) ≡ true
-mirror_keeps_none (Leaf number sectors) e = absurd (true≢false (sym e))
-mirror_keeps_none (Split number kind sizes members) e = refl
-mirror_keeps_none (Mirrored number sizes members) e = refl
-
 legs_keep_none : (t : Tree) (leg : ℕ) → leg < legs_of t → not (keeps_data t) ≡ true
 legs_keep_none (Leaf number sectors) leg lt = absurd (omega (arith, lt))
 legs_keep_none (Split number kind sizes members) leg lt = refl

@@ -21,10 +21,6 @@ use Rattle.task_steps.proofs.Fits.{settled_fits, line_fits, line_asks}
 abbrev IsTodo : Stack → Todo → Type 0
 IsTodo stack todo = IsWrite stack todo.write
 
--- the bio of a write is within its device
-pub write_within : (stack : Stack) (writer : ℕ) (todo : Todo) (node : ℕ) → IsWrite stack todo.write → IsWithin stack (first_bio writer todo node)
-write_within stack writer todo node is = record { device = is.known; some = is.some; within = is.within }
-
 module _ (stack : Stack) (good : IsStack stack) (places : ℕ → ℕ) where
   -- a write begins
   pub begins_fits : (writer : ℕ) (later : List Todo) (bio : ℕ → Item Pad) (taken : Taken) (todo : Todo) (line : Line) (answer : Linked)

@@ -76,9 +76,6 @@ next_of_front front t back r h = omega (arith, (at_place 0 front t back r).0, h)
 one_more_of : (ts : List Ticket) (last : ℕ) (t : Ticket) → IsOneOf ts last → t.number ≡ max last t.seen + 1 → IsOneMore ts t
 one_more_of ts last t one e = dite (ℕ_discrete t.number (t.seen + 1)) (λ s. inr s) (λ ne. inl (last, one, omega (arith, e, ne)))
 
-contains_more : (t : Ticket) (ts : List Ticket) (u : Ticket) → Contains ts u → Contains (t ∷ ts) u
-contains_more t ts u h = Contains-append_right (t ∷ []) ts u h
-
 each_more : (all : List Ticket) (last : ℕ) (ts : List Ticket) → IsRising last ts → IsOneOf all last → All (Contains all) ts → All (IsOneMore all) ts
 each_more all last [] r one h = All-nil (IsOneMore all)
 each_more all last (t ∷ ts) r one h =

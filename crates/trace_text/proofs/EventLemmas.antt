@@ -140,9 +140,6 @@ ends None a e = absurd (cc)
 ends (Some (found, [])) a e = ap (λ (x : _). Some (x, [])) (same_Some found a e)
 ends (Some (found, word ∷ words)) a e = absurd (cc)
 
-event_made : TaskId × What → Event
-event_made of = record { task = of.0; what = of.1 }
-
 event_takes : (stack : Stack) (words : List (List ℕ)) (event : Event) → IsNamed stack → event_of stack words ≡ Some event
     → (words ≡ words_of stack event) × IsEventOf stack event × Fits event
 unfolding event_of

@@ -20,21 +20,8 @@ inside start end k = nat_le start k && nat_lt k end
 pub inside_none : (start k : ℕ) → inside start start k ≡ false
 inside_none start k = grind (arith, nat_tests)
 
-pub marked_none : (mark start k old : ℕ) → old ≡ cond (inside start start k) mark old
-marked_none mark start k old = rw (inside_none start k) refl
-
 inside_same : (start at k : ℕ) → start ≤ at → k ≡ at → inside start (at + 1) k ≡ true
 inside_same start at k le same = grind (arith, nat_tests)
 
 inside_other : (start at k : ℕ) → (k ≡ at → ⊥) → inside start (at + 1) k ≡ inside start at k
 inside_other start at k other = grind (arith, nat_tests)
-
--- one more
-pub marked_more : (mark : ℕ) (xs ys : List ℕ) (start at : ℕ) → start ≤ at → at < length ys
-    → ((k : ℕ) → get_or ys k 0 ≡ cond (inside start at k) mark (get_or xs k 0))
-    → (k : ℕ) → get_or (set ys at mark) k 0 ≡ cond (inside start (at + 1) k) mark (get_or xs k 0)
-marked_more mark xs ys start at le lt marked k =
-    elim (cases_eq k at) [
-      | inl same ↦ rw (inside_same start at k le same, same) (get_or-set_same ys at mark 0 lt)
-      | inr other ↦ rw (inside_other start at k other) (get_or-set_other ys at k mark 0 other ∙ marked k)
-    ]

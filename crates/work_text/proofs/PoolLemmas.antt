@@ -16,11 +16,3 @@ use Rattle.work_text.proofs.NameLemmas.{position-map}
 pub shown_before : (stack : Stack) (suffix word : List ℕ)
     → position (λ (device : Device). bytes_eq (device.name.bytes ++ suffix) word) stack.devices.items ≡ device_before suffix (shown_devices stack) word
 shown_before stack suffix word = sym (position-map (λ (device : Declared). bytes_eq (device.name ++ suffix) word) shown stack.devices.items)
-
--- the pool of a device, as it shows
-pub pool_shown : (pool : ℕ → What → Option PoolId) (stack : Stack) (number : ℕ) (found : Option Device) → slice_get stack.devices.items number ≡ found
-    → pool_if pool (shown_devices stack) number ≡ option_and_then (λ (device : Device). pool number (what_of device.kind)) found
-pool_shown pool stack number None is =
-    ap (option_and_then (λ (device : Declared). pool number device.what)) (slice_get-map shown stack.devices.items number ∙ ap (option_map shown) is)
-pool_shown pool stack number (Some device) is =
-    ap (option_and_then (λ (device : Declared). pool number device.what)) (slice_get-map shown stack.devices.items number ∙ ap (option_map shown) is)

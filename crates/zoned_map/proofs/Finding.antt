@@ -45,10 +45,6 @@ module _ (zones : List Zone) (e place left : ℕ) (d : Zone) (is : IsLeft zones 
     low = omega (arith, is.low, ap chunks_of (drop_more zones place d within), sum_by-cons (λ (zone : Zone). zone.chunks) this (drop (place + 1) zones));
   }
 
--- it is in some zone
-pub left_somewhere : (zones : List Zone) (e place left : ℕ) → IsLeft zones e place left → length zones ≤ place → ⊥
-left_somewhere zones e place left is ends = absurd (omega (arith, is.low, ap chunks_of (drop_all place zones ends)))
-
 -- a zone that has chunks has members
 members_of : (counts ts : List ℕ) (b i : ℕ) (d : Zone) → i < length (zones_from counts b ts) → length (get_or (zones_from counts b ts) i d).members ≡ 0 → (get_or (zones_from counts b ts) i d).chunks ≡ 0
 unfolding zones_from
