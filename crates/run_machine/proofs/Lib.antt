@@ -3,5 +3,9 @@ pub mod Texts
 pub mod Able
 pub mod Blocked
 pub mod Frames
+pub mod OneObject
+pub mod Answered
+pub mod OneState
+pub mod Apart
 pub mod Idle
 pub mod cases

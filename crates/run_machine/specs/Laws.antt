@@ -1,5 +1,5 @@
 -- What holds of the definitions themselves.
-use Rattle.std.specs.Prelude.{◌≡◌, ◌≢◌, ◌++◌, ℕ, List}
+use Rattle.std.specs.Prelude.{◌≡◌, ◌≢◌, ◌++◌, ℕ, List, Option, None, Some}
 use Rattle.elem_ledger.specs.Ledger.{LedgerId}
 use Rattle.stack_base.specs.PoolId.{pool_number, IsOfStack}
 use Rattle.stack_base.specs.declared.ids.PoolId.{PoolId}
@@ -9,9 +9,10 @@ use Rattle.run_machine.specs.declared.event.Event.{Event}
 use Rattle.run_machine.specs.Maps.{upd}
 use Rattle.run_machine.specs.Scene.{Scene}
 use Rattle.run_machine.specs.Requests.{Request, Reply, TakeBio, TakeVec, TakeSlip, GiveBio, GiveVec, GiveSlip, Punt, Pop, Push, Complete, Link, Drop, Done, Resize, NextRound, LookRound, LookLeft, Rest}
+use Rattle.run_machine.specs.Tasks.{TaskState, request, look_of}
 use Rattle.run_machine.specs.Objects.{Objects, Serves}
 use Rattle.run_machine.specs.Events.{pool_of}
-use Rattle.run_machine.specs.Runs.{State, Steps, IsRun}
+use Rattle.run_machine.specs.Runs.{State, IsLet, Steps, IsRun}
 
 -- the object that a request is for: a pool, the list of a rescuer, a disk, a book, the tally, or none
 pub data Object : Type 0 where
@@ -55,6 +56,40 @@ with_object old new OfNone = old
 abbrev pub OneObjectChanges : Type 0
 OneObjectChanges = (ledger : ℕ → LedgerId) (old new : Objects) (request : Request) (reply : Reply)
     → Serves ledger old request reply new → new ≡ with_object old new (object_of request)
+
+-- this object is the same in both
+abbrev pub AgreeAt : Object → Objects → Objects → Type 0
+AgreeAt (OfPool number) first second = first.pool number ≡ second.pool number
+AgreeAt (OfRescuer dev) first second = first.rescue dev ≡ second.rescue dev
+AgreeAt (OfDisk dev) first second = first.disk dev ≡ second.disk dev
+AgreeAt (OfBook writer) first second = first.book writer ≡ second.book writer
+AgreeAt OfTally first second = first.tally ≡ second.tally
+AgreeAt OfNone first second = Unit {0}
+
+-- and so is the one that is looked at, if one is
+abbrev pub AgreeAtLook : Option Request → Objects → Objects → Type 0
+AgreeAtLook None first second = Unit {0}
+AgreeAtLook (Some look) first second = AgreeAt (object_of look) first second
+
+-- another state with the task at this place, and with this object, as they are in a state
+abbrev pub with_step : State → State → ℕ → Object → State
+with_step other new place object = record {
+  objects = with_object other.objects new.objects object;
+  task = upd other.task place (new.task place);
+}
+
+-- A request depends on the object that it is for and on nothing else: where that object is the same, it gets the same reply, and the object
+-- becomes the same. So an event depends on its task, on the object that its task asks, and on the one that it looks at.
+pub record OneObjectDecides : Type 0 where
+  pub serves : (ledger : ℕ → LedgerId) (old new other : Objects) (request : Request) (reply : Reply) → AgreeAt (object_of request) old other
+      → Serves ledger old request reply new → Serves ledger other request reply (with_object other new (object_of request))
+  pub lets : (ledger : ℕ → LedgerId) (old other : Objects) (task : TaskState) → AgreeAtLook (look_of task) old other
+      → IsLet ledger old task (look_of task) → IsLet ledger other task (look_of task)
+  pub steps : (scene : Scene) (old new other : State) (place : ℕ) (event : Event) → old.task place ≡ other.task place
+      → AgreeAt (object_of (request scene.setup (old.task place))) old.objects other.objects
+      → AgreeAtLook (look_of (old.task place)) old.objects other.objects
+      → Steps scene old place event new
+      → Steps scene other place event (with_step other new place (object_of (request scene.setup (old.task place))))
 
 -- and a step no task but its own, so all others look at and ask for what they did before
 abbrev pub OthersStay : Type 0

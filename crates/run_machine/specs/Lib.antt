@@ -10,3 +10,4 @@ pub mod Runs
 pub mod Opened
 pub mod Laws
 pub mod Scenario
+pub mod OneState
