@@ -6,7 +6,7 @@ use Rattle.run_machine.specs.declared.event.Event.{Event}
 use Rattle.task_core.specs.declared.opened.Opened.{Opened}
 use Rattle.task_steps.specs.Homes.{IsTaskOf}
 use Rattle.run_machine.specs.Maps.{upd}
-use Rattle.task_steps.specs.Named.{IsEventOf}
+use Rattle.run_machine.specs.Named.{IsEventOf}
 use Rattle.task_core.specs.ObjectsOf.{AreNumbered, AreObjectsOf}
 use Rattle.task_core.specs.OfOne.{IsOpened, scenario_in, states}
 use Rattle.run_machine.specs.Opened.{at, most_writers, no_task, scene, start, tasks}

@@ -15,7 +15,7 @@ use Rattle.run_machine.specs.Runs.{State, IsRun, HasEnded}
 use Rattle.run_machine.specs.Scenario.{scenario_of}
 use Rattle.block_core.specs.Claim.{IsAsClaimed}
 use Rattle.block_core.specs.Sound.{IsNaming}
-use Rattle.task_steps.specs.Named.{IsEventOf}
+use Rattle.run_machine.specs.Named.{IsEventOf}
 use Rattle.serial_run.specs.Schedule.{Follows}
 use Rattle.report_text.specs.CheckText.{most_steps}
 use Rattle.report_text.specs.Report.{Told}

@@ -7,6 +7,7 @@ pub mod Tasks
 pub mod Objects
 pub mod Events
 pub mod Runs
+pub mod Named
 pub mod Opened
 pub mod Laws
 pub mod Scenario

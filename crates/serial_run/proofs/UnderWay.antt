@@ -10,7 +10,7 @@ use Rattle.run_machine.specs.declared.event.Event.{Event}
 use Rattle.task_core.specs.declared.opened.Opened.{Opened}
 use Rattle.task_core.specs.declared.plain.Plain.{Plain}
 use Rattle.task_core.specs.Leaving.{IsLeft}
-use Rattle.task_steps.specs.Named.{IsEventOf}
+use Rattle.run_machine.specs.Named.{IsEventOf}
 use Rattle.task_core.specs.OfOne.{run_state, AreOfOne, IsOpened, scenario_in}
 use Rattle.run_machine.specs.Opened.{Scenario, scene, start}
 use Rattle.task_core.specs.Plains.{objects_of, stage_of}

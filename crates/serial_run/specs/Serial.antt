@@ -5,7 +5,7 @@ use Rattle.task_core.specs.declared.ended.Ended.{Ended}
 use Rattle.run_machine.specs.declared.event.Event.{Event}
 use Rattle.task_core.specs.declared.opened.Opened.{Opened}
 use Rattle.task_core.specs.Leaving.{IsLeft}
-use Rattle.task_steps.specs.Named.{IsEventOf}
+use Rattle.run_machine.specs.Named.{IsEventOf}
 use Rattle.task_core.specs.OfOne.{scenario_in}
 use Rattle.run_machine.specs.Opened.{at, scene, start}
 use Rattle.task_core.specs.Plains.{stage_of}

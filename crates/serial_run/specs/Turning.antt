@@ -5,7 +5,7 @@ use Rattle.stack_base.specs.declared.stack.Stack.{Stack}
 use Rattle.run_machine.specs.declared.event.Event.{Event}
 use Rattle.task_steps.specs.declared.step.Step.{Step}
 use Rattle.task_steps.specs.declared.step.Step.TheVariants.{Stepped}
-use Rattle.task_steps.specs.Named.{IsEventOf}
+use Rattle.run_machine.specs.Named.{IsEventOf}
 use Rattle.task_core.specs.PlainSteps.{IsPassedOver}
 use Rattle.run_machine.specs.Runs.{State, Steps}
 use Rattle.run_machine.specs.Scene.{Scene}

@@ -25,8 +25,9 @@ use Rattle.run_machine.specs.Requests as requests
 use Rattle.run_machine.specs.Requests.{Request, Reply}
 use Rattle.run_machine.specs.Tasks.{TaskState, Writer, Rescuer, Completer, Keeper, request}
 use Rattle.run_machine.specs.Events.{id_of, take_of, miss_of, resize_of, pool_of, what_of}
+use Rattle.run_machine.specs.Named.{is_disk, is_mirror, has_set, is_any, HasDevice, HasPool, HasTask, HasWhat}
 use Rattle.task_steps.specs.Homes.{IsTaskOf}
-use Rattle.task_steps.specs.Named.{is_disk, is_mirror, has_set, is_any, HasDevice, HasPool, HasTask, HasWhat, TasksNameTheStack}
+use Rattle.task_steps.specs.Named.{TasksNameTheStack}
 use Rattle.task_steps.specs.Routed.{setup}
 use Rattle.task_steps.specs.Stage.{Stage, has_disk, has_mirror, is_set, is_pool, is_bios, is_vecs, is_slips, Fits}
 use Rattle.task_steps.proofs.TaskHomes.{tasks_stay_home}

@@ -1,90 +1,14 @@
--- What a stack has, and events that name nothing else.
-use Rattle.std.specs.Prelude.{◌≡◌, not, ℕ, Bool, true, false, slice_get, Some}
-use Rattle.std.specs.Option.{option_map_or}
-use Rattle.stack_base.specs.declared.ids.DevId.{DevId}
-use Rattle.stack_base.specs.declared.ids.PoolId.{PoolId}
-use Rattle.stack_base.specs.declared.ids.PoolId.TheVariants.{FsBios, FsVecs, Bios, Records}
-use Rattle.stack_base.specs.declared.stack.Kind.{Kind}
-use Rattle.stack_base.specs.declared.stack.Kind.TheVariants.{Disk, Linear, Stripe, Zoned, Limit, Mirror}
-use Rattle.stack_base.specs.declared.stack.Device.{Device}
-use Rattle.stack_base.specs.declared.stack.Stack.{Stack}
+-- What is told of a task names what the stack has.
+use Rattle.std.specs.Prelude.{◌≡◌, Some}
 use Rattle.stack_base.specs.Stack.{IsStack}
 use Rattle.run_machine.specs.declared.event.Event.{Event}
-use Rattle.run_machine.specs.declared.event.TaskId.{TaskId}
-use Rattle.run_machine.specs.declared.event.TaskId.TheVariants as task
-use Rattle.run_machine.specs.declared.event.What.{What}
-use Rattle.run_machine.specs.declared.event.What.TheVariants as what
 use Rattle.run_machine.specs.Requests.{Reply}
 use Rattle.run_machine.specs.Tasks.{TaskState, request}
 use Rattle.run_machine.specs.Events.{id_of, what_of}
+use Rattle.run_machine.specs.Named.{IsEventOf}
 use Rattle.task_steps.specs.Homes.{IsTaskOf}
 use Rattle.task_steps.specs.Routed.{setup}
 use Rattle.task_steps.specs.Stage.{Stage}
-
-abbrev pub is_disk : Kind → Bool
-is_disk (Disk sectors bad) = true
-is_disk Linear = false
-is_disk (Stripe chunk) = false
-is_disk (Zoned chunk) = false
-is_disk (Limit longest chunk) = false
-is_disk (Mirror records) = false
-
-abbrev pub is_mirror : Kind → Bool
-is_mirror (Mirror records) = true
-is_mirror Linear = false
-is_mirror (Stripe chunk) = false
-is_mirror (Zoned chunk) = false
-is_mirror (Limit longest chunk) = false
-is_mirror (Disk sectors bad) = false
-
--- a device over members has a set of bios
-abbrev pub has_set : Kind → Bool
-has_set kind = not (is_disk kind)
-
-abbrev pub is_any : Kind → Bool
-is_any kind = true
-
--- whether there is a device of this number, of such a kind
-abbrev pub has_device : (Kind → Bool) → Stack → ℕ → Bool
-has_device suits stack number = option_map_or (λ (device : Device). suits device.kind) (slice_get stack.devices.items number) false
-
--- the stack has this device, and it is of such a kind
-abbrev pub HasDevice : (Kind → Bool) → Stack → DevId → Type 0
-HasDevice suits stack dev = has_device suits stack dev.0 ≡ true
-
--- the stack has this pool: those of the writers' set, one of bios for each set of a device, and one of records for each mirror
-abbrev pub HasPool : Stack → PoolId → Type 0
-HasPool stack FsBios = Unit {0}
-HasPool stack FsVecs = Unit {0}
-HasPool stack (Bios dev) = HasDevice has_set stack dev
-HasPool stack (Records dev) = HasDevice is_mirror stack dev
-
--- a task of a stack: a rescuer of a device, a completer of a disk
-abbrev pub HasTask : Stack → TaskId → Type 0
-HasTask stack (task.Writer number) = Unit {0}
-HasTask stack (task.Rescuer dev) = HasDevice is_any stack dev
-HasTask stack (task.Completer disk) = HasDevice is_disk stack disk
-HasTask stack task.Keeper = Unit {0}
-
--- what is done at devices, disks and pools of a stack
-abbrev pub HasWhat : Stack → What → Type 0
-HasWhat stack (what.Take pool got) = HasPool stack pool
-HasWhat stack (what.Try pool got) = HasPool stack pool
-HasWhat stack (what.Give pool) = HasPool stack pool
-HasWhat stack (what.Punt dev moved) = HasDevice is_any stack dev
-HasWhat stack (what.Pop dev) = HasDevice is_any stack dev
-HasWhat stack (what.Push disk at len leg) = HasDevice is_disk stack disk
-HasWhat stack (what.Complete disk index status) = HasDevice is_disk stack disk
-HasWhat stack (what.Link writer how node) = Unit {0}
-HasWhat stack (what.Drop writer node status end) = Unit {0}
-HasWhat stack (what.Done write status) = Unit {0}
-HasWhat stack (what.Resize pool min) = HasPool stack pool
-HasWhat stack (what.Round round) = Unit {0}
-
--- an event that names what the stack has
-pub record IsEventOf (stack : Stack) (event : Event) : Type 0 where
-  pub task : HasTask stack event.task
-  pub what : HasWhat stack event.what
 
 -- whatever is told of a task of a stack names what the stack has
 abbrev pub TasksNameTheStack : Type 0

@@ -1,5 +1,5 @@
 -- The line of an event.
-use Rattle.std.specs.Prelude.{◌<◌, ◌^◌, ◌++◌, ℕ, List, [], ◌∷◌, codes, decimal, slice_get}
+use Rattle.std.specs.Prelude.{◌++◌, ℕ, List, [], ◌∷◌, codes, decimal, slice_get}
 use Rattle.std.specs.List.{join_with_byte}
 use Rattle.std.specs.Option.{option_map_or}
 use Rattle.stack_base.specs.declared.ids.DevId.{DevId}
@@ -20,7 +20,7 @@ use Rattle.run_machine.specs.declared.event.End.TheVariants as end
 use Rattle.run_machine.specs.declared.event.What.{What}
 use Rattle.run_machine.specs.declared.event.What.TheVariants as what
 use Rattle.run_machine.specs.declared.event.Event.{Event}
-pub use Rattle.task_steps.specs.Named.{HasTask, HasWhat, IsEventOf}
+pub use Rattle.run_machine.specs.Named.{HasTask, HasWhat, IsEventOf, FitsTask, FitsWhat, Fits}
 
 abbrev pub status_word : Status → List ℕ
 status_word status.Ok = codes "ok"
@@ -83,36 +83,3 @@ words_of stack event = codes "event" ∷ task_word stack event.task ∷ what_wor
 -- the words, with one blank between any two
 abbrev pub line_of : Stack → Event → List ℕ
 line_of stack event = join_with_byte 32 (words_of stack event)
-
--- a number that 32 bits have
-abbrev pub IsShort : ℕ → Type 0
-IsShort number = number < 2 ^ 32
-
--- a number that 64 bits have
-abbrev pub IsLong : ℕ → Type 0
-IsLong number = number < 2 ^ 64
-
-abbrev pub FitsTask : TaskId → Type 0
-FitsTask (task.Writer number) = IsShort number
-FitsTask (task.Rescuer dev) = Unit {0}
-FitsTask (task.Completer disk) = Unit {0}
-FitsTask task.Keeper = Unit {0}
-
-abbrev pub FitsWhat : What → Type 0
-FitsWhat (what.Take pool got) = Unit {0}
-FitsWhat (what.Try pool got) = Unit {0}
-FitsWhat (what.Give pool) = Unit {0}
-FitsWhat (what.Punt dev moved) = IsLong moved
-FitsWhat (what.Pop dev) = Unit {0}
-FitsWhat (what.Push disk at len leg) = IsLong at × IsLong len × IsShort leg
-FitsWhat (what.Complete disk index status) = IsLong index
-FitsWhat (what.Link writer how node) = IsShort writer × IsShort node
-FitsWhat (what.Drop writer node status end) = IsShort writer × IsShort node
-FitsWhat (what.Done write status) = IsShort write
-FitsWhat (what.Resize pool min) = IsShort min
-FitsWhat (what.Round round) = IsShort round
-
--- an event whose numbers are such as its fields have
-pub record Fits (event : Event) : Type 0 where
-  pub task : FitsTask event.task
-  pub what : FitsWhat event.what

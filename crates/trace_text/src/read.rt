@@ -8,8 +8,8 @@ ghost use Rattle.trace_text.specs.Reading.{Reads, device_of, disk_of, end_of, ev
 use crate::verb::{Verb, end_of, got_of, how_of, status_of, verb_of};
 use crate::word::{device_of, disk_of, is, long_of, pool_of, short_of, task_of};
 use crate::words::Words;
+use run_machine::{End, Event, Got, How, TaskId, What};
 use stack_base::{DevId, PoolId, Stack, Status};
-use task_core::{End, Event, Got, How, TaskId, What};
 
 // Each of the following takes one word, and answers what it tells, or nothing where it tells no such thing.
 

@@ -3,8 +3,8 @@ ghost use Rattle.std.specs.Prelude.{◌≡◌, ◌≤◌, length};
 ghost use Rattle.trace_text.specs.Lines.{end_word, got_word, how_word, status_word};
 ghost use Rattle.trace_text.specs.Reading.{end_of, got_of, how_of, status_of, verb_of, verb_word};
 
+use run_machine::{End, Got, How};
 use stack_base::Status;
-use task_core::{End, Got, How};
 
 /// The word behind the task: what the task did.
 #[derive(Clone, Copy)]

@@ -7,8 +7,8 @@ ghost use Rattle.std.specs.Str.{bytes_eq};
 ghost use Rattle.trace_text.specs.Names.{is_disk, is_mirror};
 ghost use Rattle.trace_text.specs.Reading.{behind, bios_of, completer_of, device_of, device_pool, disk_of, fs_pool, is_dot, is_plain, long_of, pool_of, records_of, rescuer_of, short_of, task_of, writer_of};
 
+use run_machine::TaskId;
 use stack_base::{DevId, Device, Kind, PoolId, Stack};
-use task_core::TaskId;
 
 /// Whether two words are the same.
 pub(crate) fn is(word: &[u8], other: &[u8]) -> bool

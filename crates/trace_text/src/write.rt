@@ -7,8 +7,8 @@ ghost use Rattle.run_machine.specs.declared.event.What.TheVariants as what;
 use crate::verb::{end_word, got_word, how_word, status_word};
 use arrayvec::ArrayVec;
 use itoa::Buffer;
+use run_machine::{End, Event, Got, How, TaskId, What};
 use stack_base::{DevId, PoolId, Stack, Status};
-use task_core::{End, Event, Got, How, TaskId, What};
 
 // A line as it is written. The longest one has 103 bytes.
 type Line = ArrayVec<u8, 128>;
