@@ -3,12 +3,12 @@ use Rattle.std.proofs.Common.{◌≡◌, ◌≢◌, ◌⊎◌, ℕ, zero, suc, l
 use Rattle.std.specs.Prelude.{All, slice_index_or}
 use Rattle.stack_base.specs.Stack.{IsStack}
 use Rattle.run_machine.specs.declared.event.Event.{Event}
-use Rattle.task_core.specs.declared.opened.Opened.{Opened}
+use Rattle.task_core.specs.declared.opening.Opened.{Opened}
 use Rattle.task_steps.specs.Homes.{IsTaskOf}
 use Rattle.run_machine.specs.Maps.{upd}
 use Rattle.run_machine.specs.Named.{IsEventOf}
 use Rattle.task_core.specs.ObjectsOf.{AreNumbered, AreObjectsOf}
-use Rattle.task_core.specs.OfOne.{IsOpened, scenario_in, states}
+use Rattle.task_core.specs.opening.OfOne.{IsOpened, scenario_in, states}
 use Rattle.run_machine.specs.Opened.{at, most_writers, no_task, scene, start, tasks}
 use Rattle.task_core.specs.Plains.{stage_of}
 use Rattle.task_steps.specs.Routed.{setup}

@@ -9,17 +9,17 @@ use Rattle.mempool_core.specs.Facts.{AddsUp}
 use Rattle.mempool_core.specs.declared.Facts.{Facts}
 use Rattle.mempool_core.specs.Move.{PoolState, opened}
 use Rattle.decl_text.proofs.Fits.{accepted_fit}
-use Rattle.task_core.specs.declared.opened.Opened.{Opened}
+use Rattle.task_core.specs.declared.opening.Opened.{Opened}
 use Rattle.run_machine.specs.Events.{pool_of}
 use Rattle.run_machine.specs.Objects.{Objects}
-use Rattle.task_core.specs.OfOne.{IsOpened as AreTheFirst, scenario_in}
+use Rattle.task_core.specs.opening.OfOne.{IsOpened as AreTheFirst, scenario_in}
 use Rattle.run_machine.specs.Opened.{Scenario, at, objects, reserve_of, script_at}
-use Rattle.task_core.specs.Openings.{has_pool, uses_slips}
+use Rattle.task_core.specs.opening.Openings.{has_pool, uses_slips}
 use Rattle.task_core.specs.Plains.{objects_of, stage_of}
 use Rattle.task_steps.specs.Routed.{Routing, setup}
 use Rattle.run_machine.specs.Scene.{has_set}
 use Rattle.task_steps.specs.Stage.{Stage, is_pool}
-use Rattle.task_core.proofs.Behind.{no_set_keeps, no_slips_keep, scripts_alone}
+use Rattle.task_core.proofs.opening.Behind.{no_set_keeps, no_slips_keep, scripts_alone}
 use Rattle.plain_core.specs.Opening.{CanOpen, new_pool}
 use Rattle.plain_core.specs.Plain.{opened_disk}
 use Rattle.plain_core.proofs.Counted.{count_rounds, last_le}

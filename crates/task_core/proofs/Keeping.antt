@@ -78,7 +78,7 @@ mirror_is_slips stage dev is = let odd = odd_of dev.0 in rw (odd.0, odd.1) is
 
 module _ (stage : Stage) where
   -- an element that is taken is of the ledger of its pool
-  is_taken : (is_kind : Stage → ℕ → Bool) (number : ℕ) (share : LedgerId) → AreNumbered stage → IsTrue (is_kind stage number)
+  pub is_taken : (is_kind : Stage → ℕ → Bool) (number : ℕ) (share : LedgerId) → AreNumbered stage → IsTrue (is_kind stage number)
       → share ≡ stage.ledger number → IsTaken stage is_kind number share
   is_taken is_kind number share numbered kind is =
       let same : share.no ≡ number = ap (λ (l : LedgerId). l.no) is ∙ numbered number in
@@ -122,10 +122,10 @@ module _ (stage : Stage) where
   tally_changes old tally is all = record { rescue = all.rescue; disk = all.disk; book = all.book; tally = is }
 
   -- disks
-  abbrev IsAtDisk : ℕ → Item Pad → Type 0
+  abbrev pub IsAtDisk : ℕ → Item Pad → Type 0
   IsAtDisk dev item = IsServed stage item × (item.bio.dev ≡ at dev)
 
-  pushed_is : (dev : ℕ) (item : Item Pad) (disk : DiskState) → IsAtDisk dev item → IsDiskOf stage dev disk → IsDiskOf stage dev (pushed item disk)
+  pub pushed_is : (dev : ℕ) (item : Item Pad) (disk : DiskState) → IsAtDisk dev item → IsDiskOf stage dev disk → IsDiskOf stage dev (pushed item disk)
   pushed_is dev item disk is all = record {
     dev_is = all.dev_is;
     sectors = all.sectors;
@@ -133,7 +133,7 @@ module _ (stage : Stage) where
     pending = All-push (IsAtDisk dev) disk.pending item all.pending is;
   }
 
-  waits_there : (dev index : ℕ) (item : Item Pad) (disk : DiskState) → IsDiskOf stage dev disk → slice_get disk.pending index ≡ Some item → IsAtDisk dev item
+  pub waits_there : (dev index : ℕ) (item : Item Pad) (disk : DiskState) → IsDiskOf stage dev disk → slice_get disk.pending index ≡ Some item → IsAtDisk dev item
   waits_there dev index item disk all taken =
       subst (IsAtDisk dev) (get_or_from_slice_get disk.pending index item item taken)
       (all.pending index item (slice_get_within disk.pending index item taken))
@@ -148,7 +148,7 @@ module _ (stage : Stage) where
       let sectors = all.sectors in
       bios_write_their_sectors.size item.bio disk.image (omega (arith, inside, here, sectors)) ∙ sectors
 
-  completed_is : (dev index : ℕ) (item : Item Pad) (ending : Status) (old new : DiskState) → IsDiskOf stage dev old → Completes old index item ending new
+  pub completed_is : (dev index : ℕ) (item : Item Pad) (ending : Status) (old new : DiskState) → IsDiskOf stage dev old → Completes old index item ending new
       → IsDiskOf stage dev new
   completed_is dev index item ending old new all is =
       let here = waits_there dev index item old all is.taken in
@@ -164,10 +164,10 @@ module _ (stage : Stage) where
       )
 
   -- books
-  abbrev IsOpenOf : Option Node → Type 0
+  abbrev pub IsOpenOf : Option Node → Type 0
   IsOpenOf node = IfSome node (IsNodeOf stage)
 
-  node_is : (writer place : ℕ) (book : BookState) → IsBookOf stage writer book → IsOpenOf (node_at book place)
+  pub node_is : (writer place : ℕ) (book : BookState) → IsBookOf stage writer book → IsOpenOf (node_at book place)
   node_is writer place book is = by_case (nat_lt_or place (length book.nodes))
     where
       nat_lt_or : (a b : ℕ) → (a < b) ⊎ (b ≤ a)
@@ -251,7 +251,7 @@ module _ (stage : Stage) where
   legs_is writer master (Made place) old new is None here legs = absurd legs
   legs_is writer master (NoRoom back) old new is None here legs = absurd legs
 
-  links_is : (writer : ℕ) (opening : Opening) (answer : Linked) (old new : BookState) → IsBookOf stage writer old → OpeningFits stage opening
+  pub links_is : (writer : ℕ) (opening : Opening) (answer : Linked) (old new : BookState) → IsBookOf stage writer old → OpeningFits stage opening
       → Opened old opening answer new → IsBookOf stage writer new × LinkFits stage answer
   links_is writer (Write write vector) answer old new is fits opened = opens_is writer write vector answer old new is fits opened
   links_is writer (Chain parent) answer old new is fits opened = chains_is writer parent answer old new is _ (node_is writer parent old is) opened
@@ -276,7 +276,7 @@ module _ (stage : Stage) where
       → ClosedFits stage (closed_of (told node status part))
   closed_fits node status part is came = record { held = told_holds node status part is came; top = top_fits node.write (parent_of node.role) is.write }
 
-  drops_is : (writer place : ℕ) (status : Status) (part : Option (Item Pad)) (ended : Ended) (old new : BookState) → IsBookOf stage writer old
+  pub drops_is : (writer place : ℕ) (status : Status) (part : Option (Item Pad)) (ended : Ended) (old new : BookState) → IsBookOf stage writer old
       → IsBioHome stage part → (node : Option Node) → IsOpenOf node → DropsAt old place node status part ended new
       → IsBookOf stage writer new × DropFits stage ended
   drops_is writer place status part Left old new is came (Some node) here drops = (
@@ -304,7 +304,7 @@ module _ (stage : Stage) where
   lower_sum : (left : List ℕ) (round : ℕ) → round < length left → sum (set left round (get_or left round 0 - 1)) ≤ sum left
   lower_sum left round lt = grind (arith, common_steps, sum_by-set)
 
-  done_is : (write : ℕ) (status : Status) (tally : TallyState) → IsTallyOf stage tally → IsTallyOf stage (done_one write status tally)
+  pub done_is : (write : ℕ) (status : Status) (tally : TallyState) → IsTallyOf stage tally → IsTallyOf stage (done_one write status tally)
   done_is write status tally is =
       let less = lower_sum tally.left tally.round is.round in
       let few = is.left in

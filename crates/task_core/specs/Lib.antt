@@ -2,10 +2,6 @@ pub mod Tables
 pub mod ObjectsOf
 pub mod Plains
 pub mod Resizing
-pub mod Filled
-pub mod Openings
 pub mod PlainSteps
 pub mod Leaving
-pub mod OfOne
-pub mod NewTasks
-pub mod Begins
+pub mod opening

@@ -19,7 +19,7 @@ use Rattle.bio_books.specs.Books.{BookState}
 use Rattle.model_disks.specs.Disks.{DiskState}
 use Rattle.model_disks.specs.Moves as disk
 use Rattle.task_core.specs.declared.plain.Plain.{Plain}
-use Rattle.task_core.specs.declared.tally.Tally.{Tally}
+use Rattle.task_core.specs.declared.plain.tally.Tally.{Tally}
 use Rattle.task_core.specs.Tables.{look_up, AreAt}
 use Rattle.run_machine.specs.Requests.{Request, Reply, NextRound, Did}
 use Rattle.run_machine.specs.Objects.{TallyState, Objects, Serves}
@@ -98,11 +98,11 @@ stage_of plain = record {
 
 -- Each object that a stack has stands where the tables say, and the disks stand in the order of the devices.
 pub record AreSeated (plain : Plain) : Type 0 where
-  pub bios : AreAt set_number (is_bios (stage_of plain)) plain.seats.bios plain.bios.items
-  pub records : AreAt records_number (is_slips (stage_of plain)) plain.seats.records plain.records.items
-  pub lists : AreAt list_number (λ dev. has_rescuer (stage_of plain) (at dev)) plain.seats.lists plain.lists.items
-  pub disks : AreAt disk_number (λ dev. has_disk (stage_of plain) (at dev)) plain.seats.disks plain.disks.items
-  pub books : AreAt book_number (has_book (stage_of plain)) plain.seats.books plain.books.items
+  pub bios : AreAt set_number (is_bios (stage_of plain)) plain.index.bios plain.bios.items
+  pub records : AreAt records_number (is_slips (stage_of plain)) plain.index.records plain.records.items
+  pub lists : AreAt list_number (λ dev. has_rescuer (stage_of plain) (at dev)) plain.index.lists plain.lists.items
+  pub disks : AreAt disk_number (λ dev. has_disk (stage_of plain) (at dev)) plain.index.disks plain.disks.items
+  pub books : AreAt book_number (has_book (stage_of plain)) plain.index.books plain.books.items
   pub order : map disk_number plain.disks.items ≡ filter (λ dev. has_disk (stage_of plain) (at dev)) (range_with_len 0 (length plain.stage.value.stack.devices.items))
 
 -- What holds of these objects between calls.

@@ -1,13 +1,15 @@
 //! The objects of one thread.
-ghost use Rattle.std.specs.Prelude.{◌≡◌, ◌^◌, ◌<◌, ◌≤◌};
+ghost use Rattle.std.specs.Prelude.{◌≡◌, ◌^◌, ◌<◌};
 ghost use Rattle.stack_base.specs.PoolId.{pool_number};
 ghost use Rattle.bioset_pools.specs.Sets.{bios_of};
 
-use task_steps::{Ask, Chooser, Objects, Unmade};
-use crate::one::{dev_of, link_in, resize_home};
-use crate::place::{Seats, place};
-use task_steps::Routes;
-use crate::tally::Tally;
+pub mod calls;
+pub mod index;
+pub(crate) mod tally;
+
+use crate::plain::calls::{dev_of, link_in, resize_home};
+use crate::plain::index::{ObjectIndex, place};
+use crate::plain::tally::Tally;
 use bio_books::{Book, Dropped, Link};
 use bio_records::{
     BioBody, BioElement, BioList, Pad, RescueList, Slip, SlipElement, VecElement, Vector,
@@ -17,6 +19,7 @@ use mempool_core::{Facts, Pool, Taken};
 use model_disks::{Disk, Done};
 use stack_base::{DevId, PoolId, SetId, Status};
 use std::snapshot::Snapshot;
+use task_steps::{Ask, Chooser, Objects, Routes, Unmade};
 
 /// The objects of a run, where one thread has them all. They always answer, and tell what they are.
 #[derive(Drop)]
@@ -35,7 +38,7 @@ pub struct Plain {
     pub books: Vec<(u32, Book)>,
     /// The rounds, and the writes that are done.
     pub tally: Tally,
-    pub(crate) seats: Seats,
+    pub(crate) index: ObjectIndex,
     // The stack that they are of, and the places of books. It has no bytes here.
     pub(crate) stage: Snapshot<Routes>,
 }
@@ -58,6 +61,13 @@ impl Plain {
     ghost use Rattle.run_machine.specs.Requests.{Resize, OutIs};
     ghost use Rattle.task_steps.specs.Stage.{has_disk, is_pool, Fits};
 
+    /// Where each object stands among those of its kind.
+    pub fn index(&self) -> ObjectIndex
+        ensures { result ≡ self.now.index }
+    {
+        self.index
+    }
+
     // Sets the reserve of a set's pool of bios, where nothing of it is out. It answers how much is.
     fn resize_bios(&mut self, set: SetId, min: u32) -> u64
         requires holds { Holds self.old }
@@ -65,7 +75,7 @@ impl Plain {
         ensures serves { Tells self.old (Resize (bios_of set) min) (OutIs result) self.new }
         ensures kept { Holds self.new × (stage_of self.new ≡ stage_of self.old) }
     {
-        let at = place(&self.seats.bios, bios_number(set));
+        let at = place(&self.index.bios, bios_number(set));
         resize_home(&mut self.bios[at].1, min)
     }
 
@@ -86,7 +96,7 @@ impl Plain {
         ensures serves { Tells self.old (Resize (Records dev) min) (OutIs result) self.new }
         ensures kept { Holds self.new × (stage_of self.new ≡ stage_of self.old) }
     {
-        let at = place(&self.seats.records, PoolId::Records(dev).no());
+        let at = place(&self.index.records, PoolId::Records(dev).no());
         resize_home(&mut self.records[at].1, min)
     }
 
@@ -96,7 +106,7 @@ impl Plain {
         requires pool { IsTrue (is_pool (stage_of self.now) (bios_of set)) }
         ensures { result ≡ ((objects_of self.now).pool (pool_number (bios_of set))).facts }
     {
-        let at = place(&self.seats.bios, bios_number(set));
+        let at = place(&self.index.bios, bios_number(set));
         self.bios[at].1.facts()
     }
 
@@ -106,7 +116,7 @@ impl Plain {
         requires pool { IsTrue (is_pool (stage_of self.now) (Records dev)) }
         ensures { result ≡ ((objects_of self.now).pool (pool_number (Records dev))).facts }
     {
-        let at = place(&self.seats.records, PoolId::Records(dev).no());
+        let at = place(&self.index.records, PoolId::Records(dev).no());
         self.records[at].1.facts()
     }
 
@@ -130,7 +140,7 @@ impl Plain {
         requires pool { IsTrue (is_pool (stage_of self.now) (bios_of set)) }
         ensures { result.now ≡ ((objects_of self.now).pool (pool_number (bios_of set))).script }
     {
-        let at = place(&self.seats.bios, bios_number(set));
+        let at = place(&self.index.bios, bios_number(set));
         self.bios[at].1.script()
     }
 
@@ -140,7 +150,7 @@ impl Plain {
         requires pool { IsTrue (is_pool (stage_of self.now) (Records dev)) }
         ensures { result.now ≡ ((objects_of self.now).pool (pool_number (Records dev))).script }
     {
-        let at = place(&self.seats.records, PoolId::Records(dev).no());
+        let at = place(&self.index.records, PoolId::Records(dev).no());
         self.records[at].1.script()
     }
 
@@ -164,7 +174,7 @@ impl Plain {
         requires disk { IsTrue (has_disk (stage_of self.now) dev) }
         ensures { result.now ≡ (objects_of self.now).disk dev.0 }
     {
-        &self.disks[place(&self.seats.disks, dev.0)]
+        &self.disks[place(&self.index.disks, dev.0)]
     }
 }
 
@@ -180,7 +190,7 @@ impl Objects for Plain {
     ghost picks = { Picks };
 
     fn take_bio(&mut self, set: SetId, waits: bool) -> Result<Taken<BioBody<Pad>>, Unmade> {
-        let at = place(&self.seats.bios, bios_number(set));
+        let at = place(&self.index.bios, bios_number(set));
         Ok(self.bios[at].1.take())
     }
 
@@ -189,12 +199,12 @@ impl Objects for Plain {
     }
 
     fn take_slip(&mut self, dev: DevId) -> Result<Taken<Slip>, Unmade> {
-        let at = place(&self.seats.records, PoolId::Records(dev).no());
+        let at = place(&self.index.records, PoolId::Records(dev).no());
         Ok(self.records[at].1.take())
     }
 
     fn give_bio(&mut self, el: BioElement) -> Result<(), Unmade> {
-        let at = place(&self.seats.bios, el.no());
+        let at = place(&self.index.bios, el.no());
         self.bios[at].1.give(el);
         Ok(())
     }
@@ -205,24 +215,24 @@ impl Objects for Plain {
     }
 
     fn give_slip(&mut self, el: SlipElement) -> Result<(), Unmade> {
-        let at = place(&self.seats.records, el.no());
+        let at = place(&self.index.records, el.no());
         self.records[at].1.give(el);
         Ok(())
     }
 
     fn punt(&mut self, dev: DevId, moved: BioList) -> Result<(), Unmade> {
-        let at = place(&self.seats.lists, dev.0);
+        let at = place(&self.index.lists, dev.0);
         self.lists[at].1.add(moved);
         Ok(())
     }
 
     fn pop(&mut self, dev: DevId) -> Result<Option<BioElement>, Unmade> {
-        let at = place(&self.seats.lists, dev.0);
+        let at = place(&self.index.lists, dev.0);
         Ok(self.lists[at].1.pop())
     }
 
     fn push(&mut self, el: BioElement) -> Result<(), Unmade> {
-        let at = place(&self.seats.disks, dev_of(&el).0);
+        let at = place(&self.index.disks, dev_of(&el).0);
         self.disks[at].push(el);
         Ok(())
     }
@@ -232,7 +242,7 @@ impl Objects for Plain {
         disk: DevId,
         chooser: &mut C,
     ) -> Result<Option<(u64, Done)>, Unmade> {
-        let at = place(&self.seats.disks, disk.0);
+        let at = place(&self.index.disks, disk.0);
         let pending = self.disks[at].pending();
         if pending == 0 {
             return Ok(None);
@@ -242,7 +252,7 @@ impl Objects for Plain {
     }
 
     fn link(&mut self, writer: u32, ask: Ask) -> Result<Link, Unmade> {
-        let at = place(&self.seats.books, writer);
+        let at = place(&self.index.books, writer);
         Ok(link_in(&mut self.books[at].1, ask))
     }
 
@@ -253,7 +263,7 @@ impl Objects for Plain {
         status: Status,
         part: Option<BioElement>,
     ) -> Result<Dropped, Unmade> {
-        let at = place(&self.seats.books, writer);
+        let at = place(&self.index.books, writer);
         Ok(self.books[at].1.drop_one(node, status, part))
     }
 

@@ -8,8 +8,8 @@ use Rattle.run_machine.specs.declared.event.Breach.{Breach}
 use Rattle.run_machine.specs.declared.event.Breach.TheVariants as breach
 use Rattle.run_machine.specs.declared.event.TaskId.{TaskId}
 use Rattle.run_machine.specs.declared.event.What.TheVariants as what
-use Rattle.task_steps.specs.declared.line.HandedBack.{HandedBack}
-use Rattle.task_steps.specs.declared.line.Want.{Want as RealWant}
+use Rattle.task_steps.specs.declared.submission.HandedBack.{HandedBack}
+use Rattle.task_steps.specs.declared.submission.Want.{Want as RealWant}
 use Rattle.task_steps.specs.declared.objects.Unmade.{Unmade}
 use Rattle.task_steps.specs.declared.objects.Unmade.TheVariants as unmade
 use Rattle.task_steps.specs.declared.step.Step.{Step}

@@ -10,8 +10,8 @@ use Rattle.bio_books.specs.declared.node.ClosedNode.{ClosedNode}
 use Rattle.bio_books.specs.Books.{Holding}
 use Rattle.bio_books.specs.Drops.{Closed}
 use Rattle.bio_books.specs.Views.{closed_node_of, holding_of, slip_item, IsAlonePart}
-use Rattle.task_steps.specs.declared.carried.Load.{Load}
-use Rattle.task_steps.specs.declared.carried.Load.TheVariants as load
+use Rattle.task_steps.specs.declared.completer.Load.{Load}
+use Rattle.task_steps.specs.declared.completer.Load.TheVariants as load
 use Rattle.run_machine.specs.Tasks.{Carried, Empty, Brings, Carries, Fails}
 use Rattle.run_machine.specs.Kept.{holding_kept}
 use Rattle.task_steps.specs.Views.{vec_item}

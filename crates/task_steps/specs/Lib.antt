@@ -13,3 +13,4 @@ pub mod WriterViews
 pub mod RescuerViews
 pub mod TaskViews
 pub mod Named
+pub mod Laws

@@ -4,18 +4,18 @@ use Rattle.stack_base.specs.declared.ids.DevId.{DevId}
 use Rattle.bio_records.specs.declared.tasks.TaskLists.{TaskLists}
 use Rattle.bio_records.specs.Items.{item_of, IsAlone}
 use Rattle.bio_books.specs.Views.{slip_item, bio_of, holding_of}
-use Rattle.task_steps.specs.declared.line.Kept.{Kept as RealKept}
-use Rattle.task_steps.specs.declared.line.HandedBack.{HandedBack}
-use Rattle.task_steps.specs.declared.line.HandedBack.TheVariants as back
-use Rattle.task_steps.specs.declared.line.Want.{Want as RealWant}
+use Rattle.task_steps.specs.declared.submission.Kept.{Kept as RealKept}
+use Rattle.task_steps.specs.declared.submission.HandedBack.{HandedBack}
+use Rattle.task_steps.specs.declared.submission.HandedBack.TheVariants as back
+use Rattle.task_steps.specs.declared.submission.Want.{Want as RealWant}
 use Rattle.task_steps.specs.declared.objects.Unmade.{Unmade}
 use Rattle.task_steps.specs.declared.objects.Unmade.TheVariants as unmade
 use Rattle.task_steps.specs.declared.step.Step.{Step}
-use Rattle.task_steps.specs.declared.line.Want.TheVariants as want
-use Rattle.task_steps.specs.declared.line.DriverAsk.{DriverAsk}
-use Rattle.task_steps.specs.declared.line.DriverAsk.TheVariants as ask
-use Rattle.task_steps.specs.declared.line.Doing.{Doing as RealDoing}
-use Rattle.task_steps.specs.declared.line.Doing.TheVariants as doing
+use Rattle.task_steps.specs.declared.submission.Want.TheVariants as want
+use Rattle.task_steps.specs.declared.submission.DriverAsk.{DriverAsk}
+use Rattle.task_steps.specs.declared.submission.DriverAsk.TheVariants as ask
+use Rattle.task_steps.specs.declared.submission.Doing.{Doing as RealDoing}
+use Rattle.task_steps.specs.declared.submission.Doing.TheVariants as doing
 use Rattle.run_machine.specs.Kept.{Kept, KeptBio, KeptVec, KeptSlip, bio_kept, holding_kept, opening_kept}
 use Rattle.task_steps.specs.Views.{vec_item, opening_of}
 use Rattle.run_machine.specs.Lines.{Want, Takes, Punts, Links, Ask, ToPush, ToCut, ToRecord, ToMaster, Doing, Rests, Drives, Copies, Breaks, Line}

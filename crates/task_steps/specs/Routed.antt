@@ -19,10 +19,10 @@ use Rattle.bio_split.specs.Split.{split_front, split_rest}
 use Rattle.bio_lists.specs.Submission.{submitted}
 use Rattle.mirror_map.specs.Legs.{clone_of}
 use Rattle.task_steps.specs.declared.routes.Cut.{Cut}
-use Rattle.task_steps.specs.declared.routes.Driver.{Driver}
-use Rattle.task_steps.specs.declared.routes.Driver.TheVariants as driver
-use Rattle.task_steps.specs.declared.routes.Manner.{Manner}
-use Rattle.task_steps.specs.declared.routes.Manner.TheVariants as manner
+use Rattle.task_steps.specs.declared.routes.driver.Driver.{Driver}
+use Rattle.task_steps.specs.declared.routes.driver.Driver.TheVariants as driver
+use Rattle.task_steps.specs.declared.routes.driver.Manner.{Manner}
+use Rattle.task_steps.specs.declared.routes.driver.Manner.TheVariants as manner
 use Rattle.task_steps.specs.declared.routes.Route.{Route}
 use Rattle.run_machine.specs.Scene.{Setup, setup_of}
 use Rattle.run_machine.specs.Lines.{Doing, Drives, ToPush, ToCut, ToRecord, Takes, first_waits, landed, asks_at, cut_at, leg_at, goes_on}

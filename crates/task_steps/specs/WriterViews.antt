@@ -5,12 +5,12 @@ use Rattle.bio_books.specs.Links.{Made, NoRoom, Stray}
 use Rattle.run_machine.specs.declared.event.Breach.TheVariants as breach
 use Rattle.run_machine.specs.declared.event.TaskId.TheVariants as id
 use Rattle.task_steps.specs.declared.step.Step.{Step}
-use Rattle.task_steps.specs.declared.writing.Taken.{Taken as RealTaken}
-use Rattle.task_steps.specs.declared.writing.Taken.TheVariants as taken
-use Rattle.task_steps.specs.declared.writing.Attempt.{Attempt}
-use Rattle.task_steps.specs.declared.writing.Attempt.TheVariants as attempt
-use Rattle.task_steps.specs.declared.writing.Next.{Next}
-use Rattle.task_steps.specs.declared.writing.Next.TheVariants as next
+use Rattle.task_steps.specs.declared.writer.begin.Taken.{Taken as RealTaken}
+use Rattle.task_steps.specs.declared.writer.begin.Taken.TheVariants as taken
+use Rattle.task_steps.specs.declared.writer.begin.Attempt.{Attempt}
+use Rattle.task_steps.specs.declared.writer.begin.Attempt.TheVariants as attempt
+use Rattle.task_steps.specs.declared.writer.begin.Next.{Next}
+use Rattle.task_steps.specs.declared.writer.begin.Next.TheVariants as next
 use Rattle.run_machine.specs.Scene.{Setup}
 use Rattle.run_machine.specs.Requests.{Request, Reply, Opening, Link, LinkedTo, Spent}
 use Rattle.run_machine.specs.Kept.{opening_kept}

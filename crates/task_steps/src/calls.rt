@@ -12,15 +12,15 @@ ghost use Rattle.task_steps.specs.Turns.{named, step_by, idle_step};
 ghost use Rattle.task_steps.specs.LineViews.{want_of, IsWantAlone, IsAttemptAlone};
 ghost use Rattle.task_steps.specs.Answers.{Attempted, PuntedAll, NodeOpened};
 
-use run_machine::{Breach, Event, Got, TaskId, What};
-use crate::line::{HandedBack, Want};
 use crate::objects::{Ask, Objects, Unmade};
 use crate::routes::Routes;
 use crate::step::Step;
+use crate::submission::{HandedBack, Want};
 use bio_books::Link;
 use bio_lists::Submission;
 use bio_records::TaskLists;
 use mempool_core::Taken;
+use run_machine::{Breach, Event, Got, TaskId, What};
 use stack_base::{DevId, PoolId, SetId};
 
 // What is told of an attempt.

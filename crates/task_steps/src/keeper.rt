@@ -11,9 +11,9 @@ ghost use Rattle.task_steps.specs.Homes.{DutyFits, IsTaskOf};
 ghost use Rattle.task_steps.specs.Turns.{Acts, Asks, Turns};
 ghost use Rattle.task_steps.specs.KeeperViews.{duty_of, keeping_of};
 
-use run_machine::{Breach, Event, TaskId, What};
 use crate::objects::{Objects, Unmade};
 use crate::step::Step;
+use run_machine::{Breach, Event, TaskId, What};
 use stack_base::PoolId;
 use std::marker::Model;
 

@@ -9,11 +9,11 @@ ghost use Rattle.task_steps.specs.Turns.{Turns};
 ghost use Rattle.task_steps.specs.RescuerViews.{rescuer_task, PopAnswers};
 
 use crate::calls::idle;
-use run_machine::{Breach, Event, TaskId, What};
-use crate::line::{Kept, Line};
 use crate::objects::Objects;
 use crate::routes::Routes;
 use crate::step::Step;
+use crate::submission::{Kept, Line};
+use run_machine::{Breach, Event, TaskId, What};
 use stack_base::DevId;
 use std::marker::Model;
 

@@ -10,7 +10,7 @@ ghost use Rattle.task_steps.specs.WriterViews.{writer_task};
 ghost use Rattle.task_steps.specs.RescuerViews.{rescuer_task};
 ghost use Rattle.task_steps.specs.TaskViews.{task_of, ChosenBy};
 
-use crate::carried::Carried;
+use crate::completer::Carried;
 use crate::keeper::Keeper;
 use crate::objects::{Chooser, Objects};
 use crate::rescuer::Rescuer;

@@ -9,13 +9,16 @@ ghost use Rattle.task_steps.specs.Homes.{IsTaskOf};
 ghost use Rattle.task_steps.specs.Turns.{Acts, Turns};
 ghost use Rattle.task_steps.specs.WriterViews.{writer_task, next_of, tried, IsNextAlone, IsAttemptAtBioAlone, is_taken};
 
-use run_machine::{Breach, TaskId};
-use crate::line::{Kept, Line};
+pub(crate) mod begin;
+mod first_bio;
+
 use crate::objects::Objects;
 use crate::routes::Routes;
 use crate::step::Step;
+use crate::submission::{Kept, Line};
 use crate::todo::{Todo, Todos};
-use crate::writing::{Attempt, Next, Taken, go_on, take_bio};
+use crate::writer::begin::{Attempt, Next, Taken, go_on, take_bio};
+use run_machine::{Breach, TaskId};
 use std::marker::Model;
 use std::mem;
 

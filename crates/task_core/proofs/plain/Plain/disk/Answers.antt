@@ -1,5 +1,5 @@
 use Rattle.std.proofs.Common.{sym}
-use Rattle.task_core.proofs.PlainLemmas.{disk_there}
+use Rattle.task_core.proofs.own.PlainLemmas.{disk_there}
 use Rattle.task_core.proofs.plain.Plain.disk.Goals as goal
 
 pub returns : goal.returns

@@ -1,5 +1,5 @@
 use Rattle.std.proofs.Common.{ap, ◌∙◌, slice_index_or}
-use Rattle.task_core.proofs.PlainFacts.{records_script}
+use Rattle.task_core.proofs.own.PlainFacts.{records_script}
 use Rattle.task_core.proofs.plain.Plain.records_script.Goals as goal
 
 -- src/plain.rt
@@ -7,4 +7,4 @@ pub returns : goal.returns
 returns c =
     c.script.ensures
     ∙ records_script c.args.self.now c.requires.holds c.args.dev c.requires.pool c.place-at.result
-    (c.place-at.ensures ∙ ap (λ n. slice_index_or c.args.self.now.seats.records n 0) c.no.ensures) c.index.result.now c.index.ensures
+    (c.place-at.ensures ∙ ap (λ n. slice_index_or c.args.self.now.index.records n 0) c.no.ensures) c.index.result.now c.index.ensures

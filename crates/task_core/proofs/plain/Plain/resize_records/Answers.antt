@@ -1,21 +1,21 @@
 use Rattle.std.proofs.Common.{inl, ap, ◌∙◌, slice_index_or}
-use Rattle.task_core.proofs.PlainResizes.{records_within, records_resized, records_resized_kept}
+use Rattle.task_core.proofs.own.PlainResizes.{records_within, records_resized, records_resized_kept}
 use Rattle.task_core.proofs.plain.Plain.resize_records.Goals as goal
 
 pub resize_home-requires-clause-within : goal.resize_home-requires-clause-within
 resize_home-requires-clause-within c =
     records_within c.args.self.now c.requires.holds c.args.dev c.args.min c.requires.fits c.place-at.result
-    (c.place-at.ensures ∙ ap (λ n. slice_index_or c.args.self.now.seats.records n 0) c.no.ensures)
+    (c.place-at.ensures ∙ ap (λ n. slice_index_or c.args.self.now.index.records n 0) c.no.ensures)
     c.index_mut.result.now c.index_mut.ensures.value
 
 pub returns-clause-serves : goal.returns-clause-serves
 returns-clause-serves c =
     inl (records_resized c.args.self.now c.requires.holds c.args.dev c.args.min c.requires.fits c.place-at.result
-    (c.place-at.ensures ∙ ap (λ n. slice_index_or c.args.self.now.seats.records n 0) c.no.ensures)
+    (c.place-at.ensures ∙ ap (λ n. slice_index_or c.args.self.now.index.records n 0) c.no.ensures)
     c.index_mut.result.now c.index_mut.ensures.value c.resize_home.result c.resize_home.new.pool c.resize_home.ensures)
 
 pub returns-clause-kept : goal.returns-clause-kept
 returns-clause-kept c =
     records_resized_kept c.args.self.now c.requires.holds c.args.dev c.args.min c.requires.fits c.place-at.result
-    (c.place-at.ensures ∙ ap (λ n. slice_index_or c.args.self.now.seats.records n 0) c.no.ensures)
+    (c.place-at.ensures ∙ ap (λ n. slice_index_or c.args.self.now.index.records n 0) c.no.ensures)
     c.index_mut.result.now c.index_mut.ensures.value c.resize_home.result c.resize_home.new.pool c.resize_home.ensures

@@ -1,5 +1,5 @@
 use Rattle.std.proofs.Common.{inl}
-use Rattle.task_core.proofs.PlainResizes.{vecs_resized, vecs_resized_kept}
+use Rattle.task_core.proofs.own.PlainResizes.{vecs_resized, vecs_resized_kept}
 use Rattle.task_core.proofs.plain.Plain.resize_vecs.Goals as goal
 
 pub returns-clause-serves : goal.returns-clause-serves

@@ -1,7 +1,7 @@
 use Rattle.std.proofs.Common.{◌-◌, ◌^◌, inl, ap, sym, refl, length, min, ◌∙◌}
 use Rattle.bio_records.specs.Items.{item_of}
 use Rattle.model_disks.specs.Disks.{DiskState}
-use Rattle.task_core.proofs.PlainCalls.{waiting_in, nothing_waits, complete_served, complete_owed, complete_kept}
+use Rattle.task_core.proofs.own.PlainCalls.{waiting_in, nothing_waits, complete_served, complete_owed, complete_kept}
 use Rattle.task_core.proofs.plain.PlainObjects.complete.Goals as goal
 
 pub returns-then-pending-eq0-clause-serves : goal.returns-then-pending-eq0-clause-serves

@@ -1,6 +1,6 @@
 use Rattle.std.proofs.Common.{inl}
 use Rattle.bio_books.specs.Views.{bio_of, ended_of}
-use Rattle.task_core.proofs.PlainCalls.{drop_served, drop_owed, drop_kept}
+use Rattle.task_core.proofs.own.PlainCalls.{drop_served, drop_owed, drop_kept}
 use Rattle.task_core.proofs.plain.PlainObjects.drop_one.Goals as goal
 
 pub returns-clause-serves : goal.returns-clause-serves

@@ -1,6 +1,6 @@
 use Rattle.std.proofs.Common.{inl}
 use Rattle.task_steps.specs.Views.{vec_item}
-use Rattle.task_core.proofs.PlainGives.{vec_goes_home, vec_given, vec_given_kept}
+use Rattle.task_core.proofs.own.PlainGives.{vec_goes_home, vec_given, vec_given_kept}
 use Rattle.task_core.proofs.plain.PlainObjects.give_vec.Goals as goal
 
 pub give-requires : goal.give-requires

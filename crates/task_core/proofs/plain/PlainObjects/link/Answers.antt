@@ -1,7 +1,7 @@
 use Rattle.std.proofs.Common.{inl}
 use Rattle.bio_books.specs.Views.{linked_of}
 use Rattle.task_steps.specs.Views.{opening_of}
-use Rattle.task_core.proofs.PlainCalls.{link_served, link_owed, link_kept}
+use Rattle.task_core.proofs.own.PlainCalls.{link_served, link_owed, link_kept}
 use Rattle.task_core.proofs.plain.PlainObjects.link.Goals as goal
 
 pub returns-clause-serves : goal.returns-clause-serves

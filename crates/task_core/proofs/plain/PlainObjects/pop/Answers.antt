@@ -1,5 +1,5 @@
 use Rattle.std.proofs.Common.{inl}
-use Rattle.task_core.proofs.PlainCalls.{popped_served, popped_owed, popped_kept}
+use Rattle.task_core.proofs.own.PlainCalls.{popped_served, popped_owed, popped_kept}
 use Rattle.task_core.proofs.plain.PlainObjects.pop.Goals as goal
 
 pub returns-clause-serves : goal.returns-clause-serves

@@ -1,5 +1,5 @@
 use Rattle.std.proofs.Common.{inl}
-use Rattle.task_core.proofs.PlainCalls.{punted, punted_kept}
+use Rattle.task_core.proofs.own.PlainCalls.{punted, punted_kept}
 use Rattle.task_core.proofs.plain.PlainObjects.punt.Goals as goal
 
 pub returns-clause-serves : goal.returns-clause-serves

@@ -1,5 +1,5 @@
 use Rattle.std.proofs.Common.{inl}
-use Rattle.task_core.proofs.PlainTakes.{vec_served, vec_owed, vec_kept}
+use Rattle.task_core.proofs.own.PlainTakes.{vec_served, vec_owed, vec_kept}
 use Rattle.task_core.proofs.plain.PlainObjects.take_vec.Goals as goal
 
 pub returns-clause-serves : goal.returns-clause-serves

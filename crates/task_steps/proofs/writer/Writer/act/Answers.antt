@@ -1,6 +1,6 @@
 use Rattle.std.proofs.Common.{◌≡◌, List, ◌∷◌, drop, sym, subst, arith}
 use Rattle.std.specs.Prelude.{All}
-use Rattle.task_steps.specs.declared.writing.Taken.{Taken}
+use Rattle.task_steps.specs.declared.writer.begin.Taken.{Taken}
 use Rattle.run_machine.specs.Lines.{Rests}
 use Rattle.run_machine.specs.Tasks.{Todo, TaskState, write_request}
 use Rattle.task_steps.specs.Routed.{setup}

@@ -1,0 +1,10 @@
+pub mod Filling
+pub mod NewPools
+pub mod Seen
+pub mod Begins
+pub mod NewObjects
+pub mod Behind
+pub mod Sharing
+pub mod Rounding
+pub mod Opens
+pub mod Rooms

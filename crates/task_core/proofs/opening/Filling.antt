@@ -1,0 +1,191 @@
+-- Objects of one kind are opened one behind the other.
+use Rattle.std.proofs.Common.{◌≡◌, ◌≢◌, ◌⊎◌, inl, inr, ◌+◌, ◌<◌, ◌≤◌, ◌==◌, ◌++◌, ℕ, Bool, true, false, List, [], ◌∷◌, length, map, filter, get_or, set, Some, None, refl, sym, ap, subst, ◌∙◌, arith, length-append, find}
+use Rattle.std.specs.List.{position_or_len, range_with_len}
+use Rattle.std.specs.Option.{option_or}
+use Rattle.std.proofs.lemmas.Bool.Decides.{nat_tests}
+use Rattle.std.proofs.lemmas.List.{append-nil, get_or-set_same, get_or-set_other, length-set, map-append, map-id}
+use Rattle.std.proofs.lemmas.List.Elements.{filter-append}
+use Rattle.std.proofs.lemmas.List.FromFn.{map-range_with_len_more}
+use Rattle.std.proofs.lemmas.List.Folds.{find_at, find-append, position_or_len_push}
+use Rattle.std.proofs.lemmas.Option.{slice_get-get_or}
+use Rattle.task_core.specs.Tables.{has_number, IsAt}
+use Rattle.task_core.specs.opening.Filled.{AreMade, IsNext}
+
+is_itself : (a b : ℕ) → a ≡ b → (a == b) ≡ true
+is_itself a b e = grind (arith, nat_tests)
+
+is_apart : (a b : ℕ) → a ≢ b → (a == b) ≡ false
+is_apart a b e = grind (arith, nat_tests)
+
+pub clash : (b : Bool) → b ≡ true → b ≡ false → ⊥
+clash b p q = cc
+
+pub below_or_last : (i n : ℕ) → i < n + 1 → (i < n) ⊎ (i ≡ n)
+below_or_last i n lt = search (lt, arith)
+
+-- what is found is found with one more, and what is not found is the last where this passes
+still_found : {E : Type 0} (p : E → Bool) (xs : List E) (x e : E) → find p xs ≡ Some e → find p (xs ++ x ∷ []) ≡ Some e
+still_found p xs x e found = find-append p xs (x ∷ []) ∙ ap (λ o. option_or o (find p (x ∷ []))) found
+
+last_found : {E : Type 0} (p : E → Bool) (xs : List E) (x : E) → find p xs ≡ None → p x ≡ true → find p (xs ++ x ∷ []) ≡ Some x
+last_found p xs x none passes = find-append p xs (x ∷ []) ∙ ap (λ o. option_or o (find p (x ∷ []))) none ∙ rw (passes) refl
+
+not_found : {E : Type 0} (p : E → Bool) (xs : List E) (x : E) → find p xs ≡ None → p x ≡ false → find p (xs ++ x ∷ []) ≡ None
+not_found p xs x none fails = find-append p xs (x ∷ []) ∙ ap (λ o. option_or o (find p (x ∷ []))) none ∙ rw (fails) refl
+
+-- places
+place_bound : {E : Type 0} (p : E → Bool) (xs : List E) → position_or_len p xs ≤ length xs
+place_bound p [] = omega arith
+place_bound p (x ∷ xs) = by_case (place_bound p xs) (p x) refl
+  where
+    by_case : position_or_len p xs ≤ length xs → (b : Bool) → p x ≡ b → position_or_len p (x ∷ xs) ≤ length (x ∷ xs)
+    by_case rest true q = rw (q) (omega arith)
+    by_case rest false q = rw (q) (omega (arith, rest))
+
+some_is_none : {E : Type 0} (e : E) → Some e ≡ None → ⊥
+some_is_none e q = cc
+
+not_there : {E : Type 0} (p : E → Bool) (xs : List E) → position_or_len p xs < length xs → find p xs ≡ None → ⊥
+not_there p [] lt none = absurd (omega (arith, lt))
+not_there p (x ∷ xs) lt none =
+    some_is_none (get_or (x ∷ xs) (position_or_len p (x ∷ xs)) x)
+    (sym (find_at p (x ∷ xs) ∙ slice_get-get_or (x ∷ xs) (position_or_len p (x ∷ xs)) x lt) ∙ none)
+
+lt_or : (a b : ℕ) → (a < b) ⊎ (b ≤ a)
+lt_or a b = search arith
+
+no_place : {E : Type 0} (p : E → Bool) (xs : List E) → find p xs ≡ None → position_or_len p xs ≡ length xs
+no_place p xs none = elim (lt_or (position_or_len p xs) (length xs)) [
+  | inl lt ↦ absurd (not_there p xs lt none)
+  | inr le ↦ let bound = place_bound p xs in omega (arith, le, bound)
+]
+
+place_stays : {E : Type 0} (p : E → Bool) (xs : List E) (x : E) → position_or_len p xs < length xs → position_or_len p (xs ++ x ∷ []) ≡ position_or_len p xs
+place_stays p xs x lt = let apart : (position_or_len p xs == length xs) ≡ false = is_apart _ _ (λ e. omega (arith, lt, e)) in position_or_len_push p xs x ∙ rw (apart) refl
+
+place_last : {E : Type 0} (p : E → Bool) (xs : List E) (x : E) → find p xs ≡ None → p x ≡ true → position_or_len p (xs ++ x ∷ []) ≡ length xs
+place_last p xs x none passes =
+    let none_is = no_place p xs none in
+    let same : (position_or_len p xs == length xs) ≡ true = is_itself _ _ none_is in position_or_len_push p xs x ∙ rw (same, passes) (omega arith)
+
+-- one more index
+range_more : (n : ℕ) → range_with_len 0 (n + 1) ≡ range_with_len 0 n ++ n ∷ []
+range_more n =
+    sym (map-id (range_with_len 0 (n + 1))) ∙ map-range_with_len_more (λ i. i) 0 n n (omega arith) ∙ ap (λ xs. xs ++ n ∷ []) (map-id (range_with_len 0 n))
+
+pub filter_more : (p : ℕ → Bool) (n : ℕ) → filter p (range_with_len 0 (n + 1)) ≡ filter p (range_with_len 0 n) ++ filter p (n ∷ [])
+filter_more p n = ap (filter p) (range_more n) ∙ filter-append p (range_with_len 0 n) (n ∷ [])
+
+module _ {E : Type 0} (key : E → ℕ) (number : ℕ → ℕ) (is_used : ℕ → Bool) (IsMade : ℕ → E → Type 0) (n : ℕ) (entries : List E) (table : List ℕ)
+    (all : AreMade key number is_used IsMade n entries table) where
+  ordered_more : (more : List E) → map key more ≡ map key entries ++ map number (filter is_used (n ∷ []))
+      → map key more ≡ map number (filter is_used (range_with_len 0 (n + 1)))
+  ordered_more more is =
+      is ∙ ap (λ keys. keys ++ map number (filter is_used (n ∷ []))) all.order
+      ∙ sym (ap (map number) (filter_more is_used n) ∙ map-append number (filter is_used (range_with_len 0 n)) (filter is_used (n ∷ [])))
+
+  -- the next one is not used
+  passed : is_used n ≡ false → AreMade key number is_used IsMade (n + 1) entries table
+  passed not_used =
+      let few = all.few in
+      record {
+        few = omega (arith, few);
+        made = λ i lt used. elim (below_or_last i n lt) [
+          | inl before ↦ all.made i before used
+          | inr last ↦ absurd (clash i last used)
+        ];
+        seated = λ i lt used. elim (below_or_last i n lt) [
+          | inl before ↦ all.seated i before used
+          | inr last ↦ absurd (clash i last used)
+        ];
+        no_other = λ k none. all.no_other k (λ i lt used. none i (omega (arith, lt)) used);
+        order = ordered_more entries (rw (not_used) (sym (append-nil (map key entries))));
+      }
+    where
+      clash : (i : ℕ) → i ≡ n → is_used i ≡ true → ⊥
+      clash i last used = let q : is_used n ≡ true = ap is_used (sym last) ∙ used in cc
+
+  -- the next one is made
+  module _ (entry : E) (made : IsMade n entry) (keyed : key entry ≡ number n) (used : is_used n ≡ true)
+      (apart : (i : ℕ) → i < n → number i ≢ number n) (inside : number n < length table) where
+    nothing_yet : find (has_number key (number n)) entries ≡ None
+    nothing_yet = all.no_other (number n) (λ i lt used. apart i lt)
+
+    now_found : find (has_number key (number n)) (entries ++ entry ∷ []) ≡ Some entry
+    now_found = last_found (has_number key (number n)) entries entry nothing_yet (is_itself (key entry) (number n) keyed)
+
+    made_at : (i : ℕ) → i < n + 1 → is_used i ≡ true
+        → (e : E) × (find (has_number key (number i)) (entries ++ entry ∷ []) ≡ Some e) × IsMade i e
+    made_at i lt is = elim (below_or_last i n lt) [
+      | inl before ↦
+          let old = all.made i before is in (old.0, still_found (has_number key (number i)) entries entry old.0 old.1, old.2)
+      | inr last ↦
+          subst (λ j. (e : E) × (find (has_number key (number j)) (entries ++ entry ∷ []) ≡ Some e) × IsMade j e) (sym last) (entry, now_found, made)
+    ]
+
+    old_at : (i : ℕ) → i < n → is_used i ≡ true → IsAt key (set table (number n) (length entries)) (entries ++ entry ∷ []) (number i)
+    old_at i lt is =
+        let old : IsAt key table entries (number i) = all.seated i lt is in
+        let stays : get_or (set table (number n) (length entries)) (number i) 0 ≡ get_or table (number i) 0 =
+        get_or-set_other table (number n) (number i) (length entries) 0 (apart i lt) in
+        let there = old.there in
+        let long : length (entries ++ entry ∷ []) ≡ length entries + 1 = length-append entries (entry ∷ []) in
+        record {
+          there = omega (arith, stays, there, long);
+          first = stays ∙ old.first ∙ sym (place_stays (has_number key (number i)) entries entry (subst (λ k. k < length entries) old.first old.there));
+        }
+
+    new_at : IsAt key (set table (number n) (length entries)) (entries ++ entry ∷ []) (number n)
+    new_at =
+        let now : get_or (set table (number n) (length entries)) (number n) 0 ≡ length entries =
+        get_or-set_same table (number n) (length entries) 0 inside in
+        let long : length (entries ++ entry ∷ []) ≡ length entries + 1 = length-append entries (entry ∷ []) in
+        record {
+          there = omega (arith, now, long);
+          first = now ∙ sym (place_last (has_number key (number n)) entries entry nothing_yet (is_itself (key entry) (number n) keyed));
+        }
+
+    added : AreMade key number is_used IsMade (n + 1) (entries ++ entry ∷ []) (set table (number n) (length entries))
+    added =
+        let few = all.few in
+        let long : length (entries ++ entry ∷ []) ≡ length entries + 1 = length-append entries (entry ∷ []) in
+        record {
+          few = omega (arith, few, long);
+          made = made_at;
+          seated = λ i lt is. elim (below_or_last i n lt) [
+            | inl before ↦ old_at i before is
+            | inr last ↦ subst (λ j. IsAt key (set table (number n) (length entries)) (entries ++ entry ∷ []) (number j)) (sym last) new_at
+          ];
+          no_other = λ k none.
+              not_found (has_number key k) entries entry (all.no_other k (λ i lt is. none i (omega (arith, lt)) is))
+              (is_apart (key entry) k (λ e. none n (omega arith) used (sym keyed ∙ e)));
+          order = ordered_more (entries ++ entry ∷ []) (rw (used) (map-append key entries (entry ∷ []) ∙ ap (λ k. map key entries ++ k ∷ []) keyed));
+        }
+
+  pub one_more : (more : List E) (after : List ℕ) → ((i : ℕ) → i < n → number i ≢ number n) → number n < length table
+      → IsNext key number is_used IsMade n entries table more after
+      → AreMade key number is_used IsMade (n + 1) more after × (length after ≡ length table)
+  one_more more after apart inside (inl (used, entry, made, keyed, items, seats)) = (
+    subst (λ xs. AreMade key number is_used IsMade (n + 1) xs after) (sym items)
+        (subst (AreMade key number is_used IsMade (n + 1) (entries ++ entry ∷ [])) (sym seats) (added entry made keyed used apart inside)),
+    ap length seats ∙ length-set table (number n) (length entries),
+  )
+  one_more more after apart inside (inr (not_used, items, seats)) = (
+    subst (λ xs. AreMade key number is_used IsMade (n + 1) xs after) (sym items)
+        (subst (AreMade key number is_used IsMade (n + 1) entries) (sym seats) (passed not_used)),
+    ap length seats,
+  )
+
+-- none is made yet
+pub none_made : {E : Type 0} (key : E → ℕ) (number : ℕ → ℕ) (is_used : ℕ → Bool) (IsMade : ℕ → E → Type 0) (table : List ℕ)
+    → AreMade key number is_used IsMade 0 [] table
+none_made key number is_used IsMade table = record {
+  few = omega arith;
+  made = λ index lt used. absurd (omega (arith, lt));
+  seated = λ index lt used. absurd (omega (arith, lt));
+  no_other = λ other none. refl;
+  order = refl;
+}
+
+pub not_itself : (i n : ℕ) → i < n → i ≢ n
+not_itself i n lt e = absurd (omega (arith, lt, e))

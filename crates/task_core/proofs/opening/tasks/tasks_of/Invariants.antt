@@ -1,0 +1,6 @@
+use Rattle.std.proofs.Common.{◌≡◌}
+use Rattle.task_core.specs.opening.NewTasks.{shown, with_routing}
+use Rattle.task_core.proofs.opening.tasks.tasks_of.Given as goal
+
+abbrev pub invariant-sharing : goal.invariant-sharing
+invariant-sharing l = l.tasks.items ≡ with_routing l.routes.value (shown l.yielded)

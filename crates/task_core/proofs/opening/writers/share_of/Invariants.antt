@@ -1,0 +1,7 @@
+use Rattle.std.proofs.Common.{◌≡◌, filter, take}
+use Rattle.task_core.specs.opening.NewTasks.{numbered}
+use Rattle.run_machine.specs.Opened.{is_by}
+use Rattle.task_core.proofs.opening.writers.share_of.Given as goal
+
+abbrev pub invariant-sharing : goal.invariant-sharing
+invariant-sharing l = l.todos.items ≡ filter (is_by l.writer) (take l.number (numbered l.work.rounds.items l.work.writes.items))

@@ -1,0 +1,188 @@
+-- Reserves of the pools of one thread.
+use Rattle.std.proofs.Common.{◌≡◌, ◌⊎◌, inl, inr, ◌<◌, ◌≤◌, ◌==◌, if◌then◌else◌, ℕ, true, false, List, get_or, set, refl, sym, ap, subst, ◌∙◌, arith}
+use Rattle.std.specs.Prelude.{IsTrue, slice_index_or}
+use Rattle.std.proofs.lemmas.Bool.Decides.{nat_tests}
+use Rattle.std.proofs.lemmas.List.{set-get_or}
+use Rattle.stack_base.specs.declared.ids.DevId.{DevId}
+use Rattle.stack_base.specs.declared.ids.SetId.{SetId}
+use Rattle.stack_base.specs.declared.ids.SetId.TheVariants.{Fs, Of}
+use Rattle.stack_base.specs.declared.ids.PoolId.{PoolId}
+use Rattle.stack_base.specs.declared.ids.PoolId.TheVariants.{FsVecs, Records}
+use Rattle.stack_base.specs.PoolId.{pool_number}
+use Rattle.mempool_core.specs.Move.{resizes, after_move}
+use Rattle.mempool_core.specs.Pool.{LedgerPool}
+use Rattle.mempool_core.specs.Pool as pool
+use Rattle.bioset_pools.specs.Sets.{bios_of}
+use Rattle.task_core.specs.declared.plain.Plain.{Plain}
+use Rattle.run_machine.specs.Maps.{upd}
+use Rattle.task_core.specs.Tables.{look_up}
+use Rattle.run_machine.specs.Requests.{Resize, OutIs}
+use Rattle.run_machine.specs.Objects.{Objects, PoolMoves, Serves}
+use Rattle.task_steps.specs.Stage.{Stage, is_set, is_pool, is_bios, is_slips, Fits}
+use Rattle.task_core.specs.Resizing.{Resizes}
+use Rattle.task_core.specs.Plains.{set_number, records_number, no_pool, by_kind, bios_at, records_at, pool_at, objects_of, stage_of, Holds}
+use Rattle.task_core.proofs.Keeping.{set_is_bios, mirror_is_slips}
+use Rattle.task_core.proofs.own.PlainLemmas.{kept_by, with_bios, with_records, with_vecs, bios_there, bios_seated, bios_move, bios_stage, records_there, records_seated, records_move, records_stage, vecs_seated, vecs_move, vecs_stage}
+
+is_zero : (out : ℕ) → out ≡ 0 → (out == 0) ≡ true
+is_zero out e = grind (e, arith, nat_tests)
+
+not_zero : (out : ℕ) → 0 < out → (out == 0) ≡ false
+not_zero out lt = grind (lt, arith, nat_tests)
+
+-- a resize that was a move, or changed nothing, as what is served
+moved_so : (old new : Objects) (n min out : ℕ) → out ≡ 0 → PoolMoves old n (resizes min) new
+    → new ≡ (if out == 0 then record old { pool = upd old.pool n (after_move (old.pool n) (resizes min)) } else old)
+moved_so old new n min out zero move = rw (is_zero out zero) (move.1)
+
+stayed_so : (old new : Objects) (n min out : ℕ) → 0 < out → new ≡ old
+    → new ≡ (if out == 0 then record old { pool = upd old.pool n (after_move (old.pool n) (resizes min)) } else old)
+stayed_so old new n min out some same = rw (not_zero out some) same
+
+-- an entry in its own place changes nothing
+own_entry : {E : Type 0} (items : List E) (i : ℕ) (entry : E) → entry ≡ get_or items i entry → set items i entry ≡ items
+own_entry items i entry value = ap (set items i) value ∙ set-get_or items i entry
+
+-- and so the objects stay
+stays : (plain new : Plain) (pool : PoolId) (min out : ℕ) → objects_of new ≡ objects_of plain
+    → out ≡ (pool_at plain (pool_number pool)).state.facts.out → 0 < out
+    → Serves (stage_of plain).ledger (objects_of plain) (Resize pool min) (OutIs out) (objects_of new)
+stays plain new pool min out same is some = (is, stayed_so (objects_of plain) (objects_of new) (pool_number pool) min out some same)
+
+set_is : (stage : Stage) (of : SetId) → IsTrue (is_pool stage (bios_of of)) → IsTrue (is_set stage of)
+set_is stage Fs is = is
+set_is stage (Of dev) is = is
+
+module _ (plain : Plain) (holds : Holds plain) (of : SetId) (min : ℕ) (fits : Fits (stage_of plain) (Resize (bios_of of) min)) (i : ℕ)
+    (place : i ≡ slice_index_or plain.index.bios (pool_number (bios_of of)) 0) (entry : SetId × LedgerPool) (value : entry ≡ get_or plain.bios.items i entry) where
+  abbrev number : ℕ
+  number = pool_number (bios_of of)
+
+  is : IsTrue (is_bios (stage_of plain) number)
+  is = set_is_bios (stage_of plain) of (set_is (stage_of plain) of fits.0)
+
+  bios_items : (x : LedgerPool) → x ≡ entry.1 → set plain.bios.items i (entry.0, x) ≡ plain.bios.items
+  bios_items x same = ap (λ p. set plain.bios.items i (entry.0, p)) same ∙ own_entry plain.bios.items i entry value
+
+  bios_objects : (x : LedgerPool) → x ≡ entry.1 → objects_of (with_bios plain i entry.0 x) ≡ objects_of plain
+  bios_objects x same =
+      let none : ℕ → LedgerPool = no_pool plain.stage.value.stack plain.vecs.ledger in
+      let remade : List (SetId × LedgerPool) → Objects = λ items. record (objects_of plain) {
+        pool = λ n. (by_kind plain.vecs (look_up set_number (λ e. e.1) none items) (records_at plain) n).state;
+      } in
+      ap remade (bios_items x same)
+
+  bios_setting : (x : LedgerPool) → x ≡ entry.1 → stage_of (with_bios plain i entry.0 x) ≡ stage_of plain
+  bios_setting x same =
+      let none : ℕ → LedgerPool = no_pool plain.stage.value.stack plain.vecs.ledger in
+      let remade : List (SetId × LedgerPool) → Stage = λ items. record (stage_of plain) {
+        ledger = λ n. (by_kind plain.vecs (look_up set_number (λ e. e.1) none items) (records_at plain) n).ledger;
+        most = λ n. (by_kind plain.vecs (look_up set_number (λ e. e.1) none items) (records_at plain) n).most;
+      } in
+      ap remade (bios_items x same)
+
+  pub bios_within : min ≤ entry.1.most
+  bios_within = subst (λ (p : LedgerPool). min ≤ p.most) (sym (bios_there plain holds number i is place entry value)) fits.2
+
+  module _ (out : ℕ) (x : LedgerPool) (did : Resizes entry.1 min out x) where
+    out_is : out ≡ (pool_at plain number).state.facts.out
+    out_is = did.0 ∙ ap (λ (p : LedgerPool). p.state.facts.out) (bios_there plain holds number i is place entry value)
+
+    serves_by : ((out ≡ 0) × pool.PoolMoves entry.1 (resizes min) x) ⊎ ((0 < out) × (x ≡ entry.1))
+        → Serves (stage_of plain).ledger (objects_of plain) (Resize (bios_of of) min) (OutIs out) (objects_of (with_bios plain i entry.0 x))
+    serves_by (inl (zero, moves)) =
+        (out_is, moved_so (objects_of plain) (objects_of (with_bios plain i entry.0 x)) number min out zero (bios_move plain holds number i is place entry value x (resizes min) moves))
+    serves_by (inr (some, same)) = stays plain (with_bios plain i entry.0 x) (bios_of of) min out (bios_objects x same) out_is some
+
+    pub bios_resized : Serves (stage_of plain).ledger (objects_of plain) (Resize (bios_of of) min) (OutIs out) (objects_of (with_bios plain i entry.0 x))
+    bios_resized = serves_by did.1
+
+    kept_so : ((out ≡ 0) × pool.PoolMoves entry.1 (resizes min) x) ⊎ ((0 < out) × (x ≡ entry.1))
+        → Holds (with_bios plain i entry.0 x) × (stage_of (with_bios plain i entry.0 x) ≡ stage_of plain)
+    kept_so (inl (zero, moves)) =
+        kept_by plain (with_bios plain i entry.0 x) (Resize (bios_of of) min) (OutIs out) holds fits
+        (bios_stage plain holds number i is place entry value x (resizes min) moves) (bios_seated plain holds number i is place entry value x) bios_resized
+    kept_so (inr (some, same)) =
+        kept_by plain (with_bios plain i entry.0 x) (Resize (bios_of of) min) (OutIs out) holds fits
+        (bios_setting x same) (bios_seated plain holds number i is place entry value x) bios_resized
+
+    pub bios_resized_kept : Holds (with_bios plain i entry.0 x) × (stage_of (with_bios plain i entry.0 x) ≡ stage_of plain)
+    bios_resized_kept = kept_so did.1
+
+module _ (plain : Plain) (holds : Holds plain) (dev : DevId) (min : ℕ) (fits : Fits (stage_of plain) (Resize (Records dev) min)) (i : ℕ)
+    (place : i ≡ slice_index_or plain.index.records (pool_number (Records dev)) 0) (entry : DevId × LedgerPool) (value : entry ≡ get_or plain.records.items i entry) where
+  abbrev slip_number : ℕ
+  slip_number = pool_number (Records dev)
+
+  is_slip : IsTrue (is_slips (stage_of plain) slip_number)
+  is_slip = mirror_is_slips (stage_of plain) dev fits.0
+
+  records_items : (x : LedgerPool) → x ≡ entry.1 → set plain.records.items i (entry.0, x) ≡ plain.records.items
+  records_items x same = ap (λ p. set plain.records.items i (entry.0, p)) same ∙ own_entry plain.records.items i entry value
+
+  records_objects : (x : LedgerPool) → x ≡ entry.1 → objects_of (with_records plain i entry.0 x) ≡ objects_of plain
+  records_objects x same =
+      let none : ℕ → LedgerPool = no_pool plain.stage.value.stack plain.vecs.ledger in
+      let remade : List (DevId × LedgerPool) → Objects = λ items. record (objects_of plain) {
+        pool = λ n. (by_kind plain.vecs (bios_at plain) (look_up records_number (λ e. e.1) none items) n).state;
+      } in
+      ap remade (records_items x same)
+
+  records_setting : (x : LedgerPool) → x ≡ entry.1 → stage_of (with_records plain i entry.0 x) ≡ stage_of plain
+  records_setting x same =
+      let none : ℕ → LedgerPool = no_pool plain.stage.value.stack plain.vecs.ledger in
+      let remade : List (DevId × LedgerPool) → Stage = λ items. record (stage_of plain) {
+        ledger = λ n. (by_kind plain.vecs (bios_at plain) (look_up records_number (λ e. e.1) none items) n).ledger;
+        most = λ n. (by_kind plain.vecs (bios_at plain) (look_up records_number (λ e. e.1) none items) n).most;
+      } in
+      ap remade (records_items x same)
+
+  pub records_within : min ≤ entry.1.most
+  records_within = subst (λ (p : LedgerPool). min ≤ p.most) (sym (records_there plain holds slip_number i is_slip place entry value)) fits.2
+
+  module _ (out : ℕ) (x : LedgerPool) (did : Resizes entry.1 min out x) where
+    slips_out : out ≡ (pool_at plain slip_number).state.facts.out
+    slips_out = did.0 ∙ ap (λ (p : LedgerPool). p.state.facts.out) (records_there plain holds slip_number i is_slip place entry value)
+
+    slips_serve : ((out ≡ 0) × pool.PoolMoves entry.1 (resizes min) x) ⊎ ((0 < out) × (x ≡ entry.1))
+        → Serves (stage_of plain).ledger (objects_of plain) (Resize (Records dev) min) (OutIs out) (objects_of (with_records plain i entry.0 x))
+    slips_serve (inl (zero, moves)) =
+        (slips_out, moved_so (objects_of plain) (objects_of (with_records plain i entry.0 x)) slip_number min out zero (records_move plain holds slip_number i is_slip place entry value x (resizes min) moves))
+    slips_serve (inr (some, same)) = stays plain (with_records plain i entry.0 x) (Records dev) min out (records_objects x same) slips_out some
+
+    pub records_resized : Serves (stage_of plain).ledger (objects_of plain) (Resize (Records dev) min) (OutIs out) (objects_of (with_records plain i entry.0 x))
+    records_resized = slips_serve did.1
+
+    slips_keep : ((out ≡ 0) × pool.PoolMoves entry.1 (resizes min) x) ⊎ ((0 < out) × (x ≡ entry.1))
+        → Holds (with_records plain i entry.0 x) × (stage_of (with_records plain i entry.0 x) ≡ stage_of plain)
+    slips_keep (inl (zero, moves)) =
+        kept_by plain (with_records plain i entry.0 x) (Resize (Records dev) min) (OutIs out) holds fits
+        (records_stage plain holds slip_number i is_slip place entry value x (resizes min) moves)
+        (records_seated plain holds slip_number i is_slip place entry value x) records_resized
+    slips_keep (inr (some, same)) =
+        kept_by plain (with_records plain i entry.0 x) (Resize (Records dev) min) (OutIs out) holds fits
+        (records_setting x same) (records_seated plain holds slip_number i is_slip place entry value x) records_resized
+
+    pub records_resized_kept : Holds (with_records plain i entry.0 x) × (stage_of (with_records plain i entry.0 x) ≡ stage_of plain)
+    records_resized_kept = slips_keep did.1
+
+module _ (plain : Plain) (holds : Holds plain) (min : ℕ) (fits : Fits (stage_of plain) (Resize FsVecs min)) (out : ℕ) (x : LedgerPool)
+    (did : Resizes plain.vecs min out x) where
+  vecs_serve : ((out ≡ 0) × pool.PoolMoves plain.vecs (resizes min) x) ⊎ ((0 < out) × (x ≡ plain.vecs))
+      → Serves (stage_of plain).ledger (objects_of plain) (Resize FsVecs min) (OutIs out) (objects_of (with_vecs plain x))
+  vecs_serve (inl (zero, moves)) = (did.0, moved_so (objects_of plain) (objects_of (with_vecs plain x)) 64 min out zero (vecs_move plain x (resizes min) moves))
+  vecs_serve (inr (some, same)) = stays plain (with_vecs plain x) FsVecs min out (ap (λ p. objects_of (with_vecs plain p)) same) did.0 some
+
+  pub vecs_resized : Serves (stage_of plain).ledger (objects_of plain) (Resize FsVecs min) (OutIs out) (objects_of (with_vecs plain x))
+  vecs_resized = vecs_serve did.1
+
+  vecs_keep : ((out ≡ 0) × pool.PoolMoves plain.vecs (resizes min) x) ⊎ ((0 < out) × (x ≡ plain.vecs))
+      → Holds (with_vecs plain x) × (stage_of (with_vecs plain x) ≡ stage_of plain)
+  vecs_keep (inl (zero, moves)) =
+      kept_by plain (with_vecs plain x) (Resize FsVecs min) (OutIs out) holds fits (vecs_stage plain x (resizes min) moves)
+      (vecs_seated plain x (resizes min) moves holds) vecs_resized
+  vecs_keep (inr (some, same)) =
+      subst (λ p. Holds (with_vecs plain p) × (stage_of (with_vecs plain p) ≡ stage_of plain)) (sym same) (holds, refl)
+
+  pub vecs_resized_kept : Holds (with_vecs plain x) × (stage_of (with_vecs plain x) ≡ stage_of plain)
+  vecs_resized_kept = vecs_keep did.1

@@ -1,6 +1,0 @@
-use Rattle.std.proofs.Common.{◌≡◌, take}
-use Rattle.task_core.specs.NewTasks.{nodes_of}
-use Rattle.task_core.proofs.shares.nodes_of.Given as goal
-
-abbrev pub invariant-counting : goal.invariant-counting
-invariant-counting l = l.nodes ≡ nodes_of l.stack (take l.number l.todos)

@@ -1,7 +1,0 @@
-use Rattle.std.proofs.Common.{◌≡◌, filter, take}
-use Rattle.task_core.specs.NewTasks.{numbered}
-use Rattle.run_machine.specs.Opened.{is_by}
-use Rattle.task_core.proofs.shares.share_of.Given as goal
-
-abbrev pub invariant-sharing : goal.invariant-sharing
-invariant-sharing l = l.todos.items ≡ filter (is_by l.writer) (take l.number (numbered l.work.rounds.items l.work.writes.items))

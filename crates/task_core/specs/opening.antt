@@ -1,0 +1,5 @@
+pub mod Filled
+pub mod Openings
+pub mod OfOne
+pub mod NewTasks
+pub mod Begins

@@ -1,0 +1,60 @@
+-- Objects and tasks of one scenario, and what was opened of an accepted text.
+use Rattle.std.specs.Prelude.{◌≡◌, ℕ, List, All, Contains, map, length, slice_index_or, [], Ok}
+use Rattle.layout_model.specs.declared.write.Write.{Write}
+use Rattle.layout_model.specs.Writes.{IsWrite}
+use Rattle.decl_text.specs.declared.accepted.Accepted.{Accepted}
+use Rattle.decl_text.specs.Reading.{declarations}
+use Rattle.work_text.specs.Reading.{ReadsWork, work_lines}
+use Rattle.work_text.specs.declared.Work.{Work}
+use Rattle.task_core.specs.declared.opening.Opened.{Opened}
+use Rattle.task_core.specs.declared.plain.Plain.{Plain}
+use Rattle.task_steps.specs.Homes.{IsTaskOf}
+use Rattle.task_core.specs.Leaving.{HasRoom}
+use Rattle.run_machine.specs.Opened.{Scenario, objects, tasks, no_task}
+use Rattle.run_machine.specs.Opened as opened
+use Rattle.task_core.specs.Plains.{objects_of, stage_of, Holds}
+use Rattle.task_core.specs.PlainSteps.{state_of}
+use Rattle.task_steps.specs.Routed.{setup}
+use Rattle.run_machine.specs.Runs.{State}
+use Rattle.run_machine.specs.Scenario.{scenario_of}
+use Rattle.task_steps.specs.TaskViews.{TaskOf}
+use Rattle.run_machine.specs.Tasks.{TaskState}
+
+abbrev pub states : List TaskOf → List TaskState
+states tasks = map (λ (task : TaskOf). task.state) tasks
+
+abbrev pub tasks_at : List TaskOf → ℕ → TaskState
+tasks_at tasks place = slice_index_or (states tasks) place no_task
+
+-- tasks and objects, as a state of the machine
+abbrev pub run_state : Plain → List TaskOf → State
+run_state plain tasks = state_of plain (tasks_at tasks)
+
+-- each of these tasks is one of the scenario that these objects are of
+pub record AreOfOne (plain : Plain) (tasks : List TaskOf) : Type 0 where
+  pub holds : Holds plain
+  pub routing : All (λ (task : TaskOf). task.routing ≡ (stage_of plain).routing) tasks
+  pub home : All (λ (task : TaskOf). IsTaskOf (stage_of plain) task.state) tasks
+
+-- the work was read behind these declarations, by a text of which no line is refused
+pub record IsReadBehind (accepted : Accepted) (work : Work) : Type 0 where
+  pub text : List ℕ
+  pub begins : declarations (work_lines text accepted) ≡ []
+  pub reads : ReadsWork text accepted (Ok work)
+  pub served : (write : Write) → Contains work.writes.items write → IsWrite accepted.stack write
+
+-- what it was opened of
+abbrev pub scenario_in : Opened → Scenario
+scenario_in o = scenario_of o.accepted.value o.work.value
+
+-- These are the objects and the tasks in which the runs of an accepted text begin.
+pub record IsOpened (o : Opened) : Type 0 where
+  pub read : IsReadBehind o.accepted.value o.work.value
+  pub one : AreOfOne o.objects o.tasks.items
+  pub routes : o.routes.value ≡ (stage_of o.objects).routing
+  pub stack : (stage_of o.objects).routing.stack ≡ (scenario_in o).stack
+  pub setup : setup (stage_of o.objects).routing ≡ opened.setup (scenario_in o)
+  pub writes : (stage_of o.objects).writes ≡ length (scenario_in o).writes
+  pub objects : objects_of o.objects ≡ objects (scenario_in o)
+  pub tasks : states o.tasks.items ≡ tasks (scenario_in o)
+  pub room : HasRoom (scenario_in o).stack (length (scenario_in o).writes) o.room

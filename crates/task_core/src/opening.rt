@@ -1,0 +1,173 @@
+//! What is opened of an accepted text.
+ghost use Rattle.std.specs.Prelude.{◌≡◌, ◌≤◌, ◌^◌, IfOk, OnOk, length, sum};
+ghost use Rattle.std.specs.List.{range_with_len};
+ghost use Rattle.stack_base.specs.Stack.{IsStack};
+ghost use Rattle.task_core.specs.Leaving.{HasRoom};
+ghost use Rattle.task_core.specs.opening.NewTasks.{left_in, others_in, reserves_in, rounds_in, tally_in, writers_of, Adds, ArePlaced};
+ghost use Rattle.task_core.specs.opening.OfOne.{scenario_in, IsOpened, IsReadBehind};
+ghost use Rattle.task_core.specs.opening.Openings.{AreOpened};
+ghost use Rattle.task_steps.specs.Routed.{setup};
+ghost use Rattle.run_machine.specs.Scenario.{scenario_of};
+
+pub(crate) mod objects;
+mod pools;
+mod rounds;
+mod tasks;
+mod writers;
+
+use crate::ended::Ended;
+use crate::opening::objects::open_objects;
+use crate::opening::rounds::{left_of, open_keeper, open_tally};
+use crate::opening::tasks::{open_completers, open_rescuers, tasks_of};
+use crate::opening::writers::open_writers;
+use crate::plain::Plain;
+use decl_text::Accepted;
+use stack_base::{PoolId, Stack};
+use std::alloc::{AllocError, Global};
+use std::snapshot::Snapshot;
+use std::sync::Arc;
+use task_steps::{Kind, Routes, Task};
+use work_text::{Resize, Work};
+
+/// The objects and the tasks of an accepted text, as a run begins with them, and room for what it leaves.
+#[derive(Drop)]
+pub struct Opened {
+    pub objects: Plain,
+    /// Writers first, then rescuers, completers and the keeper.
+    pub tasks: Vec<Task>,
+    /// Empty lists, with room for all that a run leaves.
+    pub room: Ended,
+    // What all tasks know of devices, which they share.
+    pub(crate) routes: Arc<Routes>,
+    // What they were opened of. It has no bytes here.
+    pub(crate) accepted: Snapshot<Accepted>,
+    pub(crate) work: Snapshot<Work>,
+}
+
+// The reserves that pools get.
+fn reserves_of(alloc: Global, resizes: &[Resize]) -> Result<Vec<(PoolId, u32)>, AllocError>
+    ensures { IfOk result (λ reserves. reserves.items ≡ reserves_in resizes.now) }
+{
+    let mut reserves = Vec::with_capacity(alloc, resizes.len())?;
+    'reserving: for i in 0..resizes.len() {
+        reserves.push((resizes[i].pool, resizes[i].min))?;
+    }
+    Ok(reserves)
+}
+
+// Room for what a run of so many writes leaves.
+fn room_of(alloc: Global, stack: &Stack, writes: usize) -> Result<Ended, AllocError>
+    requires { IsStack stack.now }
+    ensures { IfOk result (HasRoom stack.now writes) }
+{
+    let devices = stack.devices.len();
+    Ok(Ended {
+        statuses: Vec::with_capacity(alloc, writes)?,
+        disks: Vec::with_capacity(alloc, devices)?,
+        pools: Vec::with_capacity(alloc, 2 * devices + 2)?,
+        steps: 0,
+    })
+}
+
+// Opens the writers, and with the places of their books what all tasks know of devices.
+fn open_routes(
+    alloc: Global,
+    accepted: &Accepted,
+    work: &Work,
+    kinds: &mut Vec<Kind>,
+) -> Result<Routes, AllocError>
+    requires read { IsReadBehind accepted.now work.now }
+    ensures kinds { OnOk result (Adds kinds.old.items (writers_of work.now.rounds.items work.now.writes.items (range_with_len 0 8)) kinds.new.items) }
+    ensures routes { IfOk result (λ routes. (routes.stack ≡ accepted.now.stack) × ArePlaced accepted.now.stack work.now.rounds.items work.now.writes.items 8 routes.places) }
+{
+    let mut places = [0; 8];
+    open_writers(alloc, &accepted.stack, work, kinds, &mut places)?;
+    Routes::new(alloc, &accepted.stack, places)
+}
+
+// Opens the tasks of devices, and the keeper of the rounds.
+fn open_others(
+    alloc: Global,
+    accepted: &Accepted,
+    work: &Work,
+    routes: &Routes,
+    left: &[u32],
+    kinds: &mut Vec<Kind>,
+) -> Result<(), AllocError>
+    requires read { IsReadBehind accepted.now work.now }
+    requires same { routes.now.stack ≡ accepted.now.stack }
+    requires left { left.now ≡ left_in work.now.rounds.items }
+    requires short { rounds_in work.now.rounds.items ≤ 2 ^ 32 }
+    ensures { OnOk result (Adds kinds.old.items (others_in (setup routes.now) work.now.rounds.items work.now.resizes.items) kinds.new.items) }
+{
+    open_rescuers(&accepted.stack, routes, kinds)?;
+    open_completers(&accepted.stack, routes, kinds)?;
+    open_keeper(alloc, &work.rounds, &work.resizes, left, kinds)?;
+    Ok(())
+}
+
+// Opens the objects, where this is how many writes each round has.
+fn open_plain(
+    alloc: Global,
+    accepted: &Accepted,
+    work: &Work,
+    routes: &Routes,
+    left: Vec<u32>,
+) -> Result<Plain, AllocError>
+    requires read { IsReadBehind accepted.now work.now }
+    requires same { routes.now.stack ≡ accepted.now.stack }
+    requires places { length routes.now.places ≡ 8 }
+    requires left { left.items ≡ left_in work.now.rounds.items }
+    requires short { rounds_in work.now.rounds.items ≤ 2 ^ 32 }
+    requires all { sum left.items ≡ length work.now.rounds.items }
+    ensures { IfOk result (AreOpened routes.now accepted.now.scripts.items (reserves_in work.now.resizes.items) (tally_in work.now.rounds.items work.now.writes.items)) }
+{
+    let reserves = reserves_of(alloc, &work.resizes)?;
+    let tally = open_tally(alloc, left, work.writes.len())?;
+    open_objects(
+        alloc,
+        &accepted.stack,
+        routes,
+        &accepted.scripts,
+        &reserves,
+        tally,
+    )
+}
+
+impl Opened {
+    /// What all tasks know of devices, shared once more.
+    ///
+    /// # Errors
+    /// Where no more can share it.
+    pub fn routes(&self) -> Result<Arc<Routes>, AllocError>
+        ensures { IfOk result (λ routes. routes.value ≡ self.now.routes.value) }
+    {
+        self.routes.clone()
+    }
+}
+
+/// The objects and the tasks of an accepted text, as its runs begin, and room for what a run leaves.
+///
+/// # Errors
+/// Where there is no memory for all of them.
+pub fn open(alloc: Global, accepted: &Accepted, work: &Work) -> Result<Opened, AllocError>
+    requires read { IsReadBehind accepted.now work.now }
+    ensures opened { IfOk result IsOpened }
+    ensures of { IfOk result (λ o. scenario_in o ≡ scenario_of accepted.now work.now) }
+{
+    let mut kinds = Vec::new(alloc);
+    let routes = open_routes(alloc, accepted, work, &mut kinds)?;
+    let left = left_of(alloc, &work.rounds)?;
+    open_others(alloc, accepted, work, &routes, &left, &mut kinds)?;
+    let routes = Arc::new(alloc, routes)?;
+    let tasks = tasks_of(alloc, kinds, &routes)?;
+    let room = room_of(alloc, &accepted.stack, work.writes.len())?;
+    Ok(Opened {
+        objects: open_plain(alloc, accepted, work, &routes, left)?,
+        tasks,
+        room,
+        routes,
+        accepted: Snapshot::of(accepted),
+        work: Snapshot::of(work),
+    })
+}

@@ -1,0 +1,101 @@
+//! The tasks of devices, and the list of all tasks.
+ghost use Rattle.std.specs.Prelude.{◌≡◌, ◌<◌, [], ◌∷◌, ◌++◌, IfOk, OnOk, length};
+ghost use Rattle.std.specs.List.{range_with_len};
+ghost use Rattle.stack_base.specs.Stack.{IsStack};
+ghost use Rattle.task_steps.specs.Routed.{setup};
+ghost use Rattle.task_steps.specs.TaskViews.{task_of};
+ghost use Rattle.task_core.specs.opening.NewTasks.{rescuers_of, completers_of, shown, with_routing, Adds};
+
+use crate::opening::objects::is_disk;
+use stack_base::{DevId, Stack};
+use std::alloc::{AllocError, Global};
+use std::sync::Arc;
+use task_steps::{Carried, Kind, Rescuer, Routes, Task};
+
+// Adds the rescuer of a device's set, if it has one.
+fn add_rescuer(routes: &Routes, dev: DevId, kinds: &mut Vec<Kind>) -> Result<(), AllocError>
+    requires { dev.0 < length routes.now.stack.devices.items }
+    ensures { OnOk result (Adds kinds.old.items (rescuers_of (setup routes.now) (dev.0 ∷ [])) kinds.new.items) }
+{
+    if routes.rescuer(dev) {
+        kinds.push(Kind::Rescuer(Rescuer::new(dev)))?;
+    }
+    Ok(())
+}
+
+// Adds the rescuers of a stack, in the order of its devices.
+pub(crate) fn open_rescuers(
+    stack: &Stack,
+    routes: &Routes,
+    kinds: &mut Vec<Kind>,
+) -> Result<(), AllocError>
+    requires same { routes.now.stack ≡ stack.now }
+    requires stack { IsStack stack.now }
+    ensures { OnOk result (Adds kinds.old.items (rescuers_of (setup routes.now) (range_with_len 0 (length stack.now.devices.items))) kinds.new.items) }
+{
+    'opening: for number in 0..stack.devices.len() {
+        add_rescuer(routes, DevId(number as u32), kinds)?;
+    }
+    Ok(())
+}
+
+// Adds the completer of a device, if it is a disk.
+fn add_completer(routes: &Routes, dev: DevId, kinds: &mut Vec<Kind>) -> Result<(), AllocError>
+    requires { dev.0 < length routes.now.stack.devices.items }
+    ensures { OnOk result (Adds kinds.old.items (completers_of (setup routes.now) (dev.0 ∷ [])) kinds.new.items) }
+{
+    if is_disk(routes, dev) {
+        kinds.push(Kind::Completer {
+            disk: dev,
+            carried: Carried::empty(),
+        })?;
+    }
+    Ok(())
+}
+
+// Adds the completers of a stack, in the order of its devices.
+pub(crate) fn open_completers(
+    stack: &Stack,
+    routes: &Routes,
+    kinds: &mut Vec<Kind>,
+) -> Result<(), AllocError>
+    requires same { routes.now.stack ≡ stack.now }
+    requires stack { IsStack stack.now }
+    ensures { OnOk result (Adds kinds.old.items (completers_of (setup routes.now) (range_with_len 0 (length stack.now.devices.items))) kinds.new.items) }
+{
+    'opening: for number in 0..stack.devices.len() {
+        add_completer(routes, DevId(number as u32), kinds)?;
+    }
+    Ok(())
+}
+
+// Adds a task of this kind, which shares what all know of devices.
+fn add_task(kind: Kind, routes: &Arc<Routes>, tasks: &mut Vec<Task>) -> Result<(), AllocError>
+    ensures { OnOk result (tasks.new.items ≡ tasks.old.items ++ (record { routing = routes.now.value; state = task_of kind }) ∷ []) }
+{
+    match routes.clone() {
+        Ok(routes) => {
+            tasks.push(Task::new(routes, kind))?;
+            Ok(())
+        }
+        Err(error) => {
+            drop(kind);
+            Err(error)
+        }
+    }
+}
+
+// Tasks of these kinds, which share what they know of devices.
+pub(crate) fn tasks_of(
+    alloc: Global,
+    kinds: Vec<Kind>,
+    routes: &Arc<Routes>,
+) -> Result<Vec<Task>, AllocError>
+    ensures { IfOk result (λ tasks. tasks.items ≡ with_routing routes.now.value (shown kinds.items)) }
+{
+    let mut tasks = Vec::with_capacity(alloc, kinds.len())?;
+    'sharing: for kind in kinds {
+        add_task(kind, routes, &mut tasks)?;
+    }
+    Ok(tasks)
+}

@@ -1,0 +1,227 @@
+//! Completers: what the completer of a disk carries, from its disk up to the write.
+ghost use Rattle.std.specs.Prelude.{◌≡◌, true, false, None, Some};
+ghost use Rattle.bio_books.specs.Books.{nothing_held};
+ghost use Rattle.bio_books.specs.Views.{closed_node_of, holding_of, IsAlonePart};
+ghost use Rattle.run_machine.specs.declared.event.Breach.TheVariants as Breach';
+ghost use Rattle.task_steps.specs.declared.step.Step.TheVariants as Step';
+ghost use Rattle.run_machine.specs.Kept.{holding_kept};
+ghost use Rattle.run_machine.specs.Tasks.{Brings, Carries, Completer as Completes, Empty, Fails};
+ghost use Rattle.task_steps.specs.Routed.{setup};
+ghost use Rattle.task_steps.specs.Stage.{Owes};
+ghost use Rattle.task_steps.specs.Homes.{IsTaskOf};
+ghost use Rattle.task_steps.specs.Turns.{completes, Chosen, Turns, step_of};
+ghost use Rattle.task_steps.specs.CarriedViews.{carried_of, put_back, is_busy, IsLoadAlone};
+
+mod closed;
+mod ends;
+mod gives;
+
+use crate::completer::closed::finish;
+use crate::completer::ends::drop_part;
+use crate::objects::{Chooser, Objects, Unmade};
+use crate::step::Step;
+use bio_books::{Back, ClosedNode};
+use bio_records::{Bio, BioElement};
+use model_disks::Done;
+use run_machine::{Breach, Event, TaskId, What};
+use stack_base::{DevId, Status};
+use std::marker::Model;
+use std::mem;
+
+/// What a completer carries.
+#[derive(Drop)]
+pub enum Load {
+    /// Nothing: it completes a bio next.
+    Empty,
+    /// A bio that its disk is done with.
+    Brings { bio: BioElement, status: Status },
+    /// What is left of a node that has closed.
+    Carries { writer: u32, node: ClosedNode },
+    /// It cannot go on, and keeps what came back of its call, and what else it carried.
+    Fails { breach: Breach, held: Back },
+}
+
+/// What a completer carries, seen without its boxes.
+#[derive(Drop)]
+pub struct Carried {
+    load: Load,
+}
+
+impl Model for Carried {
+    ghost use Rattle.run_machine.specs.Tasks.{Carried as CarriedState};
+    ghost use Rattle.task_steps.specs.CarriedViews.{carried_of, IsLoadAlone};
+
+    ghost Value = { CarriedState };
+
+    ghost view = { λ c. carried_of c.load };
+
+    ghost invariant = { λ c. IsLoadAlone c.load };
+}
+
+// No element.
+pub(crate) fn nothing_held() -> Back
+    ensures { holding_of result ≡ nothing_held }
+{
+    Back {
+        bio: None,
+        vector: None,
+        slip: None,
+    }
+}
+
+// What came back of a call, with what else was carried.
+fn put_back(rest: Back, back: Unmade) -> Back
+    ensures { holding_of result ≡ put_back (holding_of rest) back }
+{
+    match back {
+        Unmade::Bio(bio) => Back {
+            bio: Some(bio),
+            ..rest
+        },
+        Unmade::Vec(vector) => Back {
+            vector: Some(vector),
+            ..rest
+        },
+        Unmade::Slip(slip) => Back {
+            slip: Some(slip),
+            ..rest
+        },
+        Unmade::Nothing | Unmade::List(_) | Unmade::Ask(_) => rest,
+    }
+}
+
+// It cannot go on, and keeps this.
+pub(crate) fn failing(breach: Breach, held: Back) -> Carried
+    ensures { result ≡ Fails breach (holding_kept (holding_of held)) }
+{
+    Carried {
+        load: Load::Fails { breach, held },
+    }
+}
+
+// An object had no ticket for a call. It keeps what came back, and what else it carried.
+pub(crate) fn spent(rest: Back, back: Unmade) -> (Carried, Step)
+    ensures carried { result.0 ≡ Fails Breach'.Spent (holding_kept (put_back (holding_of rest) back)) }
+    ensures step { result.1 ≡ Step'.Broken Breach'.Spent }
+{
+    let held = put_back(rest, back);
+    (failing(Breach::Spent, held), Step::Broken(Breach::Spent))
+}
+
+// What is left of a closed node after a call.
+pub(crate) fn carrying(writer: u32, node: ClosedNode) -> Carried
+    requires { IsAlonePart node.held.bio }
+    ensures { result ≡ Carries writer (closed_node_of node) }
+{
+    Carried {
+        load: Load::Carries { writer, node },
+    }
+}
+
+// A step of a completer that carries this.
+pub(crate) fn step_of<O: Objects>(objects: &mut O, disk: DevId, load: Load) -> (Carried, Step)
+    requires alone { IsLoadAlone load }
+    requires busy { is_busy (carried_of load) ≡ true }
+    requires holds { O.holds objects.old }
+    requires fits { IsTaskOf (O.stage objects.old) (Completes disk (carried_of load)) }
+    ensures turns { Turns O.serves (Owes (O.stage objects.old)) (setup (O.stage objects.old).routing) (Completes disk (carried_of load)) objects.old (Completes disk result.0) objects.new result.1 }
+    ensures completes_none { completes result.1 ≡ false }
+    ensures kept { O.holds objects.new × (O.stage objects.new ≡ O.stage objects.old) }
+{
+    match load {
+        Load::Empty => unreachable!(),
+        Load::Brings { bio, status } => drop_part(objects, disk, bio, status),
+        Load::Carries { writer, node } => finish(objects, disk, writer, node),
+        Load::Fails { breach, held } => (failing(breach, held), Step::Broken(breach)),
+    }
+}
+
+impl Carried {
+    /// Nothing.
+    pub fn empty() -> Carried
+        ensures { result ≡ Empty }
+    {
+        Carried { load: Load::Empty }
+    }
+
+    // Whether it carries anything, or its completer has broken off.
+    fn is_busy(&self) -> bool
+        ensures { result ≡ is_busy self.now }
+    {
+        match self.load {
+            Load::Empty => false,
+            Load::Brings { .. } | Load::Carries { .. } | Load::Fails { .. } => true,
+        }
+    }
+
+    // It carries this from now on.
+    fn put(&mut self, load: Load)
+        requires { IsLoadAlone load }
+        ensures { self.new ≡ carried_of load }
+    {
+        drop(mem::replace(&mut self.load, load));
+    }
+
+    // Completes one of the bios that wait in the disk (`bio_endio`, `block/bio.c`). Where none waits, it looks whether any write is unfinished.
+    fn complete<O: Objects, C: Chooser>(
+        &mut self,
+        objects: &mut O,
+        chooser: &mut C,
+        disk: DevId,
+    ) -> Step
+        requires empty { self.old ≡ Empty }
+        requires holds { O.holds objects.old }
+        requires fits { IsTaskOf (O.stage objects.old) (Completes disk Empty) }
+        ensures turns { Turns O.serves (Owes (O.stage objects.old)) (setup (O.stage objects.old).routing) (Completes disk Empty) objects.old (Completes disk self.new) objects.new result }
+        ensures chosen { Chosen C.chooses (O.picks objects.old) disk chooser.old result chooser.new }
+        ensures kept { O.holds objects.new × (O.stage objects.new ≡ O.stage objects.old) }
+    {
+        match objects.complete(disk, chooser) {
+            Ok(Some((index, Done { el, status }))) => {
+                self.put(Load::Brings { bio: el, status });
+                let what = What::Complete {
+                    disk,
+                    index,
+                    status,
+                };
+                let task = TaskId::Completer(disk);
+                Step::Stepped(Event { task, what })
+            }
+            Ok(None) => {
+                if objects.left() == 0 {
+                    Step::Ended
+                } else {
+                    Step::Waiting
+                }
+            }
+            Err(back) => {
+                let held = put_back(nothing_held(), back);
+                let breach = Breach::Spent;
+                self.put(Load::Fails { breach, held });
+                Step::Broken(Breach::Spent)
+            }
+        }
+    }
+
+    /// A step of the completer of a disk.
+    pub fn step<O: Objects, C: Chooser>(
+        &mut self,
+        objects: &mut O,
+        chooser: &mut C,
+        disk: DevId,
+    ) -> Step
+        requires holds { O.holds objects.old }
+        requires fits { IsTaskOf (O.stage objects.old) (Completes disk self.old) }
+        ensures turns { Turns O.serves (Owes (O.stage objects.old)) (setup (O.stage objects.old).routing) (Completes disk self.old) objects.old (Completes disk self.new) objects.new result }
+        ensures chosen { Chosen C.chooses (O.picks objects.old) disk chooser.old result chooser.new }
+        ensures kept { O.holds objects.new × (O.stage objects.new ≡ O.stage objects.old) }
+    {
+        if !self.is_busy() {
+            return self.complete(objects, chooser, disk);
+        }
+        let load = mem::replace(&mut self.load, Load::Empty);
+        let (carried, step) = step_of(objects, disk, load);
+        self.put(carried.load);
+        step
+    }
+}

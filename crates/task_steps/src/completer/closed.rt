@@ -1,0 +1,76 @@
+//! What a completer does with a node that has closed.
+ghost use Rattle.std.specs.Prelude.{◌≡◌, None, Some};
+ghost use Rattle.bio_books.specs.Books.{nothing_held};
+ghost use Rattle.bio_books.specs.Views.{closed_node_of, IsAlonePart};
+ghost use Rattle.run_machine.specs.Tasks.{Carries, Completer as Completes, Empty};
+ghost use Rattle.task_steps.specs.Routed.{setup};
+ghost use Rattle.task_steps.specs.Stage.{Owes};
+ghost use Rattle.task_steps.specs.Homes.{IsTaskOf};
+ghost use Rattle.task_steps.specs.Turns.{Turns};
+
+use crate::completer::ends::drop_parent;
+use crate::completer::gives::{give_bio, give_slip, give_vector};
+use crate::completer::{Carried, Load, nothing_held, spent};
+use crate::objects::Objects;
+use crate::step::Step;
+use bio_books::ClosedNode;
+use model_disks::Done;
+use run_machine::{Event, TaskId, What};
+use stack_base::{DevId, Status};
+
+// Tells a write done, whose node has closed and holds nothing any more.
+fn end_write<O: Objects>(
+    objects: &mut O,
+    disk: DevId,
+    writer: u32,
+    write: u32,
+    status: Status,
+) -> (Carried, Step)
+    requires holds { O.holds objects.old }
+    requires fits { IsTaskOf (O.stage objects.old) (Completes disk (Carries writer (record { held = nothing_held; parent = None; write = write; status = status }))) }
+    ensures turns { Turns O.serves (Owes (O.stage objects.old)) (setup (O.stage objects.old).routing) (Completes disk (Carries writer (record { held = nothing_held; parent = None; write = write; status = status }))) objects.old (Completes disk result.0) objects.new result.1 }
+    ensures kept { O.holds objects.new × (O.stage objects.new ≡ O.stage objects.old) }
+{
+    match objects.done(write, status) {
+        Ok(()) => {
+            let task = TaskId::Completer(disk);
+            let what = What::Done { write, status };
+            (
+                Carried { load: Load::Empty },
+                Step::Stepped(Event { task, what }),
+            )
+        }
+        Err(back) => spent(nothing_held(), back),
+    }
+}
+
+// Goes on with a closed node: what it holds goes back first, then its parent is told, or its write is done.
+pub(crate) fn finish<O: Objects>(
+    objects: &mut O,
+    disk: DevId,
+    writer: u32,
+    node: ClosedNode,
+) -> (Carried, Step)
+    requires alone { IsAlonePart node.held.bio }
+    requires holds { O.holds objects.old }
+    requires fits { IsTaskOf (O.stage objects.old) (Completes disk (Carries writer (closed_node_of node))) }
+    ensures turns { Turns O.serves (Owes (O.stage objects.old)) (setup (O.stage objects.old).routing) (Completes disk (Carries writer (closed_node_of node))) objects.old (Completes disk result.0) objects.new result.1 }
+    ensures kept { O.holds objects.new × (O.stage objects.new ≡ O.stage objects.old) }
+{
+    let mut rest = node;
+    if let Some(vector) = rest.held.vector.take() {
+        return give_vector(objects, disk, writer, vector, rest);
+    }
+    if let Some(bio) = rest.held.bio.take() {
+        return give_bio(objects, disk, writer, bio, rest);
+    }
+    if let Some(slip) = rest.held.slip.take() {
+        return give_slip(objects, disk, writer, slip, rest);
+    }
+    let (parent, write, status) = (rest.parent, rest.write, rest.status);
+    drop(rest);
+    match parent {
+        Some(parent) => drop_parent(objects, disk, writer, parent, write, status),
+        None => end_write(objects, disk, writer, write, status),
+    }
+}

@@ -1,0 +1,118 @@
+//! What a completer tells a node: that a part of it has ended (`bio_endio` and `bio_chain_endio`, `block/bio.c`).
+ghost use Rattle.std.specs.Prelude.{◌≡◌, Option, None, Some};
+ghost use Rattle.bio_records.specs.declared.bio.Pad.{Pad as Pad'};
+ghost use Rattle.bio_records.specs.Items.{Item, item_of, IsAlone};
+ghost use Rattle.bio_books.specs.Books.{nothing_held};
+ghost use Rattle.bio_books.specs.Views.{bio_of, ended_of, IsDroppedAlone};
+ghost use Rattle.run_machine.specs.declared.event.Breach.TheVariants as Breach';
+ghost use Rattle.run_machine.specs.declared.event.TaskId.TheVariants as TaskId';
+ghost use Rattle.run_machine.specs.declared.event.What.TheVariants as What';
+ghost use Rattle.task_steps.specs.declared.step.Step.TheVariants as Step';
+ghost use Rattle.run_machine.specs.Scene.{Setup};
+ghost use Rattle.run_machine.specs.Kept.{bio_kept};
+ghost use Rattle.run_machine.specs.Requests.{Drop as DropOf, DroppedTo};
+ghost use Rattle.run_machine.specs.Tasks.{Brings, Carries, Completer as Completes, Empty, Fails, after_drop};
+ghost use Rattle.task_steps.specs.Routed.{setup};
+ghost use Rattle.task_steps.specs.Stage.{Owes};
+ghost use Rattle.task_steps.specs.Homes.{IsTaskOf};
+ghost use Rattle.task_steps.specs.Turns.{Turns, step_of};
+
+use crate::completer::{Carried, Load, carrying, failing, nothing_held, spent, step_of};
+use crate::objects::Objects;
+use crate::step::Step;
+use bio_books::{Back, Dropped};
+use bio_records::{Bio, BioElement};
+use run_machine::{Breach, End, Event, TaskId, What};
+use stack_base::{DevId, Status};
+
+// A node that was named was not open. It keeps the part that came back.
+#[tactic(auto, using(crate::proofs::KeptLemmas::part_alone))]
+fn stray(writer: u32, node: u32, part: Option<BioElement>) -> (Carried, Step)
+    ensures carried { result.0 ≡ Fails (Breach'.Stray writer node) (bio_kept (bio_of part)) }
+    ensures step { result.1 ≡ Step'.Broken (Breach'.Stray writer node) }
+{
+    let breach = Breach::Stray { writer, node };
+    let held = Back {
+        bio: part,
+        ..nothing_held()
+    };
+    (failing(breach, held), Step::Broken(breach))
+}
+
+// The event that a node was told of an end.
+fn drops(disk: DevId, writer: u32, node: u32, status: Status, end: End) -> Step
+    ensures { result ≡ Step'.Stepped (record { task = TaskId'.Completer disk; what = What'.Drop writer node status end }) }
+{
+    Step::Stepped(Event {
+        task: TaskId::Completer(disk),
+        what: What::Drop {
+            writer,
+            node,
+            status,
+            end,
+        },
+    })
+}
+
+// What is left of a node that was told of an end, and the event of that.
+fn told(disk: DevId, writer: u32, node: u32, status: Status, dropped: Dropped) -> (Carried, Step)
+    requires { IsDroppedAlone dropped }
+    ensures carried { result.0 ≡ after_drop writer node (ended_of dropped) }
+    ensures step { (part : Option (Item Pad')) → (s : Setup) → result.1 ≡ step_of s (TaskId'.Completer disk) (DropOf writer node status part) (DroppedTo (ended_of dropped)) }
+{
+    match dropped {
+        Dropped::Left => (
+            Carried { load: Load::Empty },
+            drops(disk, writer, node, status, End::Left),
+        ),
+        Dropped::Up(closed) => (
+            carrying(writer, closed),
+            drops(disk, writer, node, status, End::Up),
+        ),
+        Dropped::Top(closed) => (
+            carrying(writer, closed),
+            drops(disk, writer, node, status, End::Top),
+        ),
+        Dropped::Stray(part) => stray(writer, node, part),
+    }
+}
+
+// Tells the node of a bio that came from the disk of its end (`bio_endio`, `block/bio.c`).
+pub(crate) fn drop_part<O: Objects>(
+    objects: &mut O,
+    disk: DevId,
+    bio: BioElement,
+    status: Status,
+) -> (Carried, Step)
+    requires alone { IsAlone bio }
+    requires holds { O.holds objects.old }
+    requires fits { IsTaskOf (O.stage objects.old) (Completes disk (Brings (item_of bio) status)) }
+    ensures turns { Turns O.serves (Owes (O.stage objects.old)) (setup (O.stage objects.old).routing) (Completes disk (Brings (item_of bio) status)) objects.old (Completes disk result.0) objects.new result.1 }
+    ensures kept { O.holds objects.new × (O.stage objects.new ≡ O.stage objects.old) }
+{
+    let Bio { writer, node, .. } = bio.body.bio;
+    match objects.drop_one(writer, node, status, Some(bio)) {
+        Ok(dropped) => told(disk, writer, node, status, dropped),
+        Err(back) => spent(nothing_held(), back),
+    }
+}
+
+// Tells the parent of a closed node, which holds nothing any more, of its end (`bio_chain_endio`, `block/bio.c`).
+pub(crate) fn drop_parent<O: Objects>(
+    objects: &mut O,
+    disk: DevId,
+    writer: u32,
+    parent: u32,
+    write: u32,
+    status: Status,
+) -> (Carried, Step)
+    requires holds { O.holds objects.old }
+    requires fits { IsTaskOf (O.stage objects.old) (Completes disk (Carries writer (record { held = nothing_held; parent = Some parent; write = write; status = status }))) }
+    ensures turns { Turns O.serves (Owes (O.stage objects.old)) (setup (O.stage objects.old).routing) (Completes disk (Carries writer (record { held = nothing_held; parent = Some parent; write = write; status = status }))) objects.old (Completes disk result.0) objects.new result.1 }
+    ensures kept { O.holds objects.new × (O.stage objects.new ≡ O.stage objects.old) }
+{
+    match objects.drop_one(writer, parent, status, None) {
+        Ok(dropped) => told(disk, writer, parent, status, dropped),
+        Err(back) => spent(nothing_held(), back),
+    }
+}

@@ -1,0 +1,251 @@
+//! Submissions: the bio that its driver has, what the driver asks for, and the bios that wait (`submit_bio_noacct`, `block/blk-core.c`).
+ghost use Rattle.std.specs.Prelude.{◌≡◌, ◌<◌, ◌++◌, [], ◌∷◌, true, None};
+ghost use Rattle.bio_records.specs.Items.{item_of, IsAlone};
+ghost use Rattle.run_machine.specs.Lines.{Rests, Drives, Breaks as Breaks', ToCut, settled, rests};
+ghost use Rattle.task_steps.specs.Within.{IsWithin};
+ghost use Rattle.task_steps.specs.Routed.{setup};
+ghost use Rattle.task_steps.specs.Stage.{Owes};
+ghost use Rattle.task_steps.specs.Homes.{IsLineOf};
+ghost use Rattle.task_steps.specs.Turns.{doing_breach};
+ghost use Rattle.task_steps.specs.LineViews.{unmade_kept, kept_of, doing_of, line_of, IsDoingAlone, is_asking};
+ghost use Rattle.run_machine.specs.Kept.{bio_kept};
+ghost use Rattle.bio_books.specs.Views.{bio_of};
+ghost use Rattle.task_steps.specs.Answers.{Answers};
+
+pub(crate) mod cut;
+pub(crate) mod dispatch;
+pub(crate) mod mirror;
+pub(crate) mod push;
+mod take;
+
+use crate::homes::lines_stay_home;
+use crate::objects::{Objects, Unmade};
+use crate::routes::Routes;
+use crate::step::Step;
+use crate::submission::dispatch::{serve, turn};
+use crate::submission::mirror::{leg, master};
+use bio_books::Back;
+use bio_records::{Bio, BioElement, SlipElement, TaskLists};
+use run_machine::{Breach, TaskId};
+use std::marker::Model;
+use std::mem;
+
+/// What a driver does for a bio of its device's set.
+#[derive(Drop)]
+pub enum Want {
+    /// It takes one, and waits for it or not (`bio_alloc_bioset`, `block/bio.c`).
+    Takes { waits: bool },
+    /// An attempt that did not wait missed: it hands the bios of the set to its rescuer (`punt_bios_to_rescuer`, `block/bio.c`).
+    Punts,
+    /// It links a node for the bio that it has taken.
+    Links { hand: BioElement },
+}
+
+/// What a driver does with the bio that it has.
+#[derive(Drop)]
+pub enum DriverAsk {
+    /// A disk's takes it.
+    ToPush,
+    /// One that cuts wants a bio for the first piece.
+    ToCut(Want),
+    /// A mirror's takes a record.
+    ToRecord,
+    /// And with the record it links a master, which keeps the bio.
+    ToMaster(SlipElement),
+}
+
+/// What an object handed back where a task cannot go on.
+#[derive(Drop)]
+pub enum HandedBack {
+    /// What a call without a ticket was handed.
+    Unmade(Unmade),
+    /// What was to stand in a node that was not opened.
+    Unlinked(Back),
+}
+
+/// What a task that cannot go on keeps of what it was at.
+#[derive(Drop)]
+pub struct Kept {
+    /// The bio that its driver had.
+    pub bio: Option<BioElement>,
+    /// The bio that it had taken.
+    pub hand: Option<BioElement>,
+    /// What the object handed back.
+    pub back: HandedBack,
+}
+
+impl Kept {
+    /// Nothing was at hand, and nothing came back.
+    pub(crate) fn nothing() -> Kept
+        ensures { kept_of result ≡ [] }
+    {
+        Kept::unmade(None, Unmade::Nothing)
+    }
+
+    /// What it had of a bio, and what came back of a call without a ticket.
+    pub(crate) fn unmade(bio: Option<BioElement>, back: Unmade) -> Kept
+        ensures { result ≡ record { bio = bio; hand = None; back = HandedBack.Unmade back } }
+    {
+        let back = HandedBack::Unmade(back);
+        Kept {
+            bio,
+            hand: None,
+            back,
+        }
+    }
+}
+
+/// What a submission is at.
+#[derive(Drop)]
+pub enum Doing {
+    /// It is over.
+    Rests,
+    /// The driver of the bio's device has it.
+    Drives {
+        bio: BioElement,
+        ask: DriverAsk,
+    },
+    /// A mirror copies a bio, which waits with its parent: the place of the master, and the leg that is made next.
+    Copies {
+        bio: Bio,
+        master: u32,
+        leg: u32,
+        want: Want,
+    },
+    /// It cannot go on, and keeps what it had at hand and what came back. A punt that was refused has its bios there, and no more in the lists.
+    Breaks {
+        breach: Breach,
+        kept: Kept,
+    },
+}
+
+/// A submission, with the task's two lists.
+#[derive(Drop)]
+pub struct Line {
+    pub(crate) doing: Doing,
+    pub(crate) lists: TaskLists,
+}
+
+impl Model for Line {
+    ghost use Rattle.run_machine.specs.Lines.{Line as LineState};
+    ghost use Rattle.task_steps.specs.LineViews.{line_of, IsDoingAlone};
+
+    ghost Value = { LineState };
+
+    ghost view = { λ l. line_of l.doing l.lists };
+
+    ghost invariant = { λ l. IsDoingAlone l.doing };
+}
+
+// What it is at from now on.
+pub(crate) fn put(at: &mut Doing, doing: Doing)
+    ensures { at.new ≡ doing }
+{
+    drop(mem::replace(at, doing));
+}
+
+// It cannot go on, and keeps this.
+pub(crate) fn broken(breach: Breach, kept: Kept) -> Doing
+    ensures doing { doing_of result ≡ Breaks' breach (kept_of kept) }
+    ensures alone { IsDoingAlone result }
+{
+    Doing::Breaks { breach, kept }
+}
+
+// It breaks off, and keeps this.
+pub(crate) fn break_off(breach: Breach, kept: Kept) -> (Doing, Step)
+    ensures doing { doing_of result.0 ≡ Breaks' breach (kept_of kept) }
+    ensures alone { IsDoingAlone result.0 }
+    ensures step { result.1 ≡ Step.Broken breach }
+{
+    (broken(breach, kept), Step::Broken(breach))
+}
+
+// There was no ticket for its call: it keeps the bio that its driver had, if it had one, and what came back.
+pub(crate) fn spent(bio: Option<BioElement>, back: Unmade) -> (Doing, Step)
+    ensures doing { doing_of result.0 ≡ Breaks' Breach.Spent (bio_kept (bio_of bio) ++ unmade_kept back) }
+    ensures alone { IsDoingAlone result.0 }
+    ensures step { result.1 ≡ Step.Broken Breach.Spent }
+{
+    break_off(Breach::Spent, Kept::unmade(bio, back))
+}
+
+impl Line {
+    /// A submission that is over.
+    pub fn rests() -> Line
+        ensures { result ≡ rests }
+    {
+        Line {
+            doing: Doing::Rests,
+            lists: TaskLists::new(),
+        }
+    }
+
+    /// The bio is submitted, and none waits.
+    pub fn begin(routes: &Routes, bio: BioElement) -> Line
+        requires within { IsWithin routes.now.stack (item_of bio).bio }
+        requires alone { IsAlone bio }
+        ensures { result ≡ settled (setup routes.now) (item_of bio ∷ []) }
+    {
+        let lists = TaskLists::new();
+        let doing = serve(routes, bio, &lists);
+        Line { doing, lists }
+    }
+
+    /// It is another one from now on.
+    pub(crate) fn becomes(&mut self, line: Line)
+        ensures { self.new ≡ line }
+    {
+        put(&mut self.doing, line.doing);
+        self.lists = line.lists;
+    }
+
+    /// The task of a submission that is over cannot go on, and keeps this.
+    pub(crate) fn breaks(&mut self, breach: Breach, kept: Kept)
+        requires { self.old.doing ≡ Rests }
+        ensures { self.new ≡ record self.old { doing = Breaks' breach (kept_of kept) } }
+    {
+        put(&mut self.doing, broken(breach, kept));
+    }
+
+    /// Whether it has something to ask for: it is not over, and has not broken off.
+    pub fn asks(&self) -> bool
+        ensures { result ≡ is_asking self.now.doing }
+    {
+        match self.doing {
+            Doing::Rests | Doing::Breaks { .. } => false,
+            Doing::Drives { .. } | Doing::Copies { .. } => true,
+        }
+    }
+
+    /// Why it cannot go on, if it can't.
+    pub fn breach(&self) -> Option<Breach>
+        ensures { result ≡ doing_breach self.now.doing }
+    {
+        match self.doing {
+            Doing::Breaks { breach, .. } => Some(breach),
+            Doing::Rests | Doing::Drives { .. } | Doing::Copies { .. } => None,
+        }
+    }
+
+    /// The next step of a submission that has something to ask for, as this task: it asks one object once, and goes on with the reply
+    /// (`submit_bio_noacct`, `block/blk-core.c`, as far as the next place where it takes, links or submits).
+    pub fn step<O: Objects>(&mut self, objects: &mut O, routes: &Routes, task: TaskId) -> Step
+        requires holds { O.holds objects.old }
+        requires routing { (O.stage objects.old).routing ≡ routes.now }
+        requires line { IsLineOf (O.stage objects.old) self.old }
+        requires asks { is_asking self.old.doing ≡ true }
+        ensures step { Answers O.serves (Owes (O.stage objects.old)) (setup routes.now) task self.old.doing self.old.lists objects.old self.new objects.new result }
+        ensures kept { O.holds objects.new × (O.stage objects.new ≡ O.stage objects.old) }
+    {
+        routes.known();
+        lines_stay_home();
+        if let Some((dev, waits)) = self.attempts() {
+            return self.attempt(objects, task, dev, waits);
+        }
+        let doing = mem::replace(&mut self.doing, Doing::Rests);
+        let (doing, step) = turn(objects, routes, task, doing, &mut self.lists);
+        put(&mut self.doing, doing);
+        step
+    }
+}

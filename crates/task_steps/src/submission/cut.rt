@@ -1,0 +1,111 @@
+//! A driver that cuts: with a bio for the first piece it splits, and without one it hands the bios of its set to their rescuer.
+ghost use Rattle.std.specs.Prelude.{◌≡◌, ◌<◌, ◌≤◌, ◌+◌, ◌-◌, ◌^◌, true};
+ghost use Rattle.stack_base.specs.declared.ids.SetId.TheVariants.{Of};
+ghost use Rattle.bio_records.specs.Items.{item_of, IsAlone};
+ghost use Rattle.bio_split.specs.Split.{split_front, split_rest};
+ghost use Rattle.run_machine.specs.Scene.{Setup, tree_at};
+ghost use Rattle.run_machine.specs.Requests.{Punt, Link as LinkOf, Chain};
+ghost use Rattle.run_machine.specs.Lines.{Drives, ToCut, Punts, Links, punted};
+ghost use Rattle.task_steps.specs.Within.{IsWithin, ListsAreWithin, is_cut};
+ghost use Rattle.task_steps.specs.Routed.{setup, sent};
+ghost use Rattle.task_steps.specs.Stage.{Fits, Owes};
+ghost use Rattle.task_steps.specs.LineViews.{line_of, IsDoingAlone};
+ghost use Rattle.task_steps.specs.Answers.{Answers, Ready, Does};
+
+use crate::calls::{open_node, punt_all};
+use crate::objects::{Ask, Objects};
+use crate::routes::{Cut, Routes};
+use crate::step::Step;
+use crate::submission::dispatch::go_on;
+use crate::submission::{Doing, DriverAsk, Kept, Want, break_off, spent};
+use bio_lists::Submission;
+use bio_records::{BioElement, TaskLists};
+use bio_split::split;
+use run_machine::{Event, How, TaskId, What};
+use stack_base::SetId;
+
+/// Hands the bios of the device's set to its rescuer, and waits for one then.
+pub(crate) fn punt_to_cut<O: Objects>(
+    objects: &mut O,
+    task: TaskId,
+    bio: BioElement,
+    lists: &mut TaskLists,
+) -> (Doing, Step)
+    requires holds { O.holds objects.old }
+    requires alone { IsAlone bio }
+    requires fits { Fits (O.stage objects.old) (Punt (item_of bio).bio.dev (punted (item_of bio).bio.dev lists.old)) }
+    ensures step { (setup : Setup) → Answers O.serves (Owes (O.stage objects.old)) setup task (Drives (item_of bio) (ToCut Punts)) lists.old objects.old (line_of result.0 lists.new) objects.new result.1 }
+    ensures alone { IsDoingAlone result.0 }
+    ensures kept { O.holds objects.new × (O.stage objects.new ≡ O.stage objects.old) }
+{
+    match punt_all(objects, task, bio.body.bio.dev, lists) {
+        Ok(step) => {
+            let ask = DriverAsk::ToCut(Want::Takes { waits: true });
+            let doing = Doing::Drives { bio, ask };
+            (doing, step)
+        }
+        Err(back) => spent(Some(bio), back),
+    }
+}
+
+// Cuts the first piece off a bio, into an element at hand, as a bio at its member.
+fn cut_off(bio: &mut BioElement, cut: Cut, hand: BioElement, node: u32) -> BioElement
+    requires some { 1 ≤ cut.sectors }
+    requires fewer { cut.sectors < (item_of bio.old).bio.range.len }
+    requires small { (item_of bio.old).bio.range.start + (item_of bio.old).bio.range.len ≤ 2 ^ 64 - 1 }
+    requires alone { IsAlone bio.old × IsAlone hand }
+    ensures child { item_of result ≡ sent cut (split_front (item_of bio.old) (item_of hand) cut.sectors (Of (item_of bio.old).bio.dev) node) }
+    ensures rest { item_of bio.new ≡ split_rest (item_of bio.old) cut.sectors }
+    ensures alone { IsAlone bio.new × IsAlone result }
+{
+    let set = SetId::Of(bio.body.bio.dev);
+    let mut child = split(bio, cut.sectors, hand, set, node);
+    child.body.bio.dev = cut.dev;
+    child.body.bio.range.start = cut.start;
+    child
+}
+
+/// Splits the bio: the first piece gets a node of its own and goes to its member, and the rest comes again (`bio_split` and `bio_chain`,
+/// `block/bio.c`, and `submit_bio_noacct` of both).
+pub(crate) fn chain<O: Objects>(
+    objects: &mut O,
+    routes: &Routes,
+    task: TaskId,
+    mut bio: BioElement,
+    hand: BioElement,
+    lists: &mut TaskLists,
+) -> (Doing, Step)
+    requires ready { Ready O.holds O.stage objects.old (LinkOf (item_of bio).bio.writer (Chain (item_of bio).bio.node)) }
+    requires alone { IsAlone bio × IsAlone hand }
+    requires within { IsWithin routes.now.stack (item_of bio).bio }
+    requires cut { is_cut (tree_at (setup routes.now) (item_of bio).bio.dev) (item_of bio).bio.range ≡ true }
+    requires lists { ListsAreWithin routes.now.stack lists.old }
+    ensures does { Does O.holds O.stage O.serves routes.now task (Drives (item_of bio) (ToCut (Links (item_of hand)))) lists.old objects.old (line_of result.0 lists.new) objects.new result.1 }
+    ensures alone { IsDoingAlone result.0 }
+{
+    let whole = bio.body.bio;
+    let cut = routes.cut(&whole);
+    let writer = whole.writer;
+    let ask = Ask::Chain { parent: whole.node };
+    match open_node(objects, routes, writer, ask) {
+        Ok(node) => {
+            let how = How::Chain;
+            let what = What::Link { writer, how, node };
+            let child = cut_off(&mut bio, cut, hand, node);
+            lists.submit(child);
+            lists.submit(bio);
+            (
+                go_on(routes, lists, whole.dev),
+                Step::Stepped(Event { task, what }),
+            )
+        }
+        Err((breach, back)) => {
+            let kept = Kept {
+                bio: Some(bio),
+                hand: Some(hand),
+                back,
+            };
+            break_off(breach, kept)
+        }
+    }
+}

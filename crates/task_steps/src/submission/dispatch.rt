@@ -1,0 +1,180 @@
+//! Which driver a bio goes to, and which part of a submission its next step is (`__submit_bio_noacct`, `block/blk-core.c`).
+ghost use Rattle.std.specs.Prelude.{◌≡◌, ◌<◌, length, true, None};
+ghost use Rattle.bio_records.specs.declared.bio.Pad.{Pad};
+ghost use Rattle.bio_records.specs.Items.{Item, item_of, IsAlone};
+ghost use Rattle.run_machine.specs.Scene.{tree_at};
+ghost use Rattle.run_machine.specs.Lines.{Rests, Drives, Copies as Copies', ToCut, asks_at, driven, goes_on, line_request};
+ghost use Rattle.task_steps.specs.Within.{IsWithin, ListsAreWithin, is_cut, DoingFits, LineFits};
+ghost use Rattle.task_steps.specs.Routed.{setup};
+ghost use Rattle.task_steps.specs.Stage.{Fits, Owes};
+ghost use Rattle.task_steps.specs.LineViews.{want_of, attempt_of, ask_of, doing_of, line_of, IsWantAlone, IsAskOfAlone, IsDoingAlone, is_asking};
+ghost use Rattle.task_steps.specs.Answers.{Answers};
+
+use crate::objects::Objects;
+use crate::routes::Routes;
+use crate::routes::driver::Manner;
+use crate::step::Step;
+use crate::submission::cut::{chain, punt_to_cut};
+use crate::submission::mirror::{Copying, leg, master, punt_to_copy, take_record};
+use crate::submission::push::push;
+use crate::submission::{Doing, DriverAsk, Want};
+use bio_lists::Submission;
+use bio_records::{BioElement, TaskLists};
+use run_machine::TaskId;
+use stack_base::DevId;
+
+// What the driver of a device does with a bio that has come to it.
+fn asked(routes: &Routes, dev: DevId, lists: &TaskLists) -> DriverAsk
+    requires { dev.0 < length routes.now.stack.devices.items }
+    ensures asks { (item : Item Pad) → item.bio.dev ≡ dev → asks_at (setup routes.now) lists.now item (tree_at (setup routes.now) dev) ≡ Drives item (ask_of result) }
+    ensures alone { IsAskOfAlone result }
+{
+    match routes.manner(dev) {
+        Manner::Keeps => DriverAsk::ToPush,
+        Manner::Cuts => DriverAsk::ToCut(Want::Takes {
+            waits: routes.first_waits(dev, lists),
+        }),
+        Manner::Copies => DriverAsk::ToRecord,
+    }
+}
+
+// The bio goes to its driver, while these wait.
+pub(crate) fn serve(routes: &Routes, mut bio: BioElement, lists: &TaskLists) -> Doing
+    requires within { IsWithin routes.now.stack (item_of bio).bio }
+    requires alone { IsAlone bio }
+    ensures line { line_of result lists.now ≡ record { doing = driven (setup routes.now) lists.now (item_of bio); lists = lists.now } }
+    ensures alone { IsDoingAlone result }
+{
+    bio.body.bio = routes.land(bio.body.bio);
+    let ask = asked(routes, bio.body.bio.dev, lists);
+    Doing::Drives { bio, ask }
+}
+
+// The driver of a device has returned: the next bio goes to its driver, if one waits.
+pub(crate) fn go_on(routes: &Routes, lists: &mut TaskLists, served: DevId) -> Doing
+    requires { ListsAreWithin routes.now.stack lists.old }
+    ensures line { line_of result lists.new ≡ goes_on (setup routes.now) served lists.old }
+    ensures alone { IsDoingAlone result }
+{
+    match lists.next(served) {
+        None => Doing::Rests,
+        Some(bio) => serve(routes, bio, lists),
+    }
+}
+
+// What a driver that cuts does next.
+fn cut<O: Objects>(
+    objects: &mut O,
+    routes: &Routes,
+    task: TaskId,
+    bio: BioElement,
+    want: Want,
+    lists: &mut TaskLists,
+) -> (Doing, Step)
+    requires holds { O.holds objects.old }
+    requires alone { IsAlone bio × IsWantAlone want }
+    requires no_attempt { attempt_of (Drives (item_of bio) (ToCut (want_of want))) ≡ None }
+    requires fits { Fits (O.stage objects.old) (line_request (setup routes.now) (Drives (item_of bio) (ToCut (want_of want))) lists.old) }
+    requires within { IsWithin routes.now.stack (item_of bio).bio }
+    requires cut { is_cut (tree_at (setup routes.now) (item_of bio).bio.dev) (item_of bio).bio.range ≡ true }
+    requires lists { ListsAreWithin routes.now.stack lists.old }
+    ensures step { Answers O.serves (Owes (O.stage objects.old)) (setup routes.now) task (Drives (item_of bio) (ToCut (want_of want))) lists.old objects.old (line_of result.0 lists.new) objects.new result.1 }
+    ensures alone { IsDoingAlone result.0 }
+    ensures kept { O.holds objects.new × (O.stage objects.new ≡ O.stage objects.old) }
+{
+    match want {
+        Want::Takes { .. } => unreachable!(),
+        Want::Punts => punt_to_cut(objects, task, bio, lists),
+        Want::Links { hand } => chain(objects, routes, task, bio, hand, lists),
+    }
+}
+
+// What the driver of the bio's device does next.
+fn drive<O: Objects>(
+    objects: &mut O,
+    routes: &Routes,
+    task: TaskId,
+    bio: BioElement,
+    ask: DriverAsk,
+    lists: &mut TaskLists,
+) -> (Doing, Step)
+    requires holds { O.holds objects.old }
+    requires alone { IsAlone bio × IsAskOfAlone ask }
+    requires no_attempt { attempt_of (Drives (item_of bio) (ask_of ask)) ≡ None }
+    requires fits { Fits (O.stage objects.old) (line_request (setup routes.now) (Drives (item_of bio) (ask_of ask)) lists.old) }
+    requires within { DoingFits routes.now.stack (Drives (item_of bio) (ask_of ask)) }
+    requires lists { ListsAreWithin routes.now.stack lists.old }
+    ensures step { Answers O.serves (Owes (O.stage objects.old)) (setup routes.now) task (Drives (item_of bio) (ask_of ask)) lists.old objects.old (line_of result.0 lists.new) objects.new result.1 }
+    ensures alone { IsDoingAlone result.0 }
+    ensures kept { O.holds objects.new × (O.stage objects.new ≡ O.stage objects.old) }
+{
+    match ask {
+        DriverAsk::ToPush => push(objects, routes, task, bio, lists),
+        DriverAsk::ToCut(want) => cut(objects, routes, task, bio, want, lists),
+        DriverAsk::ToRecord => take_record(objects, task, bio, lists),
+        DriverAsk::ToMaster(slip) => master(objects, routes, task, bio, slip, lists),
+    }
+}
+
+// What a mirror does next for a leg.
+fn copy<O: Objects>(
+    objects: &mut O,
+    routes: &Routes,
+    task: TaskId,
+    run: Copying,
+    want: Want,
+    lists: &mut TaskLists,
+) -> (Doing, Step)
+    requires holds { O.holds objects.old }
+    requires alone { IsWantAlone want }
+    requires no_attempt { attempt_of (Copies' run.bio run.master run.leg (want_of want)) ≡ None }
+    requires fits { Fits (O.stage objects.old) (line_request (setup routes.now) (Copies' run.bio run.master run.leg (want_of want)) lists.old) }
+    requires within { DoingFits routes.now.stack (Copies' run.bio run.master run.leg (want_of want)) }
+    requires lists { ListsAreWithin routes.now.stack lists.old }
+    ensures step { Answers O.serves (Owes (O.stage objects.old)) (setup routes.now) task (Copies' run.bio run.master run.leg (want_of want)) lists.old objects.old (line_of result.0 lists.new) objects.new result.1 }
+    ensures alone { IsDoingAlone result.0 }
+    ensures kept { O.holds objects.new × (O.stage objects.new ≡ O.stage objects.old) }
+{
+    match want {
+        Want::Takes { .. } => unreachable!(),
+        Want::Punts => punt_to_copy(objects, task, run, lists),
+        Want::Links { hand } => leg(objects, routes, task, run, hand, lists),
+    }
+}
+
+// The next step of a submission that has something to ask for, which is no attempt at a bio for a piece or a leg.
+pub(crate) fn turn<O: Objects>(
+    objects: &mut O,
+    routes: &Routes,
+    task: TaskId,
+    doing: Doing,
+    lists: &mut TaskLists,
+) -> (Doing, Step)
+    requires holds { O.holds objects.old }
+    requires alone { IsDoingAlone doing }
+    requires asks { is_asking (doing_of doing) ≡ true }
+    requires no_attempt { attempt_of (doing_of doing) ≡ None }
+    requires fits { Fits (O.stage objects.old) (line_request (setup routes.now) (doing_of doing) lists.old) }
+    requires within { LineFits routes.now.stack (line_of doing lists.old) }
+    ensures step { Answers O.serves (Owes (O.stage objects.old)) (setup routes.now) task (doing_of doing) lists.old objects.old (line_of result.0 lists.new) objects.new result.1 }
+    ensures alone { IsDoingAlone result.0 }
+    ensures kept { O.holds objects.new × (O.stage objects.new ≡ O.stage objects.old) }
+{
+    match doing {
+        Doing::Drives { bio, ask } => drive(objects, routes, task, bio, ask, lists),
+        Doing::Copies {
+            bio,
+            master,
+            leg,
+            want,
+        } => copy(
+            objects,
+            routes,
+            task,
+            Copying { bio, master, leg },
+            want,
+            lists,
+        ),
+        Doing::Rests | Doing::Breaks { .. } => unreachable!(),
+    }
+}

@@ -1,0 +1,234 @@
+//! A mirror's driver: it takes a record and opens a master, and then takes a bio of its set for each leg and submits it as a copy
+//! (`raid1_write_request`, `drivers/md/raid1.c`).
+ghost use Rattle.std.specs.Prelude.{◌≡◌, ◌<◌, ◌+◌, ◌-◌, true};
+ghost use Rattle.bio_records.specs.Items.{item_of, IsAlone};
+ghost use Rattle.bio_books.specs.Views.{slip_item};
+ghost use Rattle.run_machine.specs.Scene.{Setup, tree_at};
+ghost use Rattle.run_machine.specs.Requests.{TakeSlip, Punt, Link as LinkOf, Master, Leg};
+ghost use Rattle.run_machine.specs.Lines.{Drives, ToRecord, ToMaster, Punts, Links, punted, legs_of, Copies, leg_at, copies};
+ghost use Rattle.task_steps.specs.Within.{IsWithin, ListsAreWithin};
+ghost use Rattle.task_steps.specs.Routed.{setup};
+ghost use Rattle.task_steps.specs.Stage.{Fits, Owes};
+ghost use Rattle.task_steps.specs.LineViews.{line_of, IsDoingAlone};
+ghost use Rattle.task_steps.specs.Answers.{Answers, Ready, Does};
+
+use crate::calls::{had, missed, open_node, punt_all};
+use crate::objects::{Ask, Objects};
+use crate::routes::Routes;
+use crate::step::Step;
+use crate::submission::dispatch::go_on;
+use crate::submission::{Doing, DriverAsk, Kept, Want, break_off, spent};
+use bio_lists::Submission;
+use bio_records::{Bio, BioElement, SlipElement, TaskLists};
+use bioset_pools::fill_bio;
+use mempool_core::Taken;
+use run_machine::{Event, Got, How, TaskId, What};
+use stack_base::PoolId;
+
+/// Takes a record for a bio that a mirror copies (`alloc_r1bio`, `drivers/md/raid1.c`).
+pub(crate) fn take_record<O: Objects>(
+    objects: &mut O,
+    task: TaskId,
+    bio: BioElement,
+    lists: &mut TaskLists,
+) -> (Doing, Step)
+    requires holds { O.holds objects.old }
+    requires alone { IsAlone bio }
+    requires fits { Fits (O.stage objects.old) (TakeSlip (item_of bio).bio.dev) }
+    ensures step { (setup : Setup) → Answers O.serves (Owes (O.stage objects.old)) setup task (Drives (item_of bio) ToRecord) lists.old objects.old (line_of result.0 lists.new) objects.new result.1 }
+    ensures alone { IsDoingAlone result.0 }
+    ensures kept { O.holds objects.new × (O.stage objects.new ≡ O.stage objects.old) }
+{
+    let dev = bio.body.bio.dev;
+    let pool = PoolId::Records(dev);
+    match objects.take_slip(dev) {
+        Ok(Taken::Ordinary(slip)) => {
+            let ask = DriverAsk::ToMaster(slip);
+            let doing = Doing::Drives { bio, ask };
+            (doing, had(task, true, pool, Got::Ordinary))
+        }
+        Ok(Taken::Spare(slip)) => {
+            let ask = DriverAsk::ToMaster(slip);
+            let doing = Doing::Drives { bio, ask };
+            (doing, had(task, true, pool, Got::Spare))
+        }
+        Ok(Taken::Miss { used }) => {
+            let ask = DriverAsk::ToRecord;
+            let doing = Doing::Drives { bio, ask };
+            (doing, missed(task, true, used, pool))
+        }
+        Err(back) => spent(Some(bio), back),
+    }
+}
+
+/// Opens the master of a bio that a mirror copies: it keeps the bio and the record until the last leg has ended
+/// (`raid1_write_request`, `drivers/md/raid1.c`).
+pub(crate) fn master<O: Objects>(
+    objects: &mut O,
+    routes: &Routes,
+    task: TaskId,
+    bio: BioElement,
+    slip: SlipElement,
+    lists: &mut TaskLists,
+) -> (Doing, Step)
+    requires ready { Ready O.holds O.stage objects.old (LinkOf (item_of bio).bio.writer (Master (item_of bio).bio.node (item_of bio) (slip_item slip) (legs_of (tree_at (setup routes.now) (item_of bio).bio.dev)))) }
+    requires alone { IsAlone bio }
+    requires within { IsWithin routes.now.stack (item_of bio).bio }
+    requires lists { ListsAreWithin routes.now.stack lists.old }
+    ensures does { Does O.holds O.stage O.serves routes.now task (Drives (item_of bio) (ToMaster (slip_item slip))) lists.old objects.old (line_of result.0 lists.new) objects.new result.1 }
+    ensures alone { IsDoingAlone result.0 }
+{
+    let whole = bio.body.bio;
+    let legs = routes.legs(whole.dev);
+    let writer = whole.writer;
+    let ask = Ask::Master {
+        parent: whole.node,
+        part: bio,
+        slip,
+        legs,
+    };
+    match open_node(objects, routes, writer, ask) {
+        Ok(node) => {
+            let how = How::Master;
+            let what = What::Link { writer, how, node };
+            let run = Copying {
+                bio: whole,
+                master: node,
+                leg: 0,
+            };
+            (
+                copy_on(routes, run, legs, lists),
+                Step::Stepped(Event { task, what }),
+            )
+        }
+        Err((breach, back)) => {
+            let kept = Kept {
+                bio: None,
+                hand: None,
+                back,
+            };
+            break_off(breach, kept)
+        }
+    }
+}
+
+/// How far a mirror is with a bio that it copies.
+#[derive(Clone, Copy)]
+pub(crate) struct Copying {
+    /// The bio, which waits with its parent.
+    pub(crate) bio: Bio,
+    /// The place of the master.
+    pub(crate) master: u32,
+    /// The leg that is made next.
+    pub(crate) leg: u32,
+}
+
+/// The next leg is made, or the driver of the mirror returns behind the last of so many.
+pub(crate) fn copy_on(routes: &Routes, run: Copying, legs: u32, lists: &mut TaskLists) -> Doing
+    requires bio { IsWithin routes.now.stack run.bio }
+    requires legs { legs ≡ legs_of (tree_at (setup routes.now) run.bio.dev) }
+    requires lists { ListsAreWithin routes.now.stack lists.old }
+    ensures line { line_of result lists.new ≡ copies (setup routes.now) lists.old run.bio run.master run.leg }
+    ensures alone { IsDoingAlone result }
+{
+    let Copying { bio, master, leg } = run;
+    if leg == legs {
+        return go_on(routes, lists, bio.dev);
+    }
+    let waits = routes.first_waits(bio.dev, lists);
+    let want = Want::Takes { waits };
+    Doing::Copies {
+        bio,
+        master,
+        leg,
+        want,
+    }
+}
+
+/// Hands the bios of the mirror's set to its rescuer, and waits for one then.
+pub(crate) fn punt_to_copy<O: Objects>(
+    objects: &mut O,
+    task: TaskId,
+    run: Copying,
+    lists: &mut TaskLists,
+) -> (Doing, Step)
+    requires holds { O.holds objects.old }
+    requires fits { Fits (O.stage objects.old) (Punt run.bio.dev (punted run.bio.dev lists.old)) }
+    ensures step { (setup : Setup) → Answers O.serves (Owes (O.stage objects.old)) setup task (Copies run.bio run.master run.leg Punts) lists.old objects.old (line_of result.0 lists.new) objects.new result.1 }
+    ensures alone { IsDoingAlone result.0 }
+    ensures kept { O.holds objects.new × (O.stage objects.new ≡ O.stage objects.old) }
+{
+    match punt_all(objects, task, run.bio.dev, lists) {
+        Ok(step) => {
+            let want = Want::Takes { waits: true };
+            let Copying { bio, master, leg } = run;
+            let doing = Doing::Copies {
+                bio,
+                master,
+                leg,
+                want,
+            };
+            (doing, step)
+        }
+        Err(back) => spent(None, back),
+    }
+}
+
+// A leg of a bio, in an element at hand (`bio_alloc_clone`, `drivers/md/raid1.c`).
+fn copy_of(routes: &Routes, bio: &Bio, leg: u32, node: u32, mut hand: BioElement) -> BioElement
+    requires alone { IsAlone hand }
+    requires within { IsWithin routes.now.stack bio.now }
+    requires leg { leg < legs_of (tree_at (setup routes.now) bio.now.dev) }
+    ensures copy { item_of result ≡ leg_at bio.now (item_of hand) leg node (tree_at (setup routes.now) bio.now.dev) }
+    ensures alone { IsAlone result }
+    ensures within { IsWithin routes.now.stack (item_of result).bio }
+{
+    let (copy, pad) = routes.leg(bio, leg, node);
+    fill_bio(&mut hand, copy, pad);
+    hand
+}
+
+/// Opens a node for a leg, and submits it.
+pub(crate) fn leg<O: Objects>(
+    objects: &mut O,
+    routes: &Routes,
+    task: TaskId,
+    run: Copying,
+    hand: BioElement,
+    lists: &mut TaskLists,
+) -> (Doing, Step)
+    requires ready { Ready O.holds O.stage objects.old (LinkOf run.bio.writer (Leg run.master)) }
+    requires alone { IsAlone hand }
+    requires within { IsWithin routes.now.stack run.bio }
+    requires leg { run.leg < legs_of (tree_at (setup routes.now) run.bio.dev) }
+    requires lists { ListsAreWithin routes.now.stack lists.old }
+    ensures does { Does O.holds O.stage O.serves routes.now task (Copies run.bio run.master run.leg (Links (item_of hand))) lists.old objects.old (line_of result.0 lists.new) objects.new result.1 }
+    ensures alone { IsDoingAlone result.0 }
+{
+    let Copying { bio, master, leg } = run;
+    let legs = routes.legs(bio.dev);
+    let writer = bio.writer;
+    match open_node(objects, routes, writer, Ask::Leg { master }) {
+        Ok(node) => {
+            let how = How::Leg;
+            let what = What::Link { writer, how, node };
+            lists.submit(copy_of(routes, &bio, leg, node, hand));
+            let run = Copying {
+                leg: leg + 1,
+                ..run
+            };
+            (
+                copy_on(routes, run, legs, lists),
+                Step::Stepped(Event { task, what }),
+            )
+        }
+        Err((breach, back)) => {
+            let kept = Kept {
+                bio: None,
+                hand: Some(hand),
+                back,
+            };
+            break_off(breach, kept)
+        }
+    }
+}

@@ -1,0 +1,46 @@
+//! A disk's driver: the bio goes to the disk.
+ghost use Rattle.std.specs.Prelude.{◌<◌, ◌-◌};
+ghost use Rattle.bio_records.specs.Items.{item_of, IsAlone};
+ghost use Rattle.run_machine.specs.Requests.{Push};
+ghost use Rattle.run_machine.specs.Lines.{Drives, ToPush};
+ghost use Rattle.task_steps.specs.Within.{ListsAreWithin};
+ghost use Rattle.task_steps.specs.LineViews.{line_of, IsDoingAlone};
+ghost use Rattle.task_steps.specs.Answers.{Ready, Does};
+
+use crate::objects::Objects;
+use crate::routes::Routes;
+use crate::step::Step;
+use crate::submission::dispatch::go_on;
+use crate::submission::{Doing, spent};
+use bio_records::{BioElement, TaskLists};
+use run_machine::{Event, TaskId, What};
+
+/// The bio goes to the disk that it is at, and the next one to its driver.
+pub(crate) fn push<O: Objects>(
+    objects: &mut O,
+    routes: &Routes,
+    task: TaskId,
+    bio: BioElement,
+    lists: &mut TaskLists,
+) -> (Doing, Step)
+    requires ready { Ready O.holds O.stage objects.old (Push (item_of bio)) }
+    requires alone { IsAlone bio }
+    requires within { ListsAreWithin routes.now.stack lists.old }
+    ensures does { Does O.holds O.stage O.serves routes.now task (Drives (item_of bio) ToPush) lists.old objects.old (line_of result.0 lists.new) objects.new result.1 }
+    ensures alone { IsDoingAlone result.0 }
+{
+    let at = bio.body.bio.dev;
+    let what = What::Push {
+        disk: at,
+        at: bio.body.bio.range.start,
+        len: bio.body.bio.range.len,
+        leg: bio.body.pad.leg,
+    };
+    match objects.push(bio) {
+        Ok(()) => (
+            go_on(routes, lists, at),
+            Step::Stepped(Event { task, what }),
+        ),
+        Err(back) => spent(None, back),
+    }
+}

@@ -1,0 +1,267 @@
+//! What a writer does for its next write: it takes a bio, and a vector where the write needs one, links the write, and submits the bio.
+ghost use Rattle.std.specs.Prelude.{◌≡◌, ◌∷◌, List, true, false, IsTrue, Some, None};
+ghost use Rattle.stack_base.specs.declared.ids.SetId.TheVariants.{Fs};
+ghost use Rattle.bio_records.specs.Items.{item_of, IsAlone};
+ghost use Rattle.bio_books.specs.Views.{vector_of, holding_of};
+ghost use Rattle.run_machine.specs.Kept.{holding_kept};
+ghost use Rattle.run_machine.specs.Scene.{Setup};
+ghost use Rattle.run_machine.specs.Requests.{TakeBio, TakeVec, Link as LinkOf, Write as WriteOf};
+ghost use Rattle.run_machine.specs.declared.event.TaskId.TheVariants as id;
+ghost use Rattle.run_machine.specs.declared.event.How.TheVariants as how;
+ghost use Rattle.run_machine.specs.declared.event.What.TheVariants as what;
+ghost use Rattle.run_machine.specs.Lines.{Line as LineState, Rests, Breaks};
+ghost use Rattle.run_machine.specs.Tasks.{Todo as TodoState, NoBio, HasBio, HasBoth, Writer as WriterTask, needs_vector, filled, filled_short, filled_vector, write_request};
+ghost use Rattle.task_steps.specs.Routed.{setup};
+ghost use Rattle.task_steps.specs.Stage.{Fits, Owes, has_book, is_vecs, IsHome};
+ghost use Rattle.task_steps.specs.Homes.{TodoFits, TakenIsHome};
+ghost use Rattle.task_steps.specs.Views.{vec_item};
+ghost use Rattle.task_steps.specs.WriterViews.{taken_of, is_taken, IsTakenAlone, tried, IsAttemptAtBioAlone, next_of, IsNextAlone, WriteAnswers, WriteOpened};
+
+use crate::calls::{had, missed};
+use crate::objects::{Ask, Objects};
+use crate::routes::Routes;
+use crate::step::Step;
+use crate::submission::{HandedBack, Kept, Line};
+use crate::todo::Todo;
+use crate::writer::first_bio::{filled, filled_short, filled_vector, needs_vector};
+use bio_books::{Back, Link};
+use bio_records::{BioElement, VecElement};
+use layout_model::Write;
+use mempool_core::Taken as Took;
+use run_machine::{Breach, Event, Got, How, TaskId, What};
+use stack_base::{PoolId, SetId};
+
+/// What a writer has taken for its next write.
+#[derive(Drop)]
+pub enum Taken {
+    NoBio,
+    HasBio(BioElement),
+    /// Also a vector, which has no segments yet.
+    HasBoth(BioElement, VecElement),
+}
+
+// What becomes of a write that is to begin.
+#[derive(Drop)]
+pub(crate) enum Next {
+    // Its bio is submitted.
+    Begins,
+    // It waits for more, or can't begin.
+    Waits(Taken),
+}
+
+// What came of an attempt at the bio of a write.
+#[derive(Drop)]
+pub(crate) enum Attempt {
+    // There is one.
+    Had(BioElement),
+    // There is none yet.
+    Missed,
+    // There was no ticket for the call, which was handed nothing.
+    Spent,
+}
+
+// Takes the bio of a write, and waits for it (`bio_alloc_bioset`, `block/bio.c`).
+pub(crate) fn take_bio<O: Objects>(objects: &mut O, number: u32) -> (Attempt, Step)
+    requires holds { O.holds objects.old }
+    ensures step { (setup : Setup) (todo : TodoState) (later : List TodoState) (line : LineState) → WriteAnswers O.serves (Owes (O.stage objects.old)) setup number (TakeBio Fs true) (todo ∷ later) NoBio line objects.old (tried result.0 number (todo ∷ later) line) objects.new result.1 }
+    ensures alone { IsAttemptAtBioAlone result.0 }
+    ensures kept { O.holds objects.new × (O.stage objects.new ≡ O.stage objects.old) }
+{
+    let task = TaskId::Writer(number);
+    let pool = PoolId::FsBios;
+    match objects.take_bio(SetId::Fs, true) {
+        Ok(Took::Ordinary(bio)) => (Attempt::Had(bio), had(task, true, pool, Got::Ordinary)),
+        Ok(Took::Spare(bio)) => (Attempt::Had(bio), had(task, true, pool, Got::Spare)),
+        Ok(Took::Miss { used }) => (Attempt::Missed, missed(task, true, used, pool)),
+        Err(nothing) => {
+            drop(nothing);
+            (Attempt::Spent, Step::Broken(Breach::Spent))
+        }
+    }
+}
+
+// Takes the vector of a write that has more segments than its bio keeps, and waits for it (`bvec_alloc`, `block/bio.c`).
+fn take_vector<O: Objects>(
+    objects: &mut O,
+    number: u32,
+    bio: BioElement,
+    line: &mut Line,
+) -> (Taken, Step)
+    requires holds { O.holds objects.old }
+    requires alone { IsAlone bio }
+    requires rests { line.old.doing ≡ Rests }
+    ensures step { (setup : Setup) (todo : TodoState) (later : List TodoState) → WriteAnswers O.serves (Owes (O.stage objects.old)) setup number TakeVec (todo ∷ later) (HasBio (item_of bio)) line.old objects.old (WriterTask number (todo ∷ later) (taken_of result.0) line.new) objects.new result.1 }
+    ensures alone { IsTakenAlone result.0 }
+    ensures kept { O.holds objects.new × (O.stage objects.new ≡ O.stage objects.old) }
+{
+    let task = TaskId::Writer(number);
+    let pool = PoolId::FsVecs;
+    match objects.take_vec() {
+        Ok(Took::Ordinary(vector)) => (
+            Taken::HasBoth(bio, vector),
+            had(task, true, pool, Got::Ordinary),
+        ),
+        Ok(Took::Spare(vector)) => (
+            Taken::HasBoth(bio, vector),
+            had(task, true, pool, Got::Spare),
+        ),
+        Ok(Took::Miss { used }) => (Taken::HasBio(bio), missed(task, true, used, pool)),
+        Err(nothing) => {
+            drop(nothing);
+            line.breaks(Breach::Spent, Kept::nothing());
+            (Taken::HasBio(bio), Step::Broken(Breach::Spent))
+        }
+    }
+}
+
+// A writer was refused the node of a write, and keeps what it handed over for it.
+fn unlinked(line: &mut Line, breach: Breach, back: Back) -> Step
+    requires rests { line.old.doing ≡ Rests }
+    ensures line { line.new ≡ record line.old { doing = Breaks breach (holding_kept (holding_of back)) } }
+    ensures step { result ≡ Step.Broken breach }
+{
+    let kept = Kept {
+        bio: None,
+        hand: None,
+        back: HandedBack::Unlinked(back),
+    };
+    line.breaks(breach, kept);
+    Step::Broken(breach)
+}
+
+// Opens the node of a write, and answers its place, or the step of a writer that can't go on.
+fn open_write<O: Objects>(
+    objects: &mut O,
+    routes: &Routes,
+    writer: u32,
+    write: u32,
+    vector: Option<VecElement>,
+    line: &mut Line,
+) -> Result<u32, Step>
+    requires holds { O.holds objects.old }
+    requires rests { line.old.doing ≡ Rests }
+    requires fits { Fits (O.stage objects.old) (LinkOf writer (WriteOf write (vector_of vector))) }
+    ensures opens { WriteOpened O.serves (Owes (O.stage objects.old)) (setup routes.now) writer (WriteOf write (vector_of vector)) line.old objects.old line.new objects.new result }
+    ensures kept { O.holds objects.new × (O.stage objects.new ≡ O.stage objects.old) }
+{
+    match objects.link(writer, Ask::Write { write, vector }) {
+        Ok(Link::Made(node)) => Ok(node),
+        Ok(Link::NoRoom(back)) => {
+            let places = routes.places(writer);
+            Err(unlinked(line, Breach::NoRoom { writer, places }, back))
+        }
+        Ok(Link::Stray(back)) => Err(unlinked(line, Breach::Stray { writer, node: 0 }, back)),
+        Err(back) => {
+            line.breaks(Breach::Spent, Kept::unmade(None, back));
+            Err(Step::Broken(Breach::Spent))
+        }
+    }
+}
+
+// The step of a write whose node was opened at this place.
+fn opened(number: u32, node: u32) -> Step
+    ensures { result ≡ Step.Stepped (record { task = id.Writer number; what = what.Link number how.Write node }) }
+{
+    let how = How::Write;
+    let writer = number;
+    Step::Stepped(Event {
+        task: TaskId::Writer(number),
+        what: What::Link { writer, how, node },
+    })
+}
+
+// Links a write whose bio keeps its segments itself, and submits the bio.
+fn link_short<O: Objects>(
+    objects: &mut O,
+    routes: &Routes,
+    number: u32,
+    todo: &Todo,
+    bio: BioElement,
+    line: &mut Line,
+) -> (Next, Step)
+    requires holds { O.holds objects.old }
+    requires routing { (O.stage objects.old).routing ≡ routes.now }
+    requires alone { IsAlone bio }
+    requires rests { line.old.doing ≡ Rests }
+    requires short { needs_vector todo.now.write ≡ false }
+    requires todo { TodoFits (O.stage objects.old) todo.now }
+    requires book { IsTrue (has_book (O.stage objects.old) number) }
+    ensures step { (later : List TodoState) → WriteAnswers O.serves (Owes (O.stage objects.old)) (setup routes.now) number (LinkOf number (WriteOf todo.now.number None)) (todo.now ∷ later) (HasBio (item_of bio)) line.old objects.old (next_of result.0 number todo.now later line.new) objects.new result.1 }
+    ensures alone { IsNextAlone result.0 }
+    ensures kept { O.holds objects.new × (O.stage objects.new ≡ O.stage objects.old) }
+{
+    match open_write(objects, routes, number, todo.number, None, line) {
+        Ok(node) => {
+            let bio = filled_short(number, todo, node, bio);
+            line.becomes(Line::begin(routes, bio));
+            (Next::Begins, opened(number, node))
+        }
+        Err(step) => (Next::Waits(Taken::HasBio(bio)), step),
+    }
+}
+
+// Links a write whose segments are in a vector, which its node keeps, and submits its bio.
+fn link_long<O: Objects>(
+    objects: &mut O,
+    routes: &Routes,
+    number: u32,
+    todo: &Todo,
+    bio: BioElement,
+    vector: VecElement,
+    line: &mut Line,
+) -> (Next, Step)
+    requires holds { O.holds objects.old }
+    requires routing { (O.stage objects.old).routing ≡ routes.now }
+    requires alone { IsAlone bio }
+    requires rests { line.old.doing ≡ Rests }
+    requires todo { TodoFits (O.stage objects.old) todo.now }
+    requires book { IsTrue (has_book (O.stage objects.old) number) }
+    requires home { IsHome (O.stage objects.old) is_vecs vector.share }
+    ensures step { (later : List TodoState) → WriteAnswers O.serves (Owes (O.stage objects.old)) (setup routes.now) number (LinkOf number (WriteOf todo.now.number (Some (filled_vector todo.now (vec_item vector))))) (todo.now ∷ later) (HasBoth (item_of bio) (vec_item vector)) line.old objects.old (next_of result.0 number todo.now later line.new) objects.new result.1 }
+    ensures alone { IsNextAlone result.0 }
+    ensures kept { O.holds objects.new × (O.stage objects.new ≡ O.stage objects.old) }
+{
+    let vector = Some(filled_vector(todo, vector));
+    match open_write(objects, routes, number, todo.number, vector, line) {
+        Ok(node) => {
+            let bio = filled(number, todo, node, bio);
+            line.becomes(Line::begin(routes, bio));
+            (Next::Begins, opened(number, node))
+        }
+        Err(step) => (Next::Waits(Taken::HasBio(bio)), step),
+    }
+}
+
+/// The next step of a writer that has taken the bio of the write that it is to begin.
+pub(crate) fn go_on<O: Objects>(
+    objects: &mut O,
+    routes: &Routes,
+    number: u32,
+    todo: &Todo,
+    taken: Taken,
+    line: &mut Line,
+) -> (Next, Step)
+    requires holds { O.holds objects.old }
+    requires routing { (O.stage objects.old).routing ≡ routes.now }
+    requires alone { IsTakenAlone taken }
+    requires some { is_taken (taken_of taken) ≡ true }
+    requires rests { line.old.doing ≡ Rests }
+    requires todo { TodoFits (O.stage objects.old) todo.now }
+    requires book { IsTrue (has_book (O.stage objects.old) number) }
+    requires home { TakenIsHome (O.stage objects.old) (taken_of taken) }
+    ensures step { (later : List TodoState) → WriteAnswers O.serves (Owes (O.stage objects.old)) (setup routes.now) number (write_request number (todo.now ∷ later) (taken_of taken)) (todo.now ∷ later) (taken_of taken) line.old objects.old (next_of result.0 number todo.now later line.new) objects.new result.1 }
+    ensures alone { IsNextAlone result.0 }
+    ensures kept { O.holds objects.new × (O.stage objects.new ≡ O.stage objects.old) }
+{
+    match taken {
+        Taken::HasBio(bio) => {
+            if !needs_vector(&todo.write) {
+                return link_short(objects, routes, number, todo, bio, line);
+            }
+            let (taken, step) = take_vector(objects, number, bio, line);
+            (Next::Waits(taken), step)
+        }
+        Taken::HasBoth(bio, vector) => link_long(objects, routes, number, todo, bio, vector, line),
+        Taken::NoBio => unreachable!(),
+    }
+}
