@@ -1,4 +1,7 @@
 //! What a run leaves.
+ghost use Rattle.std.specs.Prelude.{◌≡◌};
+
+use crate::plain::Plain;
 use mempool_core::Facts;
 use model_disks::Disk;
 use stack_base::{PoolId, Status};
@@ -14,4 +17,14 @@ pub struct Ended {
     pub pools: Vec<(PoolId, Facts)>,
     /// How many events the run had.
     pub steps: u64,
+}
+
+impl Plain {
+    /// What objects keep of a run that has ended: the statuses of its writes, and the disks. All else is dropped here, so that no crate above
+    /// has to prove again how each object is dropped.
+    pub fn leaves(self) -> (Vec<Status>, Vec<Disk>)
+        ensures { result ≡ (self.tally.statuses, self.disks) }
+    {
+        (self.tally.statuses, self.disks)
+    }
 }

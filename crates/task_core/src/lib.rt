@@ -8,7 +8,7 @@ mod plain;
 
 pub use ended::Ended;
 pub use opening::objects::open_objects;
-pub use opening::{Opened, open};
+pub use opening::{Opened, drop_tasks, open};
 pub use plain::Plain;
 pub use plain::calls::{dev_of, link_in, resize_home};
 pub use plain::index::{ObjectIndex, place};

@@ -144,6 +144,18 @@ impl Opened {
     {
         self.routes.clone()
     }
+
+    /// The objects, the tasks and the room for what a run leaves, each by itself.
+    pub fn parts(self) -> (Plain, Vec<Task>, Ended)
+        ensures { result ≡ (self.objects, self.tasks, self.room) }
+    {
+        (self.objects, self.tasks, self.room)
+    }
+}
+
+/// Drops the tasks of a run that is over.
+pub fn drop_tasks(tasks: Vec<Task>) {
+    drop(tasks);
 }
 
 /// The objects and the tasks of an accepted text, as its runs begin, and room for what a run leaves.
