@@ -1,12 +1,14 @@
 #!/usr/bin/env python3
-"""Proves and builds the program, crate by crate, side by side. `biostack` calls it; it takes no words.
+"""Proves and builds the program, crate by crate, side by side. `biostack prove` calls it; it takes no words.
 
 A run of rt keeps others out of its crate and of all crates below it. So each crate is built in a folder of its own,
 crates/biostack/out/work/NAME, over hard links to what is built already, and what rt leaves goes back to the crate's own
 out/. rt itself finds what has changed and what has not. The log of each crate is crates/biostack/out/logs/NAME.
 
-Every crate that can be built is started, as far as processors and memory go, those first that the longest chain of others waits
-for. The first of them gets a job for each processor; the others get half of that and a lower priority, so they take what it leaves idle.
+Every crate that can be built is started, as far as processors and memory go, those first that the longest chain of others
+waits for; those behind the first have a lower priority. The crates that are ready share the processors that are idle, so
+where one alone is ready it gets them all. But each job reads the libraries below anew, so a crate whose own code is small
+beside what is below it gets one.
 """
 import fcntl
 import os
@@ -88,6 +90,18 @@ def size_of(name):
     return sum(os.path.getsize(f"{at}/{it}") for at, _, files in walked for it in files)
 
 
+def small_ones(crates):
+    """Returns the crates whose own code is less than a tenth of what their check reads."""
+    small = set()
+    for name in crates:
+        below = [name]
+        for it in below:
+            below += [dep for dep in crates[it][1] if dep not in below]
+        if 10 * size_of(name) < sum(map(size_of, below)):
+            small.add(name)
+    return small
+
+
 def link(source, to):
     try:
         os.link(source, to)
@@ -99,7 +113,7 @@ def move(source, to):
     """Moves what rt has left from one out/ to another one."""
     os.makedirs(to, exist_ok=True)
     for it in os.listdir(source) if os.path.isdir(source) else []:
-        if f"{source}/{it}" not in (WORK, LOGS) and it != "sources":
+        if f"{source}/{it}" not in (WORK, LOGS):
             if os.path.isdir(f"{to}/{it}"):
                 shutil.rmtree(f"{to}/{it}")
             os.replace(f"{source}/{it}", f"{to}/{it}")
@@ -168,19 +182,25 @@ def build_all(crates):
         above = [behind[other] for other in crates if it in crates[other][1]]
         behind[it] += max(above, default=0)
     left, done, now = sorted(crates, key=lambda it: -behind[it]), [], {}
-    count, room = processors(), memory() * 9 // 10
+    count, room, small = processors(), memory() * 9 // 10, small_ones(crates)
 
     def start_all(pool):
-        for name in [it for it in left if {*crates[it][1]} <= {*done}]:
-            is_first = all(behind[name] > behind[it] for it, _, _ in now.values())
+        ready = [it for it in left if {*crates[it][1]} <= {*done}]
+        for at, name in enumerate(ready):
+            is_first = all(behind[name] > behind[it] for it, *_ in now.values())
+            idle = count - sum(jobs for _, jobs, *_ in now.values())
+            if now and idle < 1:
+                break
+            others = ready[at + 1 :]
+            few = sum(it in small for it in others)
+            jobs = 1 if name in small else (idle - few) // (1 + len(others) - few)
             # a run takes up to 2 GiB, and a further job up to 1
-            free = room - sum(needs for _, needs, _ in now.values())
-            jobs = count if is_first else max(count // 2, 1)
+            free = room - sum(needs for _, _, needs, _ in now.values())
             jobs = max(1, min(jobs, free // GIB - 1))
             needs = (1 + jobs) * GIB
-            if not now or len(now) < count and needs <= free:
+            if not now or needs <= free:
                 left.remove(name)
-                now[pool.submit(build, name, crates, jobs, is_first)] = name, needs, time.monotonic()
+                now[pool.submit(build, name, crates, jobs, is_first)] = name, jobs, needs, time.monotonic()
 
     with ThreadPoolExecutor(count) as pool:
         try:
@@ -188,7 +208,7 @@ def build_all(crates):
                 start_all(pool)
                 ended = wait(now, timeout=60, return_when=FIRST_COMPLETED).done
                 for it in ended:
-                    name, _, since = now.pop(it)
+                    name, *_, since = now.pop(it)
                     status, took = it.result()
                     if status:
                         return name, status
@@ -198,7 +218,7 @@ def build_all(crates):
                     if since > 0.05:
                         say(f"{len(done)} of {len(crates)} crates, {minutes()}: {name} took {since:.1f} min, with {took:.1f} processor minutes")
                 if not ended:
-                    say(f"{len(done)} of {len(crates)} crates, {minutes()}; now {', '.join(it for it, _, _ in now.values())}")
+                    say(f"{len(done)} of {len(crates)} crates, {minutes()}; now {', '.join(it for it, *_ in now.values())}")
         finally:
             stop()
     return None
@@ -230,9 +250,6 @@ def main():
     if not os.access(f"{OUT}/{LAST}", os.X_OK):
         say(f"rt left no program: what it said is in crates/{LAST}/out/logs/{LAST}")
         return 1
-    with open(f"{OUT}/sources", "w", encoding="utf-8") as it:
-        found = [f"crates/{name}/{part}" for name in crates for part in PARTS]
-        it.writelines(f"{folder}\n" for folder in found if os.path.isdir(f"{TOP}/{folder}"))
     # What is edited during the build is newer.
     os.utime(f"{OUT}/{LAST}", (BEGAN, BEGAN))
     used = resource.getrusage(resource.RUSAGE_CHILDREN)
