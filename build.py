@@ -2,13 +2,13 @@
 """Proves and builds the program, crate by crate, side by side. `biostack prove` calls it; it takes no words.
 
 A run of rt keeps others out of its crate and of all crates below it. So each crate is built in a folder of its own,
-crates/biostack/out/work/NAME, over hard links to what is built already, and what rt leaves goes back to the crate's own
-out/. rt itself finds what has changed and what has not. The log of each crate is crates/biostack/out/logs/NAME.
+crates/biostack/out/work/NAME, over hard links to what is built already, and what rt leaves goes back to the crate's
+own out/. rt itself finds what has changed and what has not. The log of each crate is crates/biostack/out/logs/NAME.
 
-Every crate that can be built is started, as far as processors and memory go, those first that the longest chain of others
-waits for; those behind the first have a lower priority. The crates that are ready share the processors that are idle, so
-where one alone is ready it gets them all. But each job reads the libraries below anew, so a crate whose own code is small
-beside what is below it gets one.
+Every crate that can be built is started, as far as processors and memory go, those first that the longest chain of
+others waits for; those behind the first have a lower priority. The crates that are ready share the processors that
+are idle: the first gets two jobs at least, and one that is ready alone gets them all. But each job reads the
+libraries below anew, so a crate whose own code is small beside what is below it gets one.
 """
 import fcntl
 import os
@@ -91,13 +91,13 @@ def size_of(name):
 
 
 def small_ones(crates):
-    """Returns the crates whose own code is less than a tenth of what their check reads."""
+    """Returns the crates whose own code is less than a twentieth of what their check reads."""
     small = set()
     for name in crates:
         below = [name]
         for it in below:
             below += [dep for dep in crates[it][1] if dep not in below]
-        if 10 * size_of(name) < sum(map(size_of, below)):
+        if 20 * size_of(name) < sum(map(size_of, below)):
             small.add(name)
     return small
 
@@ -193,10 +193,10 @@ def build_all(crates):
                 break
             others = ready[at + 1 :]
             few = sum(it in small for it in others)
-            jobs = 1 if name in small else (idle - few) // (1 + len(others) - few)
+            jobs = 1 if name in small else max((idle - few) // (1 + len(others) - few), 1 + is_first)
             # a run takes up to 2 GiB, and a further job up to 1
             free = room - sum(needs for _, _, needs, _ in now.values())
-            jobs = max(1, min(jobs, free // GIB - 1))
+            jobs = max(1, min(jobs, count, free // GIB - 1))
             needs = (1 + jobs) * GIB
             if not now or needs <= free:
                 left.remove(name)
