@@ -1,4 +1,4 @@
--- Each node has a level: what it holds is of pools of that level or above, a bio that names it is of the level's pool, and what is under it
+-- Each node has a level: what it holds is of pools of that level, a bio that names it is of the level's pool, and what is under it
 -- has a lower one.
 use Rattle.std.proofs.Common.{◌≡◌, ℕ, Option, None, Some, refl, ap, arith}
 use Rattle.bio_books.specs.Books.{parent_of}

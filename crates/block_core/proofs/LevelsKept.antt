@@ -47,7 +47,7 @@ told_on : (level : ℕ → ℕ → ℕ) (writer key : ℕ) (status : Status) (pa
     → carried_weight (off_levels level) 0 carried ≡ 0 → held_off (level writer key) (told node status part).held ≤ held_off (level writer key) node.held
 told_on level writer key status part (Brings bio ending) node t off =
     let own : level bio.bio.writer bio.bio.node ≡ level writer key = ap (level bio.bio.writer) (sym t.1) ∙ ap (λ v. level v key) (sym t.0) in
-    let none : level writer key - bio.share.no ≡ 0 = omega (arith, own, off) in
+    let none : apart (level writer key) (min bio.share.no 64) ≡ 0 = omega (arith, own, off) in
     let is : held_off (level writer key) (told node status part).held ≡ held_off (level writer key) (record node.held { bio = Some bio }) =
     ap (λ p. held_off (level writer key) (record node.held { bio = later_part node.held.bio p })) t.3 in
     omega (arith, is, none)
@@ -60,7 +60,7 @@ told_on level writer key status part (Fails breach kept) node t off = absurd t
 
 -- the vector of a write is on the level of its top
 vector_on : (level : ℕ → ℕ → ℕ) (writer key : ℕ) (todo : Todo) (item : Item Pad) (vector : Option VectorItem) → HandHome (taken_of item vector) → level writer key ≡ 64
-    → weigh_option (λ (v : VectorItem). level writer key - v.share.no) (vector_of todo vector) ≡ 0
+    → weigh_option (λ (v : VectorItem). apart (level writer key) (min v.share.no 64)) (vector_of todo vector) ≡ 0
 vector_on level writer key todo item None home is = refl
 vector_on level writer key todo item (Some vector) home is = let own = home.1 in omega (arith, own, is)
 
@@ -154,10 +154,10 @@ module _ (scene : Scene) (s : State) (g : Ground scene.setup) (i : Kept scene s)
       mark_other level bio.bio.writer key (2 * dev + 1) bio.bio.writer bio.bio.node (inr (other_place bio.bio.writer key bio.bio.node node c.5 c.4)) in
       let up = d.1.0.1 in
       let above : 2 * dev + 2 ≤ level bio.bio.writer bio.bio.node = omega (arith, part, off, up, known, few) in
-      let below : level bio.bio.writer bio.bio.node ≤ bio.share.no = omega (arith, part, off) in
+      let at_own : apart (level bio.bio.writer bio.bio.node) (min bio.share.no 64) ≡ 0 = omega (arith, part, off) in
       let child : (new bio.bio.writer key + 1) - new bio.bio.writer bio.bio.node ≡ 0 = omega (arith, here, parent, above) in
-      let holds : new bio.bio.writer key - slip.share.no ≡ 0 = omega (arith, here, own) in
-      let keeps : new bio.bio.writer bio.bio.node - bio.share.no ≡ 0 = omega (arith, parent, below) in
+      let holds : apart (new bio.bio.writer key) (min slip.share.no 64) ≡ 0 = omega (arith, here, own, known, few) in
+      let keeps : apart (new bio.bio.writer bio.bio.node) (min bio.share.no 64) ≡ 0 = omega (arith, parent, at_own) in
       let copy : apart (new bio.bio.writer key) (2 * dev + 1) ≡ 0 = omega (arith, here) in
       one_more (moves.Mastered place x bio lists slip key node) c bio.bio.writer key (2 * dev + 1) c.5
       (omega (

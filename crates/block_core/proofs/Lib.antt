@@ -92,3 +92,8 @@ pub mod Valued
 pub mod Statuses
 pub mod ValueCases
 pub mod Ending
+pub mod Splitting
+pub mod Lasting
+pub mod Misplaced
+pub mod Roles
+pub mod EachBio

@@ -85,7 +85,7 @@ begun_named setup w k writer todo later item None key =
 begun_named setup w k writer todo later item (Some vector) key =
     omega (arith, first_weight (named w k) (blind_named w k) 32 setup (filled_of writer todo item (Some vector) key ∷ []), begun_names (names w k) w k refl writer todo item (Some vector) key)
 
-abbrev brought : Carried → ℕ
+abbrev pub brought : Carried → ℕ
 brought Empty = 0
 brought (Brings bio ending) = 1
 brought (Carries writer closed) = 0
@@ -99,13 +99,13 @@ tells_named w k writer key status part Empty t = absurd t
 tells_named w k writer key status part (Fails breach kept) t = absurd t
 
 -- a part that has come is away no more
-own_some : (r : Role) (bio : Item Pad) → own_part r (Some bio) ≡ 0
+pub own_some : (r : Role) (bio : Item Pad) → own_part r (Some bio) ≡ 0
 own_some role.Top bio = refl
 own_some (role.Chain parent) bio = refl
 own_some (role.Master parent) bio = refl
 own_some (role.Leg parent) bio = refl
 
-told_own : (writer key : ℕ) (status : Status) (part : Option (Item Pad)) (carried : Carried) (node : Node) → Tells carried writer key status part
+pub told_own : (writer key : ℕ) (status : Status) (part : Option (Item Pad)) (carried : Carried) (node : Node) → Tells carried writer key status part
     → ((bio : Item Pad) (ending : Status) → carried ≡ Brings bio ending → (node.held.bio ≡ None) × (own_part node.role None ≡ 1))
     → own_part node.role (told node status part).held.bio + brought carried ≡ own_part node.role node.held.bio
 told_own writer key status part (Brings bio ending) node t none =

@@ -212,13 +212,13 @@ module _ (scene : Scene) (s : State) (level : ℕ → ℕ → ℕ) (known : Know
               let a : level v parent ≡ level w k = ap (level v) (one-eq parent k b.1) ∙ ap (λ x. level x k) (one-eq v w b.0) in
               lower setup s (level v j) (level w k) (omega (arith, a, none)) (again v j child is (omega (arith, a, none, lt)))
 
-  -- what a node holds is of a pool of its level or above
+  -- what a node holds is of pools of its level
   held_above : (q l : ℕ) (held : Holding) → 1 ≤ holding_elements q held → held_off l held ≡ 0 → l ≤ q
   held_above q l held some none = by_three held.bio held.vector held.slip some none
     where
       by_three : (bio : Option (Item Pad)) (vector : Option VectorItem) (slip : Option SlipItem)
           → 1 ≤ weigh_option (λ (bio : Item Pad). one bio.share.no q) bio + weigh_option (λ (vector : VectorItem). one vector.share.no q) vector + weigh_option (λ (slip : SlipItem). one slip.share.no q) slip
-          → weigh_option (λ (bio : Item Pad). l - bio.share.no) bio + weigh_option (λ (vector : VectorItem). l - vector.share.no) vector + weigh_option (λ (slip : SlipItem). l - slip.share.no) slip ≡ 0
+          → weigh_option (λ (bio : Item Pad). apart l (min bio.share.no 64)) bio + weigh_option (λ (vector : VectorItem). apart l (min vector.share.no 64)) vector + weigh_option (λ (slip : SlipItem). apart l (min slip.share.no 64)) slip ≡ 0
           → l ≤ q
       by_three bio vector slip some none = elim (zero_or (weigh_option (λ (bio : Item Pad). one bio.share.no q) bio)) [
         | inr h ↦ by_bio bio h (omega (arith, none))
@@ -228,15 +228,15 @@ module _ (scene : Scene) (s : State) (level : ℕ → ℕ → ℕ) (known : Know
         ]
       ]
         where
-          by_bio : (bio : Option (Item Pad)) → 1 ≤ weigh_option (λ (bio : Item Pad). one bio.share.no q) bio → weigh_option (λ (bio : Item Pad). l - bio.share.no) bio ≡ 0 → l ≤ q
+          by_bio : (bio : Option (Item Pad)) → 1 ≤ weigh_option (λ (bio : Item Pad). one bio.share.no q) bio → weigh_option (λ (bio : Item Pad). apart l (min bio.share.no 64)) bio ≡ 0 → l ≤ q
           by_bio None h z = absurd (omega (arith, h))
           by_bio (Some bio) h z = omega (arith, one-eq bio.share.no q h, z)
 
-          by_vector : (vector : Option VectorItem) → 1 ≤ weigh_option (λ (vector : VectorItem). one vector.share.no q) vector → weigh_option (λ (vector : VectorItem). l - vector.share.no) vector ≡ 0 → l ≤ q
+          by_vector : (vector : Option VectorItem) → 1 ≤ weigh_option (λ (vector : VectorItem). one vector.share.no q) vector → weigh_option (λ (vector : VectorItem). apart l (min vector.share.no 64)) vector ≡ 0 → l ≤ q
           by_vector None h z = absurd (omega (arith, h))
           by_vector (Some vector) h z = omega (arith, one-eq vector.share.no q h, z)
 
-          by_slip : (slip : Option SlipItem) → 1 ≤ weigh_option (λ (slip : SlipItem). one slip.share.no q) slip → weigh_option (λ (slip : SlipItem). l - slip.share.no) slip ≡ 0 → l ≤ q
+          by_slip : (slip : Option SlipItem) → 1 ≤ weigh_option (λ (slip : SlipItem). one slip.share.no q) slip → weigh_option (λ (slip : SlipItem). apart l (min slip.share.no 64)) slip ≡ 0 → l ≤ q
           by_slip None h z = absurd (omega (arith, h))
           by_slip (Some slip) h z = omega (arith, one-eq slip.share.no q h, z)
 

@@ -40,7 +40,7 @@ bare = record {
   closed = λ task writer closed. 0;
 }
 
-zeros : (items : List (Item Pad)) → sum_by (λ (item : Item Pad). 0) items ≡ 0
+pub zeros : (items : List (Item Pad)) → sum_by (λ (item : Item Pad). 0) items ≡ 0
 zeros [] = refl
 zeros (item ∷ items) = omega (arith, sum_by-cons (λ (item : Item Pad). 0) item items, zeros items)
 

@@ -70,7 +70,7 @@ module _ (scene : Scene) (f : Fair scene) (g : Ground scene.setup) where
       let moved = step_is_move scene s f i.kept place event new steps in
       subst (λ (x : State). (w k : ℕ) → IsAlive (node_at (x.objects.book w) k)) (sym moved.is) (alive scene s g i.placed i.alive moved.move moved.can)
 
-  step_whole : (s : State) (place : ℕ) (event : Event) (new : State) → Whole scene s → Steps scene s place event new → Whole scene new
+  pub step_whole : (s : State) (place : ℕ) (event : Event) (new : State) → Whole scene s → Steps scene s place event new → Whole scene new
   step_whole s place event new i steps =
       let p = step_placed s place event new i steps in
       record { kept = step_keeps scene s f i.kept place event new steps (λ other. placed_in scene.setup (new.task other) (p.tasks other)); placed = p; alive = step_alive s place event new i steps }

@@ -20,12 +20,12 @@ abbrev pub parent_off : (ℕ → ℕ → ℕ) → ℕ → ℕ → Option ℕ →
 parent_off level writer place None = 0
 parent_off level writer place (Some parent) = (level writer place + 1) - level writer parent
 
--- what it holds is of pools of its level or above
+-- what it holds is of pools of its level
 abbrev pub held_off : ℕ → Holding → ℕ
 held_off level held =
-    weigh_option (λ (bio : Item Pad). level - bio.share.no) held.bio
-    + weigh_option (λ (vector : VectorItem). level - vector.share.no) held.vector
-    + weigh_option (λ (slip : SlipItem). level - slip.share.no) held.slip
+    weigh_option (λ (bio : Item Pad). apart level (min bio.share.no 64)) held.bio
+    + weigh_option (λ (vector : VectorItem). apart level (min vector.share.no 64)) held.vector
+    + weigh_option (λ (slip : SlipItem). apart level (min slip.share.no 64)) held.slip
 
 -- how far all is off these levels; a master is on the level of its mirror's records
 abbrev pub off_levels : (ℕ → ℕ → ℕ) → Weight

@@ -1,4 +1,6 @@
 pub mod Weights
+pub mod Roles
+pub mod EachBio
 pub mod Levels
 pub mod Places
 pub mod Rounds

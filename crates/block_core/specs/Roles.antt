@@ -1,0 +1,108 @@
+-- What nodes wait for, by their roles.
+use Rattle.std.specs.Prelude.{◌≡◌, ◌+◌, ◌*◌, ◌<◌, ◌≤◌, if◌then◌else◌, ℕ, Bool, true, false, Option, None, Some}
+use Rattle.stack_base.specs.declared.ids.DevId.{DevId}
+use Rattle.bio_records.specs.declared.bio.Pad.{Pad}
+use Rattle.bio_records.specs.Items.{Item}
+use Rattle.bio_books.specs.declared.node.Role.{Role}
+use Rattle.bio_books.specs.declared.node.Role.TheVariants as role
+use Rattle.bio_books.specs.Books.{Node, node_at, parent_of}
+use Rattle.bio_books.specs.Drops.{Closed}
+use Rattle.run_machine.specs.Scene.{Setup, Scene}
+use Rattle.run_machine.specs.Tasks.{Completer, Carries}
+use Rattle.run_machine.specs.Runs.{State}
+use Rattle.block_core.specs.Weights.{Weight, total, one, names, under, legs_left}
+
+abbrev pub is_master : Role → Bool
+is_master role.Top = false
+is_master (role.Chain parent) = false
+is_master (role.Master parent) = true
+is_master (role.Leg parent) = false
+
+abbrev pub is_leg : Role → Bool
+is_leg role.Top = false
+is_leg (role.Chain parent) = false
+is_leg (role.Master parent) = false
+is_leg (role.Leg parent) = true
+
+-- the bios that name the node at place k of writer w's book, in lists, with drivers, in rescue lists, in disks and in completers' hands
+abbrev pub named : ℕ → ℕ → Weight
+named w k = record {
+  todo = λ writer todos taken. 0;
+  bio = λ spot. names w k;
+  copy = λ bio master leg. 0;
+  hand = λ bio. 0;
+  vector = λ vector. 0;
+  slip = λ slip. 0;
+  node = λ writer place node. 0;
+  closed = λ task writer closed. 0;
+}
+
+-- The masters that stand for its own part, open ones and closed ones that are carried. What is left of a closed node does not tell whether it was
+-- a master; the place of the task that carries it does.
+abbrev pub masters : (ℕ → Bool) → ℕ → ℕ → Weight
+masters was_master w k = record {
+  todo = λ writer todos taken. 0;
+  bio = λ spot bio. 0;
+  copy = λ bio master leg. 0;
+  hand = λ bio. 0;
+  vector = λ vector. 0;
+  slip = λ slip. 0;
+  node = λ writer place node. if is_master node.role then under w k writer (parent_of node.role) else 0;
+  closed = λ task writer closed. if was_master task then under w k writer closed.parent else 0;
+}
+
+-- its children, or its legs: the other nodes right under it, open ones and closed ones that are carried
+abbrev pub children : (ℕ → Bool) → ℕ → ℕ → Weight
+children was_master w k = record {
+  todo = λ writer todos taken. 0;
+  bio = λ spot bio. 0;
+  copy = λ bio master leg. 0;
+  hand = λ bio. 0;
+  vector = λ vector. 0;
+  slip = λ slip. 0;
+  node = λ writer place node. if is_master node.role then 0 else under w k writer (parent_of node.role);
+  closed = λ task writer closed. if was_master task then 0 else under w k writer closed.parent;
+}
+
+-- the legs that are still to be made of it
+abbrev pub legs_to_make : Setup → ℕ → ℕ → Weight
+legs_to_make setup w k = record {
+  todo = λ writer todos taken. 0;
+  bio = λ spot bio. 0;
+  copy = λ bio master leg. one bio.writer w * one master k * legs_left setup bio leg;
+  hand = λ bio. 0;
+  vector = λ vector. 0;
+  slip = λ slip. 0;
+  node = λ writer place node. 0;
+  closed = λ task writer closed. 0;
+}
+
+-- where a node's own part is, by what the node keeps: it is away, in the one bio that names the node, or it is in the node, while a master stands
+-- for it, or has been dropped
+abbrev pub IsInOnePlace : Option (Item Pad) → (bios masters : ℕ) → Type 0
+IsInOnePlace None bios masters = (bios ≡ 1) × (masters ≡ 0)
+IsInOnePlace (Some part) bios masters = (bios ≡ 0) × (masters ≤ 1)
+
+-- how many ends a node waits for: a master for its legs, and any other node for its children, and for its own part while it is not dropped
+abbrev pub WaitsForParts : (is_master : Bool) → Option (Item Pad) → (count bios masters children legs : ℕ) → Type 0
+WaitsForParts true part count bios masters children legs = (bios ≡ 0) × (masters ≡ 0) × (count ≡ children + legs)
+WaitsForParts false part count bios masters children legs = IsInOnePlace part bios masters × (legs ≡ 0) × (count ≡ children + bios + masters)
+
+-- the node that another one is under is open, and is a master where the other is a leg, and none where it is not
+abbrev pub IsUnderOpen : State → (writer parent : ℕ) → (leg : Bool) → Type 0
+IsUnderOpen state writer parent leg = (above : Node) × (node_at (state.objects.book writer) parent ≡ Some above) × (is_master above.role ≡ leg)
+
+pub record HasRoles (scene : Scene) (state : State) : Type 0 where
+  -- by the places of tasks, whether what is left of a node that a task carries was a master
+  pub was_master : ℕ → Bool
+  -- each open node waits for just its parts, and its own part is in one place or was dropped
+  pub waits : (writer place : ℕ) (node : Node) → node_at (state.objects.book writer) place ≡ Some node
+      → WaitsForParts (is_master node.role) node.held.bio node.count (total scene (named writer place) state) (total scene (masters was_master writer place) state)
+      (total scene (children was_master writer place) state) (total scene (legs_to_make scene.setup writer place) state)
+  -- children and masters are under nodes that are no masters, and legs under masters
+  pub parents : (writer place : ℕ) (node : Node) (parent : ℕ) → node_at (state.objects.book writer) place ≡ Some node → parent_of node.role ≡ Some parent
+      → IsUnderOpen state writer parent (is_leg node.role)
+  -- the parent of a closed node that is carried is open, and no master where the closed one was a master
+  pub carried : (place : ℕ) (disk : DevId) (writer : ℕ) (closed : Closed) (parent : ℕ) → place < scene.tasks → state.task place ≡ Completer disk (Carries writer closed)
+      → closed.parent ≡ Some parent
+      → (above : Node) × (node_at (state.objects.book writer) parent ≡ Some above) × (was_master place ≡ true → is_master above.role ≡ false)
