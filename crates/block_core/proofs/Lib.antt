@@ -97,3 +97,4 @@ pub mod Lasting
 pub mod Misplaced
 pub mod Roles
 pub mod EachBio
+pub mod LegLists

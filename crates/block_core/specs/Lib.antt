@@ -1,5 +1,6 @@
 pub mod Weights
 pub mod Roles
+pub mod Orders
 pub mod EachBio
 pub mod Levels
 pub mod Places
