@@ -98,3 +98,5 @@ pub mod Misplaced
 pub mod Roles
 pub mod EachBio
 pub mod LegLists
+pub mod ListOrder
+pub mod KeptEnds

@@ -1,5 +1,7 @@
 pub mod Weights
 pub mod Roles
+pub mod KeptEnds
+pub mod Hands
 pub mod Orders
 pub mod EachBio
 pub mod Levels

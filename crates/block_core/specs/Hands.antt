@@ -1,0 +1,46 @@
+-- What tasks have in hand: elements of just the pools that they asked.
+use Rattle.std.specs.Prelude.{◌≡◌, ◌<◌, ℕ}
+use Rattle.stack_base.specs.declared.ids.DevId.{DevId}
+use Rattle.stack_base.specs.declared.ids.PoolId.TheVariants.{FsBios, FsVecs, Bios, Records}
+use Rattle.stack_base.specs.PoolId.{pool_number}
+use Rattle.stack_base.specs.Tree.{Tree, Leaf, Split, Mirrored}
+use Rattle.run_machine.specs.Scene.{Setup, Scene, tree_at}
+use Rattle.run_machine.specs.Lines.{Want, Takes, Punts, Links, Ask, ToPush, ToCut, ToRecord, ToMaster, Doing, Rests, Drives, Copies, Breaks, Line, rests, legs_of}
+use Rattle.run_machine.specs.Tasks.{Taken, NoBio, HasBio, HasBoth, TaskState, Writer, Rescuer, Completer, Keeper}
+use Rattle.run_machine.specs.Runs.{State}
+
+-- a writer that has something in hand for its next write has it of the writers' pools, and submits nothing
+abbrev pub TakenIsRight : Taken → Line → Type 0
+TakenIsRight NoBio line = Unit {0}
+TakenIsRight (HasBio bio) line = (bio.share.no ≡ pool_number FsBios) × (line ≡ rests)
+TakenIsRight (HasBoth bio vector) line = (bio.share.no ≡ pool_number FsBios) × (vector.share.no ≡ pool_number FsVecs) × (line ≡ rests)
+
+-- a driver with a bio in hand has it of its device's set
+abbrev pub WantIsRight : DevId → Want → Type 0
+WantIsRight dev (Takes waits) = Unit {0}
+WantIsRight dev Punts = Unit {0}
+WantIsRight dev (Links hand) = hand.share.no ≡ pool_number (Bios dev)
+
+-- a disk's driver pushes, one that cuts asks for a bio, and a mirror's for a record, which is of its device's
+abbrev pub AskIsRight : Tree → DevId → Ask → Type 0
+AskIsRight (Leaf number sectors) dev ToPush = Unit {0}
+AskIsRight (Split number kind sizes members) dev (ToCut want) = WantIsRight dev want
+AskIsRight (Mirrored number sizes members) dev ToRecord = Unit {0}
+AskIsRight (Mirrored number sizes members) dev (ToMaster slip) = slip.share.no ≡ pool_number (Records dev)
+AskIsRight t dev ask = ⊥
+
+-- and while a mirror copies a bio, legs are left to be made
+abbrev pub DoingIsRight : Setup → Doing → Type 0
+DoingIsRight setup Rests = Unit {0}
+DoingIsRight setup (Drives bio ask) = AskIsRight (tree_at setup bio.bio.dev) bio.bio.dev ask
+DoingIsRight setup (Copies bio master leg want) = (leg < legs_of (tree_at setup bio.dev)) × WantIsRight bio.dev want
+DoingIsRight setup (Breaks breach kept) = ⊥
+
+abbrev pub HandIsRight : Setup → TaskState → Type 0
+HandIsRight setup (Writer number todo taken line) = TakenIsRight taken line × DoingIsRight setup line.doing
+HandIsRight setup (Rescuer dev line) = DoingIsRight setup line.doing
+HandIsRight setup (Completer disk carried) = Unit {0}
+HandIsRight setup (Keeper keeping) = Unit {0}
+
+abbrev pub HandsAreRight : Scene → State → Type 0
+HandsAreRight scene state = (place : ℕ) → HandIsRight scene.setup (state.task place)
