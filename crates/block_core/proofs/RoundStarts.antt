@@ -226,10 +226,9 @@ module _ (s : Scenario) (good : IsScenario s) (ledger : ℕ → LedgerId) where
       (keepers_fit s.rounds keeper_place keeper_place (duties s) refl (duties_fit s 0 (round_count s - 1)))))
 
   -- what all tasks have to begin
-  unfinished_at_start : (r : ℕ) → total (scene s ledger) (unfinished_of (is_of_round s.rounds r)) (start s) ≡ of_round s.rounds r
+  pub unfinished_at_start : (f : ℕ → ℕ) → total (scene s ledger) (unfinished_of f) (start s) ≡ all_worth f (todos s)
   unfolding worth_by
-  unfinished_at_start r =
-      let f = is_of_round s.rounds r in
+  unfinished_at_start f =
       let w = unfinished_of f in
       let o = start_opened s good ledger in
       let g = λ (x : TaskState). task_weight w 0 x in
@@ -246,7 +245,6 @@ module _ (s : Scenario) (good : IsScenario s) (ledger : ℕ → LedgerId) where
       let b = same_sum (λ writer. g (Writer writer (todos_of s writer) NoBio rests)) (worth_by f (todos s)) (writers s) (λ writer. omega arith) in
       let c = passed_sum (worth_by f (todos s)) (λ writer. list_any (is_by writer) (todos s)) (range_with_len 0 8) (λ writer none. ap (all_worth f) (unpassed (is_by writer) (todos s) none)) in
       let d = by_writers f 8 (todos s) (todos_all s (λ (write : Write). write.task < 8) good.writers) in
-      let e = todos_worth s.rounds r 0 (length s.writes) s.rounds s.writes (sym good.rounds) good.rounds own_rounds in
       omega (
         arith,
         tasks,
@@ -260,7 +258,6 @@ module _ (s : Scenario) (good : IsScenario s) (ledger : ℕ → LedgerId) where
         b,
         c,
         d,
-        e,
         range_sum (worth_by f (todos s)),
         keeper_none (duties s),
         sum_by-append g ws (rs ++ (cs ++ keepers (duties s))),
@@ -268,9 +265,14 @@ module _ (s : Scenario) (good : IsScenario s) (ledger : ℕ → LedgerId) where
         sum_by-append g cs (keepers (duties s)),
       )
     where
-      keeper_none : (ds : List Duty) → sum_by (λ (x : TaskState). task_weight (unfinished_of (is_of_round s.rounds r)) 0 x) (keepers ds) ≡ 0
+      keeper_none : (ds : List Duty) → sum_by (λ (x : TaskState). task_weight (unfinished_of f) 0 x) (keepers ds) ≡ 0
       keeper_none [] = refl
       keeper_none (duty ∷ ds) = refl
+
+  -- and how many of it are of a round
+  round_at_start : (r : ℕ) → total (scene s ledger) (unfinished_of (is_of_round s.rounds r)) (start s) ≡ of_round s.rounds r
+  round_at_start r =
+      unfinished_at_start (is_of_round s.rounds r) ∙ todos_worth s.rounds r 0 (length s.writes) s.rounds s.writes (sym good.rounds) good.rounds own_rounds
 
   below_or : (a b : ℕ) → (a < b) ⊎ (b ≤ a)
   below_or a b = grind arith
@@ -287,7 +289,7 @@ module _ (s : Scenario) (good : IsScenario s) (ledger : ℕ → LedgerId) where
 
   pub start_tallied : Tallied s.rounds keeper_place (scene s ledger) (start s)
   start_tallied = record {
-    left = λ r. left_at_start r ∙ sym (unfinished_at_start r);
+    left = λ r. left_at_start r ∙ sym (round_at_start r);
     later = λ r lt. total_zero (scene s ledger) (start s) (begun_of (is_of_round s.rounds r)) (λ n todos. refl) (start_opened s good ledger);
     tally = record {
       past = λ r lt. absurd (omega (arith, lt));
