@@ -1,0 +1,82 @@
+-- Objects by their names.
+use Rattle.std.proofs.Common.{◌≡◌, true, false, refl, sym, ap}
+use Rattle.std.proofs.lemmas.Bool.{eq-eqb, eqb-true, eqb-false, true≢false}
+use mathlib.Core.Path.{fun_ext}
+use Rattle.run_machine.specs.Laws.{Object, OfPool, OfRescuer, OfDisk, OfBook, OfTally, OfNone}
+use Rattle.run_machine.specs.Objects.{Objects}
+use Rattle.run_machine.proofs.Frames.{upd_same, upd_other, upd_own}
+use Rattle.run_merge.specs.ObjectsByName.{is_same, StateAt, get, put}
+
+pub same_self : (name : Object) → is_same name name ≡ true
+same_self (OfPool a) = eq-eqb a a refl
+same_self (OfRescuer a) = eq-eqb a a refl
+same_self (OfDisk a) = eq-eqb a a refl
+same_self (OfBook a) = eq-eqb a a refl
+same_self OfTally = refl
+same_self OfNone = refl
+
+pub same_is : (a b : Object) → is_same a b ≡ true → a ≡ b
+same_is (OfPool a) (OfPool b) h = ap OfPool (eqb-true a b h)
+same_is (OfPool a) b h = absurd (true≢false (sym h))
+same_is (OfRescuer a) (OfRescuer b) h = ap OfRescuer (eqb-true a b h)
+same_is (OfRescuer a) b h = absurd (true≢false (sym h))
+same_is (OfDisk a) (OfDisk b) h = ap OfDisk (eqb-true a b h)
+same_is (OfDisk a) b h = absurd (true≢false (sym h))
+same_is (OfBook a) (OfBook b) h = ap OfBook (eqb-true a b h)
+same_is (OfBook a) b h = absurd (true≢false (sym h))
+same_is OfTally OfTally h = refl
+same_is OfTally b h = absurd (true≢false (sym h))
+same_is OfNone OfNone h = refl
+same_is OfNone b h = absurd (true≢false (sym h))
+
+-- one of them changed
+pub get_put : (o : Objects) (name : Object) (v : StateAt name) → get (put o name v) name ≡ v
+get_put o (OfPool number) v = upd_same o.pool number v
+get_put o (OfRescuer dev) v = upd_same o.rescue dev v
+get_put o (OfDisk dev) v = upd_same o.disk dev v
+get_put o (OfBook writer) v = upd_same o.book writer v
+get_put o OfTally v = refl
+get_put o OfNone v = refl
+
+pub put_get : (o : Objects) (name : Object) → put o name (get o name) ≡ o
+put_get o (OfPool number) = ap (λ f. record o { pool = f }) (upd_own o.pool number)
+put_get o (OfRescuer dev) = ap (λ f. record o { rescue = f }) (upd_own o.rescue dev)
+put_get o (OfDisk dev) = ap (λ f. record o { disk = f }) (upd_own o.disk dev)
+put_get o (OfBook writer) = ap (λ f. record o { book = f }) (upd_own o.book writer)
+put_get o OfTally = refl
+put_get o OfNone = refl
+
+pub get_other : (o : Objects) (name other : Object) (v : StateAt name) → is_same other name ≡ false → get (put o name v) other ≡ get o other
+get_other o (OfPool a) (OfPool b) v h = upd_other o.pool a v b (eqb-false b a h)
+get_other o (OfPool a) other v h = refl
+get_other o (OfRescuer a) (OfRescuer b) v h = upd_other o.rescue a v b (eqb-false b a h)
+get_other o (OfRescuer a) other v h = refl
+get_other o (OfDisk a) (OfDisk b) v h = upd_other o.disk a v b (eqb-false b a h)
+get_other o (OfDisk a) other v h = refl
+get_other o (OfBook a) (OfBook b) v h = upd_other o.book a v b (eqb-false b a h)
+get_other o (OfBook a) other v h = refl
+get_other o OfTally OfTally v h = absurd (true≢false h)
+get_other o OfTally other v h = refl
+get_other o OfNone other v h = refl
+
+-- all objects are known by each of them
+pub all_same : (a b : Objects) → ((name : Object) → get a name ≡ get b name) → a ≡ b
+all_same a b same = λ i. record {
+  pool = fun_ext (λ number. same (OfPool number)) i;
+  rescue = fun_ext (λ dev. same (OfRescuer dev)) i;
+  disk = fun_ext (λ dev. same (OfDisk dev)) i;
+  book = fun_ext (λ writer. same (OfBook writer)) i;
+  tally = same OfTally i;
+}
+
+-- and made of one for each name
+abbrev pub made_of : ((name : Object) → StateAt name) → Objects
+made_of f = record { pool = λ n. f (OfPool n); rescue = λ n. f (OfRescuer n); disk = λ n. f (OfDisk n); book = λ n. f (OfBook n); tally = f OfTally }
+
+pub get_made : (f : (name : Object) → StateAt name) (name : Object) → get (made_of f) name ≡ f name
+get_made f (OfPool n) = refl
+get_made f (OfRescuer n) = refl
+get_made f (OfDisk n) = refl
+get_made f (OfBook n) = refl
+get_made f OfTally = refl
+get_made f OfNone = refl

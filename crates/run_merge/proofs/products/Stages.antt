@@ -1,0 +1,144 @@
+-- Each write of a scenario is in stage once at the start, and no other: it is to be begun.
+use Rattle.std.proofs.Common.{◌≡◌, ◌≢◌, ◌+◌, ◌*◌, ◌<◌, ◌≤◌, ◌⊎◌, ℕ, zero, suc, List, [], ◌∷◌, length, map, Option, None, Some, inl, inr, refl, ◌∙◌, ap, arith}
+use Rattle.std.specs.Prelude.{zip}
+use Rattle.std.specs.List.{range_with_len}
+use Rattle.elem_ledger.specs.Ledger.{LedgerId}
+use Rattle.bio_books.specs.declared.node.Role.{Role}
+use Rattle.bio_books.specs.declared.node.Role.TheVariants as role
+use Rattle.layout_model.specs.declared.write.Write.{Write}
+use Rattle.run_machine.specs.Scene.{Scene}
+use Rattle.run_machine.specs.Tasks.{Todo}
+use Rattle.run_machine.specs.Opened.{Scenario, scene, start}
+use Rattle.run_machine.specs.Runs.{State}
+use Rattle.block_core.specs.Rounds.{tops, tops_left, all_worth, unfinished_of}
+use Rattle.block_core.specs.Sound.{IsScenario}
+use Rattle.block_core.specs.Weights.{total, one}
+use Rattle.block_core.proofs.Calm.{zero_or}
+use Rattle.block_core.proofs.DoneOnce.{to_begin, top_role, top_parent, stage}
+use Rattle.block_core.proofs.Kept.{Kept}
+use Rattle.block_core.proofs.Parts.{under_in_all}
+use Rattle.block_core.proofs.RoundStarts.{numbered, unfinished_at_start}
+use Rattle.block_core.proofs.Sums.{one-same, one-other, same_or_not}
+
+-- what is in stage is unfinished: two words for one weight
+begin_is : (w : ℕ) (ts : List Todo) → to_begin w ts ≡ all_worth (λ n. one n w) ts
+begin_is w [] = refl
+begin_is w (todo ∷ ts) = ap (λ n. one todo.number w + n) (begin_is w ts)
+
+role_is : (r : Role) → top_role r ≡ tops r
+role_is role.Top = refl
+role_is (role.Chain parent) = refl
+role_is (role.Master parent) = refl
+role_is (role.Leg parent) = refl
+
+parent_is : (p : Option ℕ) → top_parent p ≡ tops_left p
+parent_is None = refl
+parent_is (Some parent) = refl
+
+stage_is : (w : ℕ) → stage w ≡ unfinished_of (λ n. one n w)
+stage_is w = λ k. record {
+  todo = λ writer todos taken. begin_is w todos k;
+  bio = λ spot bio. 0;
+  copy = λ bio master leg. 0;
+  hand = λ bio. 0;
+  vector = λ vector. 0;
+  slip = λ slip. 0;
+  node = λ writer place node. role_is node.role k * one node.write w;
+  closed = λ task writer closed. parent_is closed.parent k * one closed.write w;
+}
+
+-- at the start
+none_numbered : (w a n : ℕ) (rs : List ℕ) (ws : List Write) → a + n ≤ w → all_worth (λ k. one k w) (map numbered (zip (range_with_len a n) (zip rs ws))) ≡ 0
+none_numbered w a zero rs ws le = refl
+none_numbered w a (suc n) [] ws le = refl
+none_numbered w a (suc n) (r ∷ rs) [] le = refl
+none_numbered w a (suc n) (r ∷ rs) (x ∷ ws) le =
+    omega (arith, one-other a w (λ e. omega (arith, e, le)), none_numbered w (a + 1) n rs ws (omega (arith, le)))
+
+some_numbered : (w a n : ℕ) (rs : List ℕ) (ws : List Write) → a ≤ w → w < a + n → n ≤ length rs → n ≤ length ws
+    → 1 ≤ all_worth (λ k. one k w) (map numbered (zip (range_with_len a n) (zip rs ws)))
+some_numbered w a zero rs ws ge lt few fewer = absurd (omega (arith, ge, lt))
+some_numbered w a (suc n) [] ws ge lt few fewer = absurd (omega (arith, few))
+some_numbered w a (suc n) (r ∷ rs) [] ge lt few fewer = absurd (omega (arith, fewer))
+some_numbered w a (suc n) (r ∷ rs) (x ∷ ws) ge lt few fewer =
+    by_two (same_or_not a w) (λ ne. some_numbered w (a + 1) n rs ws (omega (arith, ne, ge)) (omega (arith, lt)) (omega (arith, few)) (omega (arith, fewer)))
+  where
+    rest : ℕ
+    rest = all_worth (λ k. one k w) (map numbered (zip (range_with_len (a + 1) n) (zip rs ws)))
+
+    by_two : (a ≡ w) ⊎ (a ≢ w) → (a ≢ w → 1 ≤ rest) → 1 ≤ one a w + rest
+    by_two (inl e) more = let here : one a w ≡ 1 = ap (λ k. one k w) e ∙ one-same w in omega (arith, here)
+    by_two (inr ne) more = omega (arith, more ne)
+
+module _ (s : Scenario) (good : IsScenario s) (ledger : ℕ → LedgerId) where
+  pub some_at_start : (w : ℕ) → w < length s.writes → 1 ≤ total (scene s ledger) (stage w) (start s)
+  some_at_start w lt =
+      let is = ap (λ u. total (scene s ledger) u (start s)) (stage_is w) in
+      let same = good.rounds in
+      let some = some_numbered w 0 (length s.writes) s.rounds s.writes (omega arith) (omega (arith, lt)) (omega (arith, same)) (omega arith) in
+      omega (arith, is, unfinished_at_start s good ledger (λ n. one n w), some)
+
+  pub none_at_start : (w : ℕ) → length s.writes ≤ w → total (scene s ledger) (stage w) (start s) ≡ 0
+  none_at_start w le =
+      ap (λ u. total (scene s ledger) u (start s)) (stage_is w) ∙ unfinished_at_start s good ledger (λ n. one n w)
+      ∙ none_numbered w 0 (length s.writes) s.rounds s.writes (omega (arith, le))
+
+-- A write in stage is worth no more than all unfinished ones, where it is worth one or more;
+scaled : (a b c : ℕ) → b ≤ c → a * b ≤ a * c
+scaled zero b c le = omega arith
+scaled (suc a) b c le = omega (arith, le, scaled a b c le)
+
+todos_within : (g h : ℕ → ℕ) → ((n : ℕ) → g n ≤ h n) → (ts : List Todo) → all_worth g ts ≤ all_worth h ts
+todos_within g h le [] = omega arith
+todos_within g h le (todo ∷ ts) = omega (arith, le todo.number, todos_within g h le ts)
+
+pub stage_within : (scene : Scene) (s : State) (i : Kept scene s) (f : ℕ → ℕ) (w : ℕ) → ((n : ℕ) → one n w ≤ f n) → total scene (stage w) s ≤ total scene (unfinished_of f) s
+stage_within scene s i f w le =
+    let is = ap (λ u. total scene u s) (stage_is w) in
+    omega (
+      arith,
+      is,
+      under_in_all scene s i (unfinished_of (λ n. one n w)) (unfinished_of f) (record {
+        todo = λ writer ts taken part. todos_within (λ n. one n w) f le ts;
+        bio = λ spot item part. omega arith;
+        copy = λ bio master leg lt part. omega arith;
+        hand = λ item. omega arith;
+        vector = λ vector. omega arith;
+        slip = λ slip. omega arith;
+        node = λ writer place node at part. scaled (tops node.role) (one node.write w) (f node.write) (le node.write);
+        closed = λ task writer closed part. scaled (tops_left closed.parent) (one closed.write w) (f closed.write) (le closed.write);
+      }),
+    )
+
+-- and where no write that is worth something is in stage, all unfinished ones are worth nothing, no more than one that is none of them.
+none_to_begin : (f : ℕ → ℕ) (ts : List Todo) → ((n : ℕ) → 1 ≤ f n → to_begin n ts ≡ 0) → all_worth f ts ≡ 0
+none_to_begin f [] none = refl
+none_to_begin f (todo ∷ ts) none = by_two (zero_or (f todo.number)) (none_to_begin f ts (λ n some. let z = none n some in omega (arith, z)))
+  where
+    by_two : (f todo.number ≡ 0) ⊎ (1 ≤ f todo.number) → all_worth f ts ≡ 0 → f todo.number + all_worth f ts ≡ 0
+    by_two (inl z) rest = omega (arith, z, rest)
+    by_two (inr some) rest = let z = none todo.number some in absurd (omega (arith, z, one-same todo.number))
+
+none_on_top : (worth top : ℕ) → (worth ≡ 0) ⊎ (1 ≤ worth) → (1 ≤ worth → top ≡ 0) → top * worth ≡ 0
+none_on_top worth top (inl z) none = let a = ap (λ n. top * n) z in omega (arith, a)
+none_on_top worth top (inr some) none = let a = ap (λ n. n * worth) (none some) in omega (arith, a)
+
+pub worth_nothing : (scene : Scene) (s : State) (i : Kept scene s) (f : ℕ → ℕ) (w : ℕ) → ((n : ℕ) → 1 ≤ f n → total scene (stage n) s ≡ 0)
+    → total scene (unfinished_of f) s ≤ total scene (stage w) s
+worth_nothing scene s i f w none = under_in_all scene s i (unfinished_of f) (stage w) (record {
+  todo = λ writer ts taken part.
+      let z = none_to_begin f ts (λ n some. let a = part (stage n) in let b = none n some in omega (arith, a, b)) in omega (arith, z);
+  bio = λ spot item part. omega arith;
+  copy = λ bio master leg lt part. omega arith;
+  hand = λ item. omega arith;
+  vector = λ vector. omega arith;
+  slip = λ slip. omega arith;
+  node = λ writer place node at part.
+      let z = none_on_top (f node.write) (tops node.role) (zero_or (f node.write)) (λ some.
+      let a = part (stage node.write) in let b = none node.write some in
+      let c = role_is node.role in let d = ap (λ n. top_role node.role * n) (one-same node.write) in omega (arith, a, b, c, d)) in omega (arith, z);
+  closed = λ task writer closed part.
+      let z = none_on_top (f closed.write) (tops_left closed.parent) (zero_or (f closed.write)) (λ some.
+      let a = part (stage closed.write) in let b = none closed.write some in
+      let c = parent_is closed.parent in let d = ap (λ n. top_parent closed.parent * n) (one-same closed.write) in omega (arith, a, b, c, d)) in omega (arith, z);
+})

@@ -1,0 +1,4 @@
+pub mod Entries
+pub mod ObjectsByName
+pub mod Machines
+pub mod Products

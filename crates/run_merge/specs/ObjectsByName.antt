@@ -1,0 +1,46 @@
+-- All objects, by the names that requests have for them.
+use Rattle.std.specs.Prelude.{◌==◌, Bool, true, false, List}
+use Rattle.mempool_core.specs.Move.{PoolState}
+use Rattle.bio_records.specs.declared.bio.Pad.{Pad}
+use Rattle.bio_records.specs.Items.{Item}
+use Rattle.model_disks.specs.Disks.{DiskState}
+use Rattle.bio_books.specs.Books.{BookState}
+use Rattle.run_machine.specs.Laws.{Object, OfPool, OfRescuer, OfDisk, OfBook, OfTally, OfNone}
+use Rattle.run_machine.specs.Maps.{upd}
+use Rattle.run_machine.specs.Objects.{TallyState, Objects}
+
+abbrev pub is_same : Object → Object → Bool
+is_same (OfPool a) (OfPool b) = a == b
+is_same (OfRescuer a) (OfRescuer b) = a == b
+is_same (OfDisk a) (OfDisk b) = a == b
+is_same (OfBook a) (OfBook b) = a == b
+is_same OfTally OfTally = true
+is_same OfNone OfNone = true
+is_same a b = false
+
+-- what an object of this name is
+abbrev pub StateAt : Object → Type 0
+StateAt (OfPool number) = PoolState
+StateAt (OfRescuer dev) = List (Item Pad)
+StateAt (OfDisk dev) = DiskState
+StateAt (OfBook writer) = BookState
+StateAt OfTally = TallyState
+StateAt OfNone = Unit {0}
+
+-- the one of this name
+abbrev pub get : Objects → (name : Object) → StateAt name
+get objects (OfPool number) = objects.pool number
+get objects (OfRescuer dev) = objects.rescue dev
+get objects (OfDisk dev) = objects.disk dev
+get objects (OfBook writer) = objects.book writer
+get objects OfTally = objects.tally
+get objects OfNone = tt
+
+-- all of them, with another one of this name
+abbrev pub put : Objects → (name : Object) → StateAt name → Objects
+put objects (OfPool number) pool = record objects { pool = upd objects.pool number pool }
+put objects (OfRescuer dev) bios = record objects { rescue = upd objects.rescue dev bios }
+put objects (OfDisk dev) disk = record objects { disk = upd objects.disk dev disk }
+put objects (OfBook writer) book = record objects { book = upd objects.book writer book }
+put objects OfTally tally = record objects { tally = tally }
+put objects OfNone none = objects

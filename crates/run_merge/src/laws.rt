@@ -1,0 +1,9 @@
+//! What holds of entries, as functions that do nothing.
+ghost use Rattle.run_merge.specs.Products.{RunsAreProducts};
+
+/// A list of entries is that of a run exactly where it is a product: each is an event, those at each object are a run of its machine, those of
+/// each task lead it on, the first take of each write stands behind the start of its round, and the start of each round and each change of a
+/// reserve stand behind the end of all writes of the rounds before the one that starts next.
+pub fn runs_are_products()
+    ensures { RunsAreProducts }
+{}
