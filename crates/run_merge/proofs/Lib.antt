@@ -1,1 +1,2 @@
 pub mod products
+pub mod merging

@@ -2,3 +2,4 @@ pub mod Entries
 pub mod ObjectsByName
 pub mod Machines
 pub mod Products
+pub mod Merging

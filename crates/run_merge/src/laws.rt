@@ -1,4 +1,5 @@
 //! What holds of entries, as functions that do nothing.
+ghost use Rattle.run_merge.specs.Merging.{MergesAreRuns};
 ghost use Rattle.run_merge.specs.Products.{RunsAreProducts};
 
 /// A list of entries is that of a run exactly where it is a product: each is an event, those at each object are a run of its machine, those of
@@ -6,4 +7,10 @@ ghost use Rattle.run_merge.specs.Products.{RunsAreProducts};
 /// reserve stand behind the end of all writes of the rounds before the one that starts next.
 pub fn runs_are_products()
     ensures { RunsAreProducts }
+{}
+
+/// The merge of histories is the entries of a run: where tickets rise along each object and each task, the entries at each object are a run of
+/// its machine, those of each task lead it on, and each look let its task ask.
+pub fn merges_are_runs()
+    ensures { MergesAreRuns }
 {}

@@ -1,4 +1,4 @@
-//! Runs as products of what each object and each task does.
+//! Runs as products of what each object and each task does, and the merge of the histories of objects that were shared.
 #![tactic(auto)]
 
 pub mod laws;

@@ -1,0 +1,169 @@
+-- The order of tickets.
+use Rattle.std.proofs.Common.{◌≡◌, ◌+◌, ◌<◌, ◌≤◌, ◌++◌, cond, ℕ, Bool, true, false, nat_lt, List, [], ◌∷◌, refl, sym, ◌∙◌, ap, arith}
+use Rattle.std.specs.Prelude.{filter, All}
+use Rattle.std.proofs.lemmas.List.Elements.{All-head, All-tail, All-cons}
+use Rattle.std.proofs.lemmas.Bool.{lt-ltb, le-ltb, ltb-true, ltb-false}
+use Rattle.run_merge.specs.Merging.{Noted, insert, sorted, Rises}
+
+abbrev pub Ordered : ℕ → List Noted → Type 0
+Ordered n [] = Unit {0}
+Ordered n (e ∷ es) = (n ≤ e.ticket) × Ordered e.ticket es
+
+pub ordered_from : (m n : ℕ) (es : List Noted) → m ≤ n → Ordered n es → Ordered m es
+ordered_from m n [] h o = tt
+ordered_from m n (e ∷ es) h o = (let k = o.0 in omega (arith, h, k), o.1)
+
+pub rises_ordered : (n : ℕ) (es : List Noted) → Rises n es → Ordered n es
+rises_ordered n [] r = tt
+rises_ordered n (e ∷ es) r = (let k = r.0 in omega (arith, k), rises_ordered e.ticket es r.1)
+
+-- before what has no smaller ticket
+pub insert_front : (e : Noted) (es : List Noted) → Ordered e.ticket es → insert e es ≡ e ∷ es
+insert_front e [] o = refl
+insert_front e (x ∷ xs) o = ap (λ b. cond b (x ∷ insert e xs) (e ∷ x ∷ xs)) (le-ltb x.ticket e.ticket o.0)
+
+inserted : (n : ℕ) (e x : Noted) (xs ys : List Noted) (b : Bool) → nat_lt x.ticket e.ticket ≡ b → n ≤ e.ticket → n ≤ x.ticket → Ordered x.ticket xs
+    → (x.ticket ≤ e.ticket → Ordered x.ticket ys) → Ordered n (cond b (x ∷ ys) (e ∷ x ∷ xs))
+inserted n e x xs ys true h l m o r = (m, r (let k = ltb-true x.ticket e.ticket h in omega (arith, k)))
+inserted n e x xs ys false h l m o r = (l, (ltb-false x.ticket e.ticket h, o))
+
+ordered_insert : (n : ℕ) (e : Noted) (es : List Noted) → n ≤ e.ticket → Ordered n es → Ordered n (insert e es)
+ordered_insert n e [] l o = (l, tt)
+ordered_insert n e (x ∷ xs) l o = inserted n e x xs (insert e xs) (nat_lt x.ticket e.ticket) refl l o.0 o.1 (λ k. ordered_insert x.ticket e xs k o.1)
+
+pub sorted_ordered : (es : List Noted) → Ordered 0 (sorted es)
+sorted_ordered [] = tt
+sorted_ordered (e ∷ es) = ordered_insert 0 e (sorted es) (omega arith) (sorted_ordered es)
+
+pub rising_sorted : (n : ℕ) (es : List Noted) → Rises n es → sorted es ≡ es
+rising_sorted n [] r = refl
+rising_sorted n (e ∷ es) r = ap (insert e) (rising_sorted e.ticket es r.1) ∙ insert_front e es (rises_ordered e.ticket es r.1)
+
+-- what is so of all entries is so of them in order
+all_insert : (P : Noted → Type 0) (x : Noted) (xs : List Noted) → P x → All P xs → All P (insert x xs)
+all_insert P x [] h a = All-cons P x [] h a
+all_insert P x (y ∷ ys) h a = placed (nat_lt y.ticket x.ticket) (all_insert P x ys h (All-tail P y ys a))
+  where
+    placed : (b : Bool) → All P (insert x ys) → All P (cond b (y ∷ insert x ys) (x ∷ y ∷ ys))
+    placed true i = All-cons P y (insert x ys) (All-head P y ys a) i
+    placed false i = All-cons P x (y ∷ ys) h a
+
+pub all_sorted : (P : Noted → Type 0) (xs : List Noted) → All P xs → All P (sorted xs)
+all_sorted P [] a = a
+all_sorted P (x ∷ xs) a = all_insert P x (sorted xs) (All-head P x xs a) (all_sorted P xs (All-tail P x xs a))
+
+-- an entry with a greater ticket than all others goes to the end
+insert_last : (e x : Noted) (xs : List Noted) → x.ticket < e.ticket → insert x (xs ++ e ∷ []) ≡ insert x xs ++ e ∷ []
+insert_last e x [] h = ap (λ b. cond b (e ∷ x ∷ []) (x ∷ e ∷ [])) (le-ltb e.ticket x.ticket (omega (arith, h)))
+insert_last e x (y ∷ ys) h = placed (nat_lt y.ticket x.ticket) (insert_last e x ys h)
+  where
+    placed : (b : Bool) → insert x (ys ++ e ∷ []) ≡ insert x ys ++ e ∷ []
+        → cond b (y ∷ insert x (ys ++ e ∷ [])) (x ∷ y ∷ (ys ++ e ∷ [])) ≡ cond b (y ∷ insert x ys) (x ∷ y ∷ ys) ++ e ∷ []
+    placed true i = ap (λ l. y ∷ l) i
+    placed false i = refl
+
+insert_end : (e : Noted) (ys : List Noted) → All (λ y. y.ticket < e.ticket) ys → insert e ys ≡ ys ++ e ∷ []
+insert_end e [] a = refl
+insert_end e (y ∷ ys) a =
+    ap (λ b. cond b (y ∷ insert e ys) (e ∷ y ∷ ys)) (lt-ltb y.ticket e.ticket (All-head (λ y. y.ticket < e.ticket) y ys a))
+    ∙ ap (λ l. y ∷ l) (insert_end e ys (All-tail (λ y. y.ticket < e.ticket) y ys a))
+
+pub sorted_last : (e : Noted) (xs ys : List Noted) → All (λ y. y.ticket < e.ticket) xs → All (λ y. y.ticket < e.ticket) ys
+    → sorted (xs ++ e ∷ ys) ≡ sorted (xs ++ ys) ++ e ∷ []
+sorted_last e [] ys a b = insert_end e (sorted ys) (all_sorted (λ y. y.ticket < e.ticket) ys b)
+sorted_last e (x ∷ xs) ys a b =
+    ap (insert x) (sorted_last e xs ys (All-tail (λ y. y.ticket < e.ticket) x xs a) b) ∙ insert_last e x (sorted (xs ++ ys)) (All-head (λ y. y.ticket < e.ticket) x xs a)
+
+module _ (p : Noted → Bool) where
+  filtered : (n : ℕ) (x : Noted) (ys : List Noted) (b : Bool) → n ≤ x.ticket → Ordered x.ticket ys → Ordered n (cond b (x ∷ ys) ys)
+  filtered n x ys true l o = (l, o)
+  filtered n x ys false l o = ordered_from n x.ticket ys l o
+
+  pub ordered_filter : (n : ℕ) (es : List Noted) → Ordered n es → Ordered n (filter p es)
+  ordered_filter n [] o = tt
+  ordered_filter n (e ∷ es) o = filtered n e (filter p es) (p e) o.0 (ordered_filter e.ticket es o.1)
+
+  before_it : (e x : Noted) (fi f : List Noted) (be bx : Bool) → nat_lt x.ticket e.ticket ≡ true → fi ≡ cond be (insert e f) f
+      → cond bx (x ∷ fi) fi ≡ cond be (insert e (cond bx (x ∷ f) f)) (cond bx (x ∷ f) f)
+  before_it e x fi f true true h i = ap (λ l. x ∷ l) i ∙ sym (ap (λ b. cond b (x ∷ insert e f) (e ∷ x ∷ f)) h)
+  before_it e x fi f true false h i = i
+  before_it e x fi f false true h i = ap (λ l. x ∷ l) i
+  before_it e x fi f false false h i = i
+
+  pick : (e x : Noted) (xs : List Noted) (b : Bool) → nat_lt x.ticket e.ticket ≡ b → Ordered x.ticket xs
+      → filter p (insert e xs) ≡ cond (p e) (insert e (filter p xs)) (filter p xs)
+      → filter p (cond b (x ∷ insert e xs) (e ∷ x ∷ xs)) ≡ cond (p e) (insert e (filter p (x ∷ xs))) (filter p (x ∷ xs))
+  pick e x xs true h o i = before_it e x (filter p (insert e xs)) (filter p xs) (p e) (p x) h i
+  pick e x xs false h o i =
+      ap (λ l. cond (p e) l (filter p (x ∷ xs))) (sym (insert_front e (filter p (x ∷ xs)) (ordered_filter e.ticket (x ∷ xs) (ltb-false x.ticket e.ticket h, o))))
+
+  filter_insert : (n : ℕ) (e : Noted) (xs : List Noted) → Ordered n xs → filter p (insert e xs) ≡ cond (p e) (insert e (filter p xs)) (filter p xs)
+  filter_insert n e [] o = refl
+  filter_insert n e (x ∷ xs) o = pick e x xs (nat_lt x.ticket e.ticket) refl o.1 (filter_insert x.ticket e xs o.1)
+
+  step : (e : Noted) (es : List Noted) (b : Bool) → filter p (sorted es) ≡ sorted (filter p es)
+      → cond b (insert e (filter p (sorted es))) (filter p (sorted es)) ≡ sorted (cond b (e ∷ filter p es) (filter p es))
+  step e es true i = ap (insert e) i
+  step e es false i = i
+
+  -- what is picked of all, in the order of tickets, is what was picked, in that order
+  pub filter_sorted : (es : List Noted) → filter p (sorted es) ≡ sorted (filter p es)
+  filter_sorted [] = refl
+  filter_sorted (e ∷ es) = filter_insert 0 e (sorted es) (sorted_ordered es) ∙ step e es (p e) (filter_sorted es)
+
+-- those with no greater ticket than this one
+abbrev pub up_to : ℕ → List Noted → List Noted
+up_to bound es = filter (λ n. nat_lt n.ticket (bound + 1)) es
+
+-- none is among those with greater ones
+pub up_to_none : (bound m : ℕ) (es : List Noted) → bound < m → Ordered m es → up_to bound es ≡ []
+up_to_none bound m [] lt o = refl
+up_to_none bound m (x ∷ xs) lt o =
+    let le = o.0 in
+    ap (λ b. cond b (x ∷ up_to bound xs) (up_to bound xs)) (le-ltb x.ticket (bound + 1) (omega (arith, lt, le))) ∙ up_to_none bound x.ticket xs (omega (arith, lt, le)) o.1
+
+-- they come first among entries in order
+pub up_to_first : (bound n : ℕ) (es : List Noted) → Ordered n es → (rest : List Noted) × (es ≡ up_to bound es ++ rest)
+up_to_first bound n [] o = ([], refl)
+up_to_first bound n (e ∷ es) o = by_test (nat_lt e.ticket (bound + 1)) refl (up_to_first bound e.ticket es o.1)
+  where
+    by_test : (b : Bool) → nat_lt e.ticket (bound + 1) ≡ b → (rest : List Noted) × (es ≡ up_to bound es ++ rest)
+        → (rest : List Noted) × (e ∷ es ≡ cond b (e ∷ up_to bound es) (up_to bound es) ++ rest)
+    by_test true is more = (more.0, ap (λ l. e ∷ l) more.1)
+    by_test false is more =
+        let ge = ltb-false e.ticket (bound + 1) is in
+        (e ∷ es, ap (λ l. l ++ e ∷ es) (sym (up_to_none bound e.ticket es (omega (arith, ge)) o.1)))
+
+-- all of those with such tickets
+pub up_to_all : (bound : ℕ) (es : List Noted) → All (λ n. n.ticket ≤ bound) es → up_to bound es ≡ es
+up_to_all bound [] a = refl
+up_to_all bound (e ∷ es) a =
+    let le = All-head (λ (n : Noted). n.ticket ≤ bound) e es a in
+    ap (λ b. cond b (e ∷ up_to bound es) (up_to bound es)) (lt-ltb e.ticket (bound + 1) (omega (arith, le)))
+    ∙ ap (λ l. e ∷ l) (up_to_all bound es (All-tail (λ (n : Noted). n.ticket ≤ bound) e es a))
+
+-- the last ticket of a list that rises
+abbrev pub last_ticket : ℕ → List Noted → ℕ
+last_ticket n [] = n
+last_ticket n (e ∷ es) = last_ticket e.ticket es
+
+pub last_most : (n : ℕ) (es : List Noted) → Rises n es → (n ≤ last_ticket n es) × All (λ e. e.ticket ≤ last_ticket n es) es
+last_most n [] r = (omega arith, λ k d lt. absurd (omega (arith, lt)))
+last_most n (e ∷ es) r =
+    let m = last_most e.ticket es r.1 in
+    let a = m.0 in
+    let lt = r.0 in
+    (omega (arith, a, lt), All-cons (λ (x : Noted). x.ticket ≤ last_ticket e.ticket es) e es a m.1)
+
+pub rises_split : (n : ℕ) (xs ys : List Noted) → Rises n (xs ++ ys) → Rises n xs × Rises (last_ticket n xs) ys
+rises_split n [] ys r = (tt, r)
+rises_split n (x ∷ xs) ys r = let m = rises_split x.ticket xs ys r.1 in ((r.0, m.0), m.1)
+
+pub rises_above : (n : ℕ) (es : List Noted) → Rises n es → Ordered (n + 1) es
+rises_above n [] r = tt
+rises_above n (e ∷ es) r = (let lt = r.0 in omega (arith, lt), rises_ordered e.ticket es r.1)
+
+-- what comes behind an entry has no smaller ticket
+pub ordered_split : (n : ℕ) (xs ys : List Noted) → Ordered n (xs ++ ys) → Ordered n xs × Ordered n ys
+ordered_split n [] ys o = (tt, o)
+ordered_split n (x ∷ xs) ys o = let m = ordered_split x.ticket xs ys o.1 in ((o.0, m.0), ordered_from n x.ticket ys o.0 m.1)
