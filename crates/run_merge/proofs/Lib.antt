@@ -1,2 +1,3 @@
 pub mod products
 pub mod merging
+pub mod closing

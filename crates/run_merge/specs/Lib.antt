@@ -3,3 +3,4 @@ pub mod ObjectsByName
 pub mod Machines
 pub mod Products
 pub mod Merging
+pub mod Closing

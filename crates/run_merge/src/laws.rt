@@ -1,4 +1,5 @@
 //! What holds of entries, as functions that do nothing.
+ghost use Rattle.run_merge.specs.Closing.{ClosedRunsEnd};
 ghost use Rattle.run_merge.specs.Merging.{MergesAreRuns};
 ghost use Rattle.run_merge.specs.Products.{RunsAreProducts};
 
@@ -13,4 +14,10 @@ pub fn runs_are_products()
 /// its machine, those of each task lead it on, and each look let its task ask.
 pub fn merges_are_runs()
     ensures { MergesAreRuns }
+{}
+
+/// Once every task has stopped, and whether or not draws failed and tasks were refused as far as anyone knows: what the closed objects show is enough
+/// that none did and none was, that the merge of the histories is a run which has ended, and that it leaves the objects as they are.
+pub fn closed_runs_end()
+    ensures { ClosedRunsEnd }
 {}

@@ -19,7 +19,7 @@ use Rattle.run_merge.specs.Products.{LeadsTask, entries_by, task_behind, AreOfRu
 use Rattle.run_merge.specs.Merging.{Noted, Histories, entries_of, sorted, all_of, history_of, done_by, TallyThen, LetsAsk, Shown, MergesAreRuns}
 use Rattle.run_merge.proofs.merging.Picked.{is_at, is_by, entries_filter, merge_at, merge_by, merge_entries_at, merge_entries_by}
 use Rattle.run_merge.proofs.merging.Splits.{cut, object_split, task_split, smaller_first}
-use Rattle.run_merge.proofs.merging.Tally.{IsLater, tally_leads, tally_later}
+use Rattle.run_merge.proofs.merging.Tally.{IsLater, from_there}
 use Rattle.run_merge.proofs.merging.Tickets.{Ordered, sorted_ordered, all_sorted, ordered_filter, ordered_split}
 use Rattle.run_merge.proofs.products.Behind.{at_start, behind_run}
 use Rattle.run_merge.proofs.products.Known.{Known, known}
@@ -31,39 +31,32 @@ module _ (s : Scenario) (ledger : ℕ → LedgerId) (good : IsScenario s) (namin
   merged : List Noted
   merged = sorted (all_of hs)
 
-  -- What a task saw of the tally still lets it ask when it draws: the tally that it saw is an earlier one.
-  module _ (between : List Entry) (state : State) (reached : AreOfRun s ledger between state) (before after : List Noted) (here : Noted)
-      (all : sorted (all_of hs) ≡ before ++ here ∷ after) (entries : entries_of before ≡ between) where
-    ordered : Ordered 0 before × Ordered here.ticket (here ∷ after)
-    ordered =
-        let o = ordered_split 0 before (here ∷ after) (subst (Ordered 0) all (sorted_ordered (all_of hs))) in
-        (o.0, (omega arith, o.1.1))
-
-    is_later : (was : TallyThen s ledger (history_of OfTally hs)) → All (λ (n : Noted). n.ticket < here.ticket) was.seen → IsLater was.shown state.objects.tally
+  -- What a task saw of the tally still lets it ask when it draws its ticket: the tally that it saw is an earlier one.
+  module _ (between : List Entry) (state : State) (reached : AreOfRun s ledger between state) (ticket : ℕ) (before after : List Noted)
+      (all : sorted (all_of hs) ≡ before ++ after) (above : Ordered ticket after) (entries : entries_of before ≡ between) where
+    is_later : (was : TallyThen s ledger (history_of OfTally hs)) → All (λ (n : Noted). n.ticket < ticket) was.seen → IsLater was.shown state.objects.tally
     is_later was few =
-        let history : filter (is_at OfTally) before ++ filter (is_at OfTally) (here ∷ after) ≡ was.seen ++ was.later =
-        sym (filter-append (is_at OfTally) before (here ∷ after)) ∙ ap (filter (is_at OfTally)) (sym all)
+        let history : filter (is_at OfTally) before ++ filter (is_at OfTally) after ≡ was.seen ++ was.later =
+        sym (filter-append (is_at OfTally) before after) ∙ ap (filter (is_at OfTally)) (sym all)
         ∙ merge_at hs shown.apart shown.tagged shown.rises OfTally ∙ was.history in
-        let more = smaller_first here.ticket (filter (is_at OfTally) before) (filter (is_at OfTally) (here ∷ after)) was.seen was.later history
-        (ordered_filter (is_at OfTally) here.ticket (here ∷ after) ordered.1) few in
+        let more = smaller_first ticket (filter (is_at OfTally) before) (filter (is_at OfTally) after) was.seen was.later history
+        (ordered_filter (is_at OfTally) ticket after above) few in
         let own : entries_at OfTally (entries_in (scene s ledger) (start s) reached.0 state reached.1) ≡ entries_of was.seen ++ entries_of more.0 =
         ap (entries_at OfTally) (reached.2 ∙ sym entries) ∙ entries_filter (λ (e : Entry). is_same OfTally (object_of e.asked)) before
         ∙ ap entries_of more.1 ∙ map-append (λ (n : Noted). n.entry) was.seen more.0 in
         let run = subst (λ l. LeadsObject ledger OfTally (start s).objects.tally l state.objects.tally) own
         (run_objects (scene s ledger) OfTally (start s) reached.0 state reached.1) in
         let parts = object_split ledger OfTally (entries_of was.seen) (entries_of more.0) (start s).objects.tally state.objects.tally run in
-        let same = tally_leads ledger (entries_of was.seen) (start s).objects.tally parts.0 was.shown parts.1 was.leads in
-        tally_later ledger (entries_of more.0) was.shown state.objects.tally
-        (subst (λ t. LeadsObject ledger OfTally t (entries_of more.0) state.objects.tally) same parts.2)
+        from_there ledger (entries_of was.seen) (entries_of more.0) (start s).objects.tally parts.0 was.shown state.objects.tally parts.1 was.leads parts.2
 
     k : Known s between state
     k = known s ledger good naming between state reached
 
-    still_let : (place : ℕ) (x : TaskState) → state.task place ≡ x → LetsAsk s ledger (history_of OfTally hs) here.ticket x (look_of x) → IsLet ledger state.objects x (look_of x)
+    pub still_let : (place : ℕ) (x : TaskState) → state.task place ≡ x → LetsAsk s ledger (history_of OfTally hs) ticket x (look_of x) → IsLet ledger state.objects x (look_of x)
     still_let place (Writer number todo taken line) at looked = by_writer todo taken line.doing looked
       where
         by_writer : (todo : List Todo) (taken : Taken) (doing : Doing)
-            → LetsAsk s ledger (history_of OfTally hs) here.ticket (Writer number todo taken line) (writer_look todo taken doing)
+            → LetsAsk s ledger (history_of OfTally hs) ticket (Writer number todo taken line) (writer_look todo taken doing)
             → IsLet ledger state.objects (Writer number todo taken line) (writer_look todo taken doing)
         by_writer [] taken doing looked = tt
         by_writer (todo ∷ later) NoBio Rests (was, few, Present now, serves, le) =
@@ -88,25 +81,28 @@ module _ (s : Scenario) (ledger : ℕ → LedgerId) (good : IsScenario s) (namin
     still_let place (Keeper (Keeps (duty ∷ duties))) at (was, few, reply, serves, same) = absurd serves
     still_let place (Keeper (Stops breach)) at looked = tt
 
-    -- so its entry stands behind all that it has to
-    comes_here : ComesBehind s between (state.task here.entry.place) here.entry.asked
-    comes_here =
-        let place = here.entry.place in
-        let mine = filter (is_by place) before in
-        let own : done_by place hs ≡ mine ++ here ∷ filter (is_by place) after =
-        sym (merge_by hs place) ∙ ap (filter (is_by place)) all ∙ filter-append (is_by place) before (here ∷ after)
-        ∙ ap (λ b. filter (is_by place) before ++ cond b (here ∷ filter (is_by place) after) (filter (is_by place) after)) (eq-eqb place place refl) in
-        let b = behind_run s ledger between state reached in
-        let task = task_behind s place (entries_of mine) in
-        let task_is : state.task place ≡ task =
-        b.mine place ∙ ap (task_behind s place) (ap (entries_by place) (sym entries) ∙ entries_filter (λ (e : Entry). place == e.place) before) in
-        let led = subst (λ l. LeadsTask (setup s) ((start s).task place) l (last.task place))
-        (ap entries_of own ∙ map-append (λ (n : Noted). n.entry) mine (here ∷ filter (is_by place) after)) (shown.tasks place) in
-        let asks : here.entry.asked ≡ struck (request (setup s) task) =
-        (task_split (setup s) (entries_of mine) (here.entry ∷ entries_of (filter (is_by place) after)) ((start s).task place) (last.task place) led).1.0 in
-        let may = still_let place task task_is (shown.looks place mine (filter (is_by place) after) here own) in
-        let comes = comes_by s ledger between state k b.count place task task_is may in
-        subst (λ (x : TaskState). ComesBehind s between x here.entry.asked) (sym task_is) (subst (ComesBehind s between task) (sym asks) comes)
+  -- so its entry stands behind all that it has to
+  comes_here : (between : List Entry) (state : State) (reached : AreOfRun s ledger between state) (before after : List Noted) (here : Noted)
+      → sorted (all_of hs) ≡ before ++ here ∷ after → entries_of before ≡ between → ComesBehind s between (state.task here.entry.place) here.entry.asked
+  comes_here between state reached before after here all entries =
+      let place = here.entry.place in
+      let mine = filter (is_by place) before in
+      let own : done_by place hs ≡ mine ++ here ∷ filter (is_by place) after =
+      sym (merge_by hs place) ∙ ap (filter (is_by place)) all ∙ filter-append (is_by place) before (here ∷ after)
+      ∙ ap (λ b. filter (is_by place) before ++ cond b (here ∷ filter (is_by place) after) (filter (is_by place) after)) (eq-eqb place place refl) in
+      let b = behind_run s ledger between state reached in
+      let task = task_behind s place (entries_of mine) in
+      let task_is : state.task place ≡ task =
+      b.mine place ∙ ap (task_behind s place) (ap (entries_by place) (sym entries) ∙ entries_filter (λ (e : Entry). place == e.place) before) in
+      let led = subst (λ l. LeadsTask (setup s) ((start s).task place) l (last.task place))
+      (ap entries_of own ∙ map-append (λ (n : Noted). n.entry) mine (here ∷ filter (is_by place) after)) (shown.tasks place) in
+      let asks : here.entry.asked ≡ struck (request (setup s) task) =
+      (task_split (setup s) (entries_of mine) (here.entry ∷ entries_of (filter (is_by place) after)) ((start s).task place) (last.task place) led).1.0 in
+      let above = (ordered_split 0 before (here ∷ after) (subst (Ordered 0) all (sorted_ordered (all_of hs)))).1.1 in
+      let may = still_let between state reached here.ticket before (here ∷ after) all (omega arith, above) entries place task task_is
+      (shown.looks place mine (filter (is_by place) after) here own) in
+      let comes = comes_by s ledger between state (known s ledger good naming between state reached) b.count place task task_is may in
+      subst (λ (x : TaskState). ComesBehind s between x here.entry.asked) (sym task_is) (subst (ComesBehind s between task) (sym asks) comes)
 
   comes : (between after : List Entry) (e : Entry) → entries_of (sorted (all_of hs)) ≡ between ++ e ∷ after → (state : State) → AreOfRun s ledger between state
       → ComesBehind s between (state.task e.place) e.asked

@@ -20,7 +20,7 @@ tally_same old LookLeft (LeftOver count) a b x y = x.1 ∙ sym y.1
 tally_same old LookLeft reply a b x y = absurd x
 tally_same old request reply a b x y = absurd x
 
-pub tally_leads : (ledger : ℕ → LedgerId) (es : List Entry) (old a b : TallyState) → LeadsObject ledger OfTally old es a → LeadsObject ledger OfTally old es b → a ≡ b
+tally_leads : (ledger : ℕ → LedgerId) (es : List Entry) (old a b : TallyState) → LeadsObject ledger OfTally old es a → LeadsObject ledger OfTally old es b → a ≡ b
 tally_leads ledger [] old a b x y = x ∙ sym y
 tally_leads ledger (e ∷ es) old a b x y =
     tally_leads ledger es x.0 a b x.2 (subst (λ o. LeadsObject ledger OfTally o es b) (tally_same old e.asked e.reply y.0 x.0 y.1 x.1) y.2)
@@ -56,9 +56,15 @@ one_later old LookLeft (LeftOver count) new h = same_later old new h.1
 one_later old LookLeft reply new h = absurd h
 one_later old request reply new h = absurd h
 
-pub tally_later : (ledger : ℕ → LedgerId) (es : List Entry) (old new : TallyState) → LeadsObject ledger OfTally old es new → IsLater old new
+tally_later : (ledger : ℕ → LedgerId) (es : List Entry) (old new : TallyState) → LeadsObject ledger OfTally old es new → IsLater old new
 tally_later ledger [] old new h = same_later old new h
 tally_later ledger (e ∷ es) old new h =
     let a = one_later old e.asked e.reply h.0 h.1 in
     let b = tally_later ledger es h.0 new h.2 in
     record { left = omega (arith, a.left, b.left); round = omega (arith, a.round, b.round) }
+
+-- behind the same entries it is the same, and later ones leave a later one
+pub from_there : (ledger : ℕ → LedgerId) (first more : List Entry) (old here there new : TallyState) → LeadsObject ledger OfTally old first here
+    → LeadsObject ledger OfTally old first there → LeadsObject ledger OfTally here more new → IsLater there new
+from_there ledger first more old here there new leads same on =
+    tally_later ledger more there new (subst (λ (t : TallyState). LeadsObject ledger OfTally t more new) (tally_leads ledger first old here there leads same) on)

@@ -1,7 +1,7 @@
 -- The order of tickets.
-use Rattle.std.proofs.Common.{◌≡◌, ◌+◌, ◌<◌, ◌≤◌, ◌++◌, cond, ℕ, Bool, true, false, nat_lt, List, [], ◌∷◌, refl, sym, ◌∙◌, ap, arith}
+use Rattle.std.proofs.Common.{◌≡◌, ◌<◌, ◌≤◌, ◌++◌, cond, ℕ, Bool, true, false, nat_lt, List, [], ◌∷◌, refl, sym, ◌∙◌, ap, arith}
 use Rattle.std.specs.Prelude.{filter, All}
-use Rattle.std.proofs.lemmas.List.Elements.{All-head, All-tail, All-cons}
+use Rattle.std.proofs.lemmas.List.Elements.{All-head, All-tail, All-cons, All-nil}
 use Rattle.std.proofs.lemmas.Bool.{lt-ltb, le-ltb, ltb-true, ltb-false}
 use Rattle.run_merge.specs.Merging.{Noted, insert, sorted, Rises}
 
@@ -52,28 +52,6 @@ pub all_sorted : (P : Noted → Type 0) (xs : List Noted) → All P xs → All P
 all_sorted P [] a = a
 all_sorted P (x ∷ xs) a = all_insert P x (sorted xs) (All-head P x xs a) (all_sorted P xs (All-tail P x xs a))
 
--- an entry with a greater ticket than all others goes to the end
-insert_last : (e x : Noted) (xs : List Noted) → x.ticket < e.ticket → insert x (xs ++ e ∷ []) ≡ insert x xs ++ e ∷ []
-insert_last e x [] h = ap (λ b. cond b (e ∷ x ∷ []) (x ∷ e ∷ [])) (le-ltb e.ticket x.ticket (omega (arith, h)))
-insert_last e x (y ∷ ys) h = placed (nat_lt y.ticket x.ticket) (insert_last e x ys h)
-  where
-    placed : (b : Bool) → insert x (ys ++ e ∷ []) ≡ insert x ys ++ e ∷ []
-        → cond b (y ∷ insert x (ys ++ e ∷ [])) (x ∷ y ∷ (ys ++ e ∷ [])) ≡ cond b (y ∷ insert x ys) (x ∷ y ∷ ys) ++ e ∷ []
-    placed true i = ap (λ l. y ∷ l) i
-    placed false i = refl
-
-insert_end : (e : Noted) (ys : List Noted) → All (λ y. y.ticket < e.ticket) ys → insert e ys ≡ ys ++ e ∷ []
-insert_end e [] a = refl
-insert_end e (y ∷ ys) a =
-    ap (λ b. cond b (y ∷ insert e ys) (e ∷ y ∷ ys)) (lt-ltb y.ticket e.ticket (All-head (λ y. y.ticket < e.ticket) y ys a))
-    ∙ ap (λ l. y ∷ l) (insert_end e ys (All-tail (λ y. y.ticket < e.ticket) y ys a))
-
-pub sorted_last : (e : Noted) (xs ys : List Noted) → All (λ y. y.ticket < e.ticket) xs → All (λ y. y.ticket < e.ticket) ys
-    → sorted (xs ++ e ∷ ys) ≡ sorted (xs ++ ys) ++ e ∷ []
-sorted_last e [] ys a b = insert_end e (sorted ys) (all_sorted (λ y. y.ticket < e.ticket) ys b)
-sorted_last e (x ∷ xs) ys a b =
-    ap (insert x) (sorted_last e xs ys (All-tail (λ y. y.ticket < e.ticket) x xs a) b) ∙ insert_last e x (sorted (xs ++ ys)) (All-head (λ y. y.ticket < e.ticket) x xs a)
-
 module _ (p : Noted → Bool) where
   filtered : (n : ℕ) (x : Noted) (ys : List Noted) (b : Bool) → n ≤ x.ticket → Ordered x.ticket ys → Ordered n (cond b (x ∷ ys) ys)
   filtered n x ys true l o = (l, o)
@@ -111,59 +89,49 @@ module _ (p : Noted → Bool) where
   filter_sorted [] = refl
   filter_sorted (e ∷ es) = filter_insert 0 e (sorted es) (sorted_ordered es) ∙ step e es (p e) (filter_sorted es)
 
--- those with no greater ticket than this one
-abbrev pub up_to : ℕ → List Noted → List Noted
-up_to bound es = filter (λ n. nat_lt n.ticket (bound + 1)) es
+-- those with smaller tickets than this one
+abbrev pub early : ℕ → List Noted → List Noted
+early ticket es = filter (λ n. nat_lt n.ticket ticket) es
 
--- none is among those with greater ones
-pub up_to_none : (bound m : ℕ) (es : List Noted) → bound < m → Ordered m es → up_to bound es ≡ []
-up_to_none bound m [] lt o = refl
-up_to_none bound m (x ∷ xs) lt o =
-    let le = o.0 in
-    ap (λ b. cond b (x ∷ up_to bound xs) (up_to bound xs)) (le-ltb x.ticket (bound + 1) (omega (arith, lt, le))) ∙ up_to_none bound x.ticket xs (omega (arith, lt, le)) o.1
+pub early_none : (ticket : ℕ) (es : List Noted) → All (λ n. ticket ≤ n.ticket) es → early ticket es ≡ []
+early_none ticket [] a = refl
+early_none ticket (e ∷ es) a =
+    ap (λ b. cond b (e ∷ early ticket es) (early ticket es)) (le-ltb e.ticket ticket (All-head (λ (n : Noted). ticket ≤ n.ticket) e es a))
+    ∙ early_none ticket es (All-tail (λ (n : Noted). ticket ≤ n.ticket) e es a)
+
+pub early_all : (ticket : ℕ) (es : List Noted) → All (λ n. n.ticket < ticket) es → early ticket es ≡ es
+early_all ticket [] a = refl
+early_all ticket (e ∷ es) a =
+    ap (λ b. cond b (e ∷ early ticket es) (early ticket es)) (lt-ltb e.ticket ticket (All-head (λ (n : Noted). n.ticket < ticket) e es a))
+    ∙ ap (λ l. e ∷ l) (early_all ticket es (All-tail (λ (n : Noted). n.ticket < ticket) e es a))
+
+pub early_few : (ticket : ℕ) (es : List Noted) → All (λ n. n.ticket < ticket) (early ticket es)
+early_few ticket [] = All-nil (λ (n : Noted). n.ticket < ticket)
+early_few ticket (e ∷ es) = by_test (nat_lt e.ticket ticket) refl (early_few ticket es)
+  where
+    by_test : (b : Bool) → nat_lt e.ticket ticket ≡ b → All (λ (n : Noted). n.ticket < ticket) (early ticket es)
+        → All (λ (n : Noted). n.ticket < ticket) (cond b (e ∷ early ticket es) (early ticket es))
+    by_test true is rest = All-cons (λ (n : Noted). n.ticket < ticket) e (early ticket es) (ltb-true e.ticket ticket is) rest
+    by_test false is rest = rest
+
+ordered_all : (ticket n : ℕ) (es : List Noted) → ticket ≤ n → Ordered n es → All (λ (x : Noted). ticket ≤ x.ticket) es
+ordered_all ticket n [] le o = All-nil (λ (x : Noted). ticket ≤ x.ticket)
+ordered_all ticket n (e ∷ es) le o =
+    let more = o.0 in
+    All-cons (λ (x : Noted). ticket ≤ x.ticket) e es (omega (arith, le, more)) (ordered_all ticket e.ticket es (omega (arith, le, more)) o.1)
 
 -- they come first among entries in order
-pub up_to_first : (bound n : ℕ) (es : List Noted) → Ordered n es → (rest : List Noted) × (es ≡ up_to bound es ++ rest)
-up_to_first bound n [] o = ([], refl)
-up_to_first bound n (e ∷ es) o = by_test (nat_lt e.ticket (bound + 1)) refl (up_to_first bound e.ticket es o.1)
+pub early_first : (ticket n : ℕ) (es : List Noted) → Ordered n es → (rest : List Noted) × (es ≡ early ticket es ++ rest)
+early_first ticket n [] o = ([], refl)
+early_first ticket n (e ∷ es) o = by_test (nat_lt e.ticket ticket) refl (early_first ticket e.ticket es o.1)
   where
-    by_test : (b : Bool) → nat_lt e.ticket (bound + 1) ≡ b → (rest : List Noted) × (es ≡ up_to bound es ++ rest)
-        → (rest : List Noted) × (e ∷ es ≡ cond b (e ∷ up_to bound es) (up_to bound es) ++ rest)
+    by_test : (b : Bool) → nat_lt e.ticket ticket ≡ b → (rest : List Noted) × (es ≡ early ticket es ++ rest)
+        → (rest : List Noted) × (e ∷ es ≡ cond b (e ∷ early ticket es) (early ticket es) ++ rest)
     by_test true is more = (more.0, ap (λ l. e ∷ l) more.1)
     by_test false is more =
-        let ge = ltb-false e.ticket (bound + 1) is in
-        (e ∷ es, ap (λ l. l ++ e ∷ es) (sym (up_to_none bound e.ticket es (omega (arith, ge)) o.1)))
+        (e ∷ es, ap (λ l. l ++ e ∷ es) (sym (early_none ticket es (ordered_all ticket e.ticket es (ltb-false e.ticket ticket is) o.1))))
 
--- all of those with such tickets
-pub up_to_all : (bound : ℕ) (es : List Noted) → All (λ n. n.ticket ≤ bound) es → up_to bound es ≡ es
-up_to_all bound [] a = refl
-up_to_all bound (e ∷ es) a =
-    let le = All-head (λ (n : Noted). n.ticket ≤ bound) e es a in
-    ap (λ b. cond b (e ∷ up_to bound es) (up_to bound es)) (lt-ltb e.ticket (bound + 1) (omega (arith, le)))
-    ∙ ap (λ l. e ∷ l) (up_to_all bound es (All-tail (λ (n : Noted). n.ticket ≤ bound) e es a))
-
--- the last ticket of a list that rises
-abbrev pub last_ticket : ℕ → List Noted → ℕ
-last_ticket n [] = n
-last_ticket n (e ∷ es) = last_ticket e.ticket es
-
-pub last_most : (n : ℕ) (es : List Noted) → Rises n es → (n ≤ last_ticket n es) × All (λ e. e.ticket ≤ last_ticket n es) es
-last_most n [] r = (omega arith, λ k d lt. absurd (omega (arith, lt)))
-last_most n (e ∷ es) r =
-    let m = last_most e.ticket es r.1 in
-    let a = m.0 in
-    let lt = r.0 in
-    (omega (arith, a, lt), All-cons (λ (x : Noted). x.ticket ≤ last_ticket e.ticket es) e es a m.1)
-
-pub rises_split : (n : ℕ) (xs ys : List Noted) → Rises n (xs ++ ys) → Rises n xs × Rises (last_ticket n xs) ys
-rises_split n [] ys r = (tt, r)
-rises_split n (x ∷ xs) ys r = let m = rises_split x.ticket xs ys r.1 in ((r.0, m.0), m.1)
-
-pub rises_above : (n : ℕ) (es : List Noted) → Rises n es → Ordered (n + 1) es
-rises_above n [] r = tt
-rises_above n (e ∷ es) r = (let lt = r.0 in omega (arith, lt), rises_ordered e.ticket es r.1)
-
--- what comes behind an entry has no smaller ticket
+-- of what is in order, the second part is behind the first
 pub ordered_split : (n : ℕ) (xs ys : List Noted) → Ordered n (xs ++ ys) → Ordered n xs × Ordered n ys
 ordered_split n [] ys o = (tt, o)
 ordered_split n (x ∷ xs) ys o = let m = ordered_split x.ticket xs ys o.1 in ((o.0, m.0), ordered_from n x.ticket ys o.0 m.1)

@@ -21,7 +21,7 @@ abbrev pub entry_of : (scene : Scene) (old : State) (place : ℕ) (event : Event
 entry_of scene old place event new steps = record { place = place; asked = struck (request scene.setup (old.task place)); reply = steps.reply }
 
 -- one event more, behind a run
-one_event : (scene : Scene) (old : State) (events : List Event) (mid : State) (run : IsRun scene old events mid) (place : ℕ) (event : Event) (new : State)
+pub one_event : (scene : Scene) (old : State) (events : List Event) (mid : State) (run : IsRun scene old events mid) (place : ℕ) (event : Event) (new : State)
     (steps : Steps scene mid place event new)
     → (more : List Event) × (whole : IsRun scene old more new)
     × (entries_in scene old more new whole ≡ entries_in scene old events mid run ++ entry_of scene mid place event new steps ∷ [])

@@ -45,7 +45,7 @@ module _ (s : Scenario) (ledger : ℕ → LedgerId) (good : IsScenario s) (namin
       → ComesBehind s (before ++ between) (state.task e.place) e.asked
 
   -- a task behind the last asks for nothing
-  is_inside : (before : List Entry) (state : State) → Behind s ledger before state → (place : ℕ) (asked : Request) (reply : Reply) (v : StateAt (object_of asked))
+  pub is_inside : (before : List Entry) (state : State) → Behind s ledger before state → (place : ℕ) (asked : Request) (reply : Reply) (v : StateAt (object_of asked))
       → asked ≡ struck (request (setup s) (state.task place)) → ServesAt ledger (object_of asked) (get state.objects (object_of asked)) asked reply v → place < length (tasks s)
   is_inside before state b place asked reply v is serves = by_two (below_or place (length (tasks s)))
     where

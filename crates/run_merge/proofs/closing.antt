@@ -1,0 +1,6 @@
+-- Shared objects that were closed show an ended run.
+pub mod Rows
+pub mod Counts
+pub mod Early
+pub mod Refused
+pub mod Closed
