@@ -9,3 +9,4 @@ pub mod Lets
 pub mod Behind
 pub mod Leads
 pub mod Parts
+pub mod Numbers

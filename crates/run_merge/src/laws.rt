@@ -1,6 +1,7 @@
 //! What holds of entries, as functions that do nothing.
 ghost use Rattle.run_merge.specs.Closing.{ClosedRunsEnd};
 ghost use Rattle.run_merge.specs.Merging.{MergesAreRuns};
+ghost use Rattle.run_merge.specs.Numbers.{RoundsAreNumbered};
 ghost use Rattle.run_merge.specs.Products.{RunsAreProducts};
 
 /// A list of entries is that of a run exactly where it is a product: each is an event, those at each object are a run of its machine, those of
@@ -8,6 +9,11 @@ ghost use Rattle.run_merge.specs.Products.{RunsAreProducts};
 /// reserve stand behind the end of all writes of the rounds before the one that starts next.
 pub fn runs_are_products()
     ensures { RunsAreProducts }
+{}
+
+/// The first event of a run that starts a round starts round 1, and each later one the next round: the n-th of them has number n.
+pub fn rounds_are_numbered()
+    ensures { RoundsAreNumbered }
 {}
 
 /// The merge of histories is the entries of a run: where tickets rise along each object and each task, the entries at each object are a run of
