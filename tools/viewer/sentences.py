@@ -122,10 +122,9 @@ class Teller:
             self.say("{} may not wait with bios in its lists, though none of them is of {}'s set.", title(task.name), device.name)
             return
         what = self.bio(own[0]) if len(own) == 1 else many(len(own), "bio") + f" of {device.name}'s set"
-        them = "it" if len(own) == 1 else "them"
-        self.say("{} may not wait here: its own list holds {}, which only it could submit, so what it waits for might never come home.",
+        self.say("{} may not wait here: its own list holds {}, which only it could submit, and for whose end it might be waiting.",
                  title(task.name), what)
-        self.say("It hands {} to the rescuer of {} instead.", them, device.name)
+        self.say("So it hands {} to the rescuer of {}.", "that bio" if len(own) == 1 else "them", device.name)
 
     def tell_punt(self, task, ask, moved):
         if moved:
