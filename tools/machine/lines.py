@@ -102,6 +102,8 @@ class Builder:
         size = length if length and is_plain else block.size
         if shape is None:
             wish, notes = self.slice(key)
+            if block.type == "loop":
+                notes.append("the file behind this loop device is left out")
             name = self.add("disk", wish, [], {}, notes, size)
         elif is_plain:
             below = self.block(shape.parts[0].key, size)

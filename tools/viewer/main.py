@@ -7,6 +7,7 @@ from viewer.lanes import lanes_of
 from viewer.page import page_of
 from viewer.recording import Recording
 from viewer.scenario import read_scenario
+from viewer.sentences import many
 from viewer.trace import read_trace
 
 HELP = "usage: biostack run --trace < TEXT | view [--svg] [--steps FROM-TO] TEXT > run.html"
@@ -57,7 +58,7 @@ def notes_of(recording, report):
     if misfit:
         return [f"Line {misfit['line']} of the trace does not fit: {misfit['text']}. The steps before it are shown."]
     if report is None:
-        return [f"The trace has no report: it ends at step {run.step}, with {run.unfinished} writes unfinished."]
+        return [f"The trace has no report: it ends at step {run.step}, with {many(run.unfinished, 'write')} unfinished."]
     against = recording.against(report)
     return [f"The report, from line {report.line} of the trace on, does not fit. {against}."] if against else []
 

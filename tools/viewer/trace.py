@@ -70,7 +70,9 @@ class Report:
 def read_trace(text, name="standard input"):
     """Returns the events and the report of a text, or no report where it ends before."""
     events, lines, report = [], [], None
-    for number, line in enumerate(text[:-1].split("\n") if text.endswith("\n") else text.split("\n"), 1):
+    if text.endswith("\n"):
+        text = text[:-1]
+    for number, line in enumerate(text.split("\n") if text else [], 1):
         event = read_event(line) if report is None else None
         if event:
             events.append(event)
