@@ -120,7 +120,8 @@ class Shapes:
     def raid10(self, array, helper):
         """Returns a stripe of mirrors. The array has one pool of records and one of bios for all of them."""
         if array.layout not in ("near=2", "") or array.count % 2 or not array.chunk:
-            raise Untold(f"of raid10 a text tells two near copies over an even number of members, and this one has {array.count} and {array.layout or 'no layout'}")
+            has = f"{array.count} members, {array.layout or 'no layout'} and chunks of {array.chunk}"
+            raise Untold(f"of raid10 a text tells two near copies over an even number of members, and this array has {has}")
         found = []
         for slot in range(0, array.count, 2):
             names = [array.slots[it] for it in (slot, slot + 1) if it in array.slots]

@@ -2,6 +2,7 @@
 import os
 import subprocess
 import sys
+import unittest
 
 TOOLS = os.path.dirname(os.path.dirname(os.path.abspath(__file__)))
 TOP = os.path.dirname(TOOLS)
@@ -22,8 +23,14 @@ def program(*words, data=b""):
     return ran.returncode, ran.stdout.decode(), ran.stderr.decode()
 
 
-def has_program():
-    return os.access(PROGRAM, os.X_OK)
+def needs(is_there, what):
+    """Skips a test where something is missing, and says so."""
+    if not is_there:
+        print(f"tools: there is no {what}: the tests that need it are skipped", file=sys.stderr)
+    return unittest.skipUnless(is_there, f"there is no {what}")
+
+
+needs_program = needs(os.access(PROGRAM, os.X_OK), "built program")
 
 
 def read(path):

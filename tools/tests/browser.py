@@ -1,4 +1,5 @@
 """A headless Chromium, driven by its own protocol over two pipes."""
+import base64
 import json
 import os
 import shutil
@@ -7,6 +8,8 @@ import tempfile
 import time
 
 NAMES = ("chromium", "chromium-browser", "google-chrome", "chrome")
+# of keys that are no letters
+NUMBERS = {"ArrowRight": 39, "ArrowLeft": 37, "End": 35, "Home": 36, "Tab": 9}
 PATIENCE = 40  # seconds for one answer
 
 
@@ -90,14 +93,13 @@ class Browser:
         return result["result"].get("value")
 
     def press(self, key, code=None, text=None):
-        about = {"key": key, "code": code or key, "windowsVirtualKeyCode": {"ArrowRight": 39, "ArrowLeft": 37, "End": 35, "Home": 36, "Tab": 9}.get(key, 0)}
+        about = {"key": key, "code": code or key, "windowsVirtualKeyCode": NUMBERS.get(key, 0)}
         if text:
             about["text"] = text
         self.call("Input.dispatchKeyEvent", type="keyDown", **about)
         self.call("Input.dispatchKeyEvent", type="keyUp", **about)
 
     def picture(self, path):
-        import base64
         data = self.call("Page.captureScreenshot", format="png")["data"]
         with open(path, "wb") as file:
             file.write(base64.b64decode(data))

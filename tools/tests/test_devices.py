@@ -1,4 +1,4 @@
-"""A machine with real devices: two loop devices and, where the kernel has md, a mirror of them. It makes devices, so it is run only where it is asked for."""
+"""A machine with real devices: two loop devices and, where the kernel has md, a mirror of them. It runs only where it is asked for."""
 import os
 import shutil
 import subprocess

@@ -6,7 +6,7 @@ import unittest
 
 from fault import Fault
 from machine.main import main
-from tests import TOOLS, has_program, program, tool
+from tests import TOOLS, needs_program, program, tool
 
 FOLDER = os.path.join(TOOLS, "tests", "machines")
 ACCEPTED = ""
@@ -129,7 +129,7 @@ class Machines(unittest.TestCase):
             for words in comments:
                 self.assertTrue(any(words in line for line in text.splitlines() if line.startswith("#")), f"{folder}: {words}\n{text}")
 
-    @unittest.skipUnless(has_program(), "the program is not built")
+    @needs_program
     def test_program_takes_them(self):
         for folder, words, _, _, refused in CASES:
             text = text_of(folder, words)[1]

@@ -3,7 +3,7 @@ import os
 import tempfile
 import unittest
 
-from tests import examples, tool
+from tests import examples, needs, tool
 from tests.browser import Browser, path_of_chromium
 from viewer.trace import read_trace
 
@@ -25,7 +25,7 @@ def long_run():
     return "\n".join(lines) + "\n", "\n".join(events + report) + "\n"
 
 
-@unittest.skipUnless(path_of_chromium(), "there is no Chromium")
+@needs(path_of_chromium(), "Chromium")
 class Page(unittest.TestCase):
     @classmethod
     def setUpClass(cls):

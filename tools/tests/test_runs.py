@@ -3,7 +3,7 @@ import io
 import unittest
 
 from fault import Fault
-from tests import EXAMPLES, RUNS, TOOLS, examples, has_program, program, read
+from tests import EXAMPLES, RUNS, TOOLS, examples, needs_program, program, read
 from viewer.main import main, notes_of
 from viewer.recording import Recording
 from viewer.scenario import read_scenario
@@ -67,6 +67,13 @@ MISFITS = [
     (15, "w0 take m.bios missed", "m.bios has a spare"),
     (25, "c:b done 1 ok", "it should be 0 ok"),
 ]
+# what stands in the report, what is put in its place, and where that does not fit
+REPORT_MISFITS = [
+    ("spare 2", "spare 1", "pool m.bios"),
+    ("run b 0 1", "run b 0 2", "disk b"),
+    ("write 0 ok", "write 0 io", "writes"),
+    ("steps 25", "steps 24", "steps"),
+]
 FAULTS = [
     ("", "standard input: there is no line of an event"),
     ("event w0 take fs.bios\n", "standard input: line 1: this is no line of an event"),
@@ -102,7 +109,8 @@ class WorkedRun(unittest.TestCase):
     def test_says_why_a_rescuer_is_needed(self):
         recording = followed(SHORTAGE, TRACE)[0]
         tale = recording.teller.text(recording.tales[6])
-        for words in ("m.bios is empty", "Writer 0 may not wait here", "its own list holds the copy of write 0 for a", "only it could submit", "rescuer of m"):
+        whys = ("m.bios is empty", "Writer 0 may not wait here", "its own list holds the copy of write 0 for a", "only it could submit", "rescuer of m")
+        for words in whys:
             self.assertIn(words, tale)
 
     def test_misfits(self):
@@ -120,7 +128,7 @@ class WorkedRun(unittest.TestCase):
         self.assertIn("Line 26 of the trace does not fit: w0 take fs.bios spare: w0 has ended", followed(SHORTAGE, "\n".join(lines))[2][0])
 
     def test_reports_that_do_not_fit(self):
-        for old, new, what in (("spare 2", "spare 1", "pool m.bios"), ("run b 0 1", "run b 0 2", "disk b"), ("write 0 ok", "write 0 io", "writes"), ("steps 25", "steps 24", "steps")):
+        for old, new, what in REPORT_MISFITS:
             notes = followed(SHORTAGE, TRACE.replace(old, new))[2]
             self.assertIn(f"The report, from line 26 of the trace on, does not fit. {what}", notes[0])
 
@@ -164,7 +172,7 @@ class Examples(unittest.TestCase):
         for name, path, output in examples():
             self.assertEqual(followed(read(path), output)[2], [], name)
 
-    @unittest.skipUnless(has_program(), "the program is not built")
+    @needs_program
     def test_outputs_are_of_the_program(self):
         for name, path, output in examples():
             self.assertEqual(program("run", "--trace", data=read(path).encode())[1], output, name)

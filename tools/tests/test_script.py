@@ -5,7 +5,7 @@ import subprocess
 import tempfile
 import unittest
 
-from tests import TOP
+from tests import TOP, needs
 
 PAGE = os.path.join(TOP, "man", "biostack.1")
 # whether other manuals are there is no matter of the page
@@ -13,7 +13,7 @@ OF_OTHERS = ("referenced manual not found", "outdated mandoc.db")
 
 
 class ManualPage(unittest.TestCase):
-    @unittest.skipUnless(shutil.which("mandoc"), "there is no mandoc")
+    @needs(shutil.which("mandoc"), "mandoc")
     def test_lint(self):
         ran = subprocess.run(["mandoc", "-T", "lint", PAGE], stdout=subprocess.PIPE, stderr=subprocess.STDOUT)
         found = [line for line in ran.stdout.decode().splitlines() if not any(words in line for words in OF_OTHERS)]
@@ -64,7 +64,7 @@ class Script(unittest.TestCase):
         for words in ([], [""], ["a", "b"]):
             self.assertEqual(self.run_script("install", *words)[::2], (2, "biostack: usage: install PREFIX\n"))
 
-    @unittest.skipUnless(shutil.which("man"), "there is no man")
+    @needs(shutil.which("man"), "man")
     def test_shows_the_page(self):
         status, out, errors = self.run_script("man")
         self.assertEqual(status, 0, errors)

@@ -115,7 +115,8 @@ class Lanes {
     pen.textAlign = "center";
     const every = [1, 5, 10, 50, 100, 500].find((it) => it * this.spacing >= 34) || 1000;
     for (let step = this.first; step <= last; step += 1) {
-      if (step % every === 0 || step === this.step) pen.fillText(step, this.x(step), 11);
+      const isFree = Math.abs(step - this.step) * this.spacing >= 44;
+      if (step === this.step || (step % every === 0 && isFree)) pen.fillText(step, this.x(step), 11);
     }
     pen.textAlign = "left";
   }
