@@ -1,0 +1,7 @@
+pub mod CountLemmas
+pub mod SeenLemmas
+pub mod LegLemmas
+pub mod PairLemmas
+pub mod LineLemmas
+pub mod DiskLemmas
+mod Examples

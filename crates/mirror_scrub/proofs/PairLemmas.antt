@@ -1,0 +1,74 @@
+-- The flags of a pair, sector by sector.
+use Rattle.std.proofs.Common.{◌≡◌, ◌==◌, ◌+◌, ◌-◌, ◌<◌, ◌≤◌, inl, inr, ℕ, Bool, true, false, List, length, not, sym, ap, ◌∙◌, arith}
+use Rattle.std.specs.List.{count_by, range_with_len}
+use Rattle.std.proofs.lemmas.Bool.{cases_eq, cases_lt}
+use Rattle.std.proofs.lemmas.Bool.Decides.{nat_tests}
+use Rattle.std.proofs.lemmas.List.FromFn.{get_or-map-range_with_len, length-map-range_with_len}
+use Rattle.model_disks.specs.Runs.{IsApart, IsFirst, flag}
+use Rattle.mirror_scrub.specs.declared.pair.Pair.{Pair}
+use Rattle.mirror_scrub.specs.declared.stretch.Stretch.{Stretch}
+use Rattle.mirror_scrub.specs.Seen.{differing}
+use Rattle.mirror_scrub.specs.Stretches.{IsStretchOf, differ_at, differ_in, flags_in}
+use Rattle.mirror_scrub.proofs.CountLemmas.{count_flags, count_none, count_on, count_some, counts_along}
+
+module _ (p : Pair) where
+  pub flag_in : (x : ℕ) → x < p.size → flag (flags_in p) x ≡ differ_in p x
+  unfolding differing
+  flag_in x lt = get_or-map-range_with_len (differ_in p) 0 p.size x x false lt (omega arith)
+
+  pub flags_long : length (flags_in p) ≡ p.size
+  unfolding differing
+  flags_long = length-map-range_with_len (differ_in p) 0 p.size
+
+  pub flags_count : count_by (λ (differing : Bool). differing) (flags_in p) ≡ count_by (differ_in p) (range_with_len 0 p.size)
+  unfolding differing
+  flags_count = count_flags (differ_in p) (range_with_len 0 p.size)
+
+  -- what is so of all sectors before a place, and of the first ones of the stretch that begins there
+  pub others_on : (s : Stretch) (so : Bool) (from at n : ℕ) → IsStretchOf p at s → n ≤ s.len
+      → ((x : ℕ) → from ≤ x → x < at → differ_in p x ≡ not so) → ((i : ℕ) → i < n → differ_at s i ≡ not so)
+      → (x : ℕ) → from ≤ x → x < at + n → differ_in p x ≡ not so
+  others_on s so from at n is most before here x le lt = elim (cases_lt x at) [
+    | inl first ↦ before x le first
+    | inr behind ↦
+        let place : at + (x - at) ≡ x = omega (arith, behind) in
+        let inside : x - at < n = omega (arith, behind, lt) in
+        ap (differ_in p) (sym place) ∙ sym (is.same (x - at) (omega (arith, inside, most))) ∙ here (x - at) inside
+  ]
+
+  -- the first that is so, from what holds of the sectors
+  pub first_is : (from : ℕ) (so : Bool) (place : ℕ) → from ≤ place → place ≤ p.size → ((x : ℕ) → from ≤ x → x < place → differ_in p x ≡ not so)
+      → (place < p.size → differ_in p place ≡ so) → IsFirst (flags_in p) from so place
+  first_is from so place behind within others here = record {
+    behind = behind;
+    within = omega (arith, within, flags_long);
+    others = λ x le lt. flag_in x (omega (arith, lt, within)) ∙ others x le lt;
+    here = λ lt. let inside : place < p.size = omega (arith, lt, flags_long) in flag_in place inside ∙ here inside;
+  }
+
+  -- the count of a stretch is added
+  pub counts_on : (s : Stretch) (at : ℕ) → IsStretchOf p at s
+      → count_by (differ_in p) (range_with_len 0 (at + s.len))
+      ≡ count_by (differ_in p) (range_with_len 0 at) + count_by (differ_at s) (range_with_len 0 s.len)
+  counts_on s at is =
+      omega (
+        arith,
+        count_on (differ_in p) at s.len,
+        counts_along (differ_at s) (differ_in p) 0 at s.len (λ i lt. ap (differ_at s) (omega arith) ∙ is.same i lt),
+      )
+
+-- a place that is not set is not inside a run
+pub apart_unset : (flags : List Bool) (x : ℕ) → flag flags x ≡ false → IsApart flags x
+apart_unset flags x unset set = cc (set, unset)
+
+-- none is set where the first that is set is none, and then alone
+pub none_set : (flags : List Bool) (size place : ℕ) → length flags ≡ size → IsFirst flags 0 true place
+    → (place == size) ≡ (count_by (λ (set : Bool). set) flags == 0)
+none_set flags size place long first = elim (cases_eq place size) [
+  | inl same ↦
+      let none = count_none flags (λ x lt. first.others x (omega arith) (omega (arith, lt, same, long))) in
+      grind (arith, nat_tests, same, none)
+  | inr other ↦
+      let some = count_some flags place (first.here (omega (arith, other, first.within, long))) in
+      grind (arith, nat_tests, other, some)
+]

@@ -1,0 +1,50 @@
+-- Two devices of a stack side by side, and sectors of two disks that follow one another on both.
+use Rattle.std.specs.Prelude.{◌≡◌, ◌+◌, ◌<◌, ◌≤◌, not, ℕ, Bool, List, [], length, slice_index_or}
+use Rattle.stack_base.specs.Stack.{IsStack}
+use Rattle.stack_base.specs.Tree.{size, tree}
+use Rattle.image_lanes.specs.Lanes.{is_same}
+use Rattle.mirror_scrub.specs.declared.pair.Pair.{Pair}
+use Rattle.mirror_scrub.specs.declared.stretch.Stretch.{Stretch}
+use Rattle.mirror_scrub.specs.Seen.{AreDisksOf, differing, differs, held}
+
+-- both are devices of the stack, whose disks these are, and have so many sectors
+pub record IsPair (p : Pair) : Type 0 where
+  pub stack : IsStack p.stack.now
+  pub disks : AreDisksOf p.stack.now p.disks.now
+  pub one : p.one.0 < length p.stack.now.devices.items
+  pub other : p.other.0 < length p.stack.now.devices.items
+  pub in_one : p.size ≤ size (tree p.stack.now p.one.0)
+  pub in_other : p.size ≤ size (tree p.stack.now p.other.0)
+
+-- whether they show different words at sector s
+abbrev pub differ_in : Pair → ℕ → Bool
+differ_in p s = differs (held p.disks.now) (tree p.stack.now p.one.0) (tree p.stack.now p.other.0) s
+
+-- and for each of their sectors
+abbrev pub flags_in : Pair → List Bool
+flags_in p = differing (held p.disks.now) (tree p.stack.now p.one.0) (tree p.stack.now p.other.0) p.size
+
+-- the sectors lie within their disks, and no disk is large
+pub record IsWithin (s : Stretch) : Type 0 where
+  pub one : s.at + s.len ≤ length s.one.now.image
+  pub other : s.there + s.len ≤ length s.other.now.image
+  pub low : s.at + s.len ≤ 262144
+  pub also : s.there + s.len ≤ 262144
+
+-- whether the words of the sectors at this place differ
+abbrev pub differ_at : Stretch → ℕ → Bool
+differ_at s place =
+    not (is_same (slice_index_or s.one.now.image (s.at + place) []) (slice_index_or s.other.now.image (s.there + place) []))
+
+-- the sectors of a pair from `start` on are those of the stretch, as many as it has
+pub record IsStretchOf (p : Pair) (start : ℕ) (s : Stretch) : Type 0 where
+  pub some : 1 ≤ s.len
+  pub short : start + s.len ≤ p.size
+  pub within : IsWithin s
+  pub same : (i : ℕ) → i < s.len → differ_at s i ≡ differ_in p (start + i)
+
+-- the first place that is so, or the length where there is none
+pub record IsFirstSo (s : Stretch) (so : Bool) (place : ℕ) : Type 0 where
+  pub within : place ≤ s.len
+  pub others : (i : ℕ) → i < place → differ_at s i ≡ not so
+  pub here : place < s.len → differ_at s place ≡ so

@@ -1,0 +1,91 @@
+//! Two devices of a stack, side by side.
+ghost use Rattle.std.specs.Prelude.{◌≡◌, ◌==◌, ◌<◌, ◌≤◌, Bool, length, find, Some, IsSomeAnd};
+ghost use Rattle.std.specs.List.{count_by};
+ghost use Rattle.model_disks.specs.Disks.{DiskState};
+ghost use Rattle.model_disks.specs.Runs.{IsFirst};
+ghost use Rattle.mirror_scrub.specs.Stretches.{IsPair, IsStretchOf, flags_in};
+
+use crate::stretch::Stretch;
+use layout_model::first_stretch;
+use model_disks::Disk;
+use stack_base::{DevId, Stack};
+
+/// The sectors of two devices of a stack, side by side.
+#[derive(Drop)]
+pub struct Pair<'d> {
+    /// The stack.
+    pub stack: &'d Stack,
+    /// Its disks.
+    pub disks: &'d [Disk],
+    /// The one device.
+    pub one: DevId,
+    /// The other device.
+    pub other: DevId,
+    /// How many of their sectors are compared.
+    pub size: u64,
+}
+
+// The disk with a number. There are few.
+fn disk_of(disks: &[Disk], dev: DevId) -> &Disk
+    requires { IsSomeAnd (find (λ (disk : DiskState). disk.dev.0 == dev.0) disks.now) (λ _. Unit {0}) }
+    ensures { find (λ (disk : DiskState). disk.dev.0 == dev.0) disks.now ≡ Some result.now }
+{
+    'looking: for disk in disks {
+        if disk.dev().0 == dev.0 {
+            return disk;
+        }
+    }
+    unreachable!()
+}
+
+impl<'d> Pair<'d> {
+    // The first sectors from `start` on, as many as follow one another on a disk on both sides.
+    fn stretch(&self, start: u64) -> Stretch<'d>
+        requires pair { IsPair self.now }
+        requires start { start < self.now.size }
+        ensures { IsStretchOf self.now start result }
+    {
+        let here = first_stretch(self.stack, self.one, start, self.size - start);
+        let there = first_stretch(self.stack, self.other, start, self.size - start);
+        Stretch {
+            one: disk_of(self.disks, here.dev),
+            at: here.at,
+            other: disk_of(self.disks, there.dev),
+            there: there.at,
+            len: here.len.min(there.len),
+        }
+    }
+
+    /// How many sectors the devices show with different words.
+    pub fn count(&self) -> u64
+        requires { IsPair self.now }
+        ensures { result ≡ count_by (λ (differing : Bool). differing) (flags_in self.now) }
+    {
+        let mut at = 0;
+        let mut count = 0;
+        while at < self.size {
+            let stretch = self.stretch(at);
+            count += stretch.count();
+            at += stretch.len;
+        }
+        count
+    }
+
+    /// The first sector at or behind `from` that they show with different words, or with the same, or the size where there is none.
+    pub fn first(&self, from: u64, differing: bool) -> u64
+        requires pair { IsPair self.now }
+        requires from { from ≤ self.now.size }
+        ensures { IsFirst (flags_in self.now) from differing result }
+    {
+        let mut at = from;
+        while at < self.size {
+            let stretch = self.stretch(at);
+            let place = stretch.first(differing);
+            if place < stretch.len {
+                return at + place;
+            }
+            at += stretch.len;
+        }
+        self.size
+    }
+}
