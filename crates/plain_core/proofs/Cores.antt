@@ -3,23 +3,20 @@ use Rattle.std.proofs.Common.{◌≡◌, ◌≢◌, ◌<◌, inl, inr, ℕ, zero
 use Rattle.std.specs.Prelude.{slice_get, slice_set, slice_index_or}
 use Rattle.std.proofs.Math.ListN.{length-set}
 use Rattle.std.proofs.lemmas.List.{get_or-set_other}
-use Rattle.stack_base.specs.declared.ids.DevId.{DevId}
 use Rattle.stack_base.specs.declared.stack.Stack.{Stack}
 use Rattle.stack_base.specs.Stack.{IsStack}
-use Rattle.bio_records.specs.declared.bio.Pad.{Pad}
-use Rattle.bio_records.specs.Items.{Item}
-use Rattle.bio_books.specs.Links.{Linked, Made, NoRoom, Stray}
 use Rattle.run_machine.specs.declared.event.Event.{Event}
 use Rattle.run_machine.specs.declared.event.What.{What}
 use Rattle.run_machine.specs.Maps.{upd}
-use Rattle.run_machine.specs.Scene.{Setup}
-use Rattle.run_machine.specs.Requests.{Request, Reply, HadBio, HadVec, HadSlip, Missed, Did, Popped, Completed, LinkedTo, DroppedTo, OutIs, Present, LeftOver, Nothing, Spent, Pop}
-use Rattle.run_machine.specs.Lines as line
+use Rattle.run_machine.specs.Requests.{Request, Reply, HadBio, HadVec, HadSlip, Missed, Did, Popped, Completed, LinkedTo, DroppedTo, OutIs, Present, LeftOver, Nothing, Spent, Pop, Done, NextRound, LookRound, LookLeft}
 use Rattle.run_machine.specs.Tasks as task
 use Rattle.run_machine.specs.Objects.{Objects, Serves}
 use Rattle.run_machine.specs.Events.{id_of, what_of}
-use Rattle.run_machine.specs.Runs.{IsLet}
-use Rattle.run_machine.specs.Opened.{no_task}
+use Rattle.run_machine.specs.Runs.{State, IsLet, Steps}
+use Rattle.run_machine.specs.Opened.{most_writers, no_task}
+use Rattle.elem_ledger.specs.Ledger.{LedgerId}
+use Rattle.run_machine.proofs.Frames.{one_object_changes}
+use Rattle.run_machine.proofs.OneState.{id_stays, steps_one}
 use Rattle.task_steps.specs.Routed.{Routing, setup, places_at}
 use Rattle.task_steps.specs.Within.{AreWithin, TaskFits, ReplyFits, TasksStayWithin}
 use Rattle.plain_core.specs.Ledgers.{ledger_of}
@@ -29,46 +26,9 @@ use Rattle.plain_core.specs.declared.fault.CoreFault.TheVariants as fault
 use Rattle.plain_core.specs.Plain.{Plain, HasPlaces, rescue_at, objects_of}
 use Rattle.plain_core.specs.Views.{task_of}
 use Rattle.plain_core.specs.Steps.{TaskMoves}
-use Rattle.plain_core.specs.Cores.{CoreState, task_at, slot_of, IsCore, IsPlace, HasNone, Applies, StepsFrom, StepsAt}
+use Rattle.plain_core.specs.Cores.{CoreState, state_of, scene_of, task_at, slot_of, IsCore, IsPlace, HasNone, Applies, StepsFrom, StepsAt}
 use Rattle.plain_core.proofs.Places.{at_set, head_within}
 use Rattle.plain_core.proofs.Updated.{upd_is}
-
--- a task stays the one that it is
-begun_id : (s : Setup) (n : ℕ) (later : List task.Todo) (bio : ℕ → Item Pad) (taken : task.Taken) (todo : task.Todo) (l : line.Line) (answer : Linked)
-    → id_of (task.begins s n later bio taken todo l answer) ≡ id_of (task.Writer n [] task.NoBio line.rests)
-begun_id s n later bio taken todo l (Made node) = refl
-begun_id s n later bio taken todo l (NoRoom back) = refl
-begun_id s n later bio taken todo l (Stray back) = refl
-
-write_id : (s : Setup) (n : ℕ) (todo : List task.Todo) (taken : task.Taken) (l : line.Line) (reply : Reply)
-    → id_of (task.write_answered s n todo taken l reply) ≡ id_of (task.Writer n [] task.NoBio line.rests)
-write_id s n todo taken l Spent = refl
-write_id s n (t ∷ later) task.NoBio l (HadBio got bio) = refl
-write_id s n (t ∷ later) (task.HasBio bio) l (HadVec got vector) = refl
-write_id s n (t ∷ later) (task.HasBio bio) l (LinkedTo answer) = begun_id s n later (λ node. task.filled_short n t node bio) (task.HasBio bio) t l answer
-write_id s n (t ∷ later) (task.HasBoth bio vector) l (LinkedTo answer) = begun_id s n later (λ node. task.filled n t node bio) (task.HasBoth bio vector) t l answer
-write_id s n todo taken l reply = refl
-
-writer_id : (s : Setup) (n : ℕ) (todo : List task.Todo) (taken : task.Taken) (doing : line.Doing) (l : line.Line) (reply : Reply)
-    → id_of (task.writer_answered s n todo taken doing l reply) ≡ id_of (task.Writer n [] task.NoBio line.rests)
-writer_id s n todo taken line.Rests l reply = write_id s n todo taken l reply
-writer_id s n todo taken (line.Drives bio ask) l reply = refl
-writer_id s n todo taken (line.Copies bio master leg want) l reply = refl
-writer_id s n todo taken (line.Breaks breach kept) l reply = refl
-
-rescuer_id : (s : Setup) (dev : DevId) (doing : line.Doing) (l : line.Line) (reply : Reply) → id_of (task.rescuer_answered s dev doing l reply) ≡ id_of (task.Rescuer dev line.rests)
-rescuer_id s dev line.Rests l (Popped bio) = refl
-rescuer_id s dev line.Rests l Spent = refl
-rescuer_id s dev line.Rests l reply = refl
-rescuer_id s dev (line.Drives bio ask) l reply = refl
-rescuer_id s dev (line.Copies bio master leg want) l reply = refl
-rescuer_id s dev (line.Breaks breach kept) l reply = refl
-
-pub id_stays : (s : Setup) (t : task.TaskState) (reply : Reply) → id_of (task.answered s t reply) ≡ id_of t
-id_stays s (task.Writer n todo taken l) reply = writer_id s n todo taken l.doing l reply
-id_stays s (task.Rescuer dev l) reply = rescuer_id s dev l.doing l reply
-id_stays s (task.Completer disk carried) reply = refl
-id_stays s (task.Keeper keeping) reply = refl
 
 -- what a rescuer takes is within
 reply_fits : (stack : Stack) (old : Plain) (request : Request) (reply : Reply) (new : Objects) → ((dev : ℕ) → AreWithin stack (rescue_at old dev))
@@ -166,6 +126,19 @@ core_kept r old new tasks rest places place what result law stack kept core here
       ]);
     }
 
+-- there is a status for each write
+statuses_stay : (ledger : ℕ → LedgerId) (old new : Objects) (asked : Request) (reply : Reply) → Serves ledger old asked reply new
+    → length new.tally.statuses ≡ length old.tally.statuses
+statuses_stay ledger old new (Done write status) Did serves = ap (λ o. length o.tally.statuses) serves ∙ length-set old.tally.statuses write status
+statuses_stay ledger old new (Done write status) reply serves = absurd serves
+statuses_stay ledger old new (NextRound round) Did serves = ap (λ o. length o.tally.statuses) serves.1
+statuses_stay ledger old new (NextRound round) reply serves = absurd serves
+statuses_stay ledger old new LookRound (Present round) serves = ap (λ o. length o.tally.statuses) serves.1
+statuses_stay ledger old new LookRound reply serves = absurd serves
+statuses_stay ledger old new LookLeft (LeftOver count) serves = ap (λ o. length o.tally.statuses) serves.1
+statuses_stay ledger old new LookLeft reply serves = absurd serves
+statuses_stay ledger old new asked reply serves = ap (λ o. length o.tally.statuses) (one_object_changes ledger old new asked reply serves)
+
 -- the event is a step of this task, or of none
 pub applies_at : (old : CoreState) (new : Plain) (rest : List task.TaskState) (event : Event) (place : ℕ) (result : Result (Unit {0}) CoreFault)
     → IsPlace old.tasks event.task place → Stepped old.routing old.objects old.tasks place event.what result new rest
@@ -173,21 +146,28 @@ pub applies_at : (old : CoreState) (new : Plain) (rest : List task.TaskState) (e
 applies_at old new rest event place (Ok d) is s =
     let m = s.moves in
     let others : (k : ℕ) → k ≢ place → task_at rest k ≡ task_at old.tasks k =
-    λ k ne. ap (λ l. task_at l k) s.others ∙ get_or-set_other old.tasks place k (task_at rest place) no_task ne in (
-      (
-        place,
-        record {
-          here = is.within;
-          by = is.named;
-          is_let = m.1;
-          reply = m.0;
-          told = m.2.told;
-          serves = m.2.serves;
-          goes_on = upd_is (task_at old.tasks) (task_at rest) place others ∙ ap (upd (task_at old.tasks) place) m.3;
-        },
-      ),
-      refl,
-    )
+    λ k ne. ap (λ l. task_at l k) s.others ∙ get_or-set_other old.tasks place k (task_at rest place) no_task ne in
+    let later : State = record { objects = objects_of new; task = task_at rest } in
+    let step : Steps (scene_of old) (state_of old) place event later = record {
+      here = is.within;
+      by = is.named;
+      is_let = m.1;
+      reply = m.0;
+      told = m.2.told;
+      serves = m.2.serves;
+      goes_on = upd_is (task_at old.tasks) (task_at rest) place others ∙ ap (upd (task_at old.tasks) place) m.3;
+    } in
+    let long : length rest ≡ length old.tasks = ap length s.others ∙ length-set old.tasks place (task_at rest place) in
+    let asked = task.request (setup old.routing) (task_at old.tasks place) in
+    let statuses = statuses_stay ledger_of (objects_of old.objects) (objects_of new) asked m.0 m.2.serves in record {
+      happens = (place, step);
+      only = λ other happens.
+          let at : happens.0 ≡ place = is.only happens.0 happens.1.here happens.1.by in
+          steps_one (scene_of old) (state_of old) other later place event
+          (subst (λ p. Steps (scene_of old) (state_of old) p event other) at happens.1) step;
+      scene = λ k. record { setup = setup old.routing; tasks = long k; books = most_writers; writes = statuses k; ledger = ledger_of };
+      routing = refl;
+    }
 applies_at old new rest event place (Err fault.NotEnabled) is s = (
   λ k. record { routing = old.routing; objects = s.moves.0 k; tasks = (s.others ∙ set_same old.tasks place (task_at rest place) no_task s.moves.1) k },
   λ next happens.

@@ -20,3 +20,4 @@ pub mod Readable
 pub mod Seen
 pub mod Risen
 pub mod SeenCores
+pub mod Home

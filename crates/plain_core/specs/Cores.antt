@@ -71,10 +71,16 @@ HasNone tasks name = (place : ℕ) → place < length tasks → name ≡ id_of (
 abbrev pub IsOfSubmission : List TaskState → TaskId → Type 0
 IsOfSubmission tasks name = (place : ℕ) × IsPlace tasks name place × Submits (task_at tasks place)
 
--- An event was applied: it is a step of the machine to the state afterwards. Where it is none, or where it is one for which there is no memory,
--- nothing is changed. A submission alone takes memory.
+-- An event was applied: it is a step of the machine to the state afterwards and to no other one, and what no event changes is as before.
+pub record IsApplied (old : CoreState) (event : Event) (new : CoreState) : Type 0 where
+  pub happens : Happens (scene_of old) (state_of old) event (state_of new)
+  pub only : (other : State) → Happens (scene_of old) (state_of old) event other → other ≡ state_of new
+  pub scene : scene_of new ≡ scene_of old
+  pub routing : new.routing ≡ old.routing
+
+-- Where an event is no step of the machine, or one for which there is no memory, nothing is changed. A submission alone takes memory.
 abbrev pub Applies : CoreState → Event → Result (Unit {0}) CoreFault → CoreState → Type 0
-Applies old event (Ok done) new = Happens (scene_of old) (state_of old) event (state_of new) × (new.routing ≡ old.routing)
+Applies old event (Ok done) new = IsApplied old event new
 Applies old event (Err fault.NotEnabled) new = (new ≡ old) × ((next : State) → Happens (scene_of old) (state_of old) event next → ⊥)
 Applies old event (Err fault.Memory) new = (new ≡ old) × IsEnabled (scene_of old) (state_of old) event × IsOfSubmission old.tasks event.task
 

@@ -1,5 +1,5 @@
 -- The objects as lists: pools by their numbers, the bios that wait for rescuers and the disks by devices, books by their writers.
-use Rattle.std.specs.Prelude.{◌≡◌, ◌<◌, ◌≤◌, ℕ, true, List, [], length, slice_index_or, slice_set, Option, None, Some, Result, Ok, Err}
+use Rattle.std.specs.Prelude.{◌≡◌, ◌<◌, ◌≤◌, ◌==◌, ℕ, Bool, true, List, [], length, slice_index_or, slice_set, Option, None, Some, Result, Ok, Err}
 use Rattle.fail_script.specs.Script.{only_tail}
 use Rattle.stack_base.specs.declared.stack.Stack.{Stack}
 use Rattle.stack_base.specs.Tree.{size, tree}
@@ -33,6 +33,10 @@ no_pool = opened 0 (only_tail true)
 
 abbrev pub pool_at : Plain → ℕ → PoolState
 pool_at o number = slice_index_or o.pools number no_pool
+
+-- every element of a pool is at home
+abbrev pub is_home : PoolState → Bool
+is_home pool = pool.facts.out == 0
 
 abbrev pub with_pool : Plain → ℕ → PoolState → Plain
 with_pool o number pool = record o { pools = slice_set o.pools number pool }

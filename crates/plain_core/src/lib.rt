@@ -22,6 +22,7 @@ mod seen_objects;
 mod seen_tasks;
 mod state;
 mod step;
+mod tally;
 mod task;
 mod todos;
 mod told;
@@ -30,10 +31,11 @@ pub use book::{Book, Closed, Ended, Holding, Node};
 pub use disk::Disk;
 pub use fault::CoreFault;
 pub use lists::{Lists, Rescue};
-pub use objects::{Objects, Tally};
+pub use objects::Objects;
 pub use part::{Data, Hand, Part, Slip, Vector};
 pub use pool::Pool;
 pub use state::Core;
+pub use tally::Tally;
 pub use task::{
     Ask, Carried, Completer, Copying, Doing, Duty, Keeper, Line, Rescuer, Taken, Task, Todo, Want,
     Writer,

@@ -1,5 +1,6 @@
 //! The objects of a run as plain data.
 ghost use Rattle.std.specs.Prelude.{◌≡◌, ℕ, ◌+◌, ◌-◌, ◌^◌, ◌<◌, ◌≤◌, ◌==◌, true, length, sum, Option, None, Some, IsSomeAnd, MatchBool, MatchOption, OnOk, OnErr};
+ghost use Rattle.std.specs.List.{list_all};
 ghost use Rattle.stack_base.specs.PoolId.{pool_number};
 ghost use Rattle.stack_base.specs.Tree.{tree};
 ghost use Rattle.bio_records.specs.declared.bio.Pad.{Pad};
@@ -16,7 +17,7 @@ ghost use Rattle.bio_books.specs.Books.{node_at};
 ghost use Rattle.bio_books.specs.Links.{IsVacant};
 ghost use Rattle.plain_core.specs.Free.{IsCountAt, IsShort, Tells};
 ghost use Rattle.plain_core.specs.Lists.{lists_of, HasRoom};
-ghost use Rattle.plain_core.specs.Plain.{Gives, HasSize, HasPlaces, book_at, disk_at, pool_at, rescue_at};
+ghost use Rattle.plain_core.specs.Plain.{Gives, HasSize, HasPlaces, book_at, disk_at, is_home, pool_at, rescue_at};
 ghost use Rattle.plain_core.specs.Told.{Takes, MovesAs, Punts, Pops, Pushes, PushesIn, IsComplete, CompletesIn, Links, Joins, IsDrop};
 
 use crate::book::{Book, Ended};
@@ -25,103 +26,14 @@ use crate::fault::CoreFault;
 use crate::lists::{Lists, Rescue};
 use crate::part::{Part, Slip, Vector};
 use crate::pool::Pool;
+use crate::tally::Tally;
 use crate::told;
+use mempool_core::Facts;
 use stack_base::{DevId, PoolId, Status};
 use std::alloc::AllocError;
 use std::marker::Model;
 use std::snapshot::Snapshot;
 use task_core::{Got, How, Routes, What};
-
-/// What is counted of writes.
-#[derive(Drop)]
-pub struct Tally {
-    round: u32,
-    // How many writes of each round are unfinished, and how many of all.
-    left: Vec<u64>,
-    all: u128,
-    statuses: Vec<Status>,
-}
-
-impl Model for Tally {
-    ghost use Rattle.std.specs.Prelude.{◌≡◌, ◌<◌, ◌^◌, length, sum};
-    ghost use Rattle.run_machine.specs.Objects.{TallyState};
-
-    ghost Value = { TallyState };
-
-    ghost view = { λ t. record { round = t.round; left = t.left.items; statuses = t.statuses.items } };
-
-    ghost invariant = { λ t. (length t.left.items < 2 ^ 32) × (sum t.left.items ≡ t.all) };
-}
-
-// The sum of some numbers.
-fn total(numbers: &[u64]) -> u128
-    requires { length numbers.now < 2 ^ 32 }
-    ensures { result ≡ sum numbers.now }
-{
-    let mut total = 0;
-    'adding: for number in numbers {
-        total += u128::from(*number);
-    }
-    total
-}
-
-impl Tally {
-    /// A tally of so many unfinished writes of each round.
-    pub fn new(left: Vec<u64>, statuses: Vec<Status>) -> Tally
-        requires { length left.items < 2 ^ 32 }
-        ensures { result ≡ record { round = 0; left = left.items; statuses = statuses.items } }
-    {
-        let all = total(&left);
-        Tally {
-            round: 0,
-            left,
-            all,
-            statuses,
-        }
-    }
-
-    /// The present round.
-    pub fn round(&self) -> u32
-        ensures { result ≡ self.now.round }
-    {
-        self.round
-    }
-
-    // A write of the present round is done.
-    fn done(&mut self, write: u32, status: Status)
-        ensures { self.new ≡ done_one write status self.old }
-    {
-        if let Some(left) = self.left.get_mut(self.round as usize) {
-            self.all -= u128::from((*left).min(1));
-            *left = left.saturating_sub(1);
-        }
-        if let Some(known) = self.statuses.get_mut(write as usize) {
-            *known = status;
-        }
-    }
-
-    /// Whether so many writes are unfinished.
-    pub fn leaves(&self, count: u64) -> bool
-        ensures { result ≡ (sum self.now.left == count) }
-    {
-        self.all == u128::from(count)
-    }
-
-    /// Whether a round is behind the present one.
-    pub fn has_next(&self) -> bool
-        ensures { MatchBool result (self.now.round + 1 < length self.now.left) (self.now.round + 1 < length self.now.left → ⊥) }
-    {
-        (self.round as usize) + 1 < self.left.len()
-    }
-
-    // The next round is the present one.
-    fn start(&mut self)
-        requires { self.old.round + 1 < length self.old.left }
-        ensures { self.new ≡ record self.old { round = self.old.round + 1 } }
-    {
-        self.round += 1;
-    }
-}
 
 // A bio comes to a disk.
 fn push_to(slot: &mut Option<Disk>, part: Part) -> Result<(), AllocError>
@@ -241,6 +153,13 @@ impl Objects {
         self.tally.leaves(count)
     }
 
+    /// How many writes are unfinished.
+    pub fn unfinished(&self) -> u128
+        ensures { result ≡ sum self.now.tally.left }
+    {
+        self.tally.unfinished()
+    }
+
     /// Whether a round is behind the present one.
     pub fn has_next(&self) -> bool
         ensures { Tells result (self.now.tally.round + 1 < length self.now.tally.left) }
@@ -266,6 +185,31 @@ impl Objects {
             None => 0,
             Some(pool) => pool.out(),
         }
+    }
+
+    /// The numbers of the pool of this number, which are those of an empty one where there is none.
+    pub fn facts(&self, number: u64) -> Facts
+        ensures { result ≡ (pool_at self.now number).facts }
+    {
+        match self.pools.get(number as usize) {
+            None => Facts {
+                min: 0,
+                spares: 0,
+                out: 0,
+                live: 0,
+                pos: 0,
+                ordinary: 0,
+                spare: 0,
+            },
+            Some(pool) => pool.facts(),
+        }
+    }
+
+    /// Whether every element of all pools is at home.
+    pub fn are_home(&self) -> bool
+        ensures { result ≡ list_all is_home self.now.pools }
+    {
+        self.pools.iter().all(|pool| pool.out() == 0)
     }
 
     /// Whether a bio waits for the rescuer of this device's set.

@@ -11,7 +11,8 @@ ghost use Rattle.plain_core.specs.Opening.{counts_of, new_books, new_disk, new_d
 use crate::book::Book;
 use crate::disk::Disk;
 use crate::lists::Rescue;
-use crate::objects::{Objects, Tally};
+use crate::objects::Objects;
+use crate::tally::Tally;
 use crate::pool::Pool;
 use crate::told::pool_of;
 use fail_script::Script;

@@ -113,6 +113,13 @@ impl Pool {
         self.facts.out
     }
 
+    /// The numbers.
+    pub fn facts(&self) -> Facts
+        ensures { result ≡ self.now.facts }
+    {
+        self.facts
+    }
+
     /// Gives an element back (`mempool_free`, `mm/mempool.c`).
     pub fn give(&mut self)
         requires { CanMove self.old gives }

@@ -9,7 +9,8 @@ ghost use Rattle.task_steps.specs.Stage.{is_pool};
 ghost use Rattle.plain_core.specs.Opening.{new_books, new_disk, new_disks, new_pool, new_pools};
 
 use crate::disk::Disk;
-use crate::objects::{Objects, Tally};
+use crate::objects::Objects;
+use crate::tally::Tally;
 use crate::opening::{copy_of, open_books, open_rescues};
 use crate::pool::Pool;
 use crate::told::pool_of;

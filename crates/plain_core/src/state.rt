@@ -5,13 +5,14 @@ ghost use Rattle.task_steps.specs.Within.{TaskFits};
 ghost use Rattle.task_core.specs.opening.OfOne.{IsOpened as AreTheFirst, scenario_in};
 ghost use Rattle.plain_core.specs.Views.{task_of};
 ghost use Rattle.plain_core.specs.Opening.{CanOpen, IsOpened, scenario_by};
-ghost use Rattle.run_machine.specs.Runs.{HasFree};
+ghost use Rattle.stack_base.specs.PoolId.{pool_number};
+ghost use Rattle.run_machine.specs.Runs.{HasEnded, HasFree, unfinished};
 ghost use Rattle.plain_core.specs.Free.{IsFirstFree};
 ghost use Rattle.plain_core.specs.Cores.{scene_of, state_of, task_at, AreFound, IsPlace, HasNone, StepsAt, Applies};
 
 use crate::fault::CoreFault;
 use crate::free::task_is_free;
-use crate::objects::Objects;
+use crate::objects::{Objects, number_of};
 use crate::opening::open_objects;
 use crate::rounds::{counts_of, duties_of};
 use crate::seats::{seat_all, slot_of};
@@ -21,6 +22,7 @@ use crate::step::task_step;
 use crate::task::Task;
 use crate::todos::places;
 use fail_script::Script;
+use mempool_core::Facts;
 use stack_base::{PoolId, Stack};
 use std::alloc::{AllocError, Global};
 use std::marker::Model;
@@ -154,6 +156,27 @@ impl Core {
             }
         }
         None
+    }
+
+    /// How many writes are unfinished.
+    pub fn unfinished(&self) -> u128
+        ensures { result ≡ unfinished (state_of self.now) }
+    {
+        self.objects.unfinished()
+    }
+
+    /// The numbers of a pool, which are those of an empty one where the stack has no such pool.
+    pub fn facts(&self, pool: PoolId) -> Facts
+        ensures { result ≡ ((state_of self.now).objects.pool (pool_number pool)).facts }
+    {
+        self.objects.facts(number_of(pool))
+    }
+
+    /// Whether the run has ended: every write is done, and every element is at home.
+    pub fn has_ended(&self) -> bool
+        ensures { MatchBool result (HasEnded (state_of self.now)) (HasEnded (state_of self.now) → ⊥) }
+    {
+        self.unfinished() == 0 && self.objects.are_home()
     }
 
     /// Applies an event: the state is that after the step of the machine then, which is the only one that the event tells.

@@ -1,5 +1,5 @@
 use Rattle.std.proofs.Common.{◌≡◌, ◌*◌, ◌^◌, ◌≤◌, take, sum}
-use Rattle.plain_core.proofs.objects.total.Given as goal
+use Rattle.plain_core.proofs.tally.total.Given as goal
 
 -- what is added up so far, in which each number is below 2^64
 abbrev pub invariant-adding : goal.invariant-adding
