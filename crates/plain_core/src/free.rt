@@ -8,7 +8,8 @@ ghost use Rattle.plain_core.specs.declared.need.Need.TheVariants as need;
 
 use crate::need::{Need, task_need};
 use crate::objects::{Objects, number_of};
-use crate::step::{next_duty, next_todo};
+use crate::step::keeper::next_duty;
+use crate::step::writer::next_todo;
 use crate::task::{Keeper, Taken, Task, Writer};
 
 // Whether the writer's book has a vacant place, and the node at the place of a parent can wait for one more end.

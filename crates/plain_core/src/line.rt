@@ -1,30 +1,32 @@
 //! Steps of submissions.
-ghost use Rattle.std.specs.Prelude.{◌≡◌, ◌+◌, ◌<◌, length, true, IfOk};
+ghost use Rattle.std.specs.Prelude.{◌≡◌, ◌<◌, length, true, IfOk};
 ghost use Rattle.stack_base.specs.PoolId.{pool_number};
 ghost use Rattle.stack_base.specs.Tree.{tree};
 ghost use Rattle.bio_records.specs.declared.bio.Pad.{Pad as Padding};
 ghost use Rattle.bio_records.specs.Items.{Item};
-ghost use Rattle.bio_lists.specs.Submission.{submitted};
 ghost use Rattle.bioset_pools.specs.Sets.{bios_of};
-ghost use Rattle.run_machine.specs.Lines.{first_waits, asks_at, driven, goes_on, after_miss, cut_at, copies, leg_at, legs_of};
+ghost use Rattle.run_machine.specs.Lines.{first_waits, asks_at, driven, goes_on, after_miss, cut_at};
 ghost use Rattle.task_steps.specs.Routed.{setup};
 ghost use Rattle.task_steps.specs.Within.{IsWithin, ListsAreWithin, DoingFits, LineFits, is_cut};
 ghost use Rattle.plain_core.specs.Lists.{lists_of, HasRoom};
 ghost use Rattle.plain_core.specs.Views.{ask_of, doing_of, line_of, want_of};
 ghost use Rattle.plain_core.specs.declared.line.Next.TheVariants as then;
-ghost use Rattle.plain_core.specs.Steps.{LineSteps, LineMoves, CanTurn, turned, cuts_for, drives_for, copies_for, TakesPart, TakesSlip, TakesWant};
+ghost use Rattle.plain_core.specs.Steps.{LineSteps, LineMoves, CanTurn, turned, cuts_for, drives_for, TakesPart, TakesSlip, TakesWant};
+
+mod copies;
 
 use crate::fault::CoreFault;
+use crate::line::copies::{begin_copy, copy_step};
 use crate::lists::Lists;
 use crate::objects::Objects;
 use crate::part::{Hand, Part, Slip};
-use crate::task::{Ask, Copying, Doing, Line, Want};
+use crate::task::{Ask, Doing, Line, Want};
 use bio_records::{Bio, Pad, advance};
 use stack_base::{DevId, PoolId, Range, SetId};
 use task_core::{Got, Manner, Routes, What};
 
 // Whether the first attempt at a bio of the device's set waits.
-fn first_waits(routes: &Routes, dev: DevId, lists: &Lists) -> bool
+pub(crate) fn first_waits(routes: &Routes, dev: DevId, lists: &Lists) -> bool
     requires { dev.0 < length routes.now.stack.devices.items }
     ensures { result ≡ first_waits (setup routes.now) dev (lists_of lists.now) }
 {
@@ -65,7 +67,7 @@ pub fn drive(routes: &Routes, part: Part, line: &mut Line)
 }
 
 // The driver of this device has returned.
-fn go_on(routes: &Routes, dev: DevId, line: &mut Line)
+pub(crate) fn go_on(routes: &Routes, dev: DevId, line: &mut Line)
     requires room { HasRoom 0 line.old.lists }
     requires within { ListsAreWithin routes.now.stack (lists_of line.old.lists) }
     ensures { line_of line.new ≡ goes_on (setup routes.now) dev (lists_of line.old.lists) }
@@ -131,7 +133,12 @@ fn after_miss(waits: bool) -> Want
 }
 
 // A driver's attempt at a bio of its device's set.
-fn take_for(objects: &mut Objects, dev: DevId, waits: bool, what: &What) -> Result<Want, CoreFault>
+pub(crate) fn take_for(
+    objects: &mut Objects,
+    dev: DevId,
+    waits: bool,
+    what: &What,
+) -> Result<Want, CoreFault>
     requires { dev.0 < 32 }
     ensures { TakesWant objects.old dev waits what.now result objects.new }
 {
@@ -172,7 +179,7 @@ fn cut(routes: &Routes, part: &Part, hand: &Hand, node: u32, lists: &mut Lists)
 }
 
 // A driver goes on with what it does, and wants this.
-fn stay(want: &mut Want, next: Want) -> Next
+pub(crate) fn stay(want: &mut Want, next: Want) -> Next
     ensures want { want_of want.new ≡ want_of next }
     ensures stays { result ≡ then.Stays }
 {
@@ -254,102 +261,6 @@ fn drive_step(
             }
         }
     }
-}
-
-// A leg of a mirror's bio is submitted.
-fn copy(routes: &Routes, copying: &Copying, hand: &Hand, node: u32, lists: &mut Lists)
-    requires room { HasRoom 2 lists.old }
-    requires within { IsWithin routes.now.stack copying.now.bio }
-    requires leg { copying.now.leg < legs_of (tree routes.now.stack copying.now.bio.dev.0) }
-    requires lists { ListsAreWithin routes.now.stack (lists_of lists.old) }
-    ensures copied { lists_of lists.new
-        ≡ submitted (leg_at copying.now.bio hand.now copying.now.leg node (tree routes.now.stack copying.now.bio.dev.0)) (lists_of lists.old) }
-    ensures room { HasRoom 0 lists.new }
-    ensures within { ListsAreWithin routes.now.stack (lists_of lists.new) }
-{
-    let (made, pad) = routes.leg(&copying.bio, copying.leg, node);
-    lists.submit(hand.with(made, pad));
-}
-
-// The next leg of a mirror's bio is to be made, or what waits behind the last one.
-fn copy_on(routes: &Routes, copying: &mut Copying, want: &mut Want, lists: &Lists) -> Next
-    requires room { HasRoom 0 lists.now }
-    requires leg { copying.old.leg < legs_of (tree routes.now.stack copying.old.bio.dev.0) }
-    requires device { copying.old.bio.dev.0 < length routes.now.stack.devices.items }
-    requires lists { ListsAreWithin routes.now.stack (lists_of lists.now) }
-    ensures copies { copies (setup routes.now) (lists_of lists.now) copying.old.bio copying.old.master (copying.old.leg + 1)
-        ≡ turned (setup routes.now) (copies_for copying.new (want_of want.new)) (lists_of lists.now) result }
-    ensures turns { CanTurn routes.now.stack lists.now result }
-{
-    let dev = copying.bio.dev;
-    let legs = routes.legs(dev);
-    prove!(copying.leg < legs);
-    copying.leg += 1;
-    if copying.leg == legs {
-        return Next::Returns(dev);
-    }
-    *want = Want::Takes(first_waits(routes, dev, lists));
-    Next::Stays
-}
-
-// A mirror goes on to copy a bio.
-fn copy_step(
-    routes: &Routes,
-    objects: &mut Objects,
-    copying: &mut Copying,
-    want: &mut Want,
-    lists: &mut Lists,
-    what: &What,
-) -> Result<Next, CoreFault>
-    requires stack { objects.old.stack ≡ routes.now.stack }
-    requires fits { DoingFits routes.now.stack (copies_for copying.old (want_of want.old)) }
-    requires lists { ListsAreWithin routes.now.stack (lists_of lists.old) }
-    ensures steps { LineSteps routes.now objects.old (copies_for copying.old (want_of want.old)) (lists_of lists.old) what.now result objects.new (copies_for copying.new (want_of want.new)) (lists_of lists.new) }
-    ensures turns { IfOk result (CanTurn routes.now.stack lists.new) }
-{
-    routes.known();
-    let dev = copying.bio.dev;
-    match want {
-        Want::Takes(waits) => match take_for(objects, dev, *waits, what) {
-            Err(fault) => Err(fault),
-            Ok(next) => Ok(stay(want, next)),
-        },
-        Want::Punts => match objects.punt(dev, lists, what) {
-            Err(fault) => Err(fault),
-            Ok(()) => Ok(stay(want, Want::Takes(true))),
-        },
-        Want::Links(hand) => match objects.open_leg(
-            copying.bio.writer,
-            copying.master,
-            lists,
-            what,
-        ) {
-            Err(fault) => Err(fault),
-            Ok(node) => {
-                copy(routes, copying, hand, node, lists);
-                Ok(copy_on(routes, copying, want, lists))
-            }
-        },
-    }
-}
-
-// A mirror begins to copy a bio, or what waits behind it is next where it has no legs.
-fn begin_copy(routes: &Routes, bio: Bio, master: u32, line: &mut Line)
-    requires room { HasRoom 0 line.old.lists }
-    requires device { bio.dev.0 < length routes.now.stack.devices.items }
-    requires lists { ListsAreWithin routes.now.stack (lists_of line.old.lists) }
-    ensures { line_of line.new ≡ copies (setup routes.now) (lists_of line.old.lists) bio master 0 }
-{
-    if routes.legs(bio.dev) == 0 {
-        return go_on(routes, bio.dev, line);
-    }
-    let waits = first_waits(routes, bio.dev, &line.lists);
-    let copying = Copying {
-        bio,
-        master,
-        leg: 0,
-    };
-    line.doing = Doing::Copies(copying, Want::Takes(waits));
 }
 
 // What comes behind an answer is done.

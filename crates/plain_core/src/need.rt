@@ -9,9 +9,10 @@ ghost use Rattle.plain_core.specs.Lists.{lists_of};
 ghost use Rattle.plain_core.specs.Steps.{copies_for, cuts_for, drives_for};
 ghost use Rattle.plain_core.specs.Views.{ask_of, completer_of, doing_of, keeper_of, rescuer_of, task_of, want_of, writer_of};
 
-use crate::book::Closed;
+use crate::node::Closed;
 use crate::part::Part;
-use crate::step::{needs_vector, next_duty, next_todo};
+use crate::step::keeper::next_duty;
+use crate::step::writer::{needs_vector, next_todo};
 use crate::task::{
     Ask, Carried, Completer, Copying, Doing, Keeper, Line, Rescuer, Taken, Task, Want, Writer,
 };

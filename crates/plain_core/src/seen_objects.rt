@@ -10,9 +10,9 @@ ghost use Rattle.plain_core.specs.Opening.{new_books, new_disk, new_disks, new_p
 
 use crate::disk::Disk;
 use crate::objects::Objects;
-use crate::tally::Tally;
 use crate::opening::{copy_of, open_books, open_rescues};
 use crate::pool::Pool;
+use crate::tally::Tally;
 use crate::told::pool_of;
 use fail_script::Script;
 use stack_base::{DevId, PoolId};

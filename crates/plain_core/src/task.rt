@@ -6,8 +6,8 @@ ghost use Rattle.plain_core.specs.Views.{doing_of, taken_of, task_of};
 ghost use Rattle.plain_core.specs.Steps.{IsBusy};
 ghost use Rattle.run_machine.specs.Tasks.{later_of};
 
-use crate::book::Closed;
 use crate::lists::Lists;
+use crate::node::Closed;
 use crate::part::{Hand, Part, Slip, Vector};
 use bio_records::Bio;
 use layout_model::Write;

@@ -1,0 +1,315 @@
+//! What events make of the objects: each call is handed the event, and refuses it where it is none that the object can do.
+ghost use Rattle.std.specs.Prelude.{◌≡◌, ℕ, ◌+◌, ◌-◌, ◌<◌, ◌≤◌, ◌==◌, true, length, Option, None, Some, IsSomeAnd, MatchOption, OnOk, OnErr};
+ghost use Rattle.stack_base.specs.PoolId.{pool_number};
+ghost use Rattle.stack_base.specs.Tree.{tree};
+ghost use Rattle.bio_records.specs.declared.bio.Pad.{Pad};
+ghost use Rattle.bio_records.specs.Items.{Item};
+ghost use Rattle.mempool_core.specs.Move.{gives, resizes};
+ghost use Rattle.model_disks.specs.Disks.{DiskState};
+ghost use Rattle.run_machine.specs.declared.event.What.TheVariants as told;
+ghost use Rattle.run_machine.specs.Events.{pool_of};
+ghost use Rattle.run_machine.specs.Requests.{Write, Chain, Master, Leg};
+ghost use Rattle.run_machine.specs.Objects.{done_one};
+ghost use Rattle.run_machine.specs.Scene.{keeps_data};
+ghost use Rattle.task_steps.specs.Within.{IsWithin, ListsAreWithin};
+ghost use Rattle.plain_core.specs.Lists.{lists_of, HasRoom};
+ghost use Rattle.plain_core.specs.Plain.{Gives, HasSize};
+ghost use Rattle.plain_core.specs.Told.{Takes, MovesAs, Punts, Pops, Pushes, PushesIn, IsComplete, CompletesIn, Links, Joins, IsDrop};
+
+use crate::book::Ended;
+use crate::disk::Disk;
+use crate::fault::CoreFault;
+use crate::lists::Lists;
+use crate::objects::Objects;
+use crate::part::{Part, Slip, Vector};
+use crate::told;
+use stack_base::{DevId, PoolId, Status};
+use std::alloc::AllocError;
+use task_core::{Got, How, What};
+
+// A bio comes to a disk.
+fn push_to(slot: &mut Option<Disk>, part: Part) -> Result<(), AllocError>
+    requires { IsSomeAnd slot.old (λ d. part.bio.range.start + part.bio.range.len ≤ length d.image) }
+    ensures ok { OnOk result (PushesIn slot.old part slot.new) }
+    ensures err { OnErr result (slot.new ≡ slot.old) }
+{
+    match slot {
+        None => unreachable!(),
+        Some(disk) => disk.push(part),
+    }
+}
+
+// A disk, if it is one, ends a bio that waits in it.
+fn complete_in(slot: &mut Option<Disk>, index: u64, status: Status) -> Option<Part>
+    ensures completes { MatchOption result
+        ((slot.new ≡ slot.old) × ((part : Item Pad) (new : Option DiskState) → CompletesIn slot.old index part status new → ⊥))
+        (λ part. CompletesIn slot.old index part status slot.new) }
+    ensures size { (sectors : ℕ) → HasSize sectors slot.old → HasSize sectors slot.new }
+{
+    match slot {
+        None => None,
+        Some(disk) => disk.complete(index, status),
+    }
+}
+
+impl Objects {
+    /// A take of this pool, which waits or does not: what it had, as the event tells it (`mempool_alloc`, `mm/mempool.c`).
+    pub fn take(&mut self, pool: PoolId, waits: bool, what: &What) -> Result<Got, CoreFault>
+        requires { pool_number pool < 66 }
+        ensures { Takes self.old (pool_number pool) pool waits what.now result self.new }
+    {
+        let number = pool.no() as usize;
+        let Some(got) = told::got_of(what, pool, waits) else {
+            return Err(CoreFault::NotEnabled);
+        };
+        if !self.pools[number].can_take(waits, got) {
+            return Err(CoreFault::NotEnabled);
+        }
+        self.pools[number].take(got);
+        Ok(got)
+    }
+
+    /// An element goes back to the pool of this number (`mempool_free`, `mm/mempool.c`).
+    pub fn give(&mut self, number: u32, what: &What) -> Result<(), CoreFault>
+        requires { number < 66 }
+        ensures { MovesAs self.old number gives (told.Give (pool_of number)) what.now result self.new }
+    {
+        if !told::gives(what, told::pool_of(number)) || self.pools[number as usize].out() == 0 {
+            return Err(CoreFault::NotEnabled);
+        }
+        self.pools[number as usize].give();
+        Ok(())
+    }
+
+    /// A pool with nothing out gets another reserve (`mempool_resize`, `mm/mempool.c`).
+    pub fn resize(&mut self, pool: PoolId, min: u32, what: &What) -> Result<(), CoreFault>
+        requires { pool_number pool < 66 }
+        ensures { MovesAs self.old (pool_number pool) (resizes min) (told.Resize pool min) what.now result self.new }
+    {
+        let number = pool.no() as usize;
+        if !told::resizes(what, pool, min) || self.pools[number].out() != 0 {
+            return Err(CoreFault::NotEnabled);
+        }
+        self.pools[number].resize(min);
+        Ok(())
+    }
+
+    /// The bios of a device's set in a task's lists go to its rescuer (`punt_bios_to_rescuer`, `block/bio.c`).
+    pub fn punt(&mut self, dev: DevId, lists: &mut Lists, what: &What) -> Result<(), CoreFault>
+        requires device { dev.0 < length self.old.stack.devices.items }
+        requires within { ListsAreWithin self.old.stack (lists_of lists.old) }
+        ensures { Punts self.old (lists_of lists.old) dev what.now result self.new (lists_of lists.new) }
+    {
+        if !told::punts(what, dev, lists.count_of(dev)) {
+            return Err(CoreFault::NotEnabled);
+        }
+        self.known();
+        let Some(rescue) = self.rescues.get_mut(dev.0 as usize) else {
+            unreachable!()
+        };
+        rescue.punt(dev, lists)?;
+        Ok(())
+    }
+
+    /// The first bio that waits for a rescuer (`bio_alloc_rescue`, `block/bio.c`).
+    pub fn pop(&mut self, dev: DevId, what: &What) -> Result<Part, CoreFault>
+        ensures { Pops self.old dev what.now result self.new }
+    {
+        if !told::pops(what, dev) {
+            return Err(CoreFault::NotEnabled);
+        }
+        let Some(rescue) = self.rescues.get_mut(dev.0 as usize) else {
+            return Err(CoreFault::NotEnabled);
+        };
+        let Some(part) = rescue.pop() else {
+            return Err(CoreFault::NotEnabled);
+        };
+        Ok(part)
+    }
+
+    /// A bio comes to the disk that it is at. Where it does, the lists have room for what comes next.
+    pub fn push(&mut self, part: &Part, lists: &mut Lists, what: &What) -> Result<(), CoreFault>
+        requires within { IsWithin self.old.stack part.now.bio }
+        requires disk { keeps_data (tree self.old.stack part.now.bio.dev.0) ≡ true }
+        ensures pushes { Pushes self.old part.now what.now result self.new }
+        ensures same { lists_of lists.new ≡ lists_of lists.old }
+        ensures room { OnOk result (HasRoom 2 lists.new) }
+    {
+        let bio = part.bio();
+        if !told::pushes(
+            what,
+            bio.dev,
+            bio.range.start,
+            bio.range.len,
+            part.pad().leg,
+        ) {
+            return Err(CoreFault::NotEnabled);
+        }
+        lists.reserve()?;
+        let Some(slot) = self.disks.get_mut(bio.dev.0 as usize) else {
+            unreachable!()
+        };
+        push_to(slot, part.again())?;
+        Ok(())
+    }
+
+    /// A disk ends a bio that waits in it: its place among them, the bio, and how it ended (`bio_endio`, `block/bio.c`).
+    pub fn complete(&mut self, disk: DevId, what: &What) -> Result<(u64, Part, Status), CoreFault>
+        ensures { IsComplete self.old disk what.now result self.new }
+    {
+        let Some((index, status)) = told::completed_of(what, disk) else {
+            return Err(CoreFault::NotEnabled);
+        };
+        let Some(slot) = self.disks.get_mut(disk.0 as usize) else {
+            return Err(CoreFault::NotEnabled);
+        };
+        match complete_in(slot, index, status) {
+            None => Err(CoreFault::NotEnabled),
+            Some(part) => Ok((index, part, status)),
+        }
+    }
+
+    /// A write's node is opened.
+    pub fn open_write(
+        &mut self,
+        writer: u32,
+        write: u32,
+        vector: Option<Vector>,
+        what: &What,
+    ) -> Result<u32, CoreFault>
+        ensures { Links self.old writer (Write write vector) what.now result self.new }
+    {
+        let Some(place) = told::linked_of(what, writer, How::Write) else {
+            return Err(CoreFault::NotEnabled);
+        };
+        let Some(book) = self.books.get_mut(writer as usize) else {
+            return Err(CoreFault::NotEnabled);
+        };
+        if !book.open_write(write, vector, place) {
+            return Err(CoreFault::NotEnabled);
+        }
+        Ok(place)
+    }
+
+    /// The node of the front of a bio that is split is opened (`bio_chain`, `block/bio.c`). Where it is, the lists have room for what comes of it.
+    pub fn open_chain(
+        &mut self,
+        writer: u32,
+        parent: u32,
+        lists: &mut Lists,
+        what: &What,
+    ) -> Result<u32, CoreFault>
+        ensures joins { Joins self.old writer (Chain parent) what.now result self.new }
+        ensures same { lists_of lists.new ≡ lists_of lists.old }
+        ensures room { OnOk result (HasRoom 2 lists.new) }
+    {
+        let Some(place) = told::linked_of(what, writer, How::Chain) else {
+            return Err(CoreFault::NotEnabled);
+        };
+        let Some(book) = self.books.get_mut(writer as usize) else {
+            return Err(CoreFault::NotEnabled);
+        };
+        match book.open_chain(parent, place, lists) {
+            Err(fault) => Err(fault),
+            Ok(()) => Ok(place),
+        }
+    }
+
+    /// A mirror's master is opened for a bio (`alloc_r1bio`, `drivers/md/raid1.c`). Where it is, the lists have room for what comes of it.
+    pub fn open_master(
+        &mut self,
+        part: &Part,
+        slip: &Slip,
+        legs: u32,
+        lists: &mut Lists,
+        what: &What,
+    ) -> Result<u32, CoreFault>
+        ensures joins { Joins self.old part.now.bio.writer (Master part.now.bio.node part.now slip.now legs) what.now result self.new }
+        ensures same { lists_of lists.new ≡ lists_of lists.old }
+        ensures room { OnOk result (HasRoom 2 lists.new) }
+    {
+        let bio = part.bio();
+        let Some(place) = told::linked_of(what, bio.writer, How::Master) else {
+            return Err(CoreFault::NotEnabled);
+        };
+        let Some(book) = self.books.get_mut(bio.writer as usize) else {
+            return Err(CoreFault::NotEnabled);
+        };
+        match book.open_master(bio.node, part, slip, legs, place, lists) {
+            Err(fault) => Err(fault),
+            Ok(()) => Ok(place),
+        }
+    }
+
+    /// The node of a leg is opened. Where it is, the lists have room for what comes of it.
+    pub fn open_leg(
+        &mut self,
+        writer: u32,
+        master: u32,
+        lists: &mut Lists,
+        what: &What,
+    ) -> Result<u32, CoreFault>
+        ensures joins { Joins self.old writer (Leg master) what.now result self.new }
+        ensures same { lists_of lists.new ≡ lists_of lists.old }
+        ensures room { OnOk result (HasRoom 2 lists.new) }
+    {
+        let Some(place) = told::linked_of(what, writer, How::Leg) else {
+            return Err(CoreFault::NotEnabled);
+        };
+        let Some(book) = self.books.get_mut(writer as usize) else {
+            return Err(CoreFault::NotEnabled);
+        };
+        match book.open_leg(master, place, lists) {
+            Err(fault) => Err(fault),
+            Ok(()) => Ok(place),
+        }
+    }
+
+    /// The node at this place is told of an end (`bio_endio`, `block/bio.c`).
+    pub fn tell(
+        &mut self,
+        writer: u32,
+        place: u32,
+        status: Status,
+        part: Option<Part>,
+        what: &What,
+    ) -> Result<Ended, CoreFault>
+        ensures { IsDrop self.old writer place status part what.now result self.new }
+    {
+        let Some(end) = told::dropped_of(what, writer, place, status) else {
+            return Err(CoreFault::NotEnabled);
+        };
+        match self.books.get_mut(writer as usize) {
+            None => Err(CoreFault::NotEnabled),
+            Some(book) => match book.tell(place, status, part, end) {
+                None => Err(CoreFault::NotEnabled),
+                Some(ended) => Ok(ended),
+            },
+        }
+    }
+
+    /// A write is done.
+    pub fn done(&mut self, write: u32, status: Status, what: &What) -> Result<(), CoreFault>
+        ensures { Gives self.old (λ done new. (what.now ≡ told.Done write status)
+            × (new ≡ record self.old { tally = done_one write status self.old.tally })) (what.now ≡ told.Done write status → ⊥) result self.new }
+    {
+        if !told::is_done(what, write, status) {
+            return Err(CoreFault::NotEnabled);
+        }
+        self.tally.done(write, status);
+        Ok(())
+    }
+
+    /// The round behind the present one starts, which has this number.
+    pub fn next_round(&mut self, round: u32, what: &What) -> Result<(), CoreFault>
+        ensures { Gives self.old (λ done new. (what.now ≡ told.Round round) × (self.old.tally.round + 1 < length self.old.tally.left)
+            × (new ≡ record self.old { tally = record self.old.tally { round = self.old.tally.round + 1 } }))
+            (what.now ≡ told.Round round → self.old.tally.round + 1 < length self.old.tally.left → ⊥) result self.new }
+    {
+        if !told::starts(what, round) || !self.tally.has_next() {
+            return Err(CoreFault::NotEnabled);
+        }
+        self.tally.start();
+        Ok(())
+    }
+}
