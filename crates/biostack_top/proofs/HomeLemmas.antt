@@ -8,7 +8,7 @@ use Rattle.task_steps.specs.Homes.{IsTaskOf}
 use Rattle.run_machine.specs.Maps.{upd}
 use Rattle.run_machine.specs.Named.{IsEventOf}
 use Rattle.task_core.specs.ObjectsOf.{AreNumbered, AreObjectsOf}
-use Rattle.task_core.specs.opening.OfOne.{IsOpened, scenario_in, states}
+use Rattle.task_core.specs.opened.OfOne.{IsOpened, scenario_in, states}
 use Rattle.run_machine.specs.Opened.{at, most_writers, no_task, scene, start, tasks}
 use Rattle.task_core.specs.Plains.{stage_of}
 use Rattle.task_steps.specs.Routed.{setup}

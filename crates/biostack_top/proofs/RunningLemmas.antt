@@ -12,7 +12,7 @@ use Rattle.work_text.proofs.Ready.{writes_ready}
 use Rattle.task_core.specs.declared.ended.Ended.{Ended}
 use Rattle.run_machine.specs.declared.event.Event.{Event}
 use Rattle.task_core.specs.declared.opening.Opened.{Opened}
-use Rattle.task_core.specs.opening.OfOne.{IsOpened, IsReadBehind, scenario_in}
+use Rattle.task_core.specs.opened.OfOne.{IsOpened, IsReadBehind, scenario_in}
 use Rattle.task_core.specs.Plains.{stage_of}
 use Rattle.run_machine.specs.Opened.{scene, start}
 use Rattle.run_machine.specs.Scenario.{scenario_of}

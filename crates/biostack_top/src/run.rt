@@ -5,7 +5,7 @@ ghost use Rattle.stack_base.specs.Fault.{status_eq};
 ghost use Rattle.stack_base.specs.Stack.{HasRescuers};
 ghost use Rattle.outside_io.specs.Saying.{Writes};
 ghost use Rattle.run_machine.specs.declared.event.Event.{Event as Told};
-ghost use Rattle.task_core.specs.opening.OfOne.{IsOpened, scenario_in};
+ghost use Rattle.task_core.specs.opened.OfOne.{IsOpened, scenario_in};
 ghost use Rattle.block_core.specs.Runnable.{IsRunnable};
 ghost use Rattle.report_text.specs.CheckText.{most_steps};
 ghost use Rattle.report_text.specs.Report.{gen_text, report};

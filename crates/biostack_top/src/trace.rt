@@ -3,7 +3,7 @@ ghost use Rattle.std.specs.Prelude.{◌≡◌, List, [], false, true, MatchResul
 ghost use Rattle.stack_base.specs.Stack.{HasRescuers};
 ghost use Rattle.outside_io.specs.Saying.{Says, Writes};
 ghost use Rattle.run_machine.specs.declared.event.Event.{Event as Told};
-ghost use Rattle.task_core.specs.opening.OfOne.{IsOpened, scenario_in};
+ghost use Rattle.task_core.specs.opened.OfOne.{IsOpened, scenario_in};
 ghost use Rattle.block_core.specs.Runnable.{IsRunnable};
 ghost use Rattle.biostack_top.specs.Running.{HasRun};
 ghost use Rattle.biostack_top.specs.Tracing.{event_line, event_lines};

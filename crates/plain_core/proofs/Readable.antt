@@ -9,7 +9,7 @@ use Rattle.decl_text.specs.Accepting.{shown_devices}
 use Rattle.work_text.specs.Fit.{IsPoolIn}
 use Rattle.work_text.specs.Work.{last_round}
 use Rattle.work_text.specs.declared.Resize.{Resize}
-use Rattle.task_core.proofs.opening.Behind.{fit_work, of_stack, scripts_of_stack}
+use Rattle.task_core.proofs.opened.Behind.{fit_work, of_stack, scripts_of_stack}
 use Rattle.plain_core.specs.Readable.{AcceptedTextsCanOpen}
 
 before_or_at : (k n : ℕ) → k < n → (k < n - 1) ⊎ (n - 1 ≡ k)

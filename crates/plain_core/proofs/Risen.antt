@@ -13,7 +13,7 @@ use Rattle.task_core.specs.declared.opening.Opened.{Opened}
 use Rattle.run_machine.specs.Events.{id_of}
 use Rattle.task_steps.specs.Homes.{DutyFits, IsTaskOf}
 use Rattle.run_machine.specs.Lines.{rests}
-use Rattle.task_core.specs.opening.OfOne.{IsOpened as AreTheFirst, scenario_in, states}
+use Rattle.task_core.specs.opened.OfOne.{IsOpened as AreTheFirst, scenario_in, states}
 use Rattle.run_machine.specs.Opened.{Scenario, at, duties, is_by, keepers, no_task, setup, tasks, todos, todos_of, writers}
 use Rattle.task_core.specs.Plains.{stage_of}
 use Rattle.run_machine.specs.Scene.{is_disk}

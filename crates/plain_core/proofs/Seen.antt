@@ -12,14 +12,14 @@ use Rattle.decl_text.proofs.Fits.{accepted_fit}
 use Rattle.task_core.specs.declared.opening.Opened.{Opened}
 use Rattle.run_machine.specs.Events.{pool_of}
 use Rattle.run_machine.specs.Objects.{Objects}
-use Rattle.task_core.specs.opening.OfOne.{IsOpened as AreTheFirst, scenario_in}
+use Rattle.task_core.specs.opened.OfOne.{IsOpened as AreTheFirst, scenario_in}
 use Rattle.run_machine.specs.Opened.{Scenario, at, objects, reserve_of, script_at}
-use Rattle.task_core.specs.opening.Openings.{has_pool, uses_slips}
+use Rattle.task_core.specs.opened.Openings.{has_pool, uses_slips}
 use Rattle.task_core.specs.Plains.{objects_of, stage_of}
 use Rattle.task_steps.specs.Routed.{Routing, setup}
 use Rattle.run_machine.specs.Scene.{has_set}
 use Rattle.task_steps.specs.Stage.{Stage, is_pool}
-use Rattle.task_core.proofs.opening.Behind.{no_set_keeps, no_slips_keep, scripts_alone}
+use Rattle.task_core.proofs.opened.Behind.{no_set_keeps, no_slips_keep, scripts_alone}
 use Rattle.plain_core.specs.Opening.{CanOpen, new_pool}
 use Rattle.plain_core.specs.Plain.{opened_disk}
 use Rattle.plain_core.proofs.Counted.{count_rounds, last_le}

@@ -2,7 +2,7 @@
 use Rattle.std.proofs.Common.{◌≡◌, ℕ, List, [], length, replicate, sym, ap, ◌∙◌}
 use Rattle.work_text.specs.declared.Work.{Work}
 use Rattle.task_core.specs.declared.opening.Opened.{Opened}
-use Rattle.task_core.specs.opening.OfOne.{IsOpened as AreTheFirst, scenario_in, states}
+use Rattle.task_core.specs.opened.OfOne.{IsOpened as AreTheFirst, scenario_in, states}
 use Rattle.run_machine.specs.Opened.{Scenario, objects}
 use Rattle.task_core.specs.Plains.{stage_of}
 use Rattle.task_steps.specs.Routed.{Routing, places_at}

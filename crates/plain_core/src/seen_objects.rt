@@ -1,6 +1,6 @@
 //! Opened objects as plain data.
 ghost use Rattle.std.specs.Prelude.{◌≡◌, ◌<◌, [], IfOk, length, replicate};
-ghost use Rattle.task_core.specs.opening.OfOne.{scenario_in, IsOpened as AreTheFirst};
+ghost use Rattle.task_core.specs.opened.OfOne.{scenario_in, IsOpened as AreTheFirst};
 ghost use Rattle.run_machine.specs.Opened.{objects as objects_at};
 ghost use Rattle.task_core.specs.Plains.{stage_of};
 ghost use Rattle.task_steps.specs.Routed.{setup};

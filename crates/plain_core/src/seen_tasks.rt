@@ -1,7 +1,7 @@
 //! Opened tasks as plain data.
 ghost use Rattle.std.specs.Prelude.{◌≡◌, IfOk, All, map};
 ghost use Rattle.task_steps.specs.KeeperViews.{duty_of as keeps};
-ghost use Rattle.task_core.specs.opening.OfOne.{states};
+ghost use Rattle.task_core.specs.opened.OfOne.{states};
 ghost use Rattle.run_machine.specs.Tasks.{Keeper as Keeping};
 ghost use Rattle.task_steps.specs.WriterViews.{writer_task};
 ghost use Rattle.plain_core.specs.Cores.{AreFound};

@@ -2,7 +2,7 @@
 ghost use Rattle.std.specs.Prelude.{◌≡◌, ◌<◌, map, length, slice_get, MatchBool, MatchOption, IfOk};
 ghost use Rattle.task_steps.specs.Routed.{setup};
 ghost use Rattle.task_steps.specs.Within.{TaskFits};
-ghost use Rattle.task_core.specs.opening.OfOne.{IsOpened as AreTheFirst, scenario_in};
+ghost use Rattle.task_core.specs.opened.OfOne.{IsOpened as AreTheFirst, scenario_in};
 ghost use Rattle.plain_core.specs.Views.{task_of};
 ghost use Rattle.plain_core.specs.Opening.{CanOpen, IsOpened, scenario_by};
 ghost use Rattle.stack_base.specs.PoolId.{pool_number};

@@ -14,7 +14,7 @@ use Rattle.task_steps.specs.declared.step.Step.TheVariants.{Stepped, Blocked, Wa
 use Rattle.run_machine.specs.Maps.{upd}
 use Rattle.task_steps.specs.Choosing.{IsAsked}
 use Rattle.task_steps.specs.Homes.{IsTaskOf}
-use Rattle.task_core.specs.opening.OfOne.{states, tasks_at, run_state, AreOfOne}
+use Rattle.task_core.specs.opened.OfOne.{states, tasks_at, run_state, AreOfOne}
 use Rattle.run_machine.specs.Opened.{no_task}
 use Rattle.task_core.specs.Plains.{objects_of, stage_of, Holds, Tells, Picks as PicksIn}
 use Rattle.task_core.specs.PlainSteps.{scene_of, state_of, HasRound, TakesStep, IsStill}
@@ -27,7 +27,7 @@ use Rattle.task_steps.specs.TaskViews.{TaskOf, ChosenBy}
 use Rattle.task_steps.specs.Turns.{Turns, Chosen}
 use Rattle.run_machine.proofs.Frames.{upd_same, upd_other, upd_own}
 use Rattle.task_steps.proofs.Named.{tasks_name_the_stack}
-use Rattle.task_core.proofs.opening.Seen.{steps_are_events}
+use Rattle.task_core.proofs.opened.Seen.{steps_are_events}
 use Rattle.task_steps.proofs.Turned.{turns_home}
 use Rattle.block_core.proofs.Sums.{same_or_not}
 use Rattle.serial_run.specs.Schedule.{word, behind, Picks}

@@ -26,7 +26,7 @@ use Rattle.run_machine.specs.Tasks.{TaskState, Writer, Rescuer, Completer, Keepe
 use Rattle.task_steps.specs.Turns.{step_by, step_of, resting_step, idle_step, breach_of, doing_breach, Acts, ActsIf, TurnsBy, Asks}
 use Rattle.task_steps.proofs.Turned.{acts}
 use Rattle.run_machine.proofs.Idle.{IsFair, fair_task}
-use Rattle.task_core.proofs.opening.Seen.{followed, has_seen, lets_ask, served, told_serves}
+use Rattle.task_core.proofs.opened.Seen.{followed, has_seen, lets_ask, served, told_serves}
 use Rattle.block_core.specs.Breaks.{GoesUnrefused, is_refusal, is_broken, broke_in}
 
 no_end : {breach : Breach} → Broken breach ≢ Ended

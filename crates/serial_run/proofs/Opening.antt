@@ -13,7 +13,7 @@ use Rattle.stack_base.specs.Stack.{IsStack, HasShape}
 use Rattle.stack_base.specs.Tree.{tree}
 use Rattle.stack_base.proofs.Unfolded.{tree_is}
 use Rattle.task_core.specs.declared.opening.Opened.{Opened}
-use Rattle.task_core.specs.opening.OfOne.{tasks_at, run_state, scenario_in, IsOpened}
+use Rattle.task_core.specs.opened.OfOne.{tasks_at, run_state, scenario_in, IsOpened}
 use Rattle.run_machine.specs.Objects.{Objects}
 use Rattle.run_machine.specs.Opened.{Scenario, most_writers, no_task, objects, scene, setup as setup_in, start, tasks}
 use Rattle.task_core.specs.Plains.{stage_of}

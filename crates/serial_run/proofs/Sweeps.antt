@@ -10,7 +10,7 @@ use Rattle.run_machine.specs.declared.event.What.{What}
 use Rattle.run_machine.specs.declared.event.What.TheVariants as what
 use Rattle.task_core.specs.declared.plain.Plain.{Plain}
 use Rattle.run_machine.specs.Events.{is_free}
-use Rattle.task_core.specs.opening.OfOne.{run_state, AreOfOne}
+use Rattle.task_core.specs.opened.OfOne.{run_state, AreOfOne}
 use Rattle.run_machine.specs.Opened.{most_writers}
 use Rattle.task_core.specs.Plains.{stage_of}
 use Rattle.task_core.specs.PlainSteps.{is_ordinary, scene_of, IsPassedOver}

@@ -11,7 +11,7 @@ use Rattle.task_core.specs.declared.opening.Opened.{Opened}
 use Rattle.task_core.specs.declared.plain.Plain.{Plain}
 use Rattle.task_core.specs.Leaving.{IsLeft}
 use Rattle.run_machine.specs.Named.{IsEventOf}
-use Rattle.task_core.specs.opening.OfOne.{run_state, AreOfOne, IsOpened, scenario_in}
+use Rattle.task_core.specs.opened.OfOne.{run_state, AreOfOne, IsOpened, scenario_in}
 use Rattle.run_machine.specs.Opened.{Scenario, scene, start}
 use Rattle.task_core.specs.Plains.{objects_of, stage_of}
 use Rattle.task_core.specs.PlainSteps.{scene_of}

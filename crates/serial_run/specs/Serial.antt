@@ -6,7 +6,7 @@ use Rattle.run_machine.specs.declared.event.Event.{Event}
 use Rattle.task_core.specs.declared.opening.Opened.{Opened}
 use Rattle.task_core.specs.Leaving.{IsLeft}
 use Rattle.run_machine.specs.Named.{IsEventOf}
-use Rattle.task_core.specs.opening.OfOne.{scenario_in}
+use Rattle.task_core.specs.opened.OfOne.{scenario_in}
 use Rattle.run_machine.specs.Opened.{at, scene, start}
 use Rattle.task_core.specs.Plains.{stage_of}
 use Rattle.run_machine.specs.Runs.{State, HasEnded}

@@ -2,7 +2,7 @@
 ghost use Rattle.std.specs.Prelude.{◌≡◌, ◌+◌, ◌<◌, ◌≤◌, ◌++◌, [], ◌∷◌, IsTrue, length, vec_capacity};
 ghost use Rattle.stack_base.specs.PoolId.{pool_number};
 ghost use Rattle.task_core.specs.Leaving.{HasRoom, IsLeft};
-ghost use Rattle.task_core.specs.opening.OfOne.{AreOfOne};
+ghost use Rattle.task_core.specs.opened.OfOne.{AreOfOne};
 ghost use Rattle.task_core.specs.Plains.{objects_of, stage_of, Holds};
 ghost use Rattle.run_machine.specs.Scene.{tree_at};
 ghost use Rattle.task_steps.specs.Routed.{setup};

@@ -1,7 +1,7 @@
 //! The run of a scenario by one thread.
 ghost use Rattle.stack_base.specs.Stack.{HasRescuers};
 ghost use Rattle.block_core.specs.Runnable.{IsRunnable};
-ghost use Rattle.task_core.specs.opening.OfOne.{IsOpened, scenario_in};
+ghost use Rattle.task_core.specs.opened.OfOne.{IsOpened, scenario_in};
 ghost use Rattle.serial_run.specs.Serial.{IsSerialRun};
 
 use crate::events::Events;

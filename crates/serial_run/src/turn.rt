@@ -1,6 +1,6 @@
 //! Turns: the task that a word names is tried, and then those behind it, up to the first that has an event.
 ghost use Rattle.std.specs.Prelude.{◌≡◌, ◌+◌, ◌%◌, ◌<◌, ◌≤◌, length};
-ghost use Rattle.task_core.specs.opening.OfOne.{run_state, AreOfOne};
+ghost use Rattle.task_core.specs.opened.OfOne.{run_state, AreOfOne};
 ghost use Rattle.task_core.specs.Plains.{stage_of};
 ghost use Rattle.task_core.specs.PlainSteps.{scene_of};
 ghost use Rattle.run_machine.specs.Runs.{HasFree, unfinished};

@@ -2,5 +2,5 @@ pub mod TableLemmas
 pub mod PoolLemmas
 pub mod Keeping
 pub mod Quiet
-pub mod opening
+pub mod opened
 pub mod own

@@ -4,4 +4,4 @@ pub mod Plains
 pub mod Resizing
 pub mod PlainSteps
 pub mod Leaving
-pub mod opening
+pub mod opened

@@ -1,5 +1,5 @@
 //! What holds of the machine's definitions, as functions that do nothing.
-ghost use Rattle.task_core.specs.opening.Begins.{OpenedBegins};
+ghost use Rattle.task_core.specs.opened.Begins.{OpenedBegins};
 ghost use Rattle.task_core.specs.ObjectsOf.{ObjectsStay};
 ghost use Rattle.task_core.specs.PlainSteps.{StepsAreEvents};
 

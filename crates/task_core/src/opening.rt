@@ -3,9 +3,9 @@ ghost use Rattle.std.specs.Prelude.{◌≡◌, ◌≤◌, ◌^◌, IfOk, OnOk, l
 ghost use Rattle.std.specs.List.{range_with_len};
 ghost use Rattle.stack_base.specs.Stack.{IsStack};
 ghost use Rattle.task_core.specs.Leaving.{HasRoom};
-ghost use Rattle.task_core.specs.opening.NewTasks.{left_in, others_in, reserves_in, rounds_in, tally_in, writers_of, Adds, ArePlaced};
-ghost use Rattle.task_core.specs.opening.OfOne.{scenario_in, IsOpened, IsReadBehind};
-ghost use Rattle.task_core.specs.opening.Openings.{AreOpened};
+ghost use Rattle.task_core.specs.opened.NewTasks.{left_in, others_in, reserves_in, rounds_in, tally_in, writers_of, Adds, ArePlaced};
+ghost use Rattle.task_core.specs.opened.OfOne.{scenario_in, IsOpened, IsReadBehind};
+ghost use Rattle.task_core.specs.opened.Openings.{AreOpened};
 ghost use Rattle.task_steps.specs.Routed.{setup};
 ghost use Rattle.run_machine.specs.Scenario.{scenario_of};
 

@@ -4,7 +4,7 @@ use Rattle.std.proofs.lemmas.List.Elements.{All-get_or, All-set}
 use Rattle.task_core.specs.declared.plain.Plain.{Plain}
 use Rattle.task_steps.specs.declared.step.Step.{Step}
 use Rattle.task_steps.specs.Homes.{IsTaskOf}
-use Rattle.task_core.specs.opening.OfOne.{AreOfOne}
+use Rattle.task_core.specs.opened.OfOne.{AreOfOne}
 use Rattle.task_core.specs.Plains.{stage_of, Holds, Tells}
 use Rattle.task_steps.specs.Routed.{setup}
 use Rattle.task_steps.specs.Stage.{Stage, Owes}

@@ -1,7 +1,7 @@
 //! Runs that a test makes by hand: it says which task is stepped in each turn, and what its step comes to.
 ghost use Rattle.std.specs.Prelude.{◌≡◌, ◌-◌, min};
 ghost use Rattle.trace_text.specs.Names.{IsNamed};
-ghost use Rattle.task_core.specs.opening.OfOne.{AreOfOne, IsOpened};
+ghost use Rattle.task_core.specs.opened.OfOne.{AreOfOne, IsOpened};
 
 use crate::nodes::Nodes;
 use crate::texts::{Scene, scene_of};

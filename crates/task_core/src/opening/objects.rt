@@ -9,7 +9,7 @@ ghost use Rattle.stack_base.specs.declared.ids.PoolId.TheVariants.{Bios, Records
 ghost use Rattle.run_machine.specs.Opened.{at, reserve_of, script_at};
 ghost use Rattle.fail_script.specs.Script.{only_tail};
 ghost use Rattle.task_core.specs.Plains.{tally_of};
-ghost use Rattle.task_core.specs.opening.Openings.{has_pool, AreOpened, uses_set, uses_slips, AreDisks, NextDisk, AreLists, NextList, AreBooks, NextBook};
+ghost use Rattle.task_core.specs.opened.Openings.{has_pool, AreOpened, uses_set, uses_slips, AreDisks, NextDisk, AreLists, NextList, AreBooks, NextBook};
 ghost use Rattle.task_steps.specs.Routed.{setup};
 ghost use Rattle.run_machine.specs.Scene.{keeps_data};
 

@@ -5,7 +5,7 @@ ghost use Rattle.stack_base.specs.Tree.{tree};
 ghost use Rattle.stack_base.specs.PoolId.{pool_number};
 ghost use Rattle.stack_base.specs.declared.ids.PoolId.TheVariants.{Bios, Records};
 ghost use Rattle.run_machine.specs.Opened.{at, reserve_of, script_at};
-ghost use Rattle.task_core.specs.opening.Openings.{widest, IsOpenPool, uses_set, AreSets, NextSet, uses_slips, AreRecords, NextRecords};
+ghost use Rattle.task_core.specs.opened.Openings.{widest, IsOpenPool, uses_set, AreSets, NextSet, uses_slips, AreRecords, NextRecords};
 ghost use Rattle.task_steps.specs.Routed.{setup};
 ghost use Rattle.run_machine.specs.Scene.{is_mirror};
 

@@ -6,7 +6,7 @@ ghost use Rattle.task_steps.specs.KeeperViews.{duty_of};
 ghost use Rattle.task_core.specs.Plains.{tally_of};
 ghost use Rattle.run_machine.specs.Scenario.{change_of};
 ghost use Rattle.run_machine.specs.Opened.{keepers};
-ghost use Rattle.task_core.specs.opening.NewTasks.{left_in, rounds_in, changes_at, duties_in, Adds};
+ghost use Rattle.task_core.specs.opened.NewTasks.{left_in, rounds_in, changes_at, duties_in, Adds};
 
 use crate::plain::tally::Tally;
 use stack_base::Status;

@@ -4,7 +4,7 @@ ghost use Rattle.std.specs.List.{range_with_len};
 ghost use Rattle.stack_base.specs.Stack.{IsStack};
 ghost use Rattle.task_steps.specs.Routed.{setup};
 ghost use Rattle.task_steps.specs.TaskViews.{task_of};
-ghost use Rattle.task_core.specs.opening.NewTasks.{rescuers_of, completers_of, shown, with_routing, Adds};
+ghost use Rattle.task_core.specs.opened.NewTasks.{rescuers_of, completers_of, shown, with_routing, Adds};
 
 use crate::opening::objects::is_disk;
 use stack_base::{DevId, Stack};

@@ -4,7 +4,7 @@ ghost use Rattle.std.specs.List.{range_with_len};
 ghost use Rattle.stack_base.specs.Stack.{IsStack};
 ghost use Rattle.layout_model.specs.Writes.{IsWrite};
 ghost use Rattle.run_machine.specs.Opened.{is_by};
-ghost use Rattle.task_core.specs.opening.NewTasks.{share_of, nodes_of, writer_with, writers_of, Adds, AreShared, ArePlaced};
+ghost use Rattle.task_core.specs.opened.NewTasks.{share_of, nodes_of, writer_with, writers_of, Adds, AreShared, ArePlaced};
 
 use layout_model::need;
 use stack_base::Stack;

@@ -1,5 +1,5 @@
 use Rattle.std.proofs.Common.{◌≡◌}
-use Rattle.task_core.specs.opening.OfOne.{scenario_in}
+use Rattle.task_core.specs.opened.OfOne.{scenario_in}
 use Rattle.plain_core.specs.Opening.{new_disks}
 use Rattle.plain_core.proofs.seen_objects.disks_seen.Given as goal
 

@@ -1,6 +1,6 @@
 use Rattle.std.proofs.Common.{◌≡◌, ap, sym, ◌∙◌, length, replicate, [], subst}
 use Rattle.stack_base.specs.declared.stack.Stack.{Stack}
-use Rattle.task_core.specs.opening.OfOne.{scenario_in}
+use Rattle.task_core.specs.opened.OfOne.{scenario_in}
 use Rattle.plain_core.specs.Plain.{HasPlaces}
 use Rattle.plain_core.proofs.Opened.{has_places}
 use Rattle.plain_core.proofs.Seen.{stack_there}

@@ -1,4 +1,4 @@
-use Rattle.task_core.specs.opening.OfOne.{scenario_in}
+use Rattle.task_core.specs.opened.OfOne.{scenario_in}
 use Rattle.plain_core.specs.Opening.{new_pool}
 use Rattle.plain_core.proofs.Counted.{mapped_more}
 use Rattle.plain_core.proofs.seen_objects.pools_seen.Goals as goal

@@ -1,4 +1,4 @@
-use Rattle.task_core.specs.opening.OfOne.{states}
+use Rattle.task_core.specs.opened.OfOne.{states}
 use Rattle.plain_core.proofs.Risen.{AreSeen}
 use Rattle.plain_core.proofs.seen_tasks.tasks_seen.Given as goal
 

@@ -1,5 +1,5 @@
 use Rattle.std.proofs.Common.{◌-◌}
-use Rattle.task_core.specs.opening.OfOne.{scenario_in}
+use Rattle.task_core.specs.opened.OfOne.{scenario_in}
 use Rattle.block_core.specs.Bounded.{most_steps}
 use Rattle.serial_run.proofs.UnderWay.{IsUnderWay}
 use Rattle.serial_run.proofs.run.run_serial.Given as goal

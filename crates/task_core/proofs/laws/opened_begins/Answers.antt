@@ -1,4 +1,4 @@
-use Rattle.task_core.proofs.opening.Begins.{opened_begins}
+use Rattle.task_core.proofs.opened.Begins.{opened_begins}
 use Rattle.task_core.proofs.laws.opened_begins.Goals as goal
 
 pub returns : goal.returns

@@ -1,11 +1,11 @@
 use Rattle.std.proofs.Common.{◌≡◌, ◌<◌, ◌^◌, ◌++◌, ◌∙◌, ℕ, List, ap, arith, length, subst, sym}
 use Rattle.std.specs.List.{range_with_len}
 use Rattle.task_core.specs.Leaving.{HasRoom}
-use Rattle.task_core.specs.opening.NewTasks.{others_in, reserves_in, shown, tally_in, with_routing, writers_of}
-use Rattle.task_core.specs.opening.Openings.{AreOpened}
+use Rattle.task_core.specs.opened.NewTasks.{others_in, reserves_in, shown, tally_in, with_routing, writers_of}
+use Rattle.task_core.specs.opened.Openings.{AreOpened}
 use Rattle.task_steps.specs.Routed.{Routing, setup}
-use Rattle.task_core.proofs.opening.Behind.{rounds_few}
-use Rattle.task_core.proofs.opening.Opens.{opened_of}
+use Rattle.task_core.proofs.opened.Behind.{rounds_few}
+use Rattle.task_core.proofs.opened.Opens.{opened_of}
 use Rattle.task_core.proofs.opening.open.Goals as goal
 
 pub left_of-requires : goal.left_of-requires

@@ -1,5 +1,5 @@
 use Rattle.std.proofs.Common.{◌<◌, ◌^◌, ℕ, List, length, subst, sym}
-use Rattle.task_core.proofs.opening.Behind.{rounds_few}
+use Rattle.task_core.proofs.opened.Behind.{rounds_few}
 use Rattle.task_core.proofs.opening.open_others.Goals as goal
 
 pub open_keeper-requires-clause-few : goal.open_keeper-requires-clause-few

@@ -10,10 +10,10 @@ use Rattle.stack_base.specs.Stack.{IsStack}
 use Rattle.decl_text.specs.Accepting.{IsDeclaredSo}
 use Rattle.decl_text.specs.Fit.{IsFitStack}
 use Rattle.decl_text.proofs.Fits.{accepted_fit}
-use Rattle.task_core.specs.opening.NewTasks.{in_round, reserves_in, rounds_in}
+use Rattle.task_core.specs.opened.NewTasks.{in_round, reserves_in, rounds_in}
 use Rattle.run_machine.specs.Opened.{at, reserve_of, script_at}
-use Rattle.task_core.specs.opening.Openings.{has_pool, uses_set, uses_slips}
-use Rattle.task_core.proofs.opening.Behind.{bads_are, reserves_small, rounds_few, scripts_alone, scripts_small, sets_kept, slips_are_kept}
+use Rattle.task_core.specs.opened.Openings.{has_pool, uses_set, uses_slips}
+use Rattle.task_core.proofs.opened.Behind.{bads_are, reserves_small, rounds_few, scripts_alone, scripts_small, sets_kept, slips_are_kept}
 use Rattle.task_core.proofs.opening.open_plain.Goals as goal
 
 pub open_tally-requires-clause-few : goal.open_tally-requires-clause-few

@@ -1,4 +1,4 @@
-use Rattle.task_core.proofs.opening.Behind.{shared}
+use Rattle.task_core.proofs.opened.Behind.{shared}
 use Rattle.task_core.proofs.opening.open_routes.Goals as goal
 
 pub open_writers-requires-clause-shared : goal.open_writers-requires-clause-shared

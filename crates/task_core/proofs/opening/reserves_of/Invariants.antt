@@ -1,5 +1,5 @@
 use Rattle.std.proofs.Common.{◌≡◌, take}
-use Rattle.task_core.specs.opening.NewTasks.{reserves_in}
+use Rattle.task_core.specs.opened.NewTasks.{reserves_in}
 use Rattle.task_core.proofs.opening.reserves_of.Given as goal
 
 abbrev pub invariant-reserving : goal.invariant-reserving

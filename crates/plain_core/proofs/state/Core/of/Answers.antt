@@ -1,6 +1,6 @@
 use Rattle.std.proofs.Common.{ap, sym, ◌∙◌, List, map, subst}
 use Rattle.std.specs.Prelude.{All}
-use Rattle.task_core.specs.opening.OfOne.{states}
+use Rattle.task_core.specs.opened.OfOne.{states}
 use Rattle.task_steps.specs.TaskViews.{TaskOf}
 use Rattle.task_steps.specs.Routed.{Routing}
 use Rattle.plain_core.specs.Seen.{IsFirst, Rises}

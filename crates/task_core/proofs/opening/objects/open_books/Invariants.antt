@@ -1,5 +1,5 @@
 use Rattle.std.proofs.Common.{◌≡◌, length}
-use Rattle.task_core.specs.opening.Openings.{AreBooks}
+use Rattle.task_core.specs.opened.Openings.{AreBooks}
 use Rattle.task_core.proofs.opening.objects.open_books.Given as goal
 
 abbrev pub invariant-opening : goal.invariant-opening

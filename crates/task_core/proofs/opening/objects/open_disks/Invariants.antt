@@ -1,5 +1,5 @@
 use Rattle.std.proofs.Common.{◌≡◌, length}
-use Rattle.task_core.specs.opening.Openings.{AreDisks}
+use Rattle.task_core.specs.opened.Openings.{AreDisks}
 use Rattle.task_core.proofs.opening.objects.open_disks.Given as goal
 
 abbrev pub invariant-opening : goal.invariant-opening

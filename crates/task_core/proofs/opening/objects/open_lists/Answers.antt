@@ -1,8 +1,8 @@
 use Rattle.std.proofs.Common.{◌<◌, length, ap, ◌∙◌, arith}
 use Rattle.stack_base.specs.declared.stack.Stack.{Stack}
-use Rattle.task_core.specs.opening.Openings.{itself, uses_list, IsNewList}
+use Rattle.task_core.specs.opened.Openings.{itself, uses_list, IsNewList}
 use Rattle.task_core.specs.Plains.{list_number}
-use Rattle.task_core.proofs.opening.Filling.{one_more, not_itself}
+use Rattle.task_core.proofs.opened.Filling.{one_more, not_itself}
 use Rattle.task_core.proofs.opening.objects.open_lists.Goals as goal
 
 pub opening-preserved : goal.opening-preserved

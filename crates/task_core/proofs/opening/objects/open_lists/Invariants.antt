@@ -1,5 +1,5 @@
 use Rattle.std.proofs.Common.{◌≡◌, length}
-use Rattle.task_core.specs.opening.Openings.{AreLists}
+use Rattle.task_core.specs.opened.Openings.{AreLists}
 use Rattle.task_core.proofs.opening.objects.open_lists.Given as goal
 
 abbrev pub invariant-opening : goal.invariant-opening

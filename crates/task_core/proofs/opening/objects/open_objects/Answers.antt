@@ -1,4 +1,4 @@
-use Rattle.task_core.proofs.opening.NewObjects.{opened_of}
+use Rattle.task_core.proofs.opened.NewObjects.{opened_of}
 use Rattle.task_core.proofs.opening.objects.open_objects.Goals as goal
 
 pub returns : goal.returns

@@ -3,8 +3,8 @@ use Rattle.stack_base.specs.PoolId.{pool_number}
 use Rattle.mempool_core.specs.Move.{opened}
 use Rattle.mempool_core.specs.Pool.{LedgerPool}
 use Rattle.run_machine.specs.Opened.{script_at}
-use Rattle.task_core.specs.opening.Openings.{widest}
-use Rattle.task_core.proofs.opening.NewPools.{widest_least}
+use Rattle.task_core.specs.opened.Openings.{widest}
+use Rattle.task_core.proofs.opened.NewPools.{widest_least}
 use Rattle.task_core.proofs.opening.pools.open_pool.Goals as goal
 
 pub returns : goal.returns

@@ -1,8 +1,8 @@
 use Rattle.std.proofs.Common.{◌<◌, length, ◌∙◌, arith}
-use Rattle.task_core.specs.opening.Openings.{slip_index, uses_slips, IsNewRecords}
+use Rattle.task_core.specs.opened.Openings.{slip_index, uses_slips, IsNewRecords}
 use Rattle.task_core.specs.Plains.{records_number}
-use Rattle.task_core.proofs.opening.Filling.{one_more}
-use Rattle.task_core.proofs.opening.NewPools.{slips_apart}
+use Rattle.task_core.proofs.opened.Filling.{one_more}
+use Rattle.task_core.proofs.opened.NewPools.{slips_apart}
 use Rattle.task_core.proofs.opening.pools.open_records.Goals as goal
 
 pub opening-preserved : goal.opening-preserved

@@ -1,5 +1,5 @@
 use Rattle.std.proofs.Common.{◌≡◌, length}
-use Rattle.task_core.specs.opening.Openings.{AreRecords}
+use Rattle.task_core.specs.opened.Openings.{AreRecords}
 use Rattle.task_core.proofs.opening.pools.open_records.Given as goal
 
 abbrev pub invariant-opening : goal.invariant-opening

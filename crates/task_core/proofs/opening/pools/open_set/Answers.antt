@@ -3,10 +3,10 @@ use Rattle.stack_base.specs.declared.ids.PoolId.TheVariants.{Bios}
 use Rattle.stack_base.specs.declared.ids.SetId.TheVariants.{Of}
 use Rattle.stack_base.specs.declared.stack.Stack.{Stack}
 use Rattle.run_machine.specs.Opened.{reserve_of}
-use Rattle.task_core.specs.opening.Openings.{IsOpenPool}
+use Rattle.task_core.specs.opened.Openings.{IsOpenPool}
 use Rattle.task_steps.specs.Routed.{setup}
 use Rattle.run_machine.specs.Scene.{keeps_data}
-use Rattle.task_core.proofs.opening.NewPools.{set_used, reserve_is}
+use Rattle.task_core.proofs.opened.NewPools.{set_used, reserve_is}
 use Rattle.task_core.proofs.opening.pools.open_set.Goals as goal
 
 pub returns-in_ok-seat : goal.returns-in_ok-seat

@@ -4,10 +4,10 @@ use Rattle.stack_base.specs.declared.ids.PoolId.TheVariants.{FsBios}
 use Rattle.stack_base.specs.declared.ids.SetId.{SetId}
 use Rattle.stack_base.specs.declared.ids.SetId.TheVariants.{Fs}
 use Rattle.mempool_core.specs.Pool.{LedgerPool}
-use Rattle.task_core.specs.opening.Openings.{set_index, uses_set, IsNewSet, AreSets, NextSet, IsOpenPool}
+use Rattle.task_core.specs.opened.Openings.{set_index, uses_set, IsNewSet, AreSets, NextSet, IsOpenPool}
 use Rattle.task_core.specs.Plains.{set_number}
-use Rattle.task_core.proofs.opening.Filling.{none_made, one_more}
-use Rattle.task_core.proofs.opening.NewPools.{sets_apart}
+use Rattle.task_core.proofs.opened.Filling.{none_made, one_more}
+use Rattle.task_core.proofs.opened.NewPools.{sets_apart}
 use Rattle.task_core.proofs.opening.pools.open_sets.Goals as goal
 
 -- the writers' pool is the first

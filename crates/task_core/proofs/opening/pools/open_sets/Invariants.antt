@@ -1,5 +1,5 @@
 use Rattle.std.proofs.Common.{◌≡◌, suc, length}
-use Rattle.task_core.specs.opening.Openings.{AreSets}
+use Rattle.task_core.specs.opened.Openings.{AreSets}
 use Rattle.task_core.proofs.opening.pools.open_sets.Given as goal
 
 abbrev pub invariant-opening : goal.invariant-opening

@@ -2,10 +2,10 @@ use Rattle.std.proofs.Common.{◌≡◌, ◌<◌, inl, true, slice_set, length, 
 use Rattle.stack_base.specs.declared.ids.PoolId.TheVariants.{Records}
 use Rattle.stack_base.specs.declared.stack.Stack.{Stack}
 use Rattle.run_machine.specs.Opened.{reserve_of}
-use Rattle.task_core.specs.opening.Openings.{IsOpenPool}
+use Rattle.task_core.specs.opened.Openings.{IsOpenPool}
 use Rattle.task_steps.specs.Routed.{setup}
 use Rattle.run_machine.specs.Scene.{is_mirror}
-use Rattle.task_core.proofs.opening.NewPools.{slips_used}
+use Rattle.task_core.proofs.opened.NewPools.{slips_used}
 use Rattle.task_core.proofs.opening.pools.open_slips.Goals as goal
 
 pub returns-in_ok-seat : goal.returns-in_ok-seat

@@ -1,5 +1,5 @@
 use Rattle.std.proofs.Common.{◌≡◌, drop}
-use Rattle.task_core.specs.opening.Openings.{widest}
+use Rattle.task_core.specs.opened.Openings.{widest}
 use Rattle.task_core.proofs.opening.pools.widest.Given as goal
 
 abbrev pub invariant-widening : goal.invariant-widening

@@ -1,10 +1,10 @@
 use Rattle.std.proofs.Common.{◌≡◌, ◌+◌, ◌-◌, ◌++◌, ◌∷◌, [], ◌∙◌, ap, arith, length, map, slice_index_or, sym}
 use Rattle.std.proofs.lemmas.List.FromFn.{length-map-range_with_len}
 use Rattle.task_steps.specs.KeeperViews.{duty_of}
-use Rattle.task_core.specs.opening.NewTasks.{changes_at, duties_in, from_round, in_round, rounds_in, starts_at}
+use Rattle.task_core.specs.opened.NewTasks.{changes_at, duties_in, from_round, in_round, rounds_in, starts_at}
 use Rattle.run_machine.specs.Scenario.{change_of}
 use Rattle.run_machine.specs.Tasks.{Starts}
-use Rattle.task_core.proofs.opening.Rounding.{duties_more, from_first, from_next, left_at}
+use Rattle.task_core.proofs.opened.Rounding.{duties_more, from_first, from_next, left_at}
 use Rattle.task_core.proofs.opening.rounds.duties_of.Goals as goal
 
 pub passing-init : goal.passing-init

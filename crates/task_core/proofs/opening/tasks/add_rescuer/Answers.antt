@@ -2,7 +2,7 @@ use Rattle.std.proofs.Common.{◌++◌, ◌∷◌, [], ◌∙◌, Bool, ap, cond
 use Rattle.std.proofs.lemmas.List.{map-append}
 use Rattle.task_steps.specs.declared.task.Kind.TheVariants as kind
 use Rattle.run_machine.specs.Lines.{rests}
-use Rattle.task_core.specs.opening.NewTasks.{shown}
+use Rattle.task_core.specs.opened.NewTasks.{shown}
 use Rattle.run_machine.specs.Opened.{at}
 use Rattle.task_steps.specs.RescuerViews.{RescuerState, rescuer_task}
 use Rattle.task_steps.specs.TaskViews.{task_of}

@@ -1,9 +1,9 @@
-use Rattle.task_core.specs.opening.NewTasks.{completers_of}
+use Rattle.task_core.specs.opened.NewTasks.{completers_of}
 use Rattle.run_machine.specs.Opened.{at}
 use Rattle.task_steps.specs.Routed.{setup}
 use Rattle.run_machine.specs.Scene.{is_disk}
 use Rattle.run_machine.specs.Tasks.{Completer, Empty}
-use Rattle.task_core.proofs.opening.Sharing.{adds_more, kept_split}
+use Rattle.task_core.proofs.opened.Sharing.{adds_more, kept_split}
 use Rattle.task_core.proofs.opening.tasks.open_completers.Goals as goal
 
 pub opening-preserved : goal.opening-preserved

@@ -1,5 +1,5 @@
 use Rattle.std.specs.List.{range_with_len}
-use Rattle.task_core.specs.opening.NewTasks.{completers_of, Adds}
+use Rattle.task_core.specs.opened.NewTasks.{completers_of, Adds}
 use Rattle.task_steps.specs.Routed.{setup}
 use Rattle.task_core.proofs.opening.tasks.open_completers.Given as goal
 

@@ -1,9 +1,9 @@
 use Rattle.run_machine.specs.Lines.{rests}
-use Rattle.task_core.specs.opening.NewTasks.{rescuers_of}
+use Rattle.task_core.specs.opened.NewTasks.{rescuers_of}
 use Rattle.run_machine.specs.Opened.{at}
 use Rattle.task_steps.specs.Routed.{setup}
 use Rattle.run_machine.specs.Tasks.{Rescuer}
-use Rattle.task_core.proofs.opening.Sharing.{adds_more, kept_split}
+use Rattle.task_core.proofs.opened.Sharing.{adds_more, kept_split}
 use Rattle.task_core.proofs.opening.tasks.open_rescuers.Goals as goal
 
 pub opening-preserved : goal.opening-preserved

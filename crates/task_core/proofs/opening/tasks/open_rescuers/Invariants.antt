@@ -1,5 +1,5 @@
 use Rattle.std.specs.List.{range_with_len}
-use Rattle.task_core.specs.opening.NewTasks.{rescuers_of, Adds}
+use Rattle.task_core.specs.opened.NewTasks.{rescuers_of, Adds}
 use Rattle.task_steps.specs.Routed.{setup}
 use Rattle.task_core.proofs.opening.tasks.open_rescuers.Given as goal
 

@@ -1,5 +1,5 @@
 use Rattle.std.proofs.Common.{◌≡◌}
-use Rattle.task_core.specs.opening.NewTasks.{shown, with_routing}
+use Rattle.task_core.specs.opened.NewTasks.{shown, with_routing}
 use Rattle.task_core.proofs.opening.tasks.tasks_of.Given as goal
 
 abbrev pub invariant-sharing : goal.invariant-sharing

@@ -1,8 +1,8 @@
 use Rattle.std.proofs.Common.{◌<◌, ◌^◌, All, List, ap, subst, sym, ◌∙◌}
 use Rattle.layout_model.specs.Writes.{IsWrite}
-use Rattle.task_core.specs.opening.NewTasks.{nodes_of, writer_with, Adds}
+use Rattle.task_core.specs.opened.NewTasks.{nodes_of, writer_with, Adds}
 use Rattle.run_machine.specs.Tasks.{Todo}
-use Rattle.task_core.proofs.opening.Sharing.{few_writes, share_few, share_served, writer_there}
+use Rattle.task_core.proofs.opened.Sharing.{few_writes, share_few, share_served, writer_there}
 use Rattle.task_core.proofs.opening.writers.open_writer.Goals as goal
 
 pub share_of-requires-clause-few : goal.share_of-requires-clause-few

@@ -1,5 +1,5 @@
 use Rattle.std.specs.List.{range_with_len}
-use Rattle.task_core.specs.opening.NewTasks.{writers_of, Adds, ArePlaced}
+use Rattle.task_core.specs.opened.NewTasks.{writers_of, Adds, ArePlaced}
 use Rattle.task_core.proofs.opening.writers.open_writers.Given as goal
 
 abbrev pub invariant-opening : goal.invariant-opening

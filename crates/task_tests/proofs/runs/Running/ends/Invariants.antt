@@ -1,4 +1,4 @@
-use Rattle.task_core.specs.opening.OfOne.{AreOfOne}
+use Rattle.task_core.specs.opened.OfOne.{AreOfOne}
 use Rattle.task_tests.proofs.runs.Running.ends.Given as goal
 
 abbrev pub invariant-ending : goal.invariant-ending

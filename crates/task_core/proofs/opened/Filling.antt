@@ -9,7 +9,7 @@ use Rattle.std.proofs.lemmas.List.FromFn.{map-range_with_len_more}
 use Rattle.std.proofs.lemmas.List.Folds.{find_at, find-append, position_or_len_push}
 use Rattle.std.proofs.lemmas.Option.{slice_get-get_or}
 use Rattle.task_core.specs.Tables.{has_number, IsAt}
-use Rattle.task_core.specs.opening.Filled.{AreMade, IsNext}
+use Rattle.task_core.specs.opened.Filled.{AreMade, IsNext}
 
 is_itself : (a b : ℕ) → a ≡ b → (a == b) ≡ true
 is_itself a b e = grind (arith, nat_tests)

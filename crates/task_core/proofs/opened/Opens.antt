@@ -30,12 +30,12 @@ use Rattle.run_machine.specs.Events.{pool_of}
 use Rattle.task_steps.specs.Homes.{TodoFits, IsLineOf, IsOwned, DutyFits, IsTaskOf}
 use Rattle.task_core.specs.Leaving.{HasRoom}
 use Rattle.run_machine.specs.Lines.{rests}
-use Rattle.task_core.specs.opening.NewTasks.{AreShared, ArePlaced, writers_of, others_in, tally_in, reserves_in, shown, with_routing}
+use Rattle.task_core.specs.opened.NewTasks.{AreShared, ArePlaced, writers_of, others_in, tally_in, reserves_in, shown, with_routing}
 use Rattle.run_machine.specs.Objects.{Objects, TallyState}
-use Rattle.task_core.specs.opening.OfOne.{states, AreOfOne, IsOpened, IsReadBehind, scenario_in}
+use Rattle.task_core.specs.opened.OfOne.{states, AreOfOne, IsOpened, IsReadBehind, scenario_in}
 use Rattle.run_machine.specs.Opened.{Change, Scenario, at, is_by, todos, todos_of, writers, places_of, reserve_of, script_at, keepers, duties, duties_of, writes_from, round_count, tasks}
 use Rattle.run_machine.specs.Opened as opened
-use Rattle.task_core.specs.opening.Openings.{widest, AreOpened}
+use Rattle.task_core.specs.opened.Openings.{widest, AreOpened}
 use Rattle.task_core.specs.Plains.{objects_of, stage_of}
 use Rattle.task_steps.specs.Routed.{Routing, places_at, setup}
 use Rattle.run_machine.specs.Scenario.{change_of}
@@ -44,9 +44,9 @@ use Rattle.task_steps.specs.Stage.{Stage, has_book, is_pool}
 use Rattle.task_steps.specs.TaskViews.{TaskOf}
 use Rattle.run_machine.specs.Tasks.{Todo, NoBio, Empty, Duty, Resizes, Starts, TaskState, Writer, Rescuer, Completer, Keeper, Keeps}
 use Rattle.task_steps.specs.Within.{IsItemWithin}
-use Rattle.task_core.proofs.opening.Behind.{all_flat, fit_work, is_below, pool_known, pool_there, shared}
-use Rattle.task_core.proofs.opening.NewPools.{widest_least}
-use Rattle.task_core.proofs.opening.Sharing.{any_some, numbered_all, numbers_below}
+use Rattle.task_core.proofs.opened.Behind.{all_flat, fit_work, is_below, pool_known, pool_there, shared}
+use Rattle.task_core.proofs.opened.NewPools.{widest_least}
+use Rattle.task_core.proofs.opened.Sharing.{any_some, numbered_all, numbers_below}
 
 -- the largest reserve is no less than each
 is_itself : (a b : ℕ) → a ≡ b → (a == b) ≡ true

@@ -3,8 +3,8 @@ use Rattle.std.proofs.Common.{◌≡◌, ℕ, List, length, get_or, ap, sym, ◌
 use Rattle.std.proofs.lemmas.List.{length-map}
 use Rattle.elem_ledger.specs.Ledger.{LedgerId}
 use Rattle.task_core.specs.declared.opening.Opened.{Opened}
-use Rattle.task_core.specs.opening.Begins.{OpenedBegins}
-use Rattle.task_core.specs.opening.OfOne.{run_state, scenario_in, states, IsOpened}
+use Rattle.task_core.specs.opened.Begins.{OpenedBegins}
+use Rattle.task_core.specs.opened.OfOne.{run_state, scenario_in, states, IsOpened}
 use Rattle.run_machine.specs.Objects.{Objects}
 use Rattle.run_machine.specs.Opened.{no_task, start, scene, most_writers}
 use Rattle.run_machine.specs.Opened as opened

@@ -13,10 +13,10 @@ use Rattle.layout_model.specs.Needs.{nodes}
 use Rattle.layout_model.specs.Writes.{IsWrite}
 use Rattle.task_steps.specs.declared.task.Kind.{Kind}
 use Rattle.run_machine.specs.Lines.{rests}
-use Rattle.task_core.specs.opening.NewTasks.{numbered, numbered_from, share_of, nodes_of, is_writer, writer_with, writers_of, shown, Adds, AreShared, ArePlaced}
+use Rattle.task_core.specs.opened.NewTasks.{numbered, numbered_from, share_of, nodes_of, is_writer, writer_with, writers_of, shown, Adds, AreShared, ArePlaced}
 use Rattle.run_machine.specs.Opened.{is_by}
 use Rattle.run_machine.specs.Tasks.{Todo, TaskState, NoBio, Writer}
-use Rattle.task_core.proofs.opening.Filling as fill
+use Rattle.task_core.proofs.opened.Filling as fill
 
 -- how many there are, and which stands at a place
 pub numbered_long : (first : ℕ) (rounds : List ℕ) (writes : List Write) → length rounds ≡ length writes

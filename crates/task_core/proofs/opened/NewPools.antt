@@ -10,7 +10,7 @@ use Rattle.stack_base.specs.declared.stack.Device.{Device}
 use Rattle.stack_base.specs.declared.stack.Stack.{Stack}
 use Rattle.stack_base.specs.PoolId.{pool_number}
 use Rattle.run_machine.specs.Opened.{reserve_of}
-use Rattle.task_core.specs.opening.Openings.{widest, set_index, slip_index, uses_set, uses_slips}
+use Rattle.task_core.specs.opened.Openings.{widest, set_index, slip_index, uses_set, uses_slips}
 use Rattle.task_steps.specs.Routed.{Routing, setup}
 use Rattle.run_machine.specs.Scene.{keeps_data, is_mirror}
 

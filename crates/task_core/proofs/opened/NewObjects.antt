@@ -27,11 +27,11 @@ use Rattle.bio_books.specs.Books.{BookState, Node}
 use Rattle.model_disks.specs.Disks.{DiskState}
 use Rattle.task_core.specs.declared.plain.Plain.{Plain}
 use Rattle.run_machine.specs.Events.{pool_of}
-use Rattle.task_core.specs.opening.Filled.{AreMade}
+use Rattle.task_core.specs.opened.Filled.{AreMade}
 use Rattle.run_machine.specs.Objects.{Objects, TallyState}
 use Rattle.task_core.specs.ObjectsOf.{AreObjectsOf, IsNodeOf}
 use Rattle.run_machine.specs.Opened.{at, reserve_of, script_at}
-use Rattle.task_core.specs.opening.Openings.{has_pool, opened_objects, widest, AreOpened, IsNewPool, set_at, set_index, uses_set, IsNewSet, AreSets, slip_index, uses_slips, IsNewRecords, AreRecords, itself, uses_disk, IsNewDisk, AreDisks, uses_list, IsNewList, AreLists, uses_book, IsNewBook, AreBooks}
+use Rattle.task_core.specs.opened.Openings.{has_pool, opened_objects, widest, AreOpened, IsNewPool, set_at, set_index, uses_set, IsNewSet, AreSets, slip_index, uses_slips, IsNewRecords, AreRecords, itself, uses_disk, IsNewDisk, AreDisks, uses_list, IsNewList, AreLists, uses_book, IsNewBook, AreBooks}
 use Rattle.task_core.specs.Plains.{set_number, records_number, no_pool, list_number, disk_number, book_number, no_disk, no_book, by_kind, pool_at, tally_of, objects_of, stage_of, AreSeated}
 use Rattle.task_steps.specs.Routed.{Routing, places_at, setup}
 use Rattle.run_machine.specs.Scene.{has_set}

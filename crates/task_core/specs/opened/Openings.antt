@@ -16,7 +16,7 @@ use Rattle.bio_books.specs.Books.{BookState}
 use Rattle.model_disks.specs.Disks.{DiskState}
 use Rattle.task_core.specs.declared.plain.Plain.{Plain}
 use Rattle.run_machine.specs.Events.{pool_of}
-use Rattle.task_core.specs.opening.Filled.{AreMade, IsNext}
+use Rattle.task_core.specs.opened.Filled.{AreMade, IsNext}
 use Rattle.run_machine.specs.Objects.{TallyState, Objects}
 use Rattle.run_machine.specs.Opened.{at, reserve_of, script_at}
 use Rattle.task_core.specs.Plains.{set_number, records_number, list_number, disk_number, book_number, no_disk, objects_of, stage_of, Holds}

@@ -9,7 +9,7 @@ use Rattle.std.proofs.lemmas.List.Filters.{length-filter_more}
 use Rattle.std.proofs.lemmas.List.FromFn.{get_or-map-range_with_len, map-range_with_len_more}
 use Rattle.std.proofs.lemmas.List.Sums.{get_or-le-sum_by, sum_by-set}
 use Rattle.work_text.specs.declared.Resize.{Resize}
-use Rattle.task_core.specs.opening.NewTasks.{in_round, from_round, rounds_in, left_in, starts_at, duties_in}
+use Rattle.task_core.specs.opened.NewTasks.{in_round, from_round, rounds_in, left_in, starts_at, duties_in}
 
 is_itself : (a b : ℕ) → a ≡ b → (a == b) ≡ true
 is_itself a b e = grind (arith, nat_tests)

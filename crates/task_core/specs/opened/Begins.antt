@@ -1,7 +1,7 @@
 -- What is opened of a text is where the runs of its scenario begin.
 use Rattle.std.specs.Prelude.{◌≡◌, length}
 use Rattle.task_core.specs.declared.opening.Opened.{Opened}
-use Rattle.task_core.specs.opening.OfOne.{run_state, scenario_in, IsOpened}
+use Rattle.task_core.specs.opened.OfOne.{run_state, scenario_in, IsOpened}
 use Rattle.run_machine.specs.Opened.{scene, start}
 use Rattle.task_core.specs.PlainSteps.{scene_of}
 use Rattle.task_core.specs.Plains.{stage_of}

@@ -39,14 +39,14 @@ use Rattle.work_text.specs.Fit.{IsFitWork, IsPoolIn}
 use Rattle.work_text.specs.declared.Resize.{Resize}
 use Rattle.work_text.specs.declared.Work.{Work}
 use Rattle.work_text.proofs.Fit.{work_is_fit}
-use Rattle.task_core.specs.opening.NewTasks.{AreShared, reserves_in}
-use Rattle.task_core.specs.opening.OfOne.{IsReadBehind}
+use Rattle.task_core.specs.opened.NewTasks.{AreShared, reserves_in}
+use Rattle.task_core.specs.opened.OfOne.{IsReadBehind}
 use Rattle.run_machine.specs.Opened.{at, is_numbered, records_of as records_at, reserve_of, script_at}
-use Rattle.task_core.specs.opening.Openings.{has_pool, uses_set, uses_slips}
+use Rattle.task_core.specs.opened.Openings.{has_pool, uses_set, uses_slips}
 use Rattle.task_steps.specs.Routed.{Routing, copies, keeps, setup}
 use Rattle.run_machine.specs.Scene.{has_set, is_mirror, keeps_data}
 use Rattle.task_steps.specs.Stage.{Stage, is_pool}
-use Rattle.task_core.proofs.opening.Sharing.{few_writes}
+use Rattle.task_core.proofs.opened.Sharing.{few_writes}
 
 clash : (b : Bool) → b ≡ true → b ≡ false → ⊥
 clash b p q = true≢false (sym p ∙ q)
