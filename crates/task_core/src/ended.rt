@@ -25,6 +25,7 @@ impl Plain {
     pub fn leaves(self) -> (Vec<Status>, Vec<Disk>)
         ensures { result ≡ (self.tally.statuses, self.disks) }
     {
-        (self.tally.statuses, self.disks)
+        let tally = self.tally;
+        (tally.statuses, self.disks)
     }
 }
