@@ -45,7 +45,7 @@ AreTurns scene old [] [] = Unit {0}
 AreTurns scene old (turn ∷ turns) (event ∷ events) = Does scene old turn event × AreTurns scene (behind scene.setup old turn) turns events
 AreTurns scene old turns events = ⊥
 
-pub does_step : (scene : Scene) (old : State) (turn : Turn) (event : Event) → Does scene old turn event
+unfoldable pub does_step : (scene : Scene) (old : State) (turn : Turn) (event : Event) → Does scene old turn event
     → Steps scene old turn.place event (behind scene.setup old turn)
 does_step scene old turn event does = record {
   here = ltb-true turn.place scene.tasks does.0;
@@ -58,7 +58,7 @@ does_step scene old turn event does = record {
 }
 
 -- turns are a run
-pub turns_run : (scene : Scene) (old : State) (turns : List Turn) (events : List Event) → AreTurns scene old turns events
+unfoldable pub turns_run : (scene : Scene) (old : State) (turns : List Turn) (events : List Event) → AreTurns scene old turns events
     → IsRun scene old events (follow scene.setup old turns)
 turns_run scene old [] [] are = refl
 turns_run scene old [] (event ∷ events) are = absurd are

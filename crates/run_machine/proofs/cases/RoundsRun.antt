@@ -58,7 +58,7 @@ setup = record {
   places = λ writer. (if 0 == writer then 1 else 0) + (if 1 == writer then 1 else 0);
 }
 
-abbrev write : ℕ → Write
+abbrev pub write : ℕ → Write
 write number = record { task = number; dev = a; start = number; count = 2; tag = 1000 * number }
 
 abbrev todo : ℕ → Todo
@@ -89,16 +89,16 @@ start = record {
 }
 
 module _ (some : LedgerId) where
-  abbrev ledger : ℕ → LedgerId
+  abbrev pub ledger : ℕ → LedgerId
   ledger number = record some { no = number }
 
   abbrev pub scene : Scene
   scene = record { setup = setup; tasks = 4; books = 8; writes = 2; ledger = ledger }
 
-  abbrev bio : ℕ → Item Pad
+  abbrev pub bio : ℕ → Item Pad
   bio number = filled_short number (todo number) 0 (clear_bio (ledger 65))
 
-  abbrev closed : ℕ → Closed
+  abbrev pub closed : ℕ → Closed
   closed number = closed_of (told (top_node number None) Ok (Some (bio number)))
 
   abbrev completed : ℕ → DiskState → DiskState
@@ -143,10 +143,10 @@ module _ (some : LedgerId) where
   abbrev pub turns : List Turn
   turns = writing 0 ++ (keeping ++ writing 1)
 
-  abbrev events : List Event
+  abbrev pub events : List Event
   events = written_events 0 ++ (k (what.Resize FsBios 3) ∷ k (what.Round 1) ∷ written_events 1)
 
-  are_turns : AreTurns scene start turns events
+  pub are_turns : AreTurns scene start turns events
   unfolding upd
   are_turns = (
     (refl, refl, (Present 0, (refl, refl), refl), refl, (((omega arith, omega arith), refl), refl)),
@@ -198,7 +198,7 @@ module _ (some : LedgerId) where
     ),
   )
 
-  rounds_run : IsRun scene start events (follow setup start turns)
+  unfoldable pub rounds_run : IsRun scene start events (follow setup start turns)
   rounds_run = turns_run scene start turns events are_turns
 
   -- the pool has its new reserve then, all of it at home
@@ -252,7 +252,7 @@ module _ (memory : Global) where
   unfolding tree_below over_shape
   tasks_are = refl
 
-  start_is : start ≡ texts.start scenario
+  pub start_is : start ≡ texts.start scenario
   start_is = λ k. record {
     objects = record {
       pool = λ number. opened (reserve_is memory 8 (pool_of number) k) (script_at scripts number);
@@ -264,7 +264,7 @@ module _ (memory : Global) where
     task = λ place. slice_index_or (tasks_are k) place no_task;
   }
 
-  scene_is : (some : LedgerId) → scene some ≡ texts.scene scenario (ledger some)
+  pub scene_is : (some : LedgerId) → scene some ≡ texts.scene scenario (ledger some)
   scene_is some = λ k. record {
     setup = record {
       count = 1;
