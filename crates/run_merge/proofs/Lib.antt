@@ -1,3 +1,4 @@
 pub mod products
 pub mod merging
 pub mod closing
+pub mod cases
