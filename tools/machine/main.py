@@ -1,5 +1,5 @@
 """The words of `from-machine`, and the text that it writes."""
-from fault import INPUT, USAGE, Fault
+from fault import INPUT, USAGE, Fault, write_all
 from machine.arrays import read_arrays, read_detail
 from machine.blocks import read_blocks, read_limits
 from machine.lines import LONGEST_WRITE, build
@@ -74,6 +74,5 @@ def main(words, out):
     if not names:
         whys = [f"{plan.blocks[key].name}, of type {plan.blocks[key].type}: {why}" for key, why in plan.left_out.items()]
         raise Fault(f"nothing of this machine can be told in a text. {'; '.join(whys) or 'It has no block device'}", INPUT)
-    out.write(text_of(lines, names, left_out))
-    out.flush()
+    write_all(out, text_of(lines, names, left_out))
     return 0

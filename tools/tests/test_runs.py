@@ -136,7 +136,7 @@ class WorkedRun(unittest.TestCase):
         """Without a rescuer the run stands still behind its sixth event."""
         text = SHORTAGE.replace("records=1", "records=1 rescuer=no")
         recording, _, notes = followed(text, "".join(TRACE.splitlines(True)[:6]))
-        self.assertEqual(notes, ["The trace has no report: it ends at step 6, with 1 write unfinished."])
+        self.assertEqual(notes, ["The trace has no report: it ends at step 6, with 1 write unfinished. w0 waits at m.bios."])
         self.assertEqual(recording.run.pools["m.bios"].facts()[:3], [1, 0, 0])
         self.assertEqual(recording.run.tasks["w0"].ask.verb, "take")
         self.assertFalse(recording.run.pools["m.bios"].can_serve())

@@ -1,7 +1,7 @@
 """Draws the lanes of a run's tasks as a picture (SVG): a mark for each event, and under it the event's words."""
 import html
 
-from fault import USAGE, Fault
+from fault import USAGE, Fault, plain
 from viewer.marks import LINES, MARKS
 
 MOST = 2000  # steps in one picture
@@ -98,7 +98,7 @@ class Picture:
         self.draw_marks()
         height = self.draw_legend()
         shapes = "".join(f'<path id="{name}" d="{path}" fill="{colour}" stroke="#222"/>' for name, (_, colour, path) in MARKS.items())
-        return (f'<svg xmlns="http://www.w3.org/2000/svg" width="{self.width}" height="{height}" viewBox="0 0 {self.width} {height}" {FONT}>\n'
+        return plain(f'<svg xmlns="http://www.w3.org/2000/svg" width="{self.width}" height="{height}" viewBox="0 0 {self.width} {height}" {FONT}>\n'
                 f"<title>{html.escape(title)}</title>\n<defs>{shapes}</defs>\n"
                 f'<rect width="100%" height="100%" fill="#fff"/>\n' + "\n".join(self.parts) + "\n</svg>\n")
 

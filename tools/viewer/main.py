@@ -2,7 +2,7 @@
 import os
 import sys
 
-from fault import USAGE, Fault
+from fault import USAGE, Fault, write_all
 from viewer.lanes import lanes_of
 from viewer.page import page_of
 from viewer.recording import Recording
@@ -58,7 +58,8 @@ def notes_of(recording, report):
     if misfit:
         return [f"Line {misfit['line']} of the trace does not fit: {misfit['text']}. The steps before it are shown."]
     if report is None:
-        return [f"The trace has no report: it ends at step {run.step}, with {many(run.unfinished, 'write')} unfinished."]
+        waiting = "".join(f" {task.name} waits at {task.ask.object}." for task in recording.waiting())
+        return [f"The trace has no report: it ends at step {run.step}, with {many(run.unfinished, 'write')} unfinished.{waiting}"]
     against = recording.against(report)
     return [f"The report, from line {report.line} of the trace on, does not fit. {against}."] if against else []
 
@@ -71,8 +72,7 @@ def main(words, source, out):
     recording.follow(events)
     notes = notes_of(recording, report)
     title = os.path.basename(path)
-    out.write(lanes_of(title, recording, lines, steps) if is_picture else page_of(title, recording, lines, notes))
-    out.flush()
+    write_all(out, lanes_of(title, recording, lines, steps) if is_picture else page_of(title, recording, lines, notes))
     for note in notes:
         print(f"view: {note}", file=sys.stderr)
     return MISFIT if notes else 0

@@ -2,7 +2,9 @@
 import html
 import json
 import os
+import re
 
+from fault import plain
 from viewer.marks import LINES, MARKS
 
 FOLDER = os.path.join(os.path.dirname(os.path.abspath(__file__)), "page")
@@ -41,13 +43,9 @@ def data_of(title, recording, lines, notes):
 
 def page_of(title, recording, lines, notes):
     """Returns the page. `notes` are lines that say what did not fit."""
-    data = json.dumps(data_of(title, recording, lines, notes), separators=(",", ":")).replace("</", "<\\/")
+    data = json.dumps(data_of(title, recording, lines, notes), separators=(",", ":")).replace("<", "\\u003c")
     parts = {
-        "TITLE": html.escape(title), "STYLE": read("page.css"), "DATA": data,
+        "TITLE": plain(html.escape(title)), "STYLE": read("page.css"), "DATA": data,
         "SCRIPT": "\n".join(read(name) for name in SCRIPTS),
     }
-    text = read("page.html")
-    for name, part in parts.items():
-        before, mark, after = text.partition(f"@{name}@")
-        text = before + part + after
-    return text
+    return re.sub("@([A-Z]+)@", lambda found: parts[found[1]], read("page.html"))

@@ -65,6 +65,13 @@ class Recording:
             self.marks.append(mark_of(event))
             self.actors.append(self.numbers[task.name])
             self.note(task, ask, brought)
+        for task in self.waiting():
+            self.waits.append([self.numbers[task.name], task.asked, self.run.step + 1])
+
+    def waiting(self):
+        """Returns the tasks that wait at a pool as things stand."""
+        tasks = self.run.tasks.values()
+        return [task for task in tasks if task.ask and task.ask.verb == "take" and self.run.waits(task, self.run.pools[task.ask.object])]
 
     def note(self, task, ask, brought):
         """Keeps what an event has changed."""

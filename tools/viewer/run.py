@@ -91,9 +91,11 @@ class Run:
         return is_spare, [task.name for task in self.tasks.values() if self.waits(task, pool)]
 
     def waits(self, task, pool):
-        """Says whether a task waits at a pool, which served nothing at some step since the task asks."""
+        """Says whether a task waits at a pool: it serves nothing, or did so at some step since the task asks."""
         ask = task.ask
-        if not ask or ask.verb != "take" or ask.object != pool.name or self.dry[pool.name] < task.asked:
+        if not ask or ask.verb != "take" or ask.object != pool.name:
+            return False
+        if pool.can_serve() and self.dry[pool.name] < task.asked:
             return False
         return ask.about.kind != "bio" or ask.about.write.round <= self.round
 
