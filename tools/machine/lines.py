@@ -73,8 +73,10 @@ class Builder:
         return found
 
     def count(self, key):
-        """Counts how often each device is used by what is told."""
+        """Counts how often each device is used by what is told. One with pools of its own is told once."""
         self.uses[key] = self.uses.get(key, 0) + 1
+        if self.uses[key] > 1 and not self.plan.is_plain(key):
+            return
         shape = self.plan.shapes[key]
         for part in shape.leaves() if shape else []:
             self.count(part.key)
@@ -99,6 +101,8 @@ class Builder:
         """Writes what tells a block device, or `length` sectors of it, and returns its name."""
         block, shape = self.blocks[key], self.plan.shapes[key]
         is_plain = self.plan.is_plain(key)
+        if key in self.names and not is_plain:
+            return self.names[key][0]
         size = length if length and is_plain else block.size
         if shape is None:
             wish, notes = self.slice(key)
@@ -129,13 +133,17 @@ class Builder:
         if block.chunk:
             options["chunk"] = block.chunk
         options["reserve"] = MD_RESERVE
-        return self.add("limit", f"{name[:LONGEST_NAME - 2]}-q", [name], options, [f"the limits of the queue of {block.name}"])
+        notes = [f"the limits of the queue of {block.name}" + (", which has one pool for all slices" if self.uses[block.key] > 1 else "")]
+        return self.add("limit", f"{name[:LONGEST_NAME - 2]}-q", [name], options, notes)
 
     def shape(self, wish, shape):
         members = []
         for part in shape.parts:
             if isinstance(part, Part):
-                name = self.block(part.key, part.length)
+                # several parts of a device with pools of its own are told as one
+                lengths = [it.length for it in shape.parts if isinstance(it, Part) and it.key == part.key]
+                is_one = self.plan.is_plain(part.key) or None in lengths
+                name = self.block(part.key, part.length if is_one else sum(lengths))
             else:
                 name = self.shape(f"{wish}-{len(members) + 1}", part)
             if name not in members:

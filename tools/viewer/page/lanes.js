@@ -113,9 +113,10 @@ class Lanes {
     pen.font = "12px system-ui, 'DejaVu Sans', sans-serif";
     pen.fillStyle = "#333";
     pen.textAlign = "center";
-    const every = [1, 5, 10, 50, 100, 500].find((it) => it * this.spacing >= 34) || 1000;
+    const room = String(last).length * 8 + 8;
+    const every = [1, 5, 10, 50, 100, 500].find((it) => it * this.spacing >= room) || 1000;
     for (let step = this.first; step <= last; step += 1) {
-      const isFree = Math.abs(step - this.step) * this.spacing >= 44;
+      const isFree = Math.abs(step - this.step) * this.spacing >= room;
       if (step === this.step || (step % every === 0 && isFree)) pen.fillText(step, this.x(step), 11);
     }
     pen.textAlign = "left";
