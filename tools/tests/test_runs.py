@@ -172,6 +172,11 @@ class Examples(unittest.TestCase):
         for name, path, output in examples():
             self.assertEqual(followed(read(path), output)[2], [], name)
 
+    def test_reports_are_those_beside_the_texts(self):
+        for name, path, output in examples():
+            report = [line for line in output.splitlines() if not line.startswith("event ")]
+            self.assertEqual(report, read(f"{path}.stdout").splitlines(), name)
+
     @needs_program
     def test_outputs_are_of_the_program(self):
         for name, path, output in examples():
