@@ -27,11 +27,11 @@ impl Model for Holding {
 /// A part of a write that has not ended.
 #[derive(Drop)]
 pub struct Node {
-    role: Role,
-    write: u32,
-    count: u64,
-    status: Status,
-    held: Holding,
+    pub(crate) role: Role,
+    pub(crate) write: u32,
+    pub(crate) count: u64,
+    pub(crate) status: Status,
+    pub(crate) held: Holding,
 }
 
 impl Model for Node {
