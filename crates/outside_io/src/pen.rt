@@ -3,7 +3,7 @@ ghost use Rattle.std.specs.Prelude.{◌≡◌, ◌-◌, ◌<◌, ◌++◌, [], f
 ghost use Rattle.std.specs.List.{flat_map};
 ghost use Rattle.std.specs.Io.KnownBytes.{Appends};
 ghost use Rattle.outside_io.specs.Causes.{HasCause};
-ghost use Rattle.outside_io.specs.Saying.{AppendsFront, Says, emptied};
+ghost use Rattle.outside_io.specs.Saying.{AppendsFront, Says, StopsAtFault, emptied};
 
 use crate::{Failed, Sink};
 use arrayvec::ArrayVec;
@@ -12,11 +12,12 @@ use std::marker::Model;
 /// How many bytes a pen collects.
 const ROOM: usize = 8192;
 
-// Puts the whole text, by as many puts as that takes.
+// Puts the whole text, by as many puts as that takes, and nothing behind a fault.
 #[tactic(auto, using(crate::proofs::PutLemmas::appends_next))]
 fn put_all<K: Sink>(sink: &mut K, text: &[u8]) -> Result<(), Failed>
     ensures ok { OnOk result (Appends (K.held sink.old) (K.held sink.new) text.now) }
     ensures err { OnErr result (AppendsFront (K.held sink.old) (K.held sink.new) text.now) }
+    ensures stops { StopsAtFault K.held K.faults sink.old sink.new }
     ensures cause { HasCause (K.faults sink.old) (K.faults sink.new) result }
 {
     let mut at = 0;
@@ -59,7 +60,7 @@ impl Pen {
 
     // Puts what is pending, unless a put has failed before.
     fn hand_on<K: Sink>(&mut self, sink: &mut K)
-        ensures says { Says (K.held sink.old) (K.faults sink.old) self.old (K.held sink.new) (K.faults sink.new) self.new [] }
+        ensures says { Says K.held K.faults sink.old self.old sink.new self.new [] }
         ensures handed { self.new.pending ≡ [] }
     {
         if !self.failed {
@@ -70,7 +71,7 @@ impl Pen {
 
     // Hands on what is pending if it fills the buffer.
     fn make_room<K: Sink>(&mut self, sink: &mut K)
-        ensures says { Says (K.held sink.old) (K.faults sink.old) self.old (K.held sink.new) (K.faults sink.new) self.new [] }
+        ensures says { Says K.held K.faults sink.old self.old sink.new self.new [] }
         ensures room { length self.new.pending < 8192 }
     {
         if self.buffer.is_full() {
@@ -91,7 +92,7 @@ impl Pen {
 
     // Takes a text into the buffer, which is handed on as often as it is full.
     fn say<K: Sink>(&mut self, sink: &mut K, text: &[u8])
-        ensures { Says (K.held sink.old) (K.faults sink.old) self.old (K.held sink.new) (K.faults sink.new) self.new text.now }
+        ensures { Says K.held K.faults sink.old self.old sink.new self.new text.now }
     {
         let mut at = 0;
         'saying: while at < text.len() {
@@ -103,8 +104,7 @@ impl Pen {
 
     /// Tells the pen the parts of a text, one after the other. Where the buffer is full it goes on to the sink, unless the pen has failed before.
     pub fn put<K: Sink>(&mut self, sink: &mut K, parts: &[&[u8]])
-        ensures { Says (K.held sink.old) (K.faults sink.old) self.old (K.held sink.new) (K.faults sink.new) self.new
-            (flat_map (λ part. part.now) parts.now) }
+        ensures { Says K.held K.faults sink.old self.old sink.new self.new (flat_map (λ part. part.now) parts.now) }
     {
         'parts: for part in parts {
             self.say(sink, part);
@@ -117,7 +117,7 @@ impl Pen {
     ///
     /// Exactly where a put of this pen has failed, now or before.
     pub fn finish<K: Sink>(&mut self, sink: &mut K) -> Result<(), Failed>
-        ensures says { Says (K.held sink.old) (K.faults sink.old) self.old (K.held sink.new) (K.faults sink.new) self.new [] }
+        ensures says { Says K.held K.faults sink.old self.old sink.new self.new [] }
         ensures handed { self.new.pending ≡ [] }
         ensures failed { MatchResult result (λ _. self.new.failed ≡ false) (λ _. self.new.failed ≡ true) }
     {
