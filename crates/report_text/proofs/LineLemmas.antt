@@ -21,44 +21,44 @@ unfolding run_lines
 no_runs name all is = rw is refl
 
 -- the line of the first run, and then those of the others
-pub runs_on : {a b c : Option (List ℕ)} {f g h : ℕ} {was mid is : PenState} (name : List ℕ) (run : Range) (all rest : List Range) → all ≡ run ∷ rest
-    → Says a f was b g mid (run_line name run) → Says b g mid c h is (run_lines name rest) → Says a f was c h is (run_lines name all)
-runs_on {a} {b} {c} {f} {g} {h} {was} {mid} {is} name run all rest first here others =
-    subst (Says a f was c h is) (more_runs name run all rest first) (says_then here others)
+pub runs_on : {K : Type 0} {held : K → Option (List ℕ)} {faults : K → ℕ} {a b c : K} {was mid is : PenState} (name : List ℕ) (run : Range) (all rest : List Range) → all ≡ run ∷ rest
+    → Says held faults a was b mid (run_line name run) → Says held faults b mid c is (run_lines name rest) → Says held faults a was c is (run_lines name all)
+runs_on {held = held} {faults} {a} {b} {c} {was} {mid} {is} name run all rest first here others =
+    subst (Says held faults a was c is) (more_runs name run all rest first) (says_then here others)
 
 -- no run has no line
-pub runs_end : (a : Option (List ℕ)) (f : ℕ) (was : PenState) (name : List ℕ) (all : List Range) → all ≡ [] → Says a f was a f was (run_lines name all)
-runs_end a f was name all none = subst (Says a f was a f was) (no_runs name all none) (says_silence a f was)
+pub runs_end : {K : Type 0} (held : K → Option (List ℕ)) (faults : K → ℕ) (a : K) (was : PenState) (name : List ℕ) (all : List Range) → all ≡ [] → Says held faults a was a was (run_lines name all)
+runs_end held faults a was name all none = subst (Says held faults a was a was) (no_runs name all none) (says_silence held faults a was)
 
 -- the line of the write with this number, and then those of the writes behind it
-pub writes_on : {a b c : Option (List ℕ)} {f g h : ℕ} {was mid is : PenState} (statuses : List Status) (number : ℕ) (d : Status) → number < length statuses
-    → Says a f was b g mid (write_line number (get_or statuses number d))
-    → Says b g mid c h is (write_lines (number + 1) (drop (number + 1) statuses))
-    → Says a f was c h is (write_lines number (drop number statuses))
-writes_on {a} {b} {c} {f} {g} {h} {was} {mid} {is} statuses number d inside here others =
-    subst (Says a f was c h is) (sym (at_drop_more (write_lines number) statuses number d inside)) (says_then here others)
+pub writes_on : {K : Type 0} {held : K → Option (List ℕ)} {faults : K → ℕ} {a b c : K} {was mid is : PenState} (statuses : List Status) (number : ℕ) (d : Status) → number < length statuses
+    → Says held faults a was b mid (write_line number (get_or statuses number d))
+    → Says held faults b mid c is (write_lines (number + 1) (drop (number + 1) statuses))
+    → Says held faults a was c is (write_lines number (drop number statuses))
+writes_on {held = held} {faults} {a} {b} {c} {was} {mid} {is} statuses number d inside here others =
+    subst (Says held faults a was c is) (sym (at_drop_more (write_lines number) statuses number d inside)) (says_then here others)
 
 -- behind the last write there is no line
-pub writes_end : (a : Option (List ℕ)) (f : ℕ) (was : PenState) (statuses : List Status) (number : ℕ)
-    → length statuses ≤ number → Says a f was a f was (write_lines number (drop number statuses))
-writes_end a f was statuses number past =
-    subst (Says a f was a f was) (sym (at_drop_all (write_lines number) statuses number past)) (says_silence a f was)
+pub writes_end : {K : Type 0} (held : K → Option (List ℕ)) (faults : K → ℕ) (a : K) (was : PenState) (statuses : List Status) (number : ℕ)
+    → length statuses ≤ number → Says held faults a was a was (write_lines number (drop number statuses))
+writes_end held faults a was statuses number past =
+    subst (Says held faults a was a was) (sym (at_drop_all (write_lines number) statuses number past)) (says_silence held faults a was)
 
 -- the line of the device with this number, and then those of the devices behind it
-pub devices_on : {a b c : Option (List ℕ)} {f g h : ℕ} {was mid is : PenState} (stack : Stack) (devices shown : List Device) (number : ℕ) (device : Device) (sectors : ℕ)
+pub devices_on : {K : Type 0} {held : K → Option (List ℕ)} {faults : K → ℕ} {a b c : K} {was mid is : PenState} (stack : Stack) (devices shown : List Device) (number : ℕ) (device : Device) (sectors : ℕ)
     → shown ≡ devices → number < length shown → device ≡ get_or shown number device → sectors ≡ size (tree stack number)
-    → Says a f was b g mid (device_line device sectors)
-    → Says b g mid c h is (device_lines stack (number + 1) (drop (number + 1) devices))
-    → Says a f was c h is (device_lines stack number (drop number devices))
-devices_on {a} {b} {c} {f} {g} {h} {was} {mid} {is} stack devices shown number device sectors same inside found sized here others =
+    → Says held faults a was b mid (device_line device sectors)
+    → Says held faults b mid c is (device_lines stack (number + 1) (drop (number + 1) devices))
+    → Says held faults a was c is (device_lines stack number (drop number devices))
+devices_on {held = held} {faults} {a} {b} {c} {was} {mid} {is} stack devices shown number device sectors same inside found sized here others =
     let within : number < length devices = omega (arith, ap length same) in
     let there : device ≡ get_or devices number device = found ∙ ap (λ ds. get_or ds number device) same in
-    let line = subst (λ d. Says a f was b g mid (device_line d sectors)) there here in
-    let sized_line = subst (λ n. Says a f was b g mid (device_line (get_or devices number device) n)) sized line in
-    subst (Says a f was c h is) (sym (at_drop_more (device_lines stack number) devices number device within)) (says_then sized_line others)
+    let line = subst (λ d. Says held faults a was b mid (device_line d sectors)) there here in
+    let sized_line = subst (λ n. Says held faults a was b mid (device_line (get_or devices number device) n)) sized line in
+    subst (Says held faults a was c is) (sym (at_drop_more (device_lines stack number) devices number device within)) (says_then sized_line others)
 
 -- behind the last device there is no line
-pub devices_end : (a : Option (List ℕ)) (f : ℕ) (was : PenState) (stack : Stack) (devices : List Device) (number : ℕ)
-    → length devices ≤ number → Says a f was a f was (device_lines stack number (drop number devices))
-devices_end a f was stack devices number past =
-    subst (Says a f was a f was) (sym (at_drop_all (device_lines stack number) devices number past)) (says_silence a f was)
+pub devices_end : {K : Type 0} (held : K → Option (List ℕ)) (faults : K → ℕ) (a : K) (was : PenState) (stack : Stack) (devices : List Device) (number : ℕ)
+    → length devices ≤ number → Says held faults a was a was (device_lines stack number (drop number devices))
+devices_end held faults a was stack devices number past =
+    subst (Says held faults a was a was) (sym (at_drop_all (device_lines stack number) devices number past)) (says_silence held faults a was)

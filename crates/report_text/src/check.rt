@@ -24,7 +24,7 @@ fn kind_word(kind: &Kind) -> &[u8]
 
 // `device NAME KIND SIZE`
 fn device_line<K: Sink>(pen: &mut Pen, out: &mut K, device: &Device, sectors: u64)
-    ensures { Says (K.held out.old) (K.faults out.old) pen.old (K.held out.new) (K.faults out.new) pen.new
+    ensures { Says K.held K.faults out.old pen.old out.new pen.new
         (device_line device.now sectors) }
 {
     let name = device.name.as_str().as_bytes();
@@ -47,7 +47,7 @@ fn device_line<K: Sink>(pen: &mut Pen, out: &mut K, device: &Device, sectors: u6
 // A line for each device, by its number.
 fn device_lines<K: Sink>(pen: &mut Pen, out: &mut K, stack: &Stack)
     requires { IsStack stack.now }
-    ensures { Says (K.held out.old) (K.faults out.old) pen.old (K.held out.new) (K.faults out.new) pen.new
+    ensures { Says K.held K.faults out.old pen.old out.new pen.new
         (device_lines stack.now 0 stack.now.devices.items) }
 {
     'devices: for (number, device) in stack.devices.iter().enumerate() {
@@ -59,7 +59,7 @@ fn device_lines<K: Sink>(pen: &mut Pen, out: &mut K, stack: &Stack)
 // `need e E g G z Z bound B`
 fn need_line<K: Sink>(pen: &mut Pen, out: &mut K, bound: &Bounds)
     requires { most_steps bound.now < 2 ^ 64 }
-    ensures { Says (K.held out.old) (K.faults out.old) pen.old (K.held out.new) (K.faults out.new) pen.new
+    ensures { Says K.held K.faults out.old pen.old out.new pen.new
         (need_line bound.now) }
 {
     let mut e_digits = Buffer::new();
@@ -86,7 +86,7 @@ fn need_line<K: Sink>(pen: &mut Pen, out: &mut K, bound: &Bounds)
 pub fn write_check<K: Sink>(stack: &Stack, bound: &Bounds, out: &mut K) -> Result<(), Failed>
     requires stack { IsStack stack.now }
     requires bound { most_steps bound.now < 2 ^ 64 }
-    ensures { Writes (K.held out.old) (K.faults out.old) (K.held out.new) (K.faults out.new) result
+    ensures { Writes K.held K.faults out.old out.new result
         (check_text stack.now bound.now) }
 {
     let mut pen = Pen::new();

@@ -14,7 +14,7 @@ use stack_base::{Range, Stack};
 
 // `disk NAME sum HEX`
 fn disk_line<K: Sink>(pen: &mut Pen, out: &mut K, name: &[u8], words: u64)
-    ensures { Says (K.held out.old) (K.faults out.old) pen.old (K.held out.new) (K.faults out.new) pen.new
+    ensures { Says K.held K.faults out.old pen.old out.new pen.new
         (disk_line name.now words) }
 {
     let mut digits = [0; 16];
@@ -24,7 +24,7 @@ fn disk_line<K: Sink>(pen: &mut Pen, out: &mut K, name: &[u8], words: u64)
 
 // `run NAME START LEN`
 fn run_line<K: Sink>(pen: &mut Pen, out: &mut K, name: &[u8], run: Range)
-    ensures { Says (K.held out.old) (K.faults out.old) pen.old (K.held out.new) (K.faults out.new) pen.new
+    ensures { Says K.held K.faults out.old pen.old out.new pen.new
         (run_line name.now run) }
 {
     let mut start_digits = Buffer::new();
@@ -36,7 +36,7 @@ fn run_line<K: Sink>(pen: &mut Pen, out: &mut K, name: &[u8], run: Range)
 
 // A line for each run of written sectors, by rising start.
 fn run_lines<K: Sink>(pen: &mut Pen, out: &mut K, name: &[u8], disk: &Disk)
-    ensures { Says (K.held out.old) (K.faults out.old) pen.old (K.held out.new) (K.faults out.new) pen.new
+    ensures { Says K.held K.faults out.old pen.old out.new pen.new
         (run_lines name.now (written_runs disk.now.image)) }
 {
     let mut from = 0;
@@ -49,7 +49,7 @@ fn run_lines<K: Sink>(pen: &mut Pen, out: &mut K, name: &[u8], disk: &Disk)
 // The line of a disk's sum.
 fn sum_line<K: Sink>(pen: &mut Pen, out: &mut K, stack: &Stack, disk: &Disk)
     requires { disk.now.dev.0 < length stack.now.devices.items }
-    ensures { Says (K.held out.old) (K.faults out.old) pen.old (K.held out.new) (K.faults out.new) pen.new
+    ensures { Says K.held K.faults out.old pen.old out.new pen.new
         (sum_line stack.now (image_of disk.now)) }
 {
     disk_line(pen, out, device_name(stack, disk.dev()), disk.sum());
@@ -58,7 +58,7 @@ fn sum_line<K: Sink>(pen: &mut Pen, out: &mut K, stack: &Stack, disk: &Disk)
 // The line of a disk's sum, and those of its runs.
 fn disk_lines<K: Sink>(pen: &mut Pen, out: &mut K, stack: &Stack, disk: &Disk)
     requires { disk.now.dev.0 < length stack.now.devices.items }
-    ensures { Says (K.held out.old) (K.faults out.old) pen.old (K.held out.new) (K.faults out.new) pen.new
+    ensures { Says K.held K.faults out.old pen.old out.new pen.new
         (image_lines stack.now (image_of disk.now)) }
 {
     let name = device_name(stack, disk.dev());
@@ -69,7 +69,7 @@ fn disk_lines<K: Sink>(pen: &mut Pen, out: &mut K, stack: &Stack, disk: &Disk)
 /// The lines of the disks: for each of them its sum and its runs.
 pub(crate) fn image_lines<K: Sink>(pen: &mut Pen, out: &mut K, stack: &Stack, disks: &[Disk])
     requires { AreKnown stack.now disks.now }
-    ensures { Says (K.held out.old) (K.faults out.old) pen.old (K.held out.new) (K.faults out.new) pen.new
+    ensures { Says K.held K.faults out.old pen.old out.new pen.new
         (flat_map (λ disk. image_lines stack.now (image_of disk)) disks.now) }
 {
     'disks: for disk in disks {
@@ -80,7 +80,7 @@ pub(crate) fn image_lines<K: Sink>(pen: &mut Pen, out: &mut K, stack: &Stack, di
 /// The lines of the disks' sums.
 pub(crate) fn sum_lines<K: Sink>(pen: &mut Pen, out: &mut K, stack: &Stack, disks: &[Disk])
     requires { AreKnown stack.now disks.now }
-    ensures { Says (K.held out.old) (K.faults out.old) pen.old (K.held out.new) (K.faults out.new) pen.new
+    ensures { Says K.held K.faults out.old pen.old out.new pen.new
         (flat_map (λ disk. sum_line stack.now (image_of disk)) disks.now) }
 {
     'disks: for disk in disks {

@@ -12,7 +12,7 @@ use stack_base::Stack;
 // `fragment W OFFSET LEN DISK AT`
 fn fragment_line<K: Sink>(pen: &mut Pen, out: &mut K, stack: &Stack, fragment: &Fragment)
     requires { fragment.now.disk.0 < length stack.now.devices.items }
-    ensures { Says (K.held out.old) (K.faults out.old) pen.old (K.held out.new) (K.faults out.new) pen.new
+    ensures { Says K.held K.faults out.old pen.old out.new pen.new
         (fragment_line stack.now fragment.now) }
 {
     let mut write_digits = Buffer::new();
@@ -45,7 +45,7 @@ fn fragment_line<K: Sink>(pen: &mut Pen, out: &mut K, stack: &Stack, fragment: &
 // A line for each fragment, in their order.
 fn fragment_lines<K: Sink>(pen: &mut Pen, out: &mut K, fragments: &[Fragment], stack: &Stack)
     requires { AreOnDevices stack.now fragments.now }
-    ensures { Says (K.held out.old) (K.faults out.old) pen.old (K.held out.new) (K.faults out.new) pen.new
+    ensures { Says K.held K.faults out.old pen.old out.new pen.new
         (layout_text stack.now fragments.now) }
 {
     'fragments: for fragment in fragments {
@@ -64,7 +64,7 @@ pub fn write_layout<K: Sink>(
     out: &mut K,
 ) -> Result<(), Failed>
     requires { AreOnDevices stack.now fragments.now }
-    ensures { Writes (K.held out.old) (K.faults out.old) (K.held out.new) (K.faults out.new) result
+    ensures { Writes K.held K.faults out.old out.new result
         (layout_text stack.now fragments.now) }
 {
     let mut pen = Pen::new();

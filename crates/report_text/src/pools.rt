@@ -26,7 +26,7 @@ fn pool_count(kind: &Kind) -> usize
 // `pool POOL reserve MIN ordinary A spare B`, the name of the pool in two parts: whose it is, and what it holds.
 #[tactic(auto, using(crate::proofs::PoolLemmas::named))]
 fn named_line<K: Sink>(pen: &mut Pen, out: &mut K, owner: &[u8], element: &[u8], facts: &Facts)
-    ensures { Says (K.held out.old) (K.faults out.old) pen.old (K.held out.new) (K.faults out.new) pen.new
+    ensures { Says K.held K.faults out.old pen.old out.new pen.new
         (pool_line (owner.now ++ element.now) facts.now) }
 {
     let mut min_digits = Buffer::new();
@@ -55,7 +55,7 @@ fn named_line<K: Sink>(pen: &mut Pen, out: &mut K, owner: &[u8], element: &[u8],
 // The line of a pool.
 fn pool_line<K: Sink>(pen: &mut Pen, out: &mut K, stack: &Stack, pool: PoolId, facts: &Facts)
     requires { HasPool stack.now pool }
-    ensures { Says (K.held out.old) (K.faults out.old) pen.old (K.held out.new) (K.faults out.new) pen.new
+    ensures { Says K.held K.faults out.old pen.old out.new pen.new
         (pool_line (pool_name stack.now pool) facts.now) }
 {
     match pool {
@@ -73,7 +73,7 @@ fn pool_line<K: Sink>(pen: &mut Pen, out: &mut K, stack: &Stack, pool: PoolId, f
 // A line for each of these pools, in their order.
 fn lines_of<K: Sink>(pen: &mut Pen, out: &mut K, stack: &Stack, pools: &[(PoolId, Facts)])
     requires { AreOfStack stack.now pools.now }
-    ensures { Says (K.held out.old) (K.faults out.old) pen.old (K.held out.new) (K.faults out.new) pen.new
+    ensures { Says K.held K.faults out.old pen.old out.new pen.new
         (flat_map (facts_line stack.now) pools.now) }
 {
     'pools: for (pool, facts) in pools {
@@ -84,7 +84,7 @@ fn lines_of<K: Sink>(pen: &mut Pen, out: &mut K, stack: &Stack, pools: &[(PoolId
 // The lines of the devices' pools: those of the first device stand last.
 fn device_pools<K: Sink>(pen: &mut Pen, out: &mut K, stack: &Stack, pools: &[(PoolId, Facts)])
     requires { map (λ p. p.0) pools.now ≡ falling_from 0 stack.now.devices.items }
-    ensures { Says (K.held out.old) (K.faults out.old) pen.old (K.held out.new) (K.faults out.new) pen.new
+    ensures { Says K.held K.faults out.old pen.old out.new pen.new
         (flat_map (facts_line stack.now) (own_of_each stack.now.devices.items pools.now)) }
 {
     let mut rest = pools;
@@ -103,7 +103,7 @@ pub(crate) fn pool_lines<K: Sink>(
     pools: &[(PoolId, Facts)],
 )
     requires { map (λ p. p.0) pools.now ≡ falling_pools stack.now }
-    ensures { Says (K.held out.old) (K.faults out.old) pen.old (K.held out.new) (K.faults out.new) pen.new
+    ensures { Says K.held K.faults out.old pen.old out.new pen.new
         (pool_lines stack.now pools.now) }
 {
     let (writers, of_devices) = pools.split_at(2);

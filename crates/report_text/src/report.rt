@@ -26,7 +26,7 @@ fn status_word(status: Status) -> &'static [u8]
 
 // `write W STATUS`
 fn write_line<K: Sink>(pen: &mut Pen, out: &mut K, number: u64, status: Status)
-    ensures { Says (K.held out.old) (K.faults out.old) pen.old (K.held out.new) (K.faults out.new) pen.new
+    ensures { Says K.held K.faults out.old pen.old out.new pen.new
         (write_line number status) }
 {
     let mut digits = Buffer::new();
@@ -36,7 +36,7 @@ fn write_line<K: Sink>(pen: &mut Pen, out: &mut K, number: u64, status: Status)
 
 // A line for each write, in the order of the text.
 fn write_lines<K: Sink>(pen: &mut Pen, out: &mut K, statuses: &[Status])
-    ensures { Says (K.held out.old) (K.faults out.old) pen.old (K.held out.new) (K.faults out.new) pen.new
+    ensures { Says K.held K.faults out.old pen.old out.new pen.new
         (write_lines 0 statuses.now) }
 {
     'writes: for (number, status) in statuses.iter().enumerate() {
@@ -46,7 +46,7 @@ fn write_lines<K: Sink>(pen: &mut Pen, out: &mut K, statuses: &[Status])
 
 /// `steps S of B`
 pub(crate) fn steps_line<K: Sink>(pen: &mut Pen, out: &mut K, steps: u64, bound: u64)
-    ensures { Says (K.held out.old) (K.faults out.old) pen.old (K.held out.new) (K.faults out.new) pen.new
+    ensures { Says K.held K.faults out.old pen.old out.new pen.new
         (steps_line steps bound) }
 {
     let mut steps_digits = Buffer::new();
@@ -70,7 +70,7 @@ pub fn write_report<K: Sink>(
 ) -> Result<(), Failed>
     requires ended { IsOf stack.now ended.now }
     requires bound { most_steps bound.now < 2 ^ 64 }
-    ensures { Writes (K.held out.old) (K.faults out.old) (K.held out.new) (K.faults out.new) result
+    ensures { Writes K.held K.faults out.old out.new result
         (report stack.now (told_of ended.now (most_steps bound.now))) }
 {
     let mut pen = Pen::new();

@@ -15,7 +15,7 @@ use task_core::Ended;
 
 // `gen N writes W sectors S`
 fn gen_line<K: Sink>(pen: &mut Pen, out: &mut K, number: u64, writes: u64, sectors: u64)
-    ensures { Says (K.held out.old) (K.faults out.old) pen.old (K.held out.new) (K.faults out.new) pen.new
+    ensures { Says K.held K.faults out.old pen.old out.new pen.new
         (gen_line number writes sectors) }
 {
     let mut number_digits = Buffer::new();
@@ -55,7 +55,7 @@ pub fn write_gen<K: Sink>(
 ) -> Result<(), Failed>
     requires ended { IsOf stack.now ended.now }
     requires bound { most_steps bound.now < 2 ^ 64 }
-    ensures { Writes (K.held out.old) (K.faults out.old) (K.held out.new) (K.faults out.new) result
+    ensures { Writes K.held K.faults out.old out.new result
         (gen_text number writes sectors stack.now (told_of ended.now (most_steps bound.now))) }
 {
     let mut pen = Pen::new();

@@ -3,7 +3,7 @@ use Rattle.std.proofs.Common.{◌<◌, length, sym, subst, arith}
 use Rattle.std.proofs.lemmas.List.{take_all}
 use Rattle.stack_base.specs.declared.ids.DevId.{DevId}
 use Rattle.outside_io.specs.Saying.{Says}
-use Rattle.outside_io.proofs.SaysLemmas.{says_more}
+use Rattle.outside_io.proofs.SaysLemmas.{says_more, says_silence}
 use Rattle.model_disks.specs.Disks.{DiskState}
 use Rattle.report_text.specs.Report.{image_lines}
 use Rattle.report_text.specs.Views.{image_of}
@@ -16,12 +16,14 @@ disk_lines-requires g c =
     subst (λ (disk : DiskState). disk.dev.0 < total) (sym c.disk-item.is)
     (each_of (λ (dev : DevId). dev.0 < total) (λ (disk : DiskState). disk.dev) c.args.disks.now c.disks.disk-index c.disk-item.result c.requires c.disks-test.true)
 
+pub disks-init : goal.disks-init
+disks-init g c = says_silence g.K.Sink.held g.K.Sink.faults c.args.out.now c.args.pen.now
+
 pub disks-preserved : goal.disks-preserved
 disks-preserved g c =
     says_more (λ (disk : DiskState). image_lines c.args.stack.now (image_of disk)) c.args.disks.now c.disks.disk-index c.disk-item.result c.disks-test.true c.disks.invariant
     (subst
-    (λ (disk : DiskState). Says (g.K.Sink.held c.disks.out) (g.K.Sink.faults c.disks.out) c.disks.pen
-    (g.K.Sink.held c.disk_lines.new.out) (g.K.Sink.faults c.disk_lines.new.out) c.disk_lines.new.pen (image_lines c.args.stack.now (image_of disk)))
+    (λ (disk : DiskState). Says g.K.Sink.held g.K.Sink.faults c.disks.out c.disks.pen c.disk_lines.new.out c.disk_lines.new.pen (image_lines c.args.stack.now (image_of disk)))
     c.disk-item.is c.disk_lines.ensures)
 
 pub returns : goal.returns

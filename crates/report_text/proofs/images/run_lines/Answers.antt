@@ -7,7 +7,7 @@ use Rattle.report_text.proofs.LineLemmas.{runs_on, runs_end}
 use Rattle.report_text.proofs.images.run_lines.Goals as goal
 
 pub runs-init : goal.runs-init
-runs-init g c = record { within = omega arith; apart = apart_at_start (map is_written c.args.disk.now.image); so_far = λ end faults pen said. said }
+runs-init g c = record { within = omega arith; apart = apart_at_start (map is_written c.args.disk.now.image); so_far = λ end pen said. said }
 
 pub runs-preserved : goal.runs-preserved
 runs-preserved g c =
@@ -15,11 +15,11 @@ runs-preserved g c =
     let run = c.in-Some.run' in record {
       within = c.in-Some.ensures.place.1;
       apart = c.in-Some.ensures.apart;
-      so_far = λ end faults pen said. c.runs.invariant.so_far end faults pen
+      so_far = λ end pen said. c.runs.invariant.so_far end pen
           (runs_on c.args.name.now run (runs_from flags c.runs.from) (runs_from flags (run.start + run.len)) c.in-Some.ensures.runs c.run_line.ensures said);
     }
 
 pub returns : goal.returns
 returns g c =
-    c.runs.invariant.so_far _ _ _
-    (runs_end (g.K.Sink.held c.runs.out) (g.K.Sink.faults c.runs.out) c.runs.pen c.args.name.now (runs_from (map is_written c.args.disk.now.image) c.runs.from) c.in_default.ensures.runs)
+    c.runs.invariant.so_far _ _
+    (runs_end g.K.Sink.held g.K.Sink.faults c.runs.out c.runs.pen c.args.name.now (runs_from (map is_written c.args.disk.now.image) c.runs.from) c.in_default.ensures.runs)

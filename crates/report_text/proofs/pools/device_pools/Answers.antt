@@ -42,13 +42,13 @@ devices-preserved g c =
     let front_is = c.split_at.ensures.front ∙ ap (λ n. take (length rest - n) rest) c.pool_count.ensures in
     record {
       are = ap ids front_is ∙ front_ids number device more rest are;
-      so_far = λ end faults pen said. c.devices.invariant.so_far end faults pen
+      so_far = λ end pen said. c.devices.invariant.so_far end pen
           (pools_on c.args.stack.now devices c.deref-device-items.result.now number device rest c.split_at.result.1.now c.split_at.result.0.now
           c.deref-device-items.ensures.value c.devices-test.true c.device-item.is c.devices.invariant.are own_is front_is c.lines_of.ensures said);
     }
 
 pub returns : goal.returns
 returns g c =
-    c.devices.invariant.so_far _ _ _
-    (pools_end (g.K.Sink.held c.devices.out) (g.K.Sink.faults c.devices.out) c.devices.pen c.args.stack.now c.args.stack.now.devices.items c.devices.device-index
+    c.devices.invariant.so_far _ _
+    (pools_end g.K.Sink.held g.K.Sink.faults c.devices.out c.devices.pen c.args.stack.now c.args.stack.now.devices.items c.devices.device-index
     c.devices.rest.now (omega (arith, c.devices-test.false, ap length c.deref-device-items.ensures.value)))

@@ -1,4 +1,4 @@
-use Rattle.std.proofs.Common.{◌≡◌, ℕ, Option, List, map, drop}
+use Rattle.std.proofs.Common.{◌≡◌, map, drop}
 use Rattle.std.specs.List.{flat_map}
 use Rattle.outside_io.specs.Saying.{PenState, Says}
 use Rattle.report_text.specs.Pools.{falling_from}
@@ -10,9 +10,9 @@ invariant-devices g l = record {
   -- the pools of the devices from here on are left
   are : map (λ p. p.0) l.rest ≡ falling_from l.device-index (drop l.device-index l.stack.devices.items);
   -- what says their lines completes all of them
-  so_far : (end : Option (List ℕ)) (faults : ℕ) (pen : PenState)
-      → Says (g.K.Sink.held l.out) (g.K.Sink.faults l.out) l.pen end faults pen
+  so_far : (end : g.row.K.Denot) (pen : PenState)
+      → Says g.K.Sink.held g.K.Sink.faults l.out l.pen end pen
       (flat_map (facts_line l.stack) (own_of_each (drop l.device-index l.stack.devices.items) l.rest))
-      → Says (g.K.Sink.held l.fn.out) (g.K.Sink.faults l.fn.out) l.fn.pen end faults pen
+      → Says g.K.Sink.held g.K.Sink.faults l.fn.out l.fn.pen end pen
       (flat_map (facts_line l.stack) (own_of_each l.stack.devices.items l.pools));
 }

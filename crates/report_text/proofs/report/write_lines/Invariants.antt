@@ -1,10 +1,10 @@
-use Rattle.std.proofs.Common.{ℕ, Option, List, drop}
+use Rattle.std.proofs.Common.{drop}
 use Rattle.outside_io.specs.Saying.{PenState, Says}
 use Rattle.report_text.specs.Report.{write_lines}
 use Rattle.report_text.proofs.report.write_lines.Given as goal
 
 -- what says the lines from here on completes all of them
 abbrev pub invariant-writes : goal.invariant-writes
-invariant-writes g l = (end : Option (List ℕ)) (faults : ℕ) (pen : PenState)
-    → Says (g.K.Sink.held l.out) (g.K.Sink.faults l.out) l.pen end faults pen (write_lines l.number (drop l.number l.statuses))
-    → Says (g.K.Sink.held l.fn.out) (g.K.Sink.faults l.fn.out) l.fn.pen end faults pen (write_lines 0 l.statuses)
+invariant-writes g l = (end : g.row.K.Denot) (pen : PenState)
+    → Says g.K.Sink.held g.K.Sink.faults l.out l.pen end pen (write_lines l.number (drop l.number l.statuses))
+    → Says g.K.Sink.held g.K.Sink.faults l.fn.out l.fn.pen end pen (write_lines 0 l.statuses)
