@@ -12,6 +12,7 @@ use Rattle.task_core.specs.declared.plain.Plain.{Plain}
 use Rattle.task_steps.specs.declared.step.Step.{Step}
 use Rattle.task_steps.specs.declared.step.Step.TheVariants.{Stepped, Blocked, Waiting, Ended, Broken}
 use Rattle.run_machine.specs.Maps.{upd}
+use Rattle.run_machine.specs.Named.{Fits}
 use Rattle.task_steps.specs.Choosing.{IsAsked}
 use Rattle.task_steps.specs.Homes.{IsTaskOf}
 use Rattle.task_core.specs.opened.OfOne.{states, tasks_at, run_state, AreOfOne}
@@ -157,9 +158,9 @@ module _ (old new : Plain) (tasks : List TaskOf) (place : ℕ) (lt : place < len
 
   module _ {V : Type 0} (happens : V → Event → V → Type 0) (stream after : Lcg) (before now : V) (answer : Bool) where
     stepped : (event : Event) → TakesStep old (tasks_at tasks) place next.state new (Stepped event)
-        → ChosenBy (tasks_at tasks place) Chooses (PicksIn old) stream (Stepped event) after → happens before event now
+        → ChosenBy (tasks_at tasks place) Chooses (PicksIn old) stream (Stepped event) after → happens before event now → Fits event
         → Tried happens stack scene place (run_state old tasks) stream before true (run_state new (set tasks place next)) after now
-    stepped event turns chosen happened =
+    stepped event turns chosen happened fits =
         let steps = steps_are_events.stepped old new (tasks_at tasks) (length tasks) place next.state event lt round_there turns in (
           event,
           subst (λ state. Steps scene (run_state old tasks) place event state) (sym (state_goes_on tasks place lt next new)) steps,
@@ -168,6 +169,7 @@ module _ (old new : Plain) (tasks : List TaskOf) (place : ℕ) (lt : place < len
           happened,
           tasks_name_the_stack (stage_of old) (tasks_at tasks place) steps.reply event one.holds.stack_is (subst (IsTaskOf (stage_of old)) (sym is) home) steps.by
               steps.told,
+          fits,
         )
 
     still : (step : Step) → IsStill step → TakesStep old (tasks_at tasks) place next.state new step
@@ -193,7 +195,7 @@ module _ (old new : Plain) (tasks : List TaskOf) (place : ℕ) (lt : place < len
 
         by_cases : (step : Step) → TakesStep old (tasks_at tasks) place next.state new step
             → ChosenBy (tasks_at tasks place) Chooses (PicksIn old) stream step after → Hands happens step before answer now → Outcome answer
-        by_cases (Stepped event) turns chosen hands = subst Outcome (sym hands.0) (stepped event turns chosen hands.1)
+        by_cases (Stepped event) turns chosen hands = subst Outcome (sym hands.0) (stepped event turns chosen hands.1 hands.2)
         by_cases (Blocked pool) turns chosen hands = subst Outcome (sym hands.0) (still (Blocked pool) tt turns chosen hands.1)
         by_cases Waiting turns chosen hands = subst Outcome (sym hands.0) (still Waiting tt turns chosen hands.1)
         by_cases Ended turns chosen hands = subst Outcome (sym hands.0) (still Ended tt turns chosen hands.1)

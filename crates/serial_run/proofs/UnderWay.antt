@@ -10,7 +10,7 @@ use Rattle.run_machine.specs.declared.event.Event.{Event}
 use Rattle.task_core.specs.declared.opening.Opened.{Opened}
 use Rattle.task_core.specs.declared.plain.Plain.{Plain}
 use Rattle.task_core.specs.Leaving.{IsLeft}
-use Rattle.run_machine.specs.Named.{IsEventOf}
+use Rattle.run_machine.specs.Named.{IsEventOf, Fits}
 use Rattle.task_core.specs.opened.OfOne.{run_state, AreOfOne, IsOpened, scenario_in}
 use Rattle.run_machine.specs.Opened.{Scenario, scene, start}
 use Rattle.task_core.specs.Plains.{objects_of, stage_of}
@@ -41,6 +41,7 @@ pub record IsUnderWay {V : Type 0} (happens : V → Event → V → Type 0) (o :
   pub follows : Follows (scene (scenario_in o) (stage_of o.objects).ledger) (start (scenario_in o)) stream events (run_state objects tasks) between
   pub handed : HandsOn happens before events now
   pub named : All (IsEventOf (scenario_in o).stack) events
+  pub fits : All Fits events
   pub counted : steps ≡ length events
   pub one : AreOfOne objects tasks
   pub stage : stage_of objects ≡ stage_of o.objects
@@ -63,6 +64,7 @@ module _ {V : Type 0} (happens : V → Event → V → Type 0) (o : Opened) (ope
     follows = (begins_at o opened, refl);
     handed = refl;
     named = All-nil (IsEventOf s.stack);
+    fits = All-nil Fits;
     counted = refl;
     one = opened.one;
     stage = refl;
@@ -113,13 +115,14 @@ module _ {V : Type 0} (happens : V → Event → V → Type 0) (o : Opened) (ope
     pub turns : (new : Plain) (more : List TaskOf) (after : Lcg) (next : V)
         → Turned happens (stage_of objects).routing.stack (scene_of objects (length tasks)) (run_state objects tasks) between now (run_state new more) after next → AreOfOne new more
         → stage_of new ≡ stage_of objects → length more ≡ length tasks → UnderWay new more after next (steps + 1)
-    turns new more after next (event, turn, happened, named) one stage count = record {
+    turns new more after next (event, turn, happened, named, fits) one stage count = record {
       events = way.events ++ event ∷ [];
       follows =
           one_more (scene s ledger) (start s) stream way.events (run_state objects tasks) between event (run_state new more) after way.follows
           (subst (λ scene. IsTurn scene (run_state objects tasks) between event (run_state new more) after) scene_now turn);
       handed = handed_too happens before way.events now event next way.handed happened;
       named = All-push (IsEventOf s.stack) way.events event way.named (subst (λ stack. IsEventOf stack event) stack_now named);
+      fits = All-push Fits way.events event way.fits fits;
       counted = let counted = way.counted in omega (arith, counted, length-append way.events (event ∷ []));
       one = one;
       stage = stage ∙ way.stage;
@@ -142,6 +145,7 @@ module _ {V : Type 0} (happens : V → Event → V → Type 0) (o : Opened) (ope
           follows = way.follows;
           handed = way.handed;
           named = way.named;
+          fits = way.fits;
           ends = runs_end_with_their_writes s ledger way.events (run_state objects tasks) runnable.scenario naming run none;
           disks = λ number. (way.one.holds.objects.disk number).dev_is;
           left =

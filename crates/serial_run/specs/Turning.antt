@@ -5,7 +5,7 @@ use Rattle.stack_base.specs.declared.stack.Stack.{Stack}
 use Rattle.run_machine.specs.declared.event.Event.{Event}
 use Rattle.task_steps.specs.declared.step.Step.{Step}
 use Rattle.task_steps.specs.declared.step.Step.TheVariants.{Stepped}
-use Rattle.run_machine.specs.Named.{IsEventOf}
+use Rattle.run_machine.specs.Named.{Fits, IsEventOf}
 use Rattle.task_core.specs.PlainSteps.{IsPassedOver}
 use Rattle.run_machine.specs.Runs.{State, Steps}
 use Rattle.run_machine.specs.Scene.{Scene}
@@ -19,20 +19,21 @@ pub record GoesWell (scene : Scene) (state : State) : Type 0 where
   pub ahead : (place round later : ℕ) (duties : List Duty) → state.task place ≡ Keeper (Keeps (Starts round later ∷ duties))
       → state.objects.tally.round + 1 < length state.objects.tally.left
 
--- an event was handed on, or there was none
+-- an event was handed on, whose numbers fit its fields, or there was none
 abbrev pub Hands : {V : Type 0} → (V → Event → V → Type 0) → Step → V → Bool → V → Type 0
-Hands happens (Stepped event) before answer now = (answer ≡ true) × happens before event now
+Hands happens (Stepped event) before answer now = (answer ≡ true) × happens before event now × Fits event
 Hands happens step before answer now = (answer ≡ false) × (now ≡ before)
 
--- a task was tried: it had an event that names what the stack has, which was handed on, or none but such as need ordinary memory, and nothing has
--- changed
+-- a task was tried: it had an event that names what the stack has, by numbers that fit, which was handed on, or none but such as need ordinary
+-- memory, and nothing has changed
 abbrev pub Tried : {V : Type 0} → (V → Event → V → Type 0) → Stack → Scene → ℕ → State → Lcg → V → Bool → State → Lcg → V → Type 0
 Tried happens stack scene place old stream before true new after now =
     (event : Event) × Steps scene old place event new × Picks old event.what stream after × happens before event now × IsEventOf stack event
+    × Fits event
 Tried happens stack scene place old stream before false new after now =
     (new ≡ old) × (after ≡ stream) × (now ≡ before) × IsPassedOver scene old place
 
 -- one task had an event in a turn, which was handed on
 abbrev pub Turned : {V : Type 0} → (V → Event → V → Type 0) → Stack → Scene → State → Lcg → V → State → Lcg → V → Type 0
 Turned happens stack scene old stream before new after now =
-    (event : Event) × IsTurn scene old stream event new after × happens before event now × IsEventOf stack event
+    (event : Event) × IsTurn scene old stream event new after × happens before event now × IsEventOf stack event × Fits event
