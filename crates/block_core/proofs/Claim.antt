@@ -8,7 +8,8 @@ use Rattle.block_core.proofs.Statuses.{statuses_are_given, ended_statuses_are_gi
 use Rattle.block_core.proofs.ImagesLaid.{images_are_laid_out}
 use Rattle.block_core.proofs.NeverStuck.{no_allowed_state_is_stuck}
 use Rattle.block_core.proofs.Runnable.{accepted_texts_are_runnable, steps_are_few}
-use Rattle.block_core.proofs.Wholes.{each_is_done_once, every_run_is_sound}
+use Rattle.block_core.proofs.Wholes.{each_is_done_once}
+use Rattle.block_core.proofs.Soundness.{every_run_is_sound}
 
 pub every_run_is_as_claimed : EveryRunIsAsClaimed
 every_run_is_as_claimed s ledger events state runnable rescuers naming run =

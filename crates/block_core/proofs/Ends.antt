@@ -11,7 +11,7 @@ use Rattle.block_core.specs.Rounds.{round_of, is_of_round, unfinished_of}
 use Rattle.block_core.specs.Fragments.{HasBegun, AllIsHome, NothingComesWhereEnded}
 use Rattle.block_core.proofs.Sums.{one-same}
 use Rattle.block_core.proofs.Places.{sum_at-ge}
-use Rattle.block_core.proofs.Wholes.{every_run_is_sound}
+use Rattle.block_core.proofs.Wholes.{run_tallied}
 use Rattle.block_core.proofs.Homes.{nothing_comes_where_all_is_home}
 
 pub zero_at : (xs : List ℕ) (r : ℕ) → sum xs ≡ 0 → slice_index_or xs r 0 ≡ 0
@@ -34,7 +34,7 @@ begun scene s rounds none place (Keeper keeping) lt is = tt
 
 pub nothing_comes_where_ended : NothingComesWhereEnded
 nothing_comes_where_ended s ledger events state good naming run ended =
-    let sound = every_run_is_sound s ledger events state good naming run in
-    let none : (r : ℕ) → total (scene s ledger) (unfinished_of (is_of_round s.rounds r)) state ≡ 0 = λ r. sym (sound.tally.left r) ∙ zero_at state.objects.tally.left r ended.writes in
+    let tally = run_tallied s ledger good naming events state run in
+    let none : (r : ℕ) → total (scene s ledger) (unfinished_of (is_of_round s.rounds r)) state ≡ 0 = λ r. sym (tally.left r) ∙ zero_at state.objects.tally.left r ended.writes in
     let home : AllIsHome (scene s ledger) state = record { pools = ended.pools; tasks = λ place lt. begun (scene s ledger) state s.rounds none place (state.task place) lt refl } in
     (home, nothing_comes_where_all_is_home s ledger events state good naming run home)

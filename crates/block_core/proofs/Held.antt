@@ -289,7 +289,7 @@ module _ (s : Scenario) (ledger : ℕ → LedgerId) (good : IsScenario s) where
   pub start_own : (number : ℕ) → IsOwn s number ((start s).objects.disk number)
   start_own number = record { waiting = All-nil (IsWaiting s number); bads = refl; sized = length-replicate (size (tree s.stack number)) zero_sector }
 
-  start_fits : total (scene s ledger) (misfits (unfit s)) (start s) ≡ 0
+  pub start_fits : total (scene s ledger) (misfits (unfit s)) (start s) ≡ 0
   start_fits =
       let over_first : Todo → ℕ = λ todo. over (first_bio 0 todo 0) in
       let loose_first : Todo → ℕ = λ todo. loose s (first_bio 0 todo 0) in

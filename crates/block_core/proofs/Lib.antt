@@ -100,3 +100,6 @@ pub mod EachBio
 pub mod LegLists
 pub mod ListOrder
 pub mod KeptEnds
+pub mod Positions
+pub mod Soundness
+pub mod SoundCases

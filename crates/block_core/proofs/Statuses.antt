@@ -45,7 +45,7 @@ use Rattle.block_core.proofs.Grounds.{ground}
 use Rattle.block_core.proofs.StepMoves.{step_is_move}
 use Rattle.block_core.proofs.Opening.{Begins, start_opened}
 use Rattle.block_core.proofs.DoneOnce.{done_of, told_done, done_by, asked_by, to_begin, top_role, top_parent, stage, staged}
-use Rattle.block_core.proofs.Wholes.{Whole, runs_whole, start_whole, every_run_is_sound}
+use Rattle.block_core.proofs.Wholes.{Whole, runs_whole, start_whole, run_tallied}
 use Rattle.block_core.proofs.Totals.{IsWithin, within, task_part}
 use Rattle.block_core.proofs.Ends.{zero_at}
 use Rattle.block_core.proofs.Misfits.{misfits, no_misfits}
@@ -355,14 +355,14 @@ module _ (s : Scenario) (ledger : ℕ → LedgerId) (events : List Event) (state
 
   ended_given : HasEnded state → HasGivenStatuses s state.objects.tally.statuses
   ended_given ended =
-      let sound = every_run_is_sound s ledger events state good naming run in
+      let tally = run_tallied s ledger good naming events state run in
       record {
         all = told.all;
         each = λ number lt. elim (told.tallied number lt) [
           | inr x ↦ x
           | inl some ↦
               let r : ℕ = round_of s.rounds number in
-              let none : total (scene s ledger) (unfinished_of (is_of_round s.rounds r)) state ≡ 0 = sym (sound.tally.left r) ∙ zero_at state.objects.tally.left r ended.writes in
+              let none : total (scene s ledger) (unfinished_of (is_of_round s.rounds r)) state ≡ 0 = sym (tally.left r) ∙ zero_at state.objects.tally.left r ended.writes in
               let u = unfinished_of (is_of_round s.rounds r) in
               absurd (omega (arith, some, none, within (stage number) u u u (stage_within s.rounds number) (scene s ledger) state))
         ];

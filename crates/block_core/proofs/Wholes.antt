@@ -12,7 +12,7 @@ use Rattle.block_core.proofs.Kept.{Fair, Kept}
 use Rattle.block_core.proofs.Orders.{Placed, Ground}
 use Rattle.run_machine.specs.Opened.{Scenario, scene, start, tasks as opened_tasks, no_task, setup as setup_in}
 use Rattle.block_core.specs.Sound.{IsScenario}
-use Rattle.block_core.specs.Sound.{IsNaming, IsSound, EveryRunIsSound, times_done, EachIsDoneOnce, NoTaskWaitsForItself}
+use Rattle.block_core.specs.Sound.{IsNaming, times_done, EachIsDoneOnce, NoTaskWaitsForItself}
 use Rattle.run_machine.specs.declared.event.Event.{Event}
 use Rattle.run_machine.specs.Runs.{Steps, IsRun}
 use Rattle.block_core.proofs.Opening.{total_zero, opened_kept, start_opened, nodes_zero, sum_at-zero}
@@ -31,6 +31,7 @@ use Rattle.block_core.proofs.Rescuers.{are_rescued, opened_waits}
 use Rattle.block_core.specs.Levels.{off_levels, HasLevels}
 use Rattle.block_core.proofs.LevelsKept.{stays_leveled}
 use Rattle.block_core.specs.Places.{HasPlaces}
+use Rattle.block_core.specs.Rounds.{IsTallied}
 use Rattle.block_core.proofs.Needs.{Worth, worth}
 use Rattle.block_core.proofs.Room.{stays_roomy}
 use Rattle.block_core.proofs.RoomStarts.{start_roomy}
@@ -181,14 +182,12 @@ module _ (s : Scenario) (ledger : ℕ → LedgerId) (good : IsScenario s) (namin
   pub start_leveled : HasLevels (scene s ledger) (start s)
   start_leveled = (λ writer place. 0, total_zero (scene s ledger) (start s) (off_levels (λ writer place. 0)) (λ n todos. refl) (start_opened s good ledger))
 
-  run_sound : (events : List Event) (state : State) → IsRun (scene s ledger) (start s) events state → IsSound s.rounds (scene s ledger) state
-  run_sound events state run =
+  -- the tally is right
+  pub run_tallied : (events : List Event) (state : State) → IsRun (scene s ledger) (start s) events state → IsTallied s.rounds (scene s ledger) state
+  run_tallied events state run =
       let g = ground s.stack good.stack (setup_in s).places in
-      let i = runs_whole (scene s ledger) fair g (start s) events state start_whole run in
       let t = runs_tallied (scene s ledger) fair g s.rounds (keeper_place s good ledger) (start s) events state start_whole (start_tallied s good ledger) run in
-      let l = runs_leveled (scene s ledger) fair g (start s) events state start_whole start_leveled run in
-      let r = runs_roomy (scene s ledger) fair g (worth s.stack good.stack (setup_in s).places) (start s) events state start_whole (start_roomy s good ledger) run in
-      record { pools = i.kept.pools; outs = i.kept.outs; counts = i.kept.counts; alive = λ writer place node at. subst IsAlive at (i.alive writer place); tally = record { left = t.left; past = t.tally.past; later = t.later }; levels = l; places = r }
+      record { left = t.left; past = t.tally.past; later = t.later }
 
   run_waiting : HasRescuers s.stack → (events : List Event) (state : State) → IsRun (scene s ledger) (start s) events state → NoneWaitsForItself (scene s ledger) state
   run_waiting rescuers events state run =
@@ -240,9 +239,6 @@ module _ (s : Scenario) (ledger : ℕ → LedgerId) (good : IsScenario s) (namin
   run_done : (events : List Event) (state : State) → IsRun (scene s ledger) (start s) events state → (w : ℕ) → times_done w events ≤ 1
   run_done events state run w =
       omega (arith, stage_once w, runs_done (scene s ledger) fair (ground s.stack good.stack (setup_in s).places) w (start s) events state start_whole run)
-
-pub every_run_is_sound : EveryRunIsSound
-every_run_is_sound s ledger events state good naming run = run_sound s ledger good naming events state run
 
 pub each_is_done_once : EachIsDoneOnce
 each_is_done_once s ledger events state good naming run = run_done s ledger good naming events state run

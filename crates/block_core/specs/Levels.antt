@@ -1,10 +1,11 @@
 -- Levels of nodes: the pools of what a node holds and of what names it, in an order that goes down from a node to those under it.
-use Rattle.std.specs.Prelude.{◌≡◌, ◌+◌, ◌-◌, ◌*◌, min, ℕ, Option, None, Some}
+use Rattle.std.specs.Prelude.{◌≡◌, ◌+◌, ◌-◌, ◌*◌, ◌<◌, min, ℕ, Option, None, Some}
 use Rattle.bio_records.specs.declared.bio.Pad.{Pad}
 use Rattle.bio_records.specs.Items.{Item}
-use Rattle.bio_books.specs.Books.{VectorItem, SlipItem, Holding, parent_of}
+use Rattle.bio_books.specs.Books.{Node, VectorItem, SlipItem, Holding, node_at, parent_of}
 use Rattle.run_machine.specs.Scene.{Scene}
 use Rattle.run_machine.specs.Runs.{State}
+use Rattle.block_core.specs.EachBio.{EachBio}
 use Rattle.block_core.specs.Weights.{Weight, total, weigh_option}
 
 -- how far two numbers are apart, and by how much the first is above the second
@@ -43,3 +44,21 @@ off_levels level = record {
 -- there are levels on which all is
 abbrev pub HasLevels : Scene → State → Type 0
 HasLevels scene state = (level : ℕ → ℕ → ℕ) × (total scene (off_levels level) state ≡ 0)
+
+-- an element of the pool of this number is of this level; the two pools of writes are one level, 64
+abbrev pub IsOfLevel : ℕ → ℕ → Type 0
+IsOfLevel level number = min number 64 ≡ level
+
+pub record HoldsLevel (level : ℕ) (held : Holding) : Type 0 where
+  pub bio : (bio : Item Pad) → held.bio ≡ Some bio → IsOfLevel level bio.share.no
+  pub vector : (vector : VectorItem) → held.vector ≡ Some vector → IsOfLevel level vector.share.no
+  pub slip : (slip : SlipItem) → held.slip ≡ Some slip → IsOfLevel level slip.share.no
+
+-- The numbers of pools rise from node to parent: each node has a level, of which are all elements that it holds, and the bio that names it, and
+-- which is below that of its parent.
+pub record PoolsRise (scene : Scene) (state : State) : Type 0 where
+  pub level : (writer place : ℕ) → ℕ
+  pub held : (writer place : ℕ) (node : Node) → node_at (state.objects.book writer) place ≡ Some node → HoldsLevel (level writer place) node.held
+  pub named : EachBio (λ item. IsOfLevel (level item.bio.writer item.bio.node) item.share.no) scene state
+  pub under : (writer place : ℕ) (node : Node) (parent : ℕ) → node_at (state.objects.book writer) place ≡ Some node → parent_of node.role ≡ Some parent
+      → level writer place < level writer parent

@@ -21,7 +21,8 @@ pub mod Fragments
 pub mod Images
 pub mod Replies
 pub mod Runnable
-pub mod Claim
 pub mod Values
 pub mod DoneWrites
 pub mod Ending
+pub mod Soundness
+pub mod Claim

@@ -32,22 +32,6 @@ pub record IsScenario (s : Scenario) : Type 0 where
 abbrev pub IsNaming : (ℕ → LedgerId) → Type 0
 IsNaming ledger = (number : ℕ) → (ledger number).no ≡ number
 
-pub record IsSound (rounds : List ℕ) (scene : Scene) (state : State) : Type 0 where
-  -- each pool adds up
-  pub pools : (number : ℕ) → AddsUp (state.objects.pool number).facts
-  -- what is out of each pool is in the tasks' hands, lists and bios at work, in rescue lists, in disks and in nodes, and nowhere else
-  pub outs : (number : ℕ) → (state.objects.pool number).facts.out ≡ total scene (elements number) state
-  -- a node waits for as many ends as refer to it, and nothing refers to a node that is not open
-  pub counts : (writer place : ℕ) → count_of (node_at (state.objects.book writer) place) ≡ total scene (refs scene.setup writer place) state
-  -- an open node waits for at least one end, so the last of them closes it
-  pub alive : (writer place : ℕ) (node : Node) → node_at (state.objects.book writer) place ≡ Some node → 1 ≤ node.count
-  -- each round has as many unfinished writes as the tally says, and what is begun is of the present round
-  pub tally : IsTallied rounds scene state
-  -- nodes have levels that go down from each to those under it, and what a node holds and what names it is of pools of these levels
-  pub levels : HasLevels scene state
-  -- a book has a place for each node that its writer's writes still open
-  pub places : HasPlaces scene state
-
 -- how often events tell a write done
 abbrev pub done_in : ℕ → What → ℕ
 done_in write (what.Done other status) = one other write
@@ -56,11 +40,6 @@ done_in write what = 0
 abbrev pub times_done : ℕ → List Event → ℕ
 times_done write [] = 0
 times_done write (event ∷ events) = done_in write event.what + times_done write events
-
--- after every event of every run of every scenario
-abbrev pub EveryRunIsSound : Type 0
-EveryRunIsSound = (s : Scenario) (ledger : ℕ → LedgerId) (events : List Event) (state : State) → IsScenario s → IsNaming ledger
-    → IsRun (scene s ledger) (start s) events state → IsSound s.rounds (scene s ledger) state
 
 -- no run tells a write done twice
 abbrev pub EachIsDoneOnce : Type 0

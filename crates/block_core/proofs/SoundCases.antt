@@ -1,0 +1,75 @@
+-- A state by hand in which sums alone see nothing wrong, and no run comes to it: a node of two ends, of which each is a bio that names it.
+use Rattle.std.proofs.Common.{◌≡◌, ◌+◌, ◌*◌, ℕ, true, false, List, [], ◌∷◌, Some, refl, arith}
+use Rattle.elem_ledger.specs.Ledger.{LedgerId}
+use Rattle.stack_base.specs.declared.ids.DevId.{DevId}
+use Rattle.stack_base.specs.declared.ids.Status.TheVariants as status
+use Rattle.stack_base.specs.declared.ids.SetId.TheVariants.{Fs}
+use Rattle.stack_base.specs.Tree.{Leaf}
+use Rattle.fail_script.specs.Script.{only_tail}
+use Rattle.mempool_core.specs.Move.{opened}
+use Rattle.bio_records.specs.declared.bio.Pad.{Pad}
+use Rattle.bio_records.specs.Items.{Item}
+use Rattle.bio_books.specs.declared.node.Role.TheVariants as role
+use Rattle.bio_books.specs.Books.{Node, nothing_held, node_at}
+use Rattle.run_machine.specs.Scene.{Scene}
+use Rattle.run_machine.specs.Opened.{no_task}
+use Rattle.run_machine.specs.Runs.{State}
+use Rattle.block_core.specs.Weights.{sum_at, one, total, elements, refs, count_of}
+use Rattle.block_core.specs.Roles.{named, HasRoles}
+
+module _ (ledger : ℕ → LedgerId) (share : LedgerId) where
+  abbrev scene : Scene
+  scene = record {
+    setup = record { count = 1; tree = λ dev. Leaf 0 8; rescuer = λ dev. false; places = λ writer. 1 };
+    tasks = 0;
+    books = 1;
+    writes = 1;
+    ledger = ledger;
+  }
+
+  abbrev top : Node
+  top = record { role = role.Top; write = 0; count = 2; status = status.Ok; held = nothing_held }
+
+  abbrev bio : Item Pad
+  bio = record {
+    pad = record { leg = 0 };
+    bio = record {
+      write = 0;
+      writer = 0;
+      node = 0;
+      dev = record { 0 = 0 };
+      range = record { start = 0; len = 1 };
+      word = 0;
+      at = record { segment = 0; done = 0 };
+      set = Fs;
+    };
+    short = [];
+    share = share;
+  }
+
+  abbrev state : State
+  state = record {
+    objects = record {
+      pool = λ number. opened 2 (only_tail true);
+      rescue = λ dev. [];
+      disk = λ dev. record { dev = record { 0 = dev }; bad = []; pending = bio ∷ bio ∷ []; image = [] };
+      book = λ writer. record { writer = writer; nodes = Some top ∷ [] };
+      tally = record { round = 0; left = 1 ∷ []; statuses = status.Ok ∷ [] };
+    };
+    task = λ place. no_task;
+  }
+
+  -- the node waits for as many ends as refer to it
+  counts : count_of (node_at (state.objects.book 0) 0) ≡ total scene (refs scene.setup 0 0) state
+  unfolding sum_at one
+  counts = refl
+
+  twice : total scene (named 0 0) state ≡ 2
+  unfolding sum_at one
+  twice = refl
+
+  -- but its own part is in two places
+  refused : HasRoles scene state → ⊥
+  refused roles =
+      let once = (roles.waits 0 0 top refl).0.0 in
+      omega (arith, twice, once)
