@@ -4,6 +4,9 @@ use Rattle.run_machine.specs.Scenario.{scenario_of}
 use Rattle.block_core.specs.Claim.{EveryRunIsAsClaimed, AcceptedTextsRunAsClaimed}
 use Rattle.block_core.proofs.Bounded.{runs_are_bounded}
 use Rattle.block_core.proofs.DoneWrites.{done_is_completed}
+use Rattle.block_core.proofs.Dones.{unfinished_until_done, tally_has_statuses, none_left_undone}
+use Rattle.block_core.proofs.Ending.{runs_end_with_their_writes}
+use Rattle.block_core.proofs.Unbroken.{no_task_breaks}
 use Rattle.block_core.proofs.Statuses.{statuses_are_given, ended_statuses_are_given}
 use Rattle.block_core.proofs.ImagesLaid.{images_are_laid_out}
 use Rattle.block_core.proofs.NeverStuck.{no_allowed_state_is_stuck}
@@ -16,9 +19,17 @@ every_run_is_as_claimed s ledger events state runnable rescuers naming run =
     let good = runnable.scenario in
     let few = runs_are_bounded s ledger events state good naming run in
     let most = steps_are_few s runnable in
+    let sound = every_run_is_sound s ledger events state good naming run in
     record {
-      pools = (every_run_is_sound s ledger events state good naming run).pools;
+      sound = sound;
+      pools = sound.pools;
       once = λ write. each_is_done_once s ledger events state good naming run write;
+      until_done = unfinished_until_done s ledger events state good naming run;
+      tells = tally_has_statuses s ledger events state good naming run;
+      waits = sound.waits rescuers;
+      unrefused = no_task_breaks s ledger events state good runnable.allowed naming run;
+      ends = λ none. runs_end_with_their_writes s ledger events state good naming run none;
+      all_done = λ none. none_left_undone s ledger events state good naming run none;
       done = done_is_completed s ledger events state good naming run;
       given = statuses_are_given s ledger events state good naming run;
       statuses = ended_statuses_are_given s ledger events state good naming run;

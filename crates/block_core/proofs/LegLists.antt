@@ -203,9 +203,9 @@ module _ (scene : Scene) (s : State) (i : Kept scene s) (p : Placed scene.setup 
       elim (stays_or_closes scene s m c item.bio.writer item.bio.node node here) [
         | inl (found, is, same) ↦ (of, (found, subst (λ w. node_at (new.objects.book w) item.bio.node ≡ Some found) of is, same ∙ role))
         | inr none ↦ absurd (
-          let count : count_of (node_at (new.objects.book item.bio.writer) item.bio.node) ≡ 0 = ap count_of none in
-          omega (arith, part, names_one item, count, j.counts item.bio.writer item.bio.node)
-        )
+            let count : count_of (node_at (new.objects.book item.bio.writer) item.bio.node) ≡ 0 = ap count_of none in
+            omega (arith, part, names_one item, count, j.counts item.bio.writer item.bio.node)
+            )
       ]
 
   legs_stay : (writer master : ℕ) (items : List (Item Pad))
@@ -221,9 +221,9 @@ module _ (scene : Scene) (s : State) (i : Kept scene s) (p : Placed scene.setup 
   has_still : (place : ℕ) (x : TaskState) (doing : Doing) (lists : TaskLists) → place < scene.tasks → new.task place ≡ x → HasLine x doing lists → HasLegs s doing lists → HasLegs new doing lists
   has_still place x (Copies bio master leg want) lists lt is h d = (
     legs_stay bio.writer master lists.list0
-    (λ item within.
-    let w = refs scene.setup item.bio.writer item.bio.node in
-    omega (arith, within (w.bio (Lined (limit_of x))), line_part w place x (Copies bio master leg want) lists h, task_part scene w new place x lt is)) d.0,
+        (λ item within.
+        let w = refs scene.setup item.bio.writer item.bio.node in
+        omega (arith, within (w.bio (Lined (limit_of x))), line_part w place x (Copies bio master leg want) lists h, task_part scene w new place x lt is)) d.0,
     d.1,
   )
   has_still place x Rests lists lt is h d = tt
@@ -249,12 +249,14 @@ module _ (scene : Scene) (s : State) (i : Kept scene s) (p : Placed scene.setup 
   -- the task of the event goes on so, and the others as they were
   goes : (m : Move) (c : Can scene s m) → Kept scene (after scene s m) → (y : TaskState) → (after scene s m).task ≡ upd s.task (place_of m) y → TaskHasLegs (after scene s m) y
       → Legged scene (after scene s m)
-  goes m c j y is here = record { tasks = λ place lt. elim (same_or_not place (place_of m)) [
-    | inl e ↦ subst (TaskHasLegs (after scene s m)) (sym (ap (λ f. f place) is ∙ ap (upd s.task (place_of m) y) e ∙ upd-same s.task (place_of m) y)) here
-    | inr ne ↦
-        let same : (after scene s m).task place ≡ s.task place = ap (λ f. f place) is ∙ upd-other s.task (place_of m) y place ne in
-        subst (TaskHasLegs (after scene s m)) (sym same) (task_still scene s i p m c j place (s.task place) lt same (l.tasks place lt))
-  ] }
+  goes m c j y is here = record {
+    tasks = λ place lt. elim (same_or_not place (place_of m)) [
+      | inl e ↦ subst (TaskHasLegs (after scene s m)) (sym (ap (λ f. f place) is ∙ ap (upd s.task (place_of m) y) e ∙ upd-same s.task (place_of m) y)) here
+      | inr ne ↦
+          let same : (after scene s m).task place ≡ s.task place = ap (λ f. f place) is ∙ upd-other s.task (place_of m) y place ne in
+          subst (TaskHasLegs (after scene s m)) (sym same) (task_still scene s i p m c j place (s.task place) lt same (l.tasks place lt))
+    ];
+  }
 
   all_same : (s : State) (lists : TaskLists) (writer master : ℕ) → Each (IsLegOf s writer master) lists.list0 → Each (IsLegOf s writer master) lists.list0
   all_same s lists writer master legs = legs

@@ -103,3 +103,5 @@ pub mod KeptEnds
 pub mod Positions
 pub mod Soundness
 pub mod SoundCases
+pub mod Sayings
+pub mod Dones

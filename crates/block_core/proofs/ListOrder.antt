@@ -66,7 +66,7 @@ module _ (setup : Setup) where
   doing_in_order s limit (Copies bio master leg want) lists fits d legs = (
     above_of bio.set bio.dev.0 legs.1,
     all_two (IsLegOf s bio.writer master) (IsOwn setup bio.dev.0 limit) (λ item. IsLegOf s bio.writer master item × IsOwnBelow bio.dev.0 item)
-    (λ item l own. (l, own_below limit bio.dev.0 item own)) lists.list0 legs.0 d.2,
+        (λ item l own. (l, own_below limit bio.dev.0 item own)) lists.list0 legs.0 d.2,
     all_above limit bio.dev.0 lists.list1 d.3 d.4,
     go_up limit lists.list1 d.3 d.5,
   )

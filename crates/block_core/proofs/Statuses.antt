@@ -254,7 +254,7 @@ module _ (s : Scenario) (good : IsScenario s) (ledger : ℕ → LedgerId) where
       )) (own_writes s)
       ∙ sum_of_zero (todos s))
 
-  start_staged : (number : ℕ) → number < length s.writes → 1 ≤ total (scene s ledger) (stage number) (start s)
+  pub start_staged : (number : ℕ) → number < length s.writes → 1 ≤ total (scene s ledger) (stage number) (start s)
   start_staged number lt =
       omega (
         arith,
@@ -294,7 +294,7 @@ begins_within : (rounds : List ℕ) (number : ℕ) (todos : List Todo) → to_be
 begins_within rounds number [] = omega arith
 begins_within rounds number (todo ∷ todos) = omega (arith, same_round rounds number todo.number, begins_within rounds number todos)
 
-stage_within : (rounds : List ℕ) (number : ℕ) → let u = unfinished_of (is_of_round rounds (round_of rounds number)) in IsWithin (stage number) u u u
+pub stage_within : (rounds : List ℕ) (number : ℕ) → let u = unfinished_of (is_of_round rounds (round_of rounds number)) in IsWithin (stage number) u u u
 stage_within rounds number = record {
   todo = λ writer todos taken. omega (arith, begins_within rounds number todos);
   bio = λ spot item. omega arith;

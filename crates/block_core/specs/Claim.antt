@@ -16,23 +16,37 @@ use Rattle.run_machine.specs.Opened.{Scenario, scene, start}
 use Rattle.run_machine.specs.Scenario.{scenario_of}
 use Rattle.run_machine.specs.Runs.{State, Happens, IsRun, unfinished, HasFree, HasEnded}
 use Rattle.block_core.specs.Bounded.{most_steps}
+use Rattle.block_core.specs.Breaks.{GoesUnrefused}
 use Rattle.block_core.specs.DoneWrites.{IsCompleted, IsGiven, HasGivenStatuses}
+use Rattle.block_core.specs.Dones.{DoneOrUnfinished, StatusesAreTold, AllAreDone}
 use Rattle.block_core.specs.Fragments.{completed}
 use Rattle.block_core.specs.Images.{HasLaidImages}
 use Rattle.block_core.specs.Runnable.{IsRunnable}
 use Rattle.block_core.specs.Sound.{IsNaming, times_done}
+use Rattle.block_core.specs.Soundness.{IsSound}
+use Rattle.block_core.specs.Waits.{NoneWaitsForItself}
 
 pub record IsAsClaimed (s : Scenario) (ledger : ℕ → LedgerId) (events : List Event) (state : State) (run : IsRun (scene s ledger) (start s) events state) : Type 0 where
+  -- the state is sound
+  pub sound : IsSound s ledger events state run
   -- each pool adds up: what it has spare and what is out are its reserve and what ordinary memory gave
   pub pools : (number : ℕ) → AddsUp (state.objects.pool number).facts
-  -- each write is told done once at most
+  -- each write is told done once at most, and is unfinished until then; the tally has the status that was told
   pub once : (write : ℕ) → times_done write events ≤ 1
+  pub until_done : DoneOrUnfinished s ledger events state
+  pub tells : StatusesAreTold events state
   -- where an event that comes next tells it done, each of its fragments was completed, exactly once and no other, and its status is one that they
   -- give
   pub done : (event : Event) (new : State) → Happens (scene s ledger) state event new → (write : ℕ) (status : Status) → event.what ≡ what.Done write status
       → IsCompleted s write (completed (scene s ledger) (start s) events state run)
   pub given : (event : Event) (new : State) → Happens (scene s ledger) state event new → (write : ℕ) (status : Status) → event.what ≡ what.Done write status
       → IsGiven s write status
+  -- no task waits for a bio of a set of which it has one in its lists, and none meets a refusal
+  pub waits : NoneWaitsForItself (scene s ledger) state
+  pub unrefused : GoesUnrefused (scene s ledger) state
+  -- once no write is unfinished, the run has ended, and each write was told done
+  pub ends : unfinished state ≡ 0 → HasEnded state
+  pub all_done : unfinished state ≡ 0 → AllAreDone s events
   -- where the run has ended, each write has such a status, and the images are the laid-out ones
   pub statuses : HasEnded state → HasGivenStatuses s state.objects.tally.statuses
   pub images : HasEnded state → HasLaidImages s state

@@ -25,4 +25,5 @@ pub mod Values
 pub mod DoneWrites
 pub mod Ending
 pub mod Soundness
+pub mod Dones
 pub mod Claim

@@ -3,6 +3,7 @@ ghost use Rattle.block_core.specs.Bounded.{OpenedRankIsBounded, OutsAreBounded, 
 ghost use Rattle.block_core.specs.Breaks.{NoTaskBreaks};
 ghost use Rattle.block_core.specs.Charges.{EventsLowerRank};
 ghost use Rattle.block_core.specs.Claim.{AcceptedTextsRunAsClaimed, EveryRunIsAsClaimed};
+ghost use Rattle.block_core.specs.Dones.{NoneIsLeftUndone, RoundsStartInTurn, TallyHasStatuses, WritesAreDoneInTheirRound, WritesAreUnfinishedUntilDone};
 ghost use Rattle.block_core.specs.DoneWrites.{DoneIsCompleted, EndedStatusesAreGiven, StatusesAreGiven};
 ghost use Rattle.block_core.specs.Ending.{RunsEndWithTheirWrites, StartedRoundsAreThere};
 ghost use Rattle.block_core.specs.Few.{EndsAreFew, NoCounterIsFull, OutsAreFew};
@@ -18,11 +19,13 @@ ghost use Rattle.block_core.specs.Soundness.{EveryRunIsSound};
 ghost use Rattle.block_core.specs.Stuck.{EachRunGoesOnOrHasEnded, NoAllowedStateIsStuck};
 ghost use Rattle.block_core.specs.Values.{NodesAreValued};
 
-/// After every event of every run of every scenario each pool adds up and has as many elements out as there are in hands, lists and nodes, and
-/// each node waits for as many ends as refer to it, and for at least one. The tally has the number of unfinished writes of each round, none
-/// of an earlier round is unfinished, and nothing is begun of a later one. Nodes have levels that go down from each to those under it: the
-/// element of a bio that names a node is of the pool of the node's level, and that of a part, vector or record that it holds is of that pool
-/// or of one above it. Each book has a place for every node that its writer's writes still open.
+/// After every event of every run of every scenario the state is sound: each pool adds up, is not past the entries of its script, and has as many
+/// elements out as there are in hands, lists and nodes. Each node waits for just its children or legs and for its own part, which was dropped or is in
+/// one place, and keeps what the run told it of how these ended. What nodes hold is of pools whose numbers rise from each node to its parent, and
+/// bios stand in lists in the order of their sets and devices. Each fragment was completed or is still to come, once; bios have the data of their
+/// places, and disks that of the completed fragments. The tally has the number of unfinished writes of each round, none of an earlier round is
+/// unfinished, and nothing is begun of a later one. Each book has a place for every node that its writer's writes still open, and what tasks
+/// have in hand is of the pools that they asked.
 pub fn every_run_is_sound()
     ensures { EveryRunIsSound }
 {}
@@ -33,9 +36,19 @@ pub fn nodes_are_of_one_write()
     ensures { AllAreOfOneWrite }
 {}
 
-/// No run of any scenario tells a write done twice.
+/// No run of any scenario tells a write done twice, and each write is unfinished until it is told done. The tally has the status that was told of it.
+/// So where no write is unfinished, each was told done once.
 pub fn each_is_done_once()
-    ensures { EachIsDoneOnce }
+    ensures once { EachIsDoneOnce }
+    ensures unfinished { WritesAreUnfinishedUntilDone }
+    ensures statuses { TallyHasStatuses }
+    ensures ended { NoneIsLeftUndone }
+{}
+
+/// Each write of each run of every scenario is told done while its round is the present one, and the round that starts next is the one behind it.
+pub fn rounds_go_by_their_numbers()
+    ensures done { WritesAreDoneInTheirRound }
+    ensures starts { RoundsStartInTurn }
 {}
 
 /// Where each mirror of two members or more has a rescuer, no task of any run waits for a bio of a set while it has one of that set in its own

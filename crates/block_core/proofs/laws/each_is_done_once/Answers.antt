@@ -1,6 +1,16 @@
+use Rattle.block_core.proofs.Dones.{none_left_undone, tally_has_statuses, unfinished_until_done}
 use Rattle.block_core.proofs.Wholes.{each_is_done_once}
 use Rattle.block_core.proofs.laws.each_is_done_once.Goals as goal
 
 -- src/laws.rt
-pub returns : goal.returns
-returns c = each_is_done_once
+pub returns-clause-once : goal.returns-clause-once
+returns-clause-once c = each_is_done_once
+
+pub returns-clause-unfinished : goal.returns-clause-unfinished
+returns-clause-unfinished c = unfinished_until_done
+
+pub returns-clause-statuses : goal.returns-clause-statuses
+returns-clause-statuses c = tally_has_statuses
+
+pub returns-clause-ended : goal.returns-clause-ended
+returns-clause-ended c = none_left_undone

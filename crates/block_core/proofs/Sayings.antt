@@ -1,0 +1,160 @@
+-- What events say of writes that are done, and of rounds.
+use Rattle.std.proofs.Common.{◌≡◌, ◌≢◌, ◌+◌, ◌<◌, ◌≤◌, ◌==◌, if◌then◌else◌, ℕ, Bool, true, false, List, [], ◌∷◌, length, Option, None, Some, inl, inr, refl, sym, ◌∙◌, ap, subst, arith}
+use Rattle.elem_ledger.specs.Ledger.{LedgerId}
+use Rattle.stack_base.specs.declared.ids.Status.{Status}
+use Rattle.bio_books.specs.Links.{Made, NoRoom, Stray}
+use Rattle.bio_books.specs.Drops as end
+use Rattle.run_machine.specs.declared.event.What.{What}
+use Rattle.run_machine.specs.declared.event.What.TheVariants as what
+use Rattle.run_machine.specs.Events.{what_of, resize_of}
+use Rattle.run_machine.specs.Objects.{Objects, TallyState, Serves, done_one}
+use Rattle.run_machine.specs.Requests as requests
+use Rattle.run_machine.specs.Requests.{Request, Reply}
+use Rattle.run_machine.proofs.Frames.{one_object_changes}
+
+-- an event that tells no write done, and starts no round
+abbrev pub IsOther : What → Type 0
+IsOther (what.Done write status) = ⊥
+IsOther (what.Round round) = ⊥
+IsOther what = Unit {0}
+
+-- what an event says, by the request that it answers
+abbrev pub Says : Request → What → Type 0
+Says (requests.Done write status) told = told ≡ what.Done write status
+Says (requests.NextRound round) told = told ≡ what.Round round
+Says request told = IsOther told
+
+none_told : {X : Type 0} (what : What) → None ≡ Some what → X
+none_told what is = absurd cc
+
+some_is : (first second : What) → Some first ≡ Some second → first ≡ second
+some_is first second is = cc
+
+pub says : (request : Request) (reply : Reply) (what : What) → what_of request reply ≡ Some what → Says request what
+says (requests.TakeBio set true) (requests.HadBio from bio) what tells = subst IsOther (some_is _ what tells) tt
+says (requests.TakeBio set true) (requests.Missed true) what tells = subst IsOther (some_is _ what tells) tt
+says (requests.TakeBio set true) (requests.Missed false) what tells = none_told what tells
+says (requests.TakeBio set false) (requests.HadBio from bio) what tells = subst IsOther (some_is _ what tells) tt
+says (requests.TakeBio set false) (requests.Missed used) what tells = subst IsOther (some_is _ what tells) tt
+says (requests.TakeBio set waits) reply what tells = none_told what tells
+says requests.TakeVec (requests.HadVec from vector) what tells = subst IsOther (some_is _ what tells) tt
+says requests.TakeVec (requests.Missed true) what tells = subst IsOther (some_is _ what tells) tt
+says requests.TakeVec (requests.Missed false) what tells = none_told what tells
+says requests.TakeVec reply what tells = none_told what tells
+says (requests.TakeSlip dev) (requests.HadSlip from slip) what tells = subst IsOther (some_is _ what tells) tt
+says (requests.TakeSlip dev) (requests.Missed true) what tells = subst IsOther (some_is _ what tells) tt
+says (requests.TakeSlip dev) (requests.Missed false) what tells = none_told what tells
+says (requests.TakeSlip dev) reply what tells = none_told what tells
+says (requests.GiveBio bio) requests.Did what tells = subst IsOther (some_is _ what tells) tt
+says (requests.GiveBio bio) reply what tells = none_told what tells
+says (requests.GiveVec vector) requests.Did what tells = subst IsOther (some_is _ what tells) tt
+says (requests.GiveVec vector) reply what tells = none_told what tells
+says (requests.GiveSlip slip) requests.Did what tells = subst IsOther (some_is _ what tells) tt
+says (requests.GiveSlip slip) reply what tells = none_told what tells
+says (requests.Punt dev moved) requests.Did what tells = subst IsOther (some_is _ what tells) tt
+says (requests.Punt dev moved) reply what tells = none_told what tells
+says (requests.Pop dev) (requests.Popped bio) what tells = subst IsOther (some_is _ what tells) tt
+says (requests.Pop dev) reply what tells = none_told what tells
+says (requests.Push bio) requests.Did what tells = subst IsOther (some_is _ what tells) tt
+says (requests.Push bio) reply what tells = none_told what tells
+says (requests.Complete disk) (requests.Completed index bio status) what tells = subst IsOther (some_is _ what tells) tt
+says (requests.Complete disk) reply what tells = none_told what tells
+says (requests.Link writer opening) (requests.LinkedTo (Made key)) what tells = subst IsOther (some_is _ what tells) tt
+says (requests.Link writer opening) (requests.LinkedTo (NoRoom back)) what tells = none_told what tells
+says (requests.Link writer opening) (requests.LinkedTo (Stray back)) what tells = none_told what tells
+says (requests.Link writer opening) reply what tells = none_told what tells
+says (requests.Drop writer key status part) (requests.DroppedTo end.Left) what tells = subst IsOther (some_is _ what tells) tt
+says (requests.Drop writer key status part) (requests.DroppedTo (end.Up closed)) what tells = subst IsOther (some_is _ what tells) tt
+says (requests.Drop writer key status part) (requests.DroppedTo (end.Top closed)) what tells = subst IsOther (some_is _ what tells) tt
+says (requests.Drop writer key status part) (requests.DroppedTo (end.Stray back)) what tells = none_told what tells
+says (requests.Drop writer key status part) reply what tells = none_told what tells
+says (requests.Done write status) requests.Did what tells = sym (some_is _ what tells)
+says (requests.Done write status) reply what tells = none_told what tells
+says (requests.Resize pool min) (requests.OutIs out) what tells = by_test (out == 0) tells
+  where
+    by_test : (v : Bool) → resize_of v pool min ≡ Some what → IsOther what
+    by_test true tells = subst IsOther (some_is _ what tells) tt
+    by_test false tells = none_told what tells
+says (requests.Resize pool min) reply what tells = none_told what tells
+says (requests.NextRound round) requests.Did what tells = sym (some_is _ what tells)
+says (requests.NextRound round) reply what tells = none_told what tells
+says requests.LookRound reply what tells = none_told what tells
+says requests.LookLeft reply what tells = none_told what tells
+says requests.Rest reply what tells = none_told what tells
+
+-- so a write is told done by a request to do so,
+pub asks_done : (request : Request) (write : ℕ) (status : Status) → Says request (what.Done write status) → request ≡ requests.Done write status
+asks_done (requests.TakeBio set waits) write status h = absurd h
+asks_done requests.TakeVec write status h = absurd h
+asks_done (requests.TakeSlip dev) write status h = absurd h
+asks_done (requests.GiveBio bio) write status h = absurd h
+asks_done (requests.GiveVec vector) write status h = absurd h
+asks_done (requests.GiveSlip slip) write status h = absurd h
+asks_done (requests.Punt dev moved) write status h = absurd h
+asks_done (requests.Pop dev) write status h = absurd h
+asks_done (requests.Push bio) write status h = absurd h
+asks_done (requests.Complete disk) write status h = absurd h
+asks_done (requests.Link writer opening) write status h = absurd h
+asks_done (requests.Drop writer key ending part) write status h = absurd h
+asks_done (requests.Done other ending) write status h = let a : other ≡ write = cc in let b : ending ≡ status = cc in λ i. requests.Done (a i) (b i)
+asks_done (requests.Resize pool min) write status h = absurd h
+asks_done (requests.NextRound round) write status h = absurd cc
+asks_done requests.LookRound write status h = absurd h
+asks_done requests.LookLeft write status h = absurd h
+asks_done requests.Rest write status h = absurd h
+
+-- and a round started by one
+pub asks_round : (request : Request) (number : ℕ) → Says request (what.Round number) → request ≡ requests.NextRound number
+asks_round (requests.TakeBio set waits) number h = absurd h
+asks_round requests.TakeVec number h = absurd h
+asks_round (requests.TakeSlip dev) number h = absurd h
+asks_round (requests.GiveBio bio) number h = absurd h
+asks_round (requests.GiveVec vector) number h = absurd h
+asks_round (requests.GiveSlip slip) number h = absurd h
+asks_round (requests.Punt dev moved) number h = absurd h
+asks_round (requests.Pop dev) number h = absurd h
+asks_round (requests.Push bio) number h = absurd h
+asks_round (requests.Complete disk) number h = absurd h
+asks_round (requests.Link writer opening) number h = absurd h
+asks_round (requests.Drop writer key status part) number h = absurd h
+asks_round (requests.Done write status) number h = absurd cc
+asks_round (requests.Resize pool min) number h = absurd h
+asks_round (requests.NextRound round) number h = let a : round ≡ number = cc in ap requests.NextRound a
+asks_round requests.LookRound number h = absurd h
+asks_round requests.LookLeft number h = absurd h
+asks_round requests.Rest number h = absurd h
+
+-- all other requests keep statuses and the round
+pub tally_stays : (ledger : ℕ → LedgerId) (old new : Objects) (request : Request) (reply : Reply) (what : What) → Says request what → IsOther what → Serves ledger old request reply new
+    → new.tally ≡ old.tally
+tally_stays ledger old new (requests.TakeBio set waits) reply what h other serves = ap (λ (o : Objects). o.tally) (one_object_changes ledger old new (requests.TakeBio set waits) reply serves)
+tally_stays ledger old new requests.TakeVec reply what h other serves = ap (λ (o : Objects). o.tally) (one_object_changes ledger old new requests.TakeVec reply serves)
+tally_stays ledger old new (requests.TakeSlip dev) reply what h other serves = ap (λ (o : Objects). o.tally) (one_object_changes ledger old new (requests.TakeSlip dev) reply serves)
+tally_stays ledger old new (requests.GiveBio bio) reply what h other serves = ap (λ (o : Objects). o.tally) (one_object_changes ledger old new (requests.GiveBio bio) reply serves)
+tally_stays ledger old new (requests.GiveVec vector) reply what h other serves = ap (λ (o : Objects). o.tally) (one_object_changes ledger old new (requests.GiveVec vector) reply serves)
+tally_stays ledger old new (requests.GiveSlip slip) reply what h other serves = ap (λ (o : Objects). o.tally) (one_object_changes ledger old new (requests.GiveSlip slip) reply serves)
+tally_stays ledger old new (requests.Punt dev moved) reply what h other serves = ap (λ (o : Objects). o.tally) (one_object_changes ledger old new (requests.Punt dev moved) reply serves)
+tally_stays ledger old new (requests.Pop dev) reply what h other serves = ap (λ (o : Objects). o.tally) (one_object_changes ledger old new (requests.Pop dev) reply serves)
+tally_stays ledger old new (requests.Push bio) reply what h other serves = ap (λ (o : Objects). o.tally) (one_object_changes ledger old new (requests.Push bio) reply serves)
+tally_stays ledger old new (requests.Complete disk) reply what h other serves = ap (λ (o : Objects). o.tally) (one_object_changes ledger old new (requests.Complete disk) reply serves)
+tally_stays ledger old new (requests.Link writer opening) reply what h other serves = ap (λ (o : Objects). o.tally) (one_object_changes ledger old new (requests.Link writer opening) reply serves)
+tally_stays ledger old new (requests.Drop writer key status part) reply what h other serves = ap (λ (o : Objects). o.tally) (one_object_changes ledger old new (requests.Drop writer key status part) reply serves)
+tally_stays ledger old new (requests.Done write status) reply what h other serves = absurd (subst IsOther h other)
+tally_stays ledger old new (requests.Resize pool min) reply what h other serves = ap (λ (o : Objects). o.tally) (one_object_changes ledger old new (requests.Resize pool min) reply serves)
+tally_stays ledger old new (requests.NextRound round) reply what h other serves = absurd (subst IsOther h other)
+tally_stays ledger old new requests.LookRound (requests.Present round) what h other serves = ap (λ (o : Objects). o.tally) serves.1
+tally_stays ledger old new requests.LookRound reply what h other serves = absurd serves
+tally_stays ledger old new requests.LookLeft (requests.LeftOver count) what h other serves = ap (λ (o : Objects). o.tally) serves.1
+tally_stays ledger old new requests.LookLeft reply what h other serves = absurd serves
+tally_stays ledger old new requests.Rest reply what h other serves = ap (λ (o : Objects). o.tally) (one_object_changes ledger old new requests.Rest reply serves)
+
+-- a write that is told done gets its status, and no other
+pub done_tally : (ledger : ℕ → LedgerId) (old new : Objects) (write : ℕ) (status : Status) (reply : Reply) → Serves ledger old (requests.Done write status) reply new
+    → new.tally ≡ done_one write status old.tally
+done_tally ledger old new write status requests.Did serves = ap (λ (o : Objects). o.tally) serves
+done_tally ledger old new write status reply serves = absurd serves
+
+pub round_tally : (ledger : ℕ → LedgerId) (old new : Objects) (round : ℕ) (reply : Reply) → Serves ledger old (requests.NextRound round) reply new
+    → new.tally ≡ record old.tally { round = old.tally.round + 1 }
+round_tally ledger old new round requests.Did serves = ap (λ (o : Objects). o.tally) serves.1
+round_tally ledger old new round reply serves = absurd serves

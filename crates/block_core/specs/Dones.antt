@@ -1,0 +1,58 @@
+-- Writes that are told done, and rounds that start.
+use Rattle.std.specs.Prelude.{◌≡◌, ◌+◌, ◌<◌, ℕ, List, length, slice_get, Contains, Some}
+use Rattle.elem_ledger.specs.Ledger.{LedgerId}
+use Rattle.stack_base.specs.declared.ids.Status.{Status}
+use Rattle.run_machine.specs.declared.event.Event.{Event}
+use Rattle.run_machine.specs.declared.event.What.TheVariants as what
+use Rattle.run_machine.specs.Opened.{Scenario, scene, start}
+use Rattle.run_machine.specs.Runs.{State, Happens, IsRun, unfinished}
+use Rattle.block_core.specs.Sound.{IsScenario, IsNaming, times_done}
+use Rattle.block_core.specs.Rounds.{round_of, unfinished_of}
+use Rattle.block_core.specs.Weights.{Weight, total, one}
+
+-- the write with this number, while it is to be begun, or its top node is open, or what is left of that is carried
+abbrev pub unfinished_write : ℕ → Weight
+unfinished_write write = unfinished_of (λ number. one number write)
+
+-- a write is unfinished until it is told done: it is the one or was the other, once
+abbrev pub DoneOrUnfinished : Scenario → (ℕ → LedgerId) → List Event → State → Type 0
+DoneOrUnfinished s ledger events state = (write : ℕ) → write < length s.writes → times_done write events + total (scene s ledger) (unfinished_write write) state ≡ 1
+
+-- the tally has the status with which each was told done
+abbrev pub StatusesAreTold : List Event → State → Type 0
+StatusesAreTold events state = (event : Event) (write : ℕ) (status : Status) → Contains events event → event.what ≡ what.Done write status
+    → slice_get state.objects.tally.statuses write ≡ Some status
+
+-- and where no write is unfinished, each was
+abbrev pub AllAreDone : Scenario → List Event → Type 0
+AllAreDone s events = (write : ℕ) → write < length s.writes → times_done write events ≡ 1
+
+-- a write that is told done next is of the present round, and a round that starts next is the one behind it
+abbrev pub DonesArePresent : Scenario → (ℕ → LedgerId) → State → Type 0
+DonesArePresent s ledger state = (event : Event) (new : State) → Happens (scene s ledger) state event new → (write : ℕ) (status : Status) → event.what ≡ what.Done write status
+    → round_of s.rounds write ≡ state.objects.tally.round
+
+abbrev pub RoundsAreNext : Scenario → (ℕ → LedgerId) → State → Type 0
+RoundsAreNext s ledger state = (event : Event) (new : State) → Happens (scene s ledger) state event new → (round : ℕ) → event.what ≡ what.Round round
+    → round ≡ state.objects.tally.round + 1
+
+-- so it is in every run of every scenario
+abbrev pub WritesAreUnfinishedUntilDone : Type 0
+WritesAreUnfinishedUntilDone = (s : Scenario) (ledger : ℕ → LedgerId) (events : List Event) (state : State) → IsScenario s → IsNaming ledger
+    → IsRun (scene s ledger) (start s) events state → DoneOrUnfinished s ledger events state
+
+abbrev pub TallyHasStatuses : Type 0
+TallyHasStatuses = (s : Scenario) (ledger : ℕ → LedgerId) (events : List Event) (state : State) → IsScenario s → IsNaming ledger
+    → IsRun (scene s ledger) (start s) events state → StatusesAreTold events state
+
+abbrev pub NoneIsLeftUndone : Type 0
+NoneIsLeftUndone = (s : Scenario) (ledger : ℕ → LedgerId) (events : List Event) (state : State) → IsScenario s → IsNaming ledger
+    → IsRun (scene s ledger) (start s) events state → unfinished state ≡ 0 → AllAreDone s events
+
+abbrev pub WritesAreDoneInTheirRound : Type 0
+WritesAreDoneInTheirRound = (s : Scenario) (ledger : ℕ → LedgerId) (events : List Event) (state : State) → IsScenario s → IsNaming ledger
+    → IsRun (scene s ledger) (start s) events state → DonesArePresent s ledger state
+
+abbrev pub RoundsStartInTurn : Type 0
+RoundsStartInTurn = (s : Scenario) (ledger : ℕ → LedgerId) (events : List Event) (state : State) → IsScenario s → IsNaming ledger
+    → IsRun (scene s ledger) (start s) events state → RoundsAreNext s ledger state
