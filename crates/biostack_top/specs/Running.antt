@@ -14,7 +14,7 @@ use Rattle.run_machine.specs.Opened.{Scenario, at, scene, start}
 use Rattle.run_machine.specs.Runs.{State, IsRun, HasEnded}
 use Rattle.run_machine.specs.Scenario.{scenario_of}
 use Rattle.block_core.specs.Claim.{IsAsClaimed}
-use Rattle.block_core.specs.Sound.{IsNaming}
+use Rattle.block_core.specs.Scenarios.{IsNaming}
 use Rattle.run_machine.specs.Named.{IsEventOf}
 use Rattle.serial_run.specs.Schedule.{Follows}
 use Rattle.report_text.specs.CheckText.{most_steps}

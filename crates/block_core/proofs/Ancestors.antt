@@ -15,7 +15,7 @@ use Rattle.run_machine.specs.Lines.{Want, Ask, Doing, Rests, Drives, Copies, Bre
 use Rattle.run_machine.specs.Tasks.{TaskState, Writer, Rescuer, Completer, Keeper, Carried, Empty, Brings, Carries, Fails}
 use Rattle.run_machine.specs.Runs.{State}
 use Rattle.block_core.specs.Weights.{Weight, Lined, Rescued, Pending, total, sum_at, one, line_weight, refs, names, under, legs_left, count_of}
-use Rattle.block_core.specs.Levels.{apart}
+use Rattle.block_core.specs.Weights.{apart}
 use Rattle.block_core.specs.OfOneWrite.{bio_strays, parent_strays, strays}
 use Rattle.block_core.specs.Present.{AreSuch, DoingIs, LineIs, CarriedIs, TaskIs, AllAtWork}
 use Rattle.block_core.proofs.Moves.{HasLine, limit_of}

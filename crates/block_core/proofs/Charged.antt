@@ -1,26 +1,23 @@
 -- What each event does to what is charged and spent.
-use Rattle.std.proofs.Common.{◌≡◌, ◌+◌, ◌*◌, ◌<◌, ◌≤◌, ◌==◌, ◌⊎◌, ◌++◌, if◌then◌else◌, ℕ, zero, suc, Bool, true, false, List, [], ◌∷◌, length, filter, Option, None, Some, inl, inr, refl, sym, ◌∙◌, ap, subst, arith}
+use Rattle.std.proofs.Common.{◌≡◌, ◌+◌, ◌*◌, ◌<◌, ◌≤◌, ◌==◌, ◌⊎◌, if◌then◌else◌, ℕ, zero, suc, Bool, true, false, List, [], ◌∷◌, length, filter, Option, None, Some, inl, inr, refl, sym, ◌∙◌, ap, subst, arith}
 use Rattle.std.specs.Prelude.{sum_by, nat_lt}
 use Rattle.std.proofs.lemmas.Bool.Decides.{nat_tests}
 use Rattle.std.proofs.lemmas.List.Sums.{sum_by-cons, sum_by-append, sum_by_push}
 use Rattle.stack_base.specs.declared.ids.DevId.{DevId}
 use Rattle.stack_base.specs.declared.ids.Status.{Status}
 use Rattle.stack_base.specs.PoolId.{pool_number}
-use Rattle.stack_base.specs.Tree.{Split}
 use Rattle.mempool_core.specs.Move.{PoolState, Move as PoolMove, after_move, takes_ordinary, takes_spare, misses, gives, resizes}
 use Rattle.layout_model.specs.Need.{vectors}
 use Rattle.bio_records.specs.declared.bio.Bio.{Bio}
 use Rattle.bio_records.specs.declared.bio.Pad.{Pad}
 use Rattle.bio_records.specs.declared.tasks.TaskLists.{TaskLists}
 use Rattle.bio_records.specs.Items.{Item}
-use Rattle.bio_records.specs.Sorting.{is_lower, is_same}
-use Rattle.bio_lists.specs.Submission.{order, submitted}
-use Rattle.bio_split.specs.Split.{split_rest}
+use Rattle.bio_lists.specs.Submission.{submitted}
 use Rattle.bio_books.specs.Books.{VectorItem, Holding, keeping, told, later_part}
 use Rattle.bio_books.specs.Drops.{closed_of}
 use Rattle.run_machine.specs.Maps.{upd}
 use Rattle.run_machine.specs.Scene.{Setup, Scene, tree_at}
-use Rattle.run_machine.specs.Lines.{Want, Takes, Punts as WantsPunt, Links, ToPush, ToCut, ToRecord, ToMaster, Doing, Rests, Drives, Copies, Breaks, Line, rests, settled, goes_on, copies, first_waits, first_length, landed, legs_of, leg_at, is_of, not_punted}
+use Rattle.run_machine.specs.Lines.{Want, Takes, Punts as WantsPunt, Links, ToPush, ToCut, ToRecord, ToMaster, Doing, Rests, Drives, Copies, Breaks, Line, rests, settled, goes_on, copies, first_length, legs_of, leg_at, is_of, not_punted}
 use Rattle.run_machine.specs.Tasks.{TaskState, Writer, Rescuer, Completer, Keeper, Keeps, Resizes, Starts, Todo, NoBio, HasBio, HasBoth, Carried, Empty, Brings, Carries, Fails}
 use Rattle.run_machine.specs.Objects.{clear_bio, clear_vector, clear_slip}
 use Rattle.run_machine.specs.Runs.{State}
@@ -29,10 +26,8 @@ use Rattle.block_core.specs.Charges.{may_pop, bio_charge, legs_charge, there, wr
 use Rattle.block_core.proofs.Moves.{Move, IsTaking, place_of, Can, after, lost, gained, limit_of, with_line, HasLine, Wants, with_want, taken_of, filled_of, vector_of, cut_lists, IsTake, Tells, Hands, piece, with_pool, with_book}
 use Rattle.block_core.proofs.Moves as moves
 use Rattle.block_core.proofs.Sums.{sum_at-upd, sum_at-other}
-use Rattle.block_core.proofs.Listed.{asks_weight, order_weight}
 use Rattle.block_core.proofs.Kept.{TaskFits, DoingFits, Kept}
-use Rattle.block_core.proofs.Geometry.{IsThere}
-use Rattle.block_core.proofs.Orders.{Each, IsPlaced, IsOwn, AskFits, DoingPlaced, TodoThere, TaskPlaced, Placed, Ground, each_map, each_less, each_append, each_filter, of_set}
+use Rattle.block_core.proofs.Orders.{Each, IsPlaced, IsOwn, DoingPlaced, TodoThere, TaskPlaced, Placed, Ground, each_map, each_filter, of_set}
 use Rattle.mempool_core.specs.Position.{uses_entry, next_pos}
 use Rattle.block_core.proofs.Charges.{Priced, leaf_charge, mirror_charge, cut_needs, legs_next, leg_some}
 use Rattle.block_core.proofs.Deltas.{delta}

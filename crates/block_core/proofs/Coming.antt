@@ -1,34 +1,28 @@
 -- Each event but a completion leaves what is still to come as it is, and a completion takes its fragment away.
-use Rattle.std.proofs.Common.{◌≡◌, ◌+◌, ◌-◌, ◌^◌, ◌==◌, ◌++◌, if◌then◌else◌, ℕ, Bool, true, false, List, [], ◌∷◌, filter, None, Some, refl, sym, ◌∙◌, ap, subst, arith}
+use Rattle.std.proofs.Common.{◌≡◌, ◌+◌, ◌-◌, ◌^◌, ◌==◌, ℕ, Bool, true, false, List, [], ◌∷◌, None, Some, refl, ◌∙◌, ap, subst, arith}
 use Rattle.std.specs.Prelude.{sum_by}
 use Rattle.std.proofs.lemmas.List.Sums.{sum_by-cons, sum_by_push}
-use Rattle.stack_base.specs.declared.ids.DevId.{DevId}
-use Rattle.stack_base.specs.Tree.{Split}
 use Rattle.layout_model.specs.declared.fragment.Fragment.{Fragment}
 use Rattle.layout_model.proofs.RangeSums.{sum_same}
 use Rattle.bio_records.specs.declared.bio.Bio.{Bio}
 use Rattle.bio_records.specs.declared.bio.Pad.{Pad}
 use Rattle.bio_records.specs.declared.tasks.TaskLists.{TaskLists}
 use Rattle.bio_records.specs.Items.{Item}
-use Rattle.bio_records.specs.Sorting.{is_lower, is_same}
-use Rattle.bio_lists.specs.Submission.{order, submitted}
-use Rattle.bio_split.specs.Split.{split_rest}
+use Rattle.bio_lists.specs.Submission.{submitted}
 use Rattle.run_machine.specs.Scene.{Setup, Scene, tree_at}
-use Rattle.run_machine.specs.Lines.{Takes, Links, ToPush, ToCut, ToMaster, Doing, Drives, Copies, rests, settled, goes_on, copies, first_waits, first_length, landed, legs_of, leg_at, punted}
+use Rattle.run_machine.specs.Lines.{Links, ToPush, ToCut, ToMaster, Doing, Drives, Copies, rests, copies, first_length, legs_of, leg_at, punted}
 use Rattle.run_machine.specs.Tasks.{TaskState, Writer, HasBio, HasBoth, Carried, Empty, Brings, Carries, Fails}
 use Rattle.run_machine.specs.Runs.{State}
 use Rattle.block_core.specs.Weights.{Weight, Rescued, Lined, total, line_weight, carried_weight}
 use Rattle.block_core.specs.Fragments.{offset_of, fragment_of, leg_fragments, todo_fragments, bio_comes, legs_come, to_come}
 use Rattle.block_core.proofs.Moves.{Move, Can, after, lost, gained, limit_of, with_line, HasLine, Wants, with_want, taken_of, filled_of, vector_of, cut_lists, Tells, Hands, piece}
 use Rattle.block_core.proofs.Moves as moves
-use Rattle.block_core.proofs.Listed.{asks_weight, order_weight}
 use Rattle.block_core.proofs.Landings.{AreThere, IsLanding, settled_there, goes_there, copies_there, all_there, none_there, cut_there, leg_there}
 use Rattle.block_core.proofs.Places.{cut_weight, unless}
 use Rattle.block_core.proofs.Deltas.{delta}
 use Rattle.block_core.proofs.Kept.{TaskFits, Kept}
 use Rattle.block_core.proofs.Lines.{line_fits}
-use Rattle.block_core.proofs.Geometry.{IsThere}
-use Rattle.block_core.proofs.Orders.{Each, IsPlaced, IsOwn, AskFits, DoingPlaced, TaskPlaced, Placed, Ground, each_map, each_less, each_append}
+use Rattle.block_core.proofs.Orders.{Each, IsOwn, DoingPlaced, TaskPlaced, Placed, Ground}
 use Rattle.block_core.proofs.OrdersKept.{line_placed}
 use Rattle.block_core.proofs.Worth.{IsCounted, Divided, mirror_worth, legs_next, legs_none}
 use Rattle.block_core.proofs.Misfits.{misfits, cut_fits}

@@ -20,7 +20,7 @@ use Rattle.run_machine.specs.Tasks.{TaskState, Writer, Duty, Todo, NoBio, first_
 use Rattle.run_machine.specs.Opened.{Scenario, scene, start, tasks as opened_tasks, todos, todos_of, is_by, writers, duties, keepers, setup as setup_in}
 use Rattle.run_machine.specs.Runs.{State, IsRun}
 use Rattle.block_core.specs.Weights.{Weight, Pending, Rescued, total, sum_at, task_weight, book_weight}
-use Rattle.block_core.specs.Sound.{IsScenario}
+use Rattle.block_core.specs.Scenarios.{IsScenario}
 use Rattle.block_core.specs.Fragments.{todo_fragments, to_come, completed_by, completed, planned, FragmentsAddUp}
 use Rattle.block_core.proofs.Sums.{same_or_not}
 use Rattle.block_core.proofs.Kept.{Fair}

@@ -19,7 +19,6 @@ use Rattle.run_machine.specs.Runs.{State}
 use Rattle.block_core.specs.Weights.{Weight, Pending, total, one, doing_weight, line_weight, carried_weight}
 use Rattle.block_core.proofs.Moves.{Move, IsTaking, place_of, Can, after, lost, gained, limit_of, with_line, HasLine, Wants, with_want, taken_of, filled_of, vector_of, cut_lists, IsTake, Tells, Hands, piece, with_pool, with_book}
 use Rattle.block_core.proofs.Moves as moves
-use Rattle.block_core.proofs.Listed.{IsBlind}
 use Rattle.block_core.proofs.Deltas.{delta}
 use Rattle.run_machine.specs.declared.event.What.{What}
 use Rattle.run_machine.specs.Events.{what_of, resize_of}
@@ -30,7 +29,7 @@ use Rattle.run_machine.specs.Tasks.{request, closed_request, with_bio, needs_vec
 use Rattle.bio_books.specs.Links.{Made, NoRoom, Stray}
 use Rattle.bio_books.specs.Drops.{Ended}
 use Rattle.bio_books.specs.Drops as end
-use Rattle.block_core.specs.Sound.{done_in}
+use Rattle.block_core.specs.Dones.{done_in}
 use Rattle.block_core.proofs.Lines.{wants_busy}
 use Rattle.block_core.proofs.StepMoves.{asks_line}
 

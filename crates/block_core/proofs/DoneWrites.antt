@@ -25,7 +25,8 @@ use Rattle.run_machine.specs.Requests.{Request, Reply}
 use Rattle.run_machine.specs.Runs.{State, IsRun, Happens}
 use Rattle.stack_base.specs.declared.ids.Status.{Status}
 use Rattle.block_core.specs.Weights.{Spot, Lined, Rescued, Pending, Brought, total, one, refs, legs_left}
-use Rattle.block_core.specs.Sound.{IsScenario, IsNaming, done_in}
+use Rattle.block_core.specs.Scenarios.{IsScenario, IsNaming}
+use Rattle.block_core.specs.Dones.{done_in}
 use Rattle.block_core.specs.Fragments.{offset_of, fragment_of, leg_fragments, todo_fragments, bio_comes, legs_come, to_come, completed_by, completed, is_it}
 use Rattle.block_core.specs.OfOneWrite.{strays}
 use Rattle.block_core.specs.DoneWrites.{DoneIsCompleted}

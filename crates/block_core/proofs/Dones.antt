@@ -1,6 +1,6 @@
 -- Each write is unfinished until it is told done, in its round and with the status that the tally has then; and rounds start in turn.
 use Rattle.std.proofs.Common.{◌≡◌, ◌≢◌, ◌+◌, ◌*◌, ◌<◌, ◌≤◌, ◌⊎◌, ℕ, zero, suc, List, [], ◌∷◌, length, Option, None, Some, inl, inr, refl, sym, ◌∙◌, ap, subst, arith, get_or}
-use Rattle.std.specs.Prelude.{Contains, slice_get, slice_set, zip, map}
+use Rattle.std.specs.Prelude.{Contains, slice_set, zip, map}
 use Rattle.std.specs.List.{range_with_len}
 use Rattle.std.proofs.lemmas.List.{get_or-set_same, get_or-set_other, length-set}
 use Rattle.std.proofs.lemmas.List.Elements.{Contains-append_cases}
@@ -15,15 +15,16 @@ use Rattle.run_machine.specs.declared.event.Event.{Event}
 use Rattle.run_machine.specs.declared.event.What.{What}
 use Rattle.run_machine.specs.declared.event.What.TheVariants as what
 use Rattle.run_machine.specs.Events.{what_of}
-use Rattle.run_machine.specs.Objects.{Objects, TallyState, Serves}
+use Rattle.run_machine.specs.Objects.{TallyState, Serves}
 use Rattle.run_machine.specs.Requests as requests
 use Rattle.run_machine.specs.Requests.{Request, Reply}
 use Rattle.run_machine.specs.Scene.{Scene}
-use Rattle.run_machine.specs.Tasks.{Todo, TaskState, request, Keeper, Keeps, Starts}
+use Rattle.run_machine.specs.Tasks.{Todo, request, Keeps, Starts}
 use Rattle.run_machine.specs.Opened.{Scenario, scene, start, setup as setup_in, todos}
-use Rattle.run_machine.specs.Runs.{State, Steps, Happens, IsRun, unfinished}
-use Rattle.block_core.specs.Weights.{Weight, total, one}
-use Rattle.block_core.specs.Sound.{IsScenario, IsNaming, done_in, times_done}
+use Rattle.run_machine.specs.Runs.{State, Steps, Happens, IsRun}
+use Rattle.block_core.specs.Weights.{total, one}
+use Rattle.block_core.specs.Scenarios.{IsScenario, IsNaming}
+use Rattle.block_core.specs.Dones.{done_in, times_done}
 use Rattle.block_core.specs.Rounds.{round_of, is_of_round, tops, tops_left, all_worth, unfinished_of}
 use Rattle.block_core.specs.Dones.{unfinished_write, WritesAreUnfinishedUntilDone, TallyHasStatuses, NoneIsLeftUndone, WritesAreDoneInTheirRound, RoundsStartInTurn}
 use Rattle.block_core.proofs.Sums.{same_or_not, one-same, one-other}

@@ -1,23 +1,19 @@
 -- Events take no more elements than were still to be taken.
-use Rattle.std.proofs.Common.{◌≡◌, ◌+◌, ◌≤◌, ◌==◌, ◌++◌, if◌then◌else◌, ℕ, zero, suc, Bool, true, false, List, [], ◌∷◌, length, filter, Option, None, Some, refl, sym, ◌∙◌, ap, subst, arith}
+use Rattle.std.proofs.Common.{◌≡◌, ◌+◌, ◌≤◌, ◌==◌, if◌then◌else◌, ℕ, zero, suc, Bool, List, [], ◌∷◌, length, Option, None, Some, refl, ap, subst, arith}
 use Rattle.std.specs.Prelude.{sum_by}
 use Rattle.std.proofs.lemmas.List.Sums.{sum_by-cons, sum_by_push}
 use Rattle.elem_ledger.specs.Ledger.{LedgerId}
-use Rattle.stack_base.specs.declared.ids.DevId.{DevId}
-use Rattle.stack_base.specs.Tree.{Split}
 use Rattle.bio_records.specs.declared.bio.Bio.{Bio}
 use Rattle.bio_records.specs.declared.bio.Pad.{Pad}
 use Rattle.bio_records.specs.declared.tasks.TaskLists.{TaskLists}
 use Rattle.bio_records.specs.Items.{Item}
-use Rattle.bio_records.specs.Sorting.{is_lower, is_same}
-use Rattle.bio_lists.specs.Submission.{order, submitted}
-use Rattle.bio_split.specs.Split.{split_rest}
+use Rattle.bio_lists.specs.Submission.{submitted}
 use Rattle.layout_model.specs.Need.{needed, vectors}
 use Rattle.stack_base.specs.declared.ids.Status.{Status}
 use Rattle.bio_books.specs.Books.{Node, VectorItem, SlipItem, Holding, node_at, later_part}
 use Rattle.model_disks.specs.Disks.{DiskState}
 use Rattle.run_machine.specs.Scene.{Setup, Scene, tree_at}
-use Rattle.run_machine.specs.Lines.{Want, Takes, Punts, Links, ToPush, ToCut, ToRecord, ToMaster, Doing, Rests, Drives, Copies, Breaks, Line, rests, settled, goes_on, copies, first_waits, first_length, landed, legs_of, leg_at}
+use Rattle.run_machine.specs.Lines.{Want, Takes, Punts, Links, ToPush, ToCut, ToRecord, ToMaster, Doing, Rests, Drives, Copies, Breaks, Line, rests, copies, first_length, landed, legs_of, leg_at}
 use Rattle.run_machine.specs.Tasks.{TaskState, Writer, Rescuer, Completer, Keeper, Todo, Taken, NoBio, HasBio, HasBoth, Carried, Empty, Brings, Carries, Fails}
 use Rattle.run_machine.specs.Runs.{State}
 use Rattle.block_core.specs.Weights.{Weight, Spot, Lined, Rescued, Pending, total, sum_at, weigh_option, want_weight, doing_weight, line_weight, taken_weight, carried_weight, task_weight, book_weight, elements, holding_elements, one}
@@ -25,10 +21,9 @@ use Rattle.block_core.specs.Charges.{there}
 use Rattle.block_core.specs.Rooms.{to_open, todo_need, legs_need}
 use Rattle.block_core.proofs.Moves.{Move, Can, after, lost, gained, limit_of, HasLine, Tells, taken_of, filled_of, cut_lists, piece}
 use Rattle.block_core.proofs.Moves as moves
-use Rattle.block_core.proofs.Listed.{asks_weight, order_weight}
 use Rattle.block_core.proofs.Kept.{DoingFits, LineFits, TaskFits, Kept}
 use Rattle.block_core.proofs.Geometry.{IsThere}
-use Rattle.block_core.proofs.Orders.{Each, IsPlaced, IsOwn, AskFits, DoingPlaced, LinePlaced, TodoThere, TaskPlaced, Placed, Ground, each_map, each_less, each_append}
+use Rattle.block_core.proofs.Orders.{Each, IsOwn, DoingPlaced, LinePlaced, TodoThere, TaskPlaced, Placed, Ground}
 use Rattle.block_core.proofs.Deltas.{delta}
 use Rattle.block_core.proofs.Lines.{line_fits}
 use Rattle.block_core.proofs.OrdersKept.{line_placed}

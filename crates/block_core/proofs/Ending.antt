@@ -1,6 +1,5 @@
 -- A run whose writes are done has ended, and the keeper starts no round that is not there.
 use Rattle.std.proofs.Common.{◌+◌, ◌<◌, ℕ, List, ◌∷◌, length, subst, arith}
-use Rattle.elem_ledger.specs.Ledger.{LedgerId}
 use Rattle.run_machine.specs.declared.event.TaskId.{TaskId}
 use Rattle.run_machine.specs.Opened.{scene, start, setup as setup_in}
 use Rattle.run_machine.specs.Runs.{State}

@@ -15,7 +15,7 @@ use Rattle.run_machine.specs.Tasks.{TaskState, Writer, Duty, Todo, NoBio}
 use Rattle.run_machine.specs.Opened.{Scenario, scene, start, tasks as opened_tasks, todos, todos_of, is_by, writers, duties, keepers, places_of, setup as setup_in}
 use Rattle.run_machine.specs.Runs.{State, IsRun}
 use Rattle.block_core.specs.Weights.{Pending, Rescued, total, sum_at, task_weight, book_weight, count_of}
-use Rattle.block_core.specs.Sound.{IsScenario, IsNaming}
+use Rattle.block_core.specs.Scenarios.{IsScenario, IsNaming}
 use Rattle.block_core.specs.Breaks.{IsAllowed}
 use Rattle.block_core.specs.Few.{OutsAreFew, EndsAreFew, CountersAreSmall, NoCounterIsFull}
 use Rattle.block_core.proofs.Kept.{Fair}

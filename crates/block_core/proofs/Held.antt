@@ -32,7 +32,7 @@ use Rattle.std.proofs.lemmas.List.{length-replicate, get_or-replicate}
 use Rattle.run_machine.specs.Opened.{Scenario, scene, start, todos, setup as setup_in}
 use Rattle.run_machine.specs.Runs.{State, IsRun}
 use Rattle.block_core.specs.Weights.{total}
-use Rattle.block_core.specs.Sound.{IsScenario}
+use Rattle.block_core.specs.Scenarios.{IsScenario}
 use Rattle.block_core.specs.Fragments.{offset_of, fragment_of, completed_by, completed}
 use Rattle.block_core.specs.Images.{tag_of, lies_at, put, held_after, ImagesAreOfCompleted}
 use Rattle.block_core.proofs.Sums.{upd-same, upd-other, same_or_not}
@@ -51,7 +51,8 @@ use Rattle.block_core.proofs.Completed.{opened_total, all_sum, small}
 use Rattle.block_core.proofs.Misfits.{misfits, no_misfits}
 use Rattle.block_core.proofs.Coming.{over, ended}
 use Rattle.block_core.proofs.Brought.{step_completes}
-use Rattle.block_core.proofs.Tied.{IsTied, loose, unfit, tied, not_loose, unfit_follows, own_tags, first_tied}
+use Rattle.block_core.specs.Images.{HasItsWord}
+use Rattle.block_core.proofs.Tied.{loose, unfit, tied, not_loose, unfit_follows, own_tags, first_tied}
 
 below_or : (a b : ℕ) → (a < b) ⊎ (b ≤ a)
 below_or a b = grind arith
@@ -117,7 +118,7 @@ module _ (s : Scenario) where
 
   -- what a completion makes of a sector of its disk
   completed_sector : (number x : ℕ) (old : DiskState) (index : ℕ) (bio : Item Pad) (ending : Status) (new : DiskState) → IsOwn number old → Completes old index bio ending new
-      → IsTied s bio.bio → slice_index_or new.image x [] ≡ put s number x (fragment_of bio.bio) (slice_index_or old.image x [])
+      → HasItsWord s bio.bio → slice_index_or new.image x [] ≡ put s number x (fragment_of bio.bio) (slice_index_or old.image x [])
   completed_sector number x old index bio ending new own c fits_data =
       let fits = completed_waits number old index bio ending new own c in
       let within = fits.0.within in
@@ -193,7 +194,7 @@ module _ (s : Scenario) (ledger : ℕ → LedgerId) (st : State) (a : Placed (se
   own_stays (moves.Started place round later duties) c = own
 
   -- the bio that is completed has its own data
-  pending_tied : (disk index : ℕ) (bio : Item Pad) → disk < here.setup.count → slice_get (st.objects.disk disk).pending index ≡ Some bio → total here (misfits (unfit s)) st ≡ 0 → IsTied s bio.bio
+  pending_tied : (disk index : ℕ) (bio : Item Pad) → disk < here.setup.count → slice_get (st.objects.disk disk).pending index ≡ Some bio → total here (misfits (unfit s)) st ≡ 0 → HasItsWord s bio.bio
   pending_tied disk index bio lt at none =
       let g : Item Pad → ℕ = λ item. unfit s item.bio in
       let xs = (st.objects.disk disk).pending in

@@ -16,7 +16,8 @@ use Rattle.block_core.specs.Weights.{Weight, Pending, Rescued, Lined, total, one
 use Rattle.block_core.specs.Fragments.{HasNone, NothingComes, HasBegun, AllIsHome, NothingComesWhereAllIsHome}
 use Rattle.block_core.proofs.Sums.{one-same, within_book}
 use Rattle.block_core.proofs.Places.{sum_at-ge}
-use Rattle.block_core.proofs.Kept.{named, away, own_part, own_of, TaskFits, LineFits, DoingFits, Kept}
+use Rattle.block_core.specs.Roles.{named}
+use Rattle.block_core.proofs.Kept.{away, own_part, own_of, TaskFits, LineFits, DoingFits, Kept}
 use Rattle.block_core.proofs.PlannedOnce.{sum_none, node_none}
 use Rattle.block_core.proofs.Slips.{bare_slip, bare_node, bare, no_bare}
 use Rattle.layout_model.proofs.RangeSums.{sum_of_zero}

@@ -13,20 +13,8 @@ use Rattle.run_machine.specs.Scene.{Setup, Scene, tree_at}
 use Rattle.run_machine.specs.Lines.{Ask, ToPush, ToCut, ToRecord, ToMaster, Doing, Rests, Drives, Copies, Breaks, Line, rests, legs_of}
 use Rattle.run_machine.specs.Tasks.{TaskState, Writer, Rescuer, Completer, Keeper, Keeping, Keeps, Stops, Taken, NoBio, HasBio, HasBoth}
 use Rattle.run_machine.specs.Runs.{State}
-use Rattle.block_core.specs.Weights.{Weight, total, elements, refs, names, count_of}
-
--- the bios that name the node
-abbrev pub named : ℕ → ℕ → Weight
-named w k = record {
-  todo = λ writer todos taken. 0;
-  bio = λ spot. names w k;
-  copy = λ bio master leg. 0;
-  hand = λ bio. 0;
-  vector = λ vector. 0;
-  slip = λ slip. 0;
-  node = λ writer place node. 0;
-  closed = λ task writer closed. 0;
-}
+use Rattle.block_core.specs.Weights.{total, elements, refs, count_of}
+use Rattle.block_core.specs.Roles.{named}
 
 abbrev pub away : Option (Item Pad) → ℕ
 away None = 1

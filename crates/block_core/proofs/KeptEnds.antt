@@ -1,9 +1,9 @@
 -- Each event keeps, of each open node, what it was told since it was opened.
-use Rattle.std.proofs.Common.{◌≡◌, ◌≢◌, ◌+◌, ◌<◌, ◌≤◌, ◌==◌, ◌&&◌, ◌⊎◌, ◌++◌, if◌then◌else◌, ℕ, Bool, true, false, List, [], ◌∷◌, length, Option, None, Some, inl, inr, refl, sym, ◌∙◌, ap, subst, arith, true≢false}
+use Rattle.std.proofs.Common.{◌≡◌, ◌≢◌, ◌<◌, ◌==◌, ◌&&◌, ◌++◌, if◌then◌else◌, ℕ, Bool, true, false, List, [], ◌∷◌, length, Option, None, Some, inl, inr, refl, sym, ◌∙◌, ap, subst, arith}
 use Rattle.std.specs.Prelude.{All, Contains}
 use Rattle.std.proofs.lemmas.Bool.{eq-eqb, ne_eqb}
 use Rattle.std.proofs.lemmas.List.{get_or-set_same, get_or-set_other}
-use Rattle.std.proofs.lemmas.List.Elements.{All-nil, All-cons, All-push, Contains-append_right, Contains-append_left}
+use Rattle.std.proofs.lemmas.List.Elements.{All-nil, All-push, Contains-append_right, Contains-append_left}
 use Rattle.elem_ledger.specs.Ledger.{LedgerId}
 use Rattle.stack_base.specs.declared.ids.Status.{Status}
 use Rattle.stack_base.specs.declared.ids.Status.TheVariants.{Ok, Io, Medium, NoSpace}
@@ -11,8 +11,8 @@ use Rattle.bio_records.specs.declared.bio.Pad.{Pad}
 use Rattle.bio_records.specs.Items.{Item}
 use Rattle.bio_books.specs.declared.node.Role.{Role}
 use Rattle.bio_books.specs.declared.node.Role.TheVariants as role
-use Rattle.bio_books.specs.Books.{Node, BookState, SlipItem, VectorItem, node_at, with_node, top_node, child_node, master_node, leg_node, keeping, raised, lowered, told, kept_with, first_failing}
-use Rattle.bio_books.specs.Links.{Linked, Made, NoRoom, Stray, IsVacant, Opens, ChainsAt, MastersAt, LegsAt}
+use Rattle.bio_books.specs.Books.{Node, BookState, node_at, with_node, top_node, child_node, master_node, leg_node, keeping, raised, kept_with, first_failing}
+use Rattle.bio_books.specs.Links.{Made, NoRoom, Stray, IsVacant, ChainsAt, MastersAt, LegsAt}
 use Rattle.bio_books.specs.Drops.{Ended, Closed, DropsAt}
 use Rattle.bio_books.specs.Drops as end
 use Rattle.run_machine.specs.declared.event.Event.{Event}

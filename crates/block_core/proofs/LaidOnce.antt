@@ -13,7 +13,7 @@ use Rattle.layout_model.specs.Plan.{plan, leaves}
 use Rattle.layout_model.specs.Writes.{IsWrite}
 use Rattle.layout_model.proofs.PlanLaws.{plan_gives_fragments, trees_are_sound}
 use Rattle.run_machine.specs.Opened.{Scenario}
-use Rattle.block_core.specs.Sound.{IsScenario}
+use Rattle.block_core.specs.Scenarios.{IsScenario}
 use Rattle.block_core.specs.Images.{writes_at, LaidIsOne, EndedRunsLeaveTheSame}
 use Rattle.block_core.proofs.Sums.{same_or_not}
 use Rattle.block_core.proofs.LaidOut.{lands_there, way_writes}

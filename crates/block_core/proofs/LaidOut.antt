@@ -26,7 +26,7 @@ use Rattle.run_machine.specs.Tasks.{Todo}
 use Rattle.run_machine.specs.declared.event.Event.{Event}
 use Rattle.run_machine.specs.Opened.{Scenario, scene, start, todos}
 use Rattle.run_machine.specs.Runs.{State, IsRun}
-use Rattle.block_core.specs.Sound.{IsScenario, IsNaming}
+use Rattle.block_core.specs.Scenarios.{IsScenario, IsNaming}
 use Rattle.block_core.specs.Fragments.{completed, times, IsOfScenario, NothingComes}
 use Rattle.block_core.specs.Images.{tag_of, writes_at, put, held_after, round_at, OneARound, ComeInRounds}
 use Rattle.block_core.proofs.Sums.{same_or_not}

@@ -1,5 +1,5 @@
 -- Events keep list 0 of a task that copies a bio full of legs of its master alone, and the set of that bio above its device.
-use Rattle.std.proofs.Common.{◌≡◌, ◌≢◌, ◌+◌, ◌*◌, ◌<◌, ◌≤◌, ◌==◌, ◌⊎◌, ◌++◌, if◌then◌else◌, not, ℕ, Bool, true, false, List, [], ◌∷◌, length, filter, Option, None, Some, inl, inr, refl, sym, ◌∙◌, ap, subst, arith}
+use Rattle.std.proofs.Common.{◌≡◌, ◌≢◌, ◌+◌, ◌*◌, ◌<◌, ◌≤◌, ◌==◌, ◌⊎◌, if◌then◌else◌, not, ℕ, Bool, true, false, List, [], ◌∷◌, length, Option, None, Some, inl, inr, refl, sym, ◌∙◌, ap, subst, arith}
 use Rattle.std.specs.Prelude.{sum_by}
 use Rattle.std.proofs.lemmas.List.{get_or-set_same, get_or-set_other}
 use Rattle.std.proofs.lemmas.List.Sums.{sum_by-cons}
@@ -11,7 +11,6 @@ use Rattle.bio_records.specs.declared.tasks.TaskLists.{TaskLists}
 use Rattle.bio_records.specs.Items.{Item}
 use Rattle.bio_lists.specs.Submission.{submitted, order}
 use Rattle.bioset_pools.specs.Sets.{bios_of}
-use Rattle.bio_books.specs.declared.node.Role.TheVariants as role
 use Rattle.bio_books.specs.Books.{Node, BookState, node_at, with_node, top_node, child_node, master_node, leg_node, keeping, raised, lowered, told}
 use Rattle.bio_books.specs.Links.{IsVacant}
 use Rattle.run_machine.specs.Maps.{upd}
@@ -19,11 +18,11 @@ use Rattle.run_machine.specs.Scene.{Setup, Scene, tree_at}
 use Rattle.run_machine.specs.Lines.{Want, Takes, Punts as WantsPunt, Links, ToPush, ToCut, ToRecord, ToMaster, Doing, Rests, Drives, Copies, Breaks, Line, settled, goes_on, copies, asks_at, first_waits, first_length, landed, legs_of, leg_at, is_of, not_punted}
 use Rattle.run_machine.specs.Tasks.{TaskState, Writer, Rescuer, Completer, Keeper}
 use Rattle.run_machine.specs.Runs.{State}
-use Rattle.block_core.specs.Weights.{Lined, total, line_weight, task_weight, refs, names, count_of}
+use Rattle.block_core.specs.Weights.{Lined, total, refs, names, count_of}
 use Rattle.block_core.specs.Orders.{IsLegOf}
 use Rattle.block_core.proofs.Moves.{Move, place_of, Can, after, limit_of, with_line, HasLine, Wants, with_want, taken_of, filled_of, vector_of, cut_lists, Tells, piece}
 use Rattle.block_core.proofs.Moves as moves
-use Rattle.block_core.proofs.Sums.{upd-same, upd-other, same_or_not, within_book, with_node_is}
+use Rattle.block_core.proofs.Sums.{upd-same, upd-other, same_or_not, within_book}
 use Rattle.block_core.proofs.Kept.{TaskFits, Kept}
 use Rattle.block_core.proofs.Deltas.{vacant_at}
 use Rattle.block_core.proofs.Lines.{line_fits}
@@ -31,7 +30,6 @@ use Rattle.block_core.proofs.Orders.{Each, DoingPlaced, TaskPlaced, Placed, each
 use Rattle.block_core.proofs.OrdersKept.{line_placed}
 use Rattle.block_core.proofs.Totals.{task_part, line_part}
 use Rattle.block_core.proofs.Ancestors.{names_one}
-use Rattle.block_core.proofs.PlannedOnce.{term_in}
 
 -- what stands at a place of a book becomes of a node: it stays open with its role, or closes
 abbrev pub StaysOrCloses : Option Node → Node → Type 0

@@ -6,7 +6,7 @@ use Rattle.bio_books.specs.Links.{IsVacant}
 use Rattle.run_machine.specs.Scene.{Scene}
 use Rattle.run_machine.specs.Runs.{State}
 use Rattle.block_core.specs.Weights.{total, under}
-use Rattle.block_core.specs.Levels.{parent_off, held_off, off_levels}
+use Rattle.block_core.proofs.OffLevels.{parent_off, held_off, off_levels}
 use Rattle.block_core.proofs.Kept.{Kept}
 use Rattle.block_core.proofs.Marked.{with_mark, mark_other, mark_still, IsUnmoved, none_moves}
 

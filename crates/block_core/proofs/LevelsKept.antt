@@ -25,7 +25,8 @@ use Rattle.block_core.proofs.OrdersKept.{line_placed}
 use Rattle.block_core.proofs.Deltas.{vacant_at, delta}
 use Rattle.block_core.proofs.Places.{sum_at-ge, copies_weight, unless, unless_none, cut_weight, line_part}
 use Rattle.block_core.proofs.Listed.{IsBlind, landed_same, first_weight, goes_weight}
-use Rattle.block_core.specs.Levels.{apart, bio_off, held_off, off_levels, HasLevels}
+use Rattle.block_core.specs.Weights.{apart}
+use Rattle.block_core.proofs.OffLevels.{bio_off, held_off, off_levels, AreLeveled}
 use Rattle.block_core.proofs.Marked.{with_mark, mark_here, mark_other}
 use Rattle.block_core.proofs.Levels.{total_null}
 
@@ -72,12 +73,12 @@ begun_on level writer todo item (Some vector) key home is = rw (is, home.0) (ome
 
 module _ (scene : Scene) (s : State) (g : Ground scene.setup) (i : Kept scene s) (p : Placed scene.setup s) (level : ℕ → ℕ → ℕ) (off : total scene (off_levels level) s ≡ 0) where
   -- the levels stay
-  same : (m : Move) → Can scene s m → gained scene (off_levels level) s m ≤ lost scene (off_levels level) s m → HasLevels scene (after scene s m)
+  same : (m : Move) → Can scene s m → gained scene (off_levels level) s m ≤ lost scene (off_levels level) s m → AreLeveled scene (after scene s m)
   same m c le = (level, omega (arith, off, delta scene (off_levels level) s m c, le))
 
   -- a vacant place gets one
   one_more : (m : Move) → Can scene s m → (writer key n : ℕ) → IsVacant (s.objects.book writer) key
-      → gained scene (off_levels (with_mark level writer key n)) s m ≤ lost scene (off_levels (with_mark level writer key n)) s m → HasLevels scene (after scene s m)
+      → gained scene (off_levels (with_mark level writer key n)) s m ≤ lost scene (off_levels (with_mark level writer key n)) s m → AreLeveled scene (after scene s m)
   one_more m c writer key n v le =
       (with_mark level writer key n, omega (arith, total_null level writer key n scene s i v off, delta scene (off_levels (with_mark level writer key n)) s m c, le))
 
@@ -91,7 +92,7 @@ module _ (scene : Scene) (s : State) (g : Ground scene.setup) (i : Kept scene s)
       let x : node_at (s.objects.book writer) place ≡ node_at (s.objects.book writer) key = ap (node_at (s.objects.book writer)) q in
       let y : None ≡ Some node = sym a.0 ∙ sym x ∙ found in cc
 
-  pub stays_leveled : (m : Move) → Can scene s m → HasLevels scene (after scene s m)
+  pub stays_leveled : (m : Move) → Can scene s m → AreLeveled scene (after scene s m)
   stays_leveled (moves.TakesFirst place writer todo later move) c = same (moves.TakesFirst place writer todo later move) c (omega arith)
   stays_leveled (moves.TakesVector place writer todo later item move) c = same (moves.TakesVector place writer todo later item move) c (omega arith)
   stays_leveled (moves.TakesSub place x doing lists dev waits move) c = same (moves.TakesSub place x doing lists dev waits move) c (omega arith)

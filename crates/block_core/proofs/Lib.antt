@@ -22,6 +22,7 @@ pub mod Alive
 pub mod Counters
 pub mod Staged
 pub mod Rounds
+pub mod OffLevels
 pub mod Levels
 pub mod LevelsKept
 pub mod Needs

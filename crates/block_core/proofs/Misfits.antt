@@ -1,5 +1,5 @@
 -- Bios of which a fact does not hold: where there is none, no event makes one.
-use Rattle.std.proofs.Common.{◌≡◌, ◌+◌, ◌<◌, ◌≤◌, ◌==◌, ℕ, Bool, true, false, List, [], ◌∷◌, None, Some, subst, arith}
+use Rattle.std.proofs.Common.{◌≡◌, ◌+◌, ◌<◌, ◌≤◌, ◌==◌, ℕ, List, [], ◌∷◌, None, Some, subst, arith}
 use Rattle.std.specs.Prelude.{sum_by}
 use Rattle.std.proofs.lemmas.List.Sums.{sum_by-cons, sum_by_push}
 use Rattle.stack_base.specs.declared.ids.SetId.TheVariants.{Of}
@@ -19,7 +19,7 @@ use Rattle.block_core.specs.Weights.{Weight, total}
 use Rattle.block_core.proofs.Moves.{Move, Can, after, lost, gained, limit_of, with_line, HasLine, Wants, with_want, taken_of, filled_of, vector_of, cut_lists, Tells, Hands, piece}
 use Rattle.block_core.proofs.Moves as moves
 use Rattle.block_core.proofs.Listed.{landed_same, IsBlind, first_weight, goes_weight}
-use Rattle.block_core.proofs.Places.{cut_weight, copies_weight, unless, line_part, unless_less}
+use Rattle.block_core.proofs.Places.{cut_weight, copies_weight, line_part, unless_less}
 use Rattle.block_core.proofs.Deltas.{delta}
 use Rattle.block_core.proofs.Kept.{TaskFits, Kept}
 use Rattle.block_core.proofs.Lines.{line_fits}

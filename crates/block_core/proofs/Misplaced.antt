@@ -1,22 +1,19 @@
 -- Events keep what refers to nodes where it belongs: bios, children and masters at nodes that are no masters, and legs at masters.
-use Rattle.std.proofs.Common.{◌≡◌, ◌≢◌, ◌+◌, ◌*◌, ◌<◌, ◌≤◌, ◌==◌, if◌then◌else◌, not, ℕ, Bool, true, false, List, [], ◌∷◌, Option, None, Some, inr, refl, sym, ◌∙◌, ap, subst, arith}
+use Rattle.std.proofs.Common.{◌≡◌, ◌≢◌, ◌+◌, ◌<◌, ◌≤◌, ◌==◌, not, ℕ, Bool, true, false, [], ◌∷◌, Option, None, Some, inr, refl, sym, ◌∙◌, ap, subst, arith}
 use Rattle.std.proofs.lemmas.List.Sums.{sum_by-cons, sum_by_push}
-use Rattle.stack_base.specs.declared.ids.DevId.{DevId}
 use Rattle.stack_base.specs.Tree.{Tree, Leaf, Split, Mirrored}
 use Rattle.bio_records.specs.declared.bio.Bio.{Bio}
 use Rattle.bio_records.specs.declared.bio.Pad.{Pad}
-use Rattle.bio_records.specs.declared.tasks.TaskLists.{TaskLists}
 use Rattle.bio_records.specs.Items.{Item}
 use Rattle.bio_lists.specs.Submission.{submitted}
 use Rattle.bio_books.specs.declared.node.Role.{Role}
 use Rattle.bio_books.specs.declared.node.Role.TheVariants as role
 use Rattle.bio_books.specs.Books.{Node, VectorItem, node_at, parent_of}
-use Rattle.bio_books.specs.Drops.{Closed}
 use Rattle.bio_books.specs.Links.{IsVacant}
 use Rattle.run_machine.specs.Maps.{upd}
 use Rattle.run_machine.specs.Scene.{Scene, tree_at}
 use Rattle.run_machine.specs.Lines.{Links, ToCut, ToMaster, Drives, Copies, first_length, legs_of, leg_at}
-use Rattle.run_machine.specs.Tasks.{TaskState, Todo, Completer}
+use Rattle.run_machine.specs.Tasks.{Todo}
 use Rattle.run_machine.specs.Runs.{State}
 use Rattle.block_core.specs.Weights.{Weight, total, task_weight, carried_weight, under}
 use Rattle.block_core.specs.Roles.{is_master}

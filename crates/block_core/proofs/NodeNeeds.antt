@@ -1,14 +1,12 @@
 -- What bios still need at the devices of a stack.
-use Rattle.std.proofs.Common.{◌≡◌, ◌+◌, ◌-◌, ◌<◌, ◌≤◌, ℕ, suc, zero, IsTrue, List, length, Some, inl, inr, refl, sym, ◌∙◌, ap, subst, arith, get_or}
-use Rattle.std.specs.Prelude.{slice_get, sum_by}
+use Rattle.std.proofs.Common.{◌≡◌, ◌+◌, ◌-◌, ◌<◌, ◌≤◌, ℕ, suc, zero, IsTrue, List, length, refl, ◌∙◌, ap, arith}
+use Rattle.std.specs.Prelude.{sum_by}
 use Rattle.std.specs.List.{range_with_len}
-use Rattle.stack_base.specs.declared.ids.DevId.{DevId}
 use Rattle.stack_base.specs.declared.ids.Range.{Range}
-use Rattle.stack_base.specs.declared.stack.Device.{Device}
 use Rattle.stack_base.specs.declared.stack.Stack.{Stack}
 use Rattle.stack_base.specs.declared.stack.Kind.{Kind}
 use Rattle.stack_base.specs.Stack.{IsStack}
-use Rattle.stack_base.specs.Tree.{Tree, Leaf, Split, Mirrored, size, tree}
+use Rattle.stack_base.specs.Tree.{Tree, Leaf, Split, Mirrored, tree}
 use Rattle.layout_model.specs.Need.{needed}
 use Rattle.layout_model.proofs.RangeSums.{sum_next}
 use Rattle.layout_model.proofs.Begun.{needed_legs}
@@ -17,17 +15,13 @@ use Rattle.bio_records.specs.declared.bio.Pad.{Pad}
 use Rattle.bio_records.specs.Items.{Item}
 use Rattle.bio_split.specs.Split.{split_rest}
 use Rattle.bio_books.specs.Books.{SlipItem}
-use Rattle.run_machine.specs.Scene.{Setup, tree_at, number_of, setup_of}
+use Rattle.run_machine.specs.Scene.{Setup, tree_at, setup_of}
 use Rattle.run_machine.specs.Lines.{Want, ToCut, ToMaster, first_length, landed, legs_of, leg_at}
 use Rattle.block_core.specs.Rooms.{need_at, leg_need}
 use Rattle.block_core.proofs.Moves.{piece}
-use Rattle.block_core.proofs.Geometry.{IsThere, is_cut, number_of_tree, members_at, sizes_at, lands_needs, cuts}
+use Rattle.block_core.proofs.Geometry.{IsThere, is_cut, lands_needs, cuts}
 use Rattle.block_core.proofs.LegTrees.{GoesDown, legs_go_down}
 use Rattle.block_core.proofs.Orders.{AskFits}
-use Rattle.std.proofs.lemmas.List.{length-map}
-use Rattle.std.proofs.lemmas.Option.{slice_get-get_or, slice_get_cases}
-use Rattle.stack_base.specs.Tree.{Shape, Keeps as Keeping_, Cuts, Copies as Copying_, shape_of}
-use Rattle.layout_model.proofs.ByShape.{cuts_is, copies_is, keeps_is, member_is}
 
 -- what is known of needs at the devices of a stack
 pub record Needs (setup : Setup) : Type 0 where

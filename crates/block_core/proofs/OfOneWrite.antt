@@ -19,8 +19,8 @@ use Rattle.run_machine.specs.Tasks.{TaskState, Todo, Completer, Carried, Empty, 
 use Rattle.run_machine.specs.Opened.{Scenario, scene, start, setup as setup_in}
 use Rattle.run_machine.specs.Runs.{State, IsRun}
 use Rattle.block_core.specs.Weights.{total, task_weight, carried_weight, under}
-use Rattle.block_core.specs.Levels.{apart}
-use Rattle.block_core.specs.Sound.{IsScenario}
+use Rattle.block_core.specs.Weights.{apart}
+use Rattle.block_core.specs.Scenarios.{IsScenario}
 use Rattle.block_core.specs.OfOneWrite.{bio_strays, parent_strays, strays, AreOfOneWrite, AllAreOfOneWrite}
 use Rattle.block_core.proofs.Moves.{Move, Can, after, lost, gained, limit_of, HasLine, taken_of, filled_of, vector_of, cut_lists, Tells, piece}
 use Rattle.block_core.proofs.Moves as moves

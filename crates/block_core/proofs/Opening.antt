@@ -11,14 +11,15 @@ use Rattle.run_machine.specs.Lines.{rests}
 use Rattle.run_machine.specs.Tasks.{TaskState, Writer, Rescuer, Completer, Keeper, Keeps, Duty, Todo, NoBio, Empty}
 use Rattle.run_machine.specs.Runs.{State}
 use Rattle.block_core.specs.Weights.{Weight, Pending, Rescued, total, sum_at, weigh_option, task_weight, book_weight, elements, refs, count_of}
-use Rattle.block_core.proofs.Kept.{named, own_of, GoesOn, TaskFits, IsIn, Kept}
+use Rattle.block_core.specs.Roles.{named}
+use Rattle.block_core.proofs.Kept.{own_of, GoesOn, TaskFits, IsIn, Kept}
 use Rattle.std.specs.Prelude.{All, replicate, zip}
 use Rattle.std.proofs.lemmas.List.{get_or-replicate, length-replicate}
 use Rattle.std.proofs.lemmas.List.Elements.{All-nil, All-cons, All-head, All-tail, All-map, All-append, All-filter, All-get_or, All-from_get_or}
 use Rattle.std.proofs.lemmas.List.FromFn.{get_or-range_with_len, length-range_with_len}
 use Rattle.std.proofs.lemmas.Bool.Decides.{nat_tests}
 use Rattle.mempool_core.proofs.MoveLemmas.{opened_adds_up}
-use Rattle.block_core.specs.Sound.{IsScenario}
+use Rattle.block_core.specs.Scenarios.{IsScenario}
 use Rattle.std.specs.List.{range_with_len, list_any}
 use Rattle.layout_model.specs.declared.write.Write.{Write}
 use Rattle.layout_model.specs.Needs.{nodes}

@@ -16,7 +16,8 @@ use Rattle.block_core.proofs.Moves as moves
 use Rattle.block_core.proofs.Sums.{weight-upd}
 use Rattle.block_core.proofs.Listed.{goes_weight, first_weight}
 use Rattle.block_core.proofs.Deltas.{delta}
-use Rattle.block_core.proofs.Kept.{named, Fair, Kept}
+use Rattle.block_core.specs.Roles.{named}
+use Rattle.block_core.proofs.Kept.{Fair, Kept}
 use Rattle.block_core.proofs.Places.{out_more, out_same, out_less, cut_weight, blind_elements, begun_elements, hands_elements, copies_weight, unless_none, line_part, named_away, told_elements, is_away}
 
 module _ (scene : Scene) (s : State) (f : Fair scene) (i : Kept scene s) where

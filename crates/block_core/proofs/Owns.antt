@@ -20,7 +20,8 @@ use Rattle.block_core.proofs.Moves as moves
 use Rattle.block_core.proofs.Sums.{one-same}
 use Rattle.block_core.proofs.Listed.{IsBlind, goes_weight, first_weight, landed_same}
 use Rattle.block_core.proofs.Deltas.{delta}
-use Rattle.block_core.proofs.Kept.{named, own_part, own_of, Fair, Kept}
+use Rattle.block_core.specs.Roles.{named}
+use Rattle.block_core.proofs.Kept.{own_part, own_of, Fair, Kept}
 use Rattle.block_core.proofs.Places.{cut_weight, copies_weight, unless_none, line_part, named_away, is_away}
 use Rattle.block_core.proofs.BookMaps.{made, became, chained}
 use Rattle.block_core.proofs.Counts.{begun_names, tells_refs, leg_named, makes_leg}

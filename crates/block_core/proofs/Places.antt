@@ -24,7 +24,8 @@ use Rattle.block_core.specs.Weights.{Weight, Lined, total, sum_at, one, doing_we
 use Rattle.block_core.proofs.Moves.{limit_of, HasLine, taken_of, filled_of, vector_of, cut_lists, IsTake, Tells, Hands, piece}
 use Rattle.block_core.proofs.Sums.{weight-upd, one-same, same_or_not}
 use Rattle.block_core.proofs.Listed.{IsBlind, goes_weight, first_weight}
-use Rattle.block_core.proofs.Kept.{named, away, own_part, own_of, Kept}
+use Rattle.block_core.specs.Roles.{named}
+use Rattle.block_core.proofs.Kept.{away, own_part, own_of, Kept}
 
 pub sum_at-ge : {X : Type 0} (w : ℕ → X → ℕ) (n : ℕ) (f : ℕ → X) (i : ℕ) → i < n → w i (f i) ≤ sum_at w n f
 unfolding sum_at

@@ -17,7 +17,7 @@ use Rattle.run_machine.specs.Tasks.{TaskState, Writer, Rescuer, Completer, Keepe
 use Rattle.run_machine.specs.Opened.{Scenario, scene, todos, setup as setup_in}
 use Rattle.run_machine.specs.Runs.{State}
 use Rattle.block_core.specs.Weights.{Weight, Pending, Rescued, one, total, sum_at, weigh_option, task_weight, taken_weight, book_weight}
-use Rattle.block_core.specs.Sound.{IsScenario}
+use Rattle.block_core.specs.Scenarios.{IsScenario}
 use Rattle.block_core.specs.Fragments.{todo_fragments, to_come, planned, is_same, is_it, times, IsOfScenario, HasNone, NothingComes, NoneIsCompletedTwice, NoOtherIsCompleted, EachIsCompletedOnce}
 use Rattle.block_core.proofs.Sums.{one-same, same_or_not}
 use Rattle.block_core.proofs.Opening.{sum_at-zero, todos_all, all_map}

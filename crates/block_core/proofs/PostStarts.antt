@@ -28,7 +28,7 @@ use Rattle.std.specs.Option.{option_map_or}
 use Rattle.std.proofs.lemmas.Bool.Decides.{nat_tests}
 use Rattle.stack_base.specs.Tree.{Cuts}
 use Rattle.run_machine.proofs.Frames.{pools_are_numbered}
-use Rattle.block_core.specs.Sound.{IsScenario, AreInOrder, KeepsSome, HasReserves}
+use Rattle.block_core.specs.Scenarios.{IsScenario, AreInOrder, KeepsSome, HasReserves}
 use Rattle.block_core.proofs.Calm.{IsPool}
 use Rattle.block_core.proofs.Geometry.{at_device}
 use Rattle.block_core.proofs.Posts.{ByRounds, Mins, starts, Manned, Posted}

@@ -1,6 +1,6 @@
 -- Where no task has anything to do that needs no ordinary memory, each open node and each element that is out has a task that waits below it.
 -- So there is none.
-use Rattle.std.proofs.Common.{◌≡◌, ◌+◌, ◌-◌, ◌*◌, ◌<◌, ◌≤◌, ◌⊎◌, ℕ, zero, suc, true, List, [], length, Option, None, Some, inl, inr, refl, ◌∙◌, ap, subst, arith}
+use Rattle.std.proofs.Common.{◌≡◌, ◌+◌, ◌*◌, ◌<◌, ◌≤◌, ◌⊎◌, ℕ, zero, suc, true, List, [], length, Option, None, Some, inl, inr, refl, ◌∙◌, ap, subst, arith}
 use Rattle.std.specs.Prelude.{sum_by}
 use Rattle.bio_records.specs.declared.bio.Bio.{Bio}
 use Rattle.bio_records.specs.declared.bio.Pad.{Pad}
@@ -20,7 +20,8 @@ use Rattle.block_core.proofs.Orders.{IsOwn, DoingPlaced, TaskPlaced, Placed, Gro
 use Rattle.std.specs.Prelude.{min}
 use Rattle.block_core.proofs.Alive.{IsAlive}
 use Rattle.block_core.proofs.Places.{sum_at-ge}
-use Rattle.block_core.specs.Levels.{apart, bio_off, parent_off, held_off, off_levels}
+use Rattle.block_core.specs.Weights.{apart}
+use Rattle.block_core.proofs.OffLevels.{bio_off, parent_off, held_off, off_levels}
 use Rattle.block_core.proofs.Waits.{DoingWaits, TaskWaits, Waits}
 use Rattle.block_core.proofs.Calm.{IsPool, spares, StillDoing, StillWriter, StillRescuer, IsStill, Calm, Below, lower, zero_or, some_place, some_one, one-eq, both, Found, line_found, line_below}
 

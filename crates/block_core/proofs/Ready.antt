@@ -27,7 +27,8 @@ use Rattle.block_core.specs.Rooms.{need_at, todo_need, legs_need, room, HasRoom}
 use Rattle.block_core.specs.Breaks.{is_refusal}
 use Rattle.block_core.proofs.Moves.{HasLine}
 use Rattle.block_core.proofs.Sums.{one-same}
-use Rattle.block_core.proofs.Kept.{named, own_part, own_of, TaskFits, Kept}
+use Rattle.block_core.specs.Roles.{named}
+use Rattle.block_core.proofs.Kept.{own_part, own_of, TaskFits, Kept}
 use Rattle.block_core.proofs.Orders.{TaskPlaced, Placed}
 use Rattle.block_core.proofs.Deltas.{vacant_at}
 use Rattle.block_core.proofs.Lines.{line_fits}

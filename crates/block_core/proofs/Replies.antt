@@ -1,34 +1,24 @@
 -- Whatever is answered to a task is an event, or changes nothing.
-use Rattle.std.proofs.Common.{◌≡◌, ◌+◌, ◌<◌, ◌⊎◌, if◌then◌else◌, ℕ, Bool, true, false, List, [], ◌∷◌, Option, None, Some, inl, inr, refl, sym, ◌∙◌, ap, true≢false}
+use Rattle.std.proofs.Common.{◌≡◌, ◌<◌, ◌⊎◌, ℕ, true, false, List, ◌∷◌, Some, inl, inr, refl, ◌∙◌, ap, true≢false}
 use Rattle.std.proofs.lemmas.Bool.{eq-eqb}
 use Rattle.elem_ledger.specs.Ledger.{LedgerId}
-use Rattle.stack_base.specs.declared.ids.DevId.{DevId}
 use Rattle.stack_base.specs.PoolId.{pool_number}
 use Rattle.stack_base.specs.declared.ids.PoolId.{PoolId}
 use Rattle.stack_base.specs.declared.ids.PoolId.TheVariants.{FsVecs, Records}
-use Rattle.mempool_core.specs.Move.{PoolState, misses, after_move, missed}
-use Rattle.mempool_core.specs.Position.{uses_entry}
-use Rattle.bio_records.specs.declared.bio.Pad.{Pad}
-use Rattle.bio_records.specs.declared.tasks.TaskLists.{TaskLists}
-use Rattle.bio_records.specs.Items.{Item}
 use Rattle.bioset_pools.specs.Sets.{bios_of}
-use Rattle.bio_books.specs.Books.{VectorItem, SlipItem}
 use Rattle.bio_books.specs.Drops.{Closed}
 use Rattle.bio_books.specs.Drops as end
 use Rattle.bio_books.specs.Links.{Made, NoRoom, Stray}
 use Rattle.run_machine.specs.declared.event.What.{What}
-use Rattle.run_machine.specs.Maps.{upd}
-use Rattle.run_machine.specs.Scene.{Setup, Scene}
-use Rattle.run_machine.specs.Lines.{Takes, Punts, Links, ToPush, ToCut, ToRecord, ToMaster, Doing, Rests, Drives, Copies, Breaks, Line, line_request, line_answered}
+use Rattle.run_machine.specs.Scene.{Scene}
 use Rattle.run_machine.specs.Requests as requests
 use Rattle.run_machine.specs.Requests.{Request, Reply}
-use Rattle.run_machine.specs.Tasks.{TaskState, Writer, Rescuer, Completer, Keeper, Keeps, Stops, Duty, Resizes, Starts, Todo, Taken, NoBio, HasBio, HasBoth, Empty, Brings, Carries, Fails, request, answered, with_bio, needs_vector, closed_request, look_of}
+use Rattle.run_machine.specs.Tasks.{Keeper, Keeps, Duty, Resizes, request, look_of}
 use Rattle.run_machine.specs.Objects.{Objects, Serves}
 use Rattle.run_machine.specs.Events.{what_of, resize_of, id_of}
 use Rattle.run_machine.specs.Opened.{scene}
 use Rattle.run_machine.specs.Runs.{State, IsLet}
 use Rattle.block_core.specs.Replies.{IsEventOrNothing}
-use Rattle.block_core.proofs.Sums.{upd-same, upd-other, same_or_not}
 use Rattle.run_machine.proofs.Idle.{IsFair, IsIdle, fair_task, same_pool, task_stays}
 use Rattle.block_core.proofs.Ready.{IsReady, not_refused}
 

@@ -13,7 +13,7 @@ use Rattle.run_machine.specs.Requests as requests
 use Rattle.run_machine.specs.Tasks.{Writer, Completer, Keeper, Keeps, Resizes, Duty, Todo, Taken, NoBio, HasBio, HasBoth, Carries}
 use Rattle.run_machine.specs.Runs.{State, IsLet}
 use Rattle.block_core.specs.Weights.{total, one}
-use Rattle.block_core.specs.Levels.{HasLevels, off_levels, parent_off}
+use Rattle.block_core.proofs.OffLevels.{AreLeveled, off_levels, parent_off}
 use Rattle.block_core.specs.Rounds.{round_of, is_of_round, tops, tops_left, unfinished_of, begun_of}
 use Rattle.block_core.proofs.Sums.{one-same}
 use Rattle.block_core.proofs.Kept.{Kept}
@@ -96,7 +96,7 @@ module _ (rounds : List ℕ) (keeper : ℕ) (scene : Scene) (s : State) (i : Kep
   none_begun : NoneBegun scene s
   none_begun = record { tops = no_top; carried = no_carried; hands = no_hand }
 
-  pub home_between : HasLevels scene s → (q : ℕ) → (s.objects.pool q).facts.out ≡ 0
+  pub home_between : AreLeveled scene s → (q : ℕ) → (s.objects.pool q).facts.out ≡ 0
   home_between levels q = all_home scene s i levels.0 (goes_down scene s i levels.0 levels.1) none_begun q
 
 -- the keeper saw that all writes of the rounds so far are done
@@ -106,7 +106,7 @@ seen_left scene s pool min later duties (requests.LeftOver count, served, lets_i
 seen_left scene s pool min later duties (_, served, lets_it) = absurd served
 
 pub nothing_out : (rounds : List ℕ) (keeper : ℕ) (scene : Scene) (s : State) → Kept scene s → Tallied rounds keeper scene s → ((place : ℕ) → GoesOnCarrying (s.task place))
-    → HasLevels scene s → (place : ℕ) (pool : PoolId) (min later : ℕ) (duties : List Duty) → s.task place ≡ Keeper (Keeps (Resizes pool min later ∷ duties))
+    → AreLeveled scene s → (place : ℕ) (pool : PoolId) (min later : ℕ) (duties : List Duty) → s.task place ≡ Keeper (Keeps (Resizes pool min later ∷ duties))
     → IsLet scene.ledger s.objects (Keeper (Keeps (Resizes pool min later ∷ duties))) (Some requests.LookLeft) → (q : ℕ) → (s.objects.pool q).facts.out ≡ 0
 nothing_out rounds keeper scene s i t on levels place pool min later duties is see q =
     let fit : TaskRounds rounds keeper s.objects.tally.round place (Keeper (Keeps (Resizes pool min later ∷ duties))) =

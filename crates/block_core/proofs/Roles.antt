@@ -1,28 +1,27 @@
 -- Each open node waits for its parts by its role, and one master at most stands for its own part.
-use Rattle.std.proofs.Common.{◌≡◌, ◌≢◌, ◌+◌, ◌*◌, ◌<◌, ◌≤◌, ◌==◌, ◌⊎◌, if◌then◌else◌, not, ℕ, Bool, true, false, List, [], ◌∷◌, Option, None, Some, inl, inr, refl, sym, ◌∙◌, ap, subst, arith}
+use Rattle.std.proofs.Common.{◌≡◌, ◌+◌, ◌*◌, ◌<◌, ◌≤◌, ◌==◌, if◌then◌else◌, not, ℕ, Bool, true, false, [], ◌∷◌, Option, None, Some, inl, inr, refl, sym, ◌∙◌, ap, subst, arith}
 use Rattle.stack_base.specs.declared.ids.DevId.{DevId}
 use Rattle.stack_base.specs.declared.ids.Status.{Status}
 use Rattle.bio_records.specs.declared.bio.Pad.{Pad}
-use Rattle.bio_records.specs.declared.tasks.TaskLists.{TaskLists}
 use Rattle.bio_records.specs.Items.{Item}
 use Rattle.bio_lists.specs.Submission.{submitted}
 use Rattle.bio_books.specs.declared.node.Role.{Role}
 use Rattle.bio_books.specs.declared.node.Role.TheVariants as role
-use Rattle.bio_books.specs.Books.{Node, BookState, VectorItem, node_at, parent_of, top_node, child_node, master_node, leg_node, keeping, raised, lowered, told}
+use Rattle.bio_books.specs.Books.{Node, BookState, node_at, parent_of, top_node, child_node, master_node, leg_node, keeping, raised, lowered, told}
 use Rattle.bio_books.specs.Drops.{Closed}
 use Rattle.bio_books.specs.Links.{IsVacant}
 use Rattle.run_machine.specs.Maps.{upd}
 use Rattle.run_machine.specs.Scene.{Setup, Scene, tree_at}
-use Rattle.run_machine.specs.Lines.{Links, ToCut, ToMaster, Drives, Copies, settled, goes_on, copies, punted, first_length, legs_of, leg_at}
-use Rattle.run_machine.specs.Tasks.{TaskState, Completer, Carried, Empty, Brings, Carries, Fails}
+use Rattle.run_machine.specs.Lines.{ToMaster, Drives, punted, first_length, legs_of, leg_at}
+use Rattle.run_machine.specs.Tasks.{Completer, Carried, Brings, Carries}
 use Rattle.run_machine.specs.Runs.{State}
-use Rattle.block_core.specs.Weights.{Weight, Lined, total, one, task_weight, line_weight, carried_weight, refs, under, legs_left, count_of}
-use Rattle.block_core.specs.Roles.{is_master, is_leg, named, masters, children, legs_to_make, IsInOnePlace, WaitsForParts, HasRoles}
+use Rattle.block_core.specs.Weights.{Weight, total, one, task_weight, carried_weight, refs, under, legs_left, count_of}
+use Rattle.block_core.specs.Roles.{is_master, is_leg, named, masters, children, legs_to_make, WaitsForParts, HasRoles}
 use Rattle.block_core.specs.Values.{yes, mismatch}
 use Rattle.block_core.proofs.Moves.{Move, Can, after, lost, gained, limit_of, HasLine, taken_of, filled_of, vector_of, cut_lists, Tells, piece}
 use Rattle.block_core.proofs.Moves as moves
 use Rattle.block_core.proofs.Sums.{upd-same, upd-other, same_or_not, one-same, one-other}
-use Rattle.block_core.proofs.Kept.{away, own_part, own_of, TaskFits, Kept}
+use Rattle.block_core.proofs.Kept.{own_part, own_of, Kept}
 use Rattle.block_core.proofs.Deltas.{vacant_at, delta}
 use Rattle.block_core.proofs.Places.{copies_weight, unless, unless_none, is_away}
 use Rattle.block_core.proofs.BookMaps.{made, became, chained}

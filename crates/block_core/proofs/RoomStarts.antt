@@ -15,7 +15,7 @@ use Rattle.std.proofs.lemmas.List.{take_all, length-replicate}
 use Rattle.layout_model.specs.Needs.{nodes}
 use Rattle.run_machine.specs.Scene.{is_disk}
 use Rattle.run_machine.specs.Opened.{Scenario, scene, start, tasks as opened_tasks, todos, todos_of, is_by, writers, duties, keepers, no_task, places_of, setup as setup_in, at as device_at}
-use Rattle.block_core.specs.Sound.{IsScenario}
+use Rattle.block_core.specs.Scenarios.{IsScenario}
 use Rattle.block_core.specs.Places.{writes_need, places, HasPlaces}
 use Rattle.block_core.proofs.Opening.{start_opened, nodes_zero, sum_at-zero}
 use Rattle.block_core.proofs.Stages.{places_sum, range_sum, map_sum, zero_sum, same_sum, filter_sum}

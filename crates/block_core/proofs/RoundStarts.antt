@@ -19,7 +19,7 @@ use Rattle.std.proofs.lemmas.List.FromFn.{get_or-map-range_with_len, length-map-
 use Rattle.layout_model.specs.declared.write.Write.{Write}
 use Rattle.run_machine.specs.Scene.{is_disk}
 use Rattle.run_machine.specs.Opened.{Scenario, Change, scene, start, tasks as opened_tasks, todos, todos_of, is_by, writers, duties, duties_of, keepers, no_task, round_count, writes_in, writes_from, setup as setup_in, at as device_at}
-use Rattle.block_core.specs.Sound.{IsScenario}
+use Rattle.block_core.specs.Scenarios.{IsScenario}
 use Rattle.block_core.specs.Rounds.{round_of, is_of_round, all_worth, unfinished_of, begun_of}
 use Rattle.block_core.proofs.Rounds.{of_round, from_round, from_next, TodosFit, DutiesFit, TaskRounds, Tallied}
 use Rattle.block_core.proofs.Opening.{start_opened, total_zero, nodes_zero, sum_at-zero, todos_all}

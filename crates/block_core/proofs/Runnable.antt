@@ -25,7 +25,7 @@ use Rattle.work_text.proofs.Fit.{work_is_fit}
 use Rattle.run_machine.specs.Opened.{Change}
 use Rattle.run_machine.specs.Scenario.{change_of}
 use Rattle.block_core.specs.Runnable.{AcceptedTextsAreRunnable, StepsAreFew}
-use Rattle.block_core.specs.Sound.{KeepsSome, AreInOrder}
+use Rattle.block_core.specs.Scenarios.{KeepsSome, AreInOrder}
 
 -- rounds that do not fall, pair by pair, are in order
 in_order : (rounds : List ℕ) → AllPairs (λ round later. round ≤ later) rounds → AreInOrder rounds

@@ -9,7 +9,7 @@ use Rattle.run_machine.specs.declared.event.Event.{Event}
 use Rattle.run_machine.specs.Events.{what_of}
 use Rattle.run_machine.specs.Tasks.{request}
 use Rattle.run_machine.specs.Runs.{Steps}
-use Rattle.block_core.specs.Sound.{done_in}
+use Rattle.block_core.specs.Dones.{done_in}
 use Rattle.block_core.proofs.StepMoves.{step_is_move}
 use Rattle.block_core.proofs.Keeps.{keeps}
 use Rattle.block_core.proofs.DoneOnce.{stage, staged, asked, asked_by, done_of, told_done}

@@ -1,5 +1,5 @@
 -- What events say of writes that are done, and of rounds.
-use Rattle.std.proofs.Common.{◌≡◌, ◌≢◌, ◌+◌, ◌<◌, ◌≤◌, ◌==◌, if◌then◌else◌, ℕ, Bool, true, false, List, [], ◌∷◌, length, Option, None, Some, inl, inr, refl, sym, ◌∙◌, ap, subst, arith}
+use Rattle.std.proofs.Common.{◌≡◌, ◌+◌, ◌==◌, ℕ, Bool, true, false, None, Some, sym, ap, subst}
 use Rattle.elem_ledger.specs.Ledger.{LedgerId}
 use Rattle.stack_base.specs.declared.ids.Status.{Status}
 use Rattle.bio_books.specs.Links.{Made, NoRoom, Stray}
@@ -7,7 +7,7 @@ use Rattle.bio_books.specs.Drops as end
 use Rattle.run_machine.specs.declared.event.What.{What}
 use Rattle.run_machine.specs.declared.event.What.TheVariants as what
 use Rattle.run_machine.specs.Events.{what_of, resize_of}
-use Rattle.run_machine.specs.Objects.{Objects, TallyState, Serves, done_one}
+use Rattle.run_machine.specs.Objects.{Objects, Serves, done_one}
 use Rattle.run_machine.specs.Requests as requests
 use Rattle.run_machine.specs.Requests.{Request, Reply}
 use Rattle.run_machine.proofs.Frames.{one_object_changes}

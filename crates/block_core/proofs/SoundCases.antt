@@ -1,7 +1,6 @@
 -- A state by hand in which sums alone see nothing wrong, and no run comes to it: a node of two ends, of which each is a bio that names it.
-use Rattle.std.proofs.Common.{◌≡◌, ◌+◌, ◌*◌, ℕ, true, false, List, [], ◌∷◌, Some, refl, arith}
+use Rattle.std.proofs.Common.{◌≡◌, ℕ, true, false, [], ◌∷◌, Some, refl, arith}
 use Rattle.elem_ledger.specs.Ledger.{LedgerId}
-use Rattle.stack_base.specs.declared.ids.DevId.{DevId}
 use Rattle.stack_base.specs.declared.ids.Status.TheVariants as status
 use Rattle.stack_base.specs.declared.ids.SetId.TheVariants.{Fs}
 use Rattle.stack_base.specs.Tree.{Leaf}
@@ -14,7 +13,7 @@ use Rattle.bio_books.specs.Books.{Node, nothing_held, node_at}
 use Rattle.run_machine.specs.Scene.{Scene}
 use Rattle.run_machine.specs.Opened.{no_task}
 use Rattle.run_machine.specs.Runs.{State}
-use Rattle.block_core.specs.Weights.{sum_at, one, total, elements, refs, count_of}
+use Rattle.block_core.specs.Weights.{sum_at, one, total, refs, count_of}
 use Rattle.block_core.specs.Roles.{named, HasRoles}
 
 module _ (ledger : ℕ → LedgerId) (share : LedgerId) where

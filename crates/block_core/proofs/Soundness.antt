@@ -1,25 +1,25 @@
 -- Every run of every scenario is sound.
-use Rattle.std.proofs.Common.{◌≡◌, ◌≢◌, ◌+◌, ◌-◌, ◌<◌, ◌≤◌, ℕ, Bool, true, false, List, [], Option, None, Some, refl, sym, ◌∙◌, ap, subst, arith}
+use Rattle.std.proofs.Common.{◌≡◌, ◌+◌, ◌-◌, ℕ, Bool, false, refl, sym, ◌∙◌, ap, subst, arith}
 use Rattle.std.specs.Prelude.{min}
-use Rattle.elem_ledger.specs.Ledger.{LedgerId}
 use Rattle.bio_records.specs.declared.bio.Pad.{Pad}
 use Rattle.bio_records.specs.Items.{Item}
-use Rattle.bio_books.specs.Books.{Node, VectorItem, SlipItem, Holding, node_at, parent_of}
-use Rattle.run_machine.specs.declared.event.Event.{Event}
+use Rattle.bio_books.specs.Books.{VectorItem, SlipItem, Holding, node_at, parent_of}
 use Rattle.run_machine.specs.Scene.{Scene}
-use Rattle.run_machine.specs.Lines.{Line, rests}
+use Rattle.run_machine.specs.Lines.{Line}
 use Rattle.run_machine.specs.Tasks.{TaskState, Writer, Rescuer, Completer, Keeper}
-use Rattle.run_machine.specs.Opened.{Scenario, scene, start, setup as setup_in}
-use Rattle.run_machine.specs.Runs.{State, IsRun}
+use Rattle.run_machine.specs.Opened.{scene, start, setup as setup_in}
+use Rattle.run_machine.specs.Runs.{State}
 use Rattle.block_core.specs.Weights.{total, weigh_option}
-use Rattle.block_core.specs.Fragments.{planned, is_it}
-use Rattle.block_core.specs.Levels.{apart, parent_off, held_off, off_levels, HoldsLevel, PoolsRise}
-use Rattle.block_core.specs.Sound.{IsScenario, IsNaming}
-use Rattle.block_core.specs.Soundness.{HasItsWord, EveryRunIsSound}
+use Rattle.block_core.specs.Fragments.{is_it}
+use Rattle.block_core.specs.Weights.{apart}
+use Rattle.block_core.proofs.OffLevels.{parent_off, held_off, off_levels}
+use Rattle.block_core.specs.Levels.{HoldsLevel, HasLevels}
+use Rattle.block_core.specs.Images.{HasItsWord}
+use Rattle.block_core.specs.Sound.{EveryRunIsSound}
 use Rattle.block_core.proofs.Kept.{own_of, Fair, Kept}
 use Rattle.block_core.proofs.Opening.{Begins, IsOpened, total_zero, start_opened}
 use Rattle.block_core.proofs.Grounds.{ground}
-use Rattle.block_core.proofs.Wholes.{Whole, runs_whole, run_tallied, runs_leveled, runs_roomy, start_whole, start_leveled, none_waits_for_itself}
+use Rattle.block_core.proofs.Wholes.{runs_whole, run_tallied, runs_leveled, runs_roomy, start_whole, start_leveled, none_waits_for_itself}
 use Rattle.block_core.proofs.Lasting.{runs_keep}
 use Rattle.block_core.proofs.EachBio.{each_bio}
 use Rattle.block_core.proofs.Idle.{node_part}
@@ -58,7 +58,7 @@ module _ (scene : Scene) (s : State) (i : Kept scene s) (level : ℕ → ℕ →
         omega (arith, none, part);
   }
 
-  pools_rise : PoolsRise scene s
+  pools_rise : HasLevels scene s
   pools_rise = record {
     level = level;
     held = λ writer place node at. on_level (level writer place) node.held (omega (arith, off, node_part scene s i (off_levels level) writer place node at));

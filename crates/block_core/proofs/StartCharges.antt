@@ -29,7 +29,7 @@ use Rattle.layout_model.specs.Bound.{all_elements, all_parts}
 use Rattle.layout_model.proofs.RangeSums.{sum_of_one, sum_of_zero, sum_of_two}
 use Rattle.run_machine.specs.Scene.{is_disk}
 use Rattle.run_machine.specs.Opened.{Scenario, Change, scene, start, tasks as opened_tasks, todos, todos_of, is_by, writers, duties, duties_of, keepers, no_task, round_count, writes_from, script_at, is_numbered, setup as setup_in, at as device_at}
-use Rattle.block_core.specs.Sound.{IsScenario}
+use Rattle.block_core.specs.Scenarios.{IsScenario}
 use Rattle.block_core.specs.Bounded.{most_steps}
 use Rattle.block_core.proofs.Opening.{start_opened, nodes_zero, sum_at-zero}
 use Rattle.block_core.proofs.Stages.{places_sum}

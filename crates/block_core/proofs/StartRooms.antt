@@ -11,7 +11,7 @@ use Rattle.run_machine.specs.Tasks.{TaskState, Writer, Duty, NoBio}
 use Rattle.run_machine.specs.Opened.{Scenario, scene, start, tasks as opened_tasks, todos, todos_of, is_by, writers, duties, keepers, places_of, setup as setup_in}
 use Rattle.block_core.specs.Weights.{Pending, Rescued, total, sum_at, one, task_weight, book_weight}
 use Rattle.block_core.specs.Rooms.{todo_need, room, HasRoom}
-use Rattle.block_core.specs.Sound.{IsScenario}
+use Rattle.block_core.specs.Scenarios.{IsScenario}
 use Rattle.block_core.proofs.Sums.{same_or_not, one-same, one-other}
 use Rattle.block_core.proofs.Opening.{start_opened, nodes_zero, sum_at-zero}
 use Rattle.block_core.proofs.StartCharges.{opened_sum, placed_sum, same_sum, filter_sum, range_part}

@@ -32,7 +32,7 @@ use Rattle.run_machine.specs.Requests.{Request, Reply}
 use Rattle.run_machine.specs.Runs.{State, IsRun, Happens, HasEnded}
 use Rattle.block_core.specs.Weights.{total, one}
 use Rattle.block_core.specs.Rounds.{round_of, is_of_round, tops, tops_left, all_worth, unfinished_of}
-use Rattle.block_core.specs.Sound.{IsScenario, IsNaming}
+use Rattle.block_core.specs.Scenarios.{IsScenario, IsNaming}
 use Rattle.block_core.specs.Values.{yes, is, may, todo_may, write_may, Mark, IsMark, lack, above, unallowed, IsValued, NodesAreValued}
 use Rattle.block_core.specs.DoneWrites.{IsGiven, StatusesAreGiven, HasGivenStatuses, EndedStatusesAreGiven}
 use Rattle.block_core.proofs.Sums.{one-same, one-other, same_or_not}

@@ -26,7 +26,7 @@ use Rattle.run_machine.specs.Requests as requests
 use Rattle.run_machine.specs.Events.{id_of}
 use Rattle.run_machine.specs.Runs.{HasFree, HasEnded, unfinished}
 use Rattle.block_core.specs.Places.{HasPlaces}
-use Rattle.block_core.specs.Levels.{off_levels}
+use Rattle.block_core.proofs.OffLevels.{off_levels}
 use Rattle.block_core.specs.Rounds.{round_of, is_of_round, all_worth, unfinished_of}
 use Rattle.block_core.proofs.Staged.{zeros, line_zero}
 use Rattle.block_core.proofs.Rounds.{from_round, TodosFit, TaskRounds, Tallied}

@@ -12,16 +12,12 @@ use Rattle.bio_split.specs.Split.{split_rest}
 use Rattle.run_machine.specs.Tasks.{Todo, first_bio}
 use Rattle.run_machine.specs.Opened.{Scenario, todos}
 use Rattle.block_core.specs.Fragments.{offset_of}
-use Rattle.block_core.specs.Images.{tag_of}
+use Rattle.block_core.specs.Images.{tag_of, HasItsWord}
 use Rattle.block_core.proofs.Opening.{all_map}
 use Rattle.block_core.proofs.Worth.{place_on}
 use Rattle.block_core.proofs.Misfits.{Follows}
 use Rattle.block_core.proofs.Coming.{over}
 use Rattle.block_core.proofs.Completed.{over_follows}
-
--- the first word of a bio, as its place has it
-abbrev pub IsTied : Scenario → Bio → Type 0
-IsTied s bio = bio.word % 2 ^ 64 ≡ (tag_of s bio.write + 64 * offset_of bio) % 2 ^ 64
 
 abbrev if_not : Bool → ℕ
 if_not b = if b then 0 else 1
@@ -32,20 +28,20 @@ loose s bio = if_not (bio.word % 2 ^ 64 == (tag_of s bio.write + 64 * offset_of 
 abbrev pub unfit : Scenario → Bio → ℕ
 unfit s bio = over bio + loose s bio
 
-pub tied : (s : Scenario) (bio : Bio) → loose s bio ≡ 0 → IsTied s bio
+pub tied : (s : Scenario) (bio : Bio) → loose s bio ≡ 0 → HasItsWord s bio
 tied s bio none = by_test (bio.word % 2 ^ 64 == (tag_of s bio.write + 64 * offset_of bio) % 2 ^ 64) refl none
   where
-    by_test : (v : Bool) → (bio.word % 2 ^ 64 == (tag_of s bio.write + 64 * offset_of bio) % 2 ^ 64) ≡ v → if_not v ≡ 0 → IsTied s bio
+    by_test : (v : Bool) → (bio.word % 2 ^ 64 == (tag_of s bio.write + 64 * offset_of bio) % 2 ^ 64) ≡ v → if_not v ≡ 0 → HasItsWord s bio
     by_test true is h = search (is, arith)
     by_test false is h = absurd (omega (arith, h))
 
-pub not_loose : (s : Scenario) (bio : Bio) → IsTied s bio → loose s bio ≡ 0
+pub not_loose : (s : Scenario) (bio : Bio) → HasItsWord s bio → loose s bio ≡ 0
 not_loose s bio is = ap if_not (eq-eqb (bio.word % 2 ^ 64) ((tag_of s bio.write + 64 * offset_of bio) % 2 ^ 64) is)
 
 next_word : (word tag o n : ℕ) → word % 2 ^ 64 ≡ (tag + 64 * o) % 2 ^ 64 → (word + 64 * n) % 2 ^ 64 % 2 ^ 64 ≡ (tag + 64 * (o + n)) % 2 ^ 64
 next_word word tag o n is = omega (arith, is)
 
-rest_tied : (s : Scenario) (whole : Bio) (n : ℕ) → n ≤ whole.range.len → over whole ≡ 0 → IsTied s whole
+rest_tied : (s : Scenario) (whole : Bio) (n : ℕ) → n ≤ whole.range.len → over whole ≡ 0 → HasItsWord s whole
     → (whole.word + 64 * n) % 2 ^ 64 % 2 ^ 64 ≡ (tag_of s whole.write + 64 * place_number (place_at ((place_number whole.at + n) % 2 ^ 35))) % 2 ^ 64
 rest_tied s whole n le none is =
     next_word whole.word (tag_of s whole.write) (offset_of whole) n is
@@ -57,7 +53,7 @@ unfit_follows s = record {
   fronts = λ whole into n node le none. omega (arith, none, over_follows.fronts whole into n node le (omega (arith, none)));
   rests = λ whole n le none.
       let small : over whole.bio ≡ 0 = omega (arith, none) in
-      let fits : IsTied s whole.bio = tied s whole.bio (omega (arith, none)) in
+      let fits : HasItsWord s whole.bio = tied s whole.bio (omega (arith, none)) in
       omega (arith, over_follows.rests whole n le small, not_loose s (split_rest whole n).bio (rest_tied s whole.bio n le small fits));
   legs = λ bio hand leg node number sizes members. refl;
   begins = λ writer todo node. refl;
@@ -85,5 +81,5 @@ own_tags s =
     all_map (λ (todo : Todo). slice_get s.writes todo.number ≡ Some todo.write) (λ (todo : Todo). tag_of s todo.number ≡ todo.write.tag)
     (λ todo is. ap (λ found. option_map_or (λ (write : Write). write.tag) found 0) is) (todos s) (own_writes s)
 
-pub first_tied : (s : Scenario) (todo : Todo) → tag_of s todo.number ≡ todo.write.tag → IsTied s (first_bio 0 todo 0)
+pub first_tied : (s : Scenario) (todo : Todo) → tag_of s todo.number ≡ todo.write.tag → HasItsWord s (first_bio 0 todo 0)
 first_tied s todo is = omega (arith, is)

@@ -18,7 +18,7 @@ use Rattle.block_core.specs.Weights.{Weight, Spot, Lined, Rescued, Pending, Brou
 use Rattle.block_core.specs.Rooms.{legs_need, room}
 use Rattle.block_core.proofs.Moves.{HasLine, limit_of}
 use Rattle.block_core.proofs.Sums.{same_or_not, one-same, one-other}
-use Rattle.block_core.proofs.Kept.{named}
+use Rattle.block_core.specs.Roles.{named}
 use Rattle.block_core.proofs.NodeNeeds.{legs_few}
 
 -- what stands at a place is a part of the sum

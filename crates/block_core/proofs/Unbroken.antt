@@ -17,7 +17,7 @@ use Rattle.run_machine.specs.Lines.{Doing, Rests, Drives, Copies, Breaks, rests}
 use Rattle.run_machine.specs.Tasks.{TaskState, Writer, Rescuer, Completer, Keeper, Keeps, Stops, Duty, Todo, NoBio, Empty, look_of}
 use Rattle.run_machine.specs.Opened.{Scenario, scene, start, tasks as opened_tasks, todos, todos_of, is_by, writers, duties, keepers, places_of, setup as setup_in, at as device_at}
 use Rattle.run_machine.specs.Runs.{State, IsRun, IsLet}
-use Rattle.block_core.specs.Sound.{IsScenario, IsNaming}
+use Rattle.block_core.specs.Scenarios.{IsScenario, IsNaming}
 use Rattle.block_core.specs.Breaks.{IsAllowed, broke_in, is_broken, GoesUnrefused, NoTaskBreaks}
 use Rattle.block_core.proofs.Kept.{DoingFits, TaskFits, Fair}
 use Rattle.block_core.proofs.Grounds.{ground}

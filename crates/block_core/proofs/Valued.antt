@@ -32,7 +32,8 @@ use Rattle.block_core.specs.Values.{is, bio_may, leg_may, todo_may, Mark, IsMark
 use Rattle.block_core.proofs.Moves.{Move, Can, after, lost, gained, limit_of, with_line, HasLine, Wants, with_want, taken_of, filled_of, vector_of, cut_lists, Tells, Hands, piece}
 use Rattle.block_core.proofs.Moves as moves
 use Rattle.block_core.proofs.Sums.{upd-same, upd-other, one-same, one-other, same_or_not, within_book}
-use Rattle.block_core.proofs.Kept.{TaskFits, named, own_part, Kept}
+use Rattle.block_core.proofs.Kept.{TaskFits, own_part, Kept}
+use Rattle.block_core.specs.Roles.{named}
 use Rattle.block_core.proofs.Lines.{line_fits}
 use Rattle.block_core.proofs.Deltas.{vacant_at, delta}
 use Rattle.block_core.proofs.BookMaps.{made, chained}

@@ -11,8 +11,10 @@ use Rattle.block_core.specs.Weights.{Pending, Rescued, total, task_weight, book_
 use Rattle.block_core.proofs.Kept.{Fair, Kept}
 use Rattle.block_core.proofs.Orders.{Placed, Ground}
 use Rattle.run_machine.specs.Opened.{Scenario, scene, start, tasks as opened_tasks, no_task, setup as setup_in}
-use Rattle.block_core.specs.Sound.{IsScenario}
-use Rattle.block_core.specs.Sound.{IsNaming, times_done, EachIsDoneOnce, NoTaskWaitsForItself}
+use Rattle.block_core.specs.Scenarios.{IsScenario}
+use Rattle.block_core.specs.Scenarios.{IsNaming}
+use Rattle.block_core.specs.Dones.{times_done, EachIsDoneOnce}
+use Rattle.block_core.specs.Waits.{NoTaskWaitsForItself}
 use Rattle.run_machine.specs.declared.event.Event.{Event}
 use Rattle.run_machine.specs.Runs.{Steps, IsRun}
 use Rattle.block_core.proofs.Opening.{total_zero, opened_kept, start_opened, nodes_zero, sum_at-zero}
@@ -28,14 +30,15 @@ use Rattle.stack_base.specs.Stack.{HasRescuers}
 use Rattle.block_core.specs.Waits.{NoneWaitsForItself}
 use Rattle.block_core.proofs.Waits.{Waits, AreRescued, stays_waiting, none_waits}
 use Rattle.block_core.proofs.Rescuers.{are_rescued, opened_waits}
-use Rattle.block_core.specs.Levels.{off_levels, HasLevels}
+use Rattle.block_core.proofs.OffLevels.{off_levels, AreLeveled}
 use Rattle.block_core.proofs.LevelsKept.{stays_leveled}
 use Rattle.block_core.specs.Places.{HasPlaces}
 use Rattle.block_core.specs.Rounds.{IsTallied}
 use Rattle.block_core.proofs.Needs.{Worth, worth}
 use Rattle.block_core.proofs.Room.{stays_roomy}
 use Rattle.block_core.proofs.RoomStarts.{start_roomy}
-use Rattle.block_core.specs.Sound.{HasReserves, AreInOrder, NoStateIsStuck}
+use Rattle.block_core.specs.Scenarios.{HasReserves, AreInOrder}
+use Rattle.block_core.specs.Stuck.{NoStateIsStuck}
 use Rattle.std.proofs.lemmas.List.FromFn.{length-map-range_with_len}
 use Rattle.run_machine.specs.declared.event.TaskId.{TaskId}
 use Rattle.run_machine.specs.Opened.{round_count, writes_in}
@@ -133,12 +136,12 @@ module _ (scene : Scene) (f : Fair scene) (g : Ground scene.setup) where
 
 -- nodes stay on levels
 module _ (scene : Scene) (f : Fair scene) (g : Ground scene.setup) where
-  pub runs_leveled : (s : State) (events : List Event) (new : State) → Whole scene s → HasLevels scene s → IsRun scene s events new → HasLevels scene new
-  runs_leveled s [] new i t run = subst (HasLevels scene) (sym run) t
+  pub runs_leveled : (s : State) (events : List Event) (new : State) → Whole scene s → AreLeveled scene s → IsRun scene s events new → AreLeveled scene new
+  runs_leveled s [] new i t run = subst (AreLeveled scene) (sym run) t
   runs_leveled s (event ∷ events) new i t (next, (place, steps), run) =
       let moved = step_is_move scene s f i.kept place event next steps in
       runs_leveled next events new (step_whole scene f g s place event next i steps)
-      (subst (HasLevels scene) (sym moved.is) (stays_leveled scene s g i.kept i.placed t.0 t.1 moved.move moved.can)) run
+      (subst (AreLeveled scene) (sym moved.is) (stays_leveled scene s g i.kept i.placed t.0 t.1 moved.move moved.can)) run
 
 -- books keep room
 module _ (scene : Scene) (f : Fair scene) (g : Ground scene.setup) (worth : Worth scene.setup) where
@@ -179,7 +182,7 @@ module _ (s : Scenario) (ledger : ℕ → LedgerId) (good : IsScenario s) (namin
       let books = sum_at-zero (book_weight (stage w)) (scene s ledger).books (start s).objects.book (λ writer. nodes_zero (stage w) writer ((start s).objects.book writer) (o.books writer)) in
       omega (arith, stage_at_start s w 0, tasks, whole, rescued, disks, books)
 
-  pub start_leveled : HasLevels (scene s ledger) (start s)
+  pub start_leveled : AreLeveled (scene s ledger) (start s)
   start_leveled = (λ writer place. 0, total_zero (scene s ledger) (start s) (off_levels (λ writer place. 0)) (λ n todos. refl) (start_opened s good ledger))
 
   -- the tally is right

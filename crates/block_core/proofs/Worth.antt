@@ -1,21 +1,19 @@
 -- What the fragments of bios count, as they land, are cut and are copied.
-use Rattle.std.proofs.Common.{◌≡◌, ◌≢◌, ◌+◌, ◌-◌, ◌%◌, ◌^◌, ◌<◌, ◌≤◌, ℕ, zero, suc, IsTrue, List, [], length, Some, inl, inr, refl, sym, ◌∙◌, ap, subst, arith, get_or}
+use Rattle.std.proofs.Common.{◌≡◌, ◌≢◌, ◌+◌, ◌-◌, ◌%◌, ◌^◌, ◌<◌, ◌≤◌, ℕ, zero, suc, IsTrue, List, [], length, Some, inl, inr, refl, sym, ◌∙◌, ap, subst, arith}
 use Rattle.std.specs.Prelude.{slice_get, sum_by}
 use Rattle.std.specs.List.{range_with_len, flat_map}
-use Rattle.std.proofs.lemmas.List.{length-map}
 use Rattle.std.proofs.lemmas.List.Sums.{sum_by-cons, sum_by-append}
-use Rattle.std.proofs.lemmas.Option.{slice_get-get_or, slice_get_cases}
-use Rattle.stack_base.specs.declared.ids.DevId.{DevId}
+use Rattle.std.proofs.lemmas.Option.{slice_get_cases}
 use Rattle.stack_base.specs.declared.ids.Range.{Range}
 use Rattle.stack_base.specs.declared.stack.Device.{Device}
 use Rattle.stack_base.specs.declared.stack.Stack.{Stack}
 use Rattle.stack_base.specs.declared.stack.Kind.{Kind}
 use Rattle.stack_base.specs.Stack.{IsStack}
 use Rattle.stack_base.specs.Mapping.{slot}
-use Rattle.stack_base.specs.Tree.{Tree, Leaf, Split, Mirrored, Shape, Keeps as Keeping_, Cuts, Copies as Copying_, shape_of, size, tree}
+use Rattle.stack_base.specs.Tree.{Tree, Leaf, Split, Mirrored, Shape, Keeps as Keeping_, Cuts, Copies as Copying_, shape_of, tree}
 use Rattle.layout_model.specs.declared.fragment.Fragment.{Fragment}
 use Rattle.layout_model.specs.Plan.{frags, leaves, plan}
-use Rattle.layout_model.proofs.ByShape.{cuts_is, copies_is, keeps_is, member_is}
+use Rattle.layout_model.proofs.ByShape.{cuts_is, copies_is, keeps_is}
 use Rattle.layout_model.proofs.Planned.{leaves_plan}
 use Rattle.layout_model.proofs.Steps.{cut_none}
 use Rattle.bio_records.specs.declared.bio.Bio.{Bio}

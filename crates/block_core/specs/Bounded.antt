@@ -8,7 +8,7 @@ use Rattle.run_machine.specs.declared.event.Event.{Event}
 use Rattle.run_machine.specs.Opened.{Scenario, round_count, scene, start}
 use Rattle.run_machine.specs.Runs.{State, IsRun}
 use Rattle.block_core.specs.Charges.{rank}
-use Rattle.block_core.specs.Sound.{IsScenario, IsNaming}
+use Rattle.block_core.specs.Scenarios.{IsScenario, IsNaming}
 
 -- the entries of scripts, the rounds behind the first, and the changes of reserves
 abbrev pub waits : Scenario → ℕ

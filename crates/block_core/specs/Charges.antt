@@ -19,7 +19,7 @@ use Rattle.run_machine.specs.Tasks.{Todo, Taken, NoBio, HasBio, HasBoth, Keeps, 
 use Rattle.run_machine.specs.Opened.{Scenario, scene, start}
 use Rattle.run_machine.specs.Runs.{State, IsRun}
 use Rattle.block_core.specs.Weights.{Weight, Spot, Lined, Rescued, Pending, Brought, sum_at, total, legs_left}
-use Rattle.block_core.specs.Sound.{IsScenario, IsNaming}
+use Rattle.block_core.specs.Scenarios.{IsScenario, IsNaming}
 
 -- what begins at sector s of a run that starts at r, here and below: at a disk a fragment is pushed and completed, where the run starts;
 -- where a device cuts, eight events a bio for each head but the run's first: an attempt that does not wait and misses, a punt, a take, a

@@ -22,8 +22,9 @@ use Rattle.block_core.specs.Dones.{DoneOrUnfinished, StatusesAreTold, AllAreDone
 use Rattle.block_core.specs.Fragments.{completed}
 use Rattle.block_core.specs.Images.{HasLaidImages}
 use Rattle.block_core.specs.Runnable.{IsRunnable}
-use Rattle.block_core.specs.Sound.{IsNaming, times_done}
-use Rattle.block_core.specs.Soundness.{IsSound}
+use Rattle.block_core.specs.Scenarios.{IsNaming}
+use Rattle.block_core.specs.Dones.{times_done}
+use Rattle.block_core.specs.Sound.{IsSound}
 use Rattle.block_core.specs.Waits.{NoneWaitsForItself}
 
 pub record IsAsClaimed (s : Scenario) (ledger : ℕ → LedgerId) (events : List Event) (state : State) (run : IsRun (scene s ledger) (start s) events state) : Type 0 where

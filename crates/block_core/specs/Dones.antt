@@ -1,14 +1,29 @@
 -- Writes that are told done, and rounds that start.
-use Rattle.std.specs.Prelude.{◌≡◌, ◌+◌, ◌<◌, ℕ, List, length, slice_get, Contains, Some}
+use Rattle.std.specs.Prelude.{◌≡◌, ◌+◌, ◌<◌, ◌≤◌, ℕ, List, [], ◌∷◌, length, slice_get, Contains, Some}
 use Rattle.elem_ledger.specs.Ledger.{LedgerId}
 use Rattle.stack_base.specs.declared.ids.Status.{Status}
 use Rattle.run_machine.specs.declared.event.Event.{Event}
+use Rattle.run_machine.specs.declared.event.What.{What}
 use Rattle.run_machine.specs.declared.event.What.TheVariants as what
 use Rattle.run_machine.specs.Opened.{Scenario, scene, start}
 use Rattle.run_machine.specs.Runs.{State, Happens, IsRun, unfinished}
-use Rattle.block_core.specs.Sound.{IsScenario, IsNaming, times_done}
+use Rattle.block_core.specs.Scenarios.{IsScenario, IsNaming}
 use Rattle.block_core.specs.Rounds.{round_of, unfinished_of}
 use Rattle.block_core.specs.Weights.{Weight, total, one}
+
+-- how often events tell a write done
+abbrev pub done_in : ℕ → What → ℕ
+done_in write (what.Done other status) = one other write
+done_in write what = 0
+
+abbrev pub times_done : ℕ → List Event → ℕ
+times_done write [] = 0
+times_done write (event ∷ events) = done_in write event.what + times_done write events
+
+-- no run tells a write done twice
+abbrev pub EachIsDoneOnce : Type 0
+EachIsDoneOnce = (s : Scenario) (ledger : ℕ → LedgerId) (events : List Event) (state : State) → IsScenario s → IsNaming ledger
+    → IsRun (scene s ledger) (start s) events state → (write : ℕ) → times_done write events ≤ 1
 
 -- the write with this number, while it is to be begun, or its top node is open, or what is left of that is carried
 abbrev pub unfinished_write : ℕ → Weight

@@ -1,5 +1,5 @@
 -- A fact of each bio at work.
-use Rattle.std.specs.Prelude.{◌<◌, ℕ, List, All}
+use Rattle.std.specs.Prelude.{◌<◌, ℕ, All}
 use Rattle.bio_records.specs.declared.bio.Pad.{Pad}
 use Rattle.bio_records.specs.Items.{Item}
 use Rattle.run_machine.specs.Scene.{Scene}

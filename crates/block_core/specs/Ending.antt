@@ -5,7 +5,7 @@ use Rattle.run_machine.specs.declared.event.Event.{Event}
 use Rattle.run_machine.specs.Opened.{Scenario, scene, start}
 use Rattle.run_machine.specs.Runs.{State, IsRun, unfinished, HasEnded}
 use Rattle.run_machine.specs.Tasks.{Keeper, Keeps, Starts, Duty}
-use Rattle.block_core.specs.Sound.{IsScenario, IsNaming, HasReserves, AreInOrder}
+use Rattle.block_core.specs.Scenarios.{IsScenario, IsNaming, HasReserves, AreInOrder}
 
 -- once no write is unfinished, the run has ended: each element is at home
 abbrev pub RunsEndWithTheirWrites : Type 0

@@ -6,7 +6,7 @@ use Rattle.bio_books.specs.Books.{Node, node_at}
 use Rattle.run_machine.specs.declared.event.Event.{Event}
 use Rattle.run_machine.specs.Opened.{Scenario, scene, start, tasks, places_of}
 use Rattle.run_machine.specs.Runs.{State, IsRun}
-use Rattle.block_core.specs.Sound.{IsScenario, IsNaming}
+use Rattle.block_core.specs.Scenarios.{IsScenario, IsNaming}
 use Rattle.block_core.specs.Breaks.{IsAllowed}
 
 -- no pool of any run has more elements out than all writes need

@@ -18,7 +18,7 @@ use Rattle.run_machine.specs.Tasks.{Todo, TaskState, Writer, Rescuer, Completer,
 use Rattle.run_machine.specs.Opened.{Scenario, scene, start, setup, todos}
 use Rattle.run_machine.specs.Runs.{State, IsRun, HasEnded}
 use Rattle.block_core.specs.Weights.{Weight, Spot, Lined, Rescued, Pending, Brought, total, legs_left}
-use Rattle.block_core.specs.Sound.{IsScenario, IsNaming}
+use Rattle.block_core.specs.Scenarios.{IsScenario, IsNaming}
 
 -- the place of a bio's first sector in its write
 abbrev pub offset_of : Bio → ℕ

@@ -1,5 +1,5 @@
 -- What disks hold after the fragments that a run has completed.
-use Rattle.std.specs.Prelude.{◌≡◌, ◌+◌, ◌-◌, ◌<◌, ◌≤◌, ◌==◌, ◌&&◌, if◌then◌else◌, nat_le, nat_lt, ℕ, Bool, true, List, [], ◌∷◌, length, slice_get, slice_index_or}
+use Rattle.std.specs.Prelude.{◌≡◌, ◌+◌, ◌-◌, ◌*◌, ◌^◌, ◌%◌, ◌<◌, ◌≤◌, ◌==◌, ◌&&◌, if◌then◌else◌, nat_le, nat_lt, ℕ, Bool, true, List, [], ◌∷◌, length, slice_get, slice_index_or}
 use Rattle.std.specs.List.{AllPairs}
 use Rattle.std.specs.Option.{option_map_or}
 use Rattle.elem_ledger.specs.Ledger.{LedgerId}
@@ -12,15 +12,20 @@ use Rattle.layout_model.specs.declared.write.Write.{Write}
 use Rattle.layout_model.specs.Laid.{round_of, IsLaid}
 use Rattle.layout_model.specs.May.{fault_of}
 use Rattle.layout_model.specs.OneWay.{AreApartByRounds}
+use Rattle.bio_records.specs.declared.bio.Bio.{Bio}
 use Rattle.run_machine.specs.declared.event.Event.{Event}
 use Rattle.run_machine.specs.Opened.{Scenario, scene, start}
 use Rattle.run_machine.specs.Runs.{State, IsRun, HasEnded}
-use Rattle.block_core.specs.Sound.{IsScenario, IsNaming}
-use Rattle.block_core.specs.Fragments.{completed, IsOfScenario}
+use Rattle.block_core.specs.Scenarios.{IsScenario, IsNaming}
+use Rattle.block_core.specs.Fragments.{offset_of, completed, IsOfScenario}
 
 -- the tag of a write
 abbrev pub tag_of : Scenario → ℕ → ℕ
 tag_of s number = option_map_or (λ (write : Write). write.tag) (slice_get s.writes number) 0
+
+-- the first word of a bio is that of its place in its write
+abbrev pub HasItsWord : Scenario → Bio → Type 0
+HasItsWord s bio = bio.word % 2 ^ 64 ≡ (tag_of s bio.write + 64 * offset_of bio) % 2 ^ 64
 
 -- whether a fragment has this sector of a disk
 abbrev pub lies_at : Fragment → ℕ → ℕ → Bool

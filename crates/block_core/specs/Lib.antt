@@ -7,8 +7,8 @@ pub mod EachBio
 pub mod Levels
 pub mod Places
 pub mod Rounds
+pub mod Scenarios
 pub mod Waits
-pub mod Sound
 pub mod OfOneWrite
 pub mod Present
 pub mod Charges
@@ -24,6 +24,6 @@ pub mod Runnable
 pub mod Values
 pub mod DoneWrites
 pub mod Ending
-pub mod Soundness
 pub mod Dones
+pub mod Sound
 pub mod Claim

@@ -9,8 +9,8 @@ use Rattle.run_machine.specs.Scene.{Scene}
 use Rattle.run_machine.specs.Opened.{Scenario, scene, start}
 use Rattle.run_machine.specs.Runs.{State, IsRun}
 use Rattle.block_core.specs.Weights.{Weight, total}
-use Rattle.block_core.specs.Levels.{apart}
-use Rattle.block_core.specs.Sound.{IsScenario, IsNaming}
+use Rattle.block_core.specs.Weights.{apart}
+use Rattle.block_core.specs.Scenarios.{IsScenario, IsNaming}
 
 -- a bio that names a node is of the node's write
 abbrev pub bio_strays : (ℕ → ℕ → ℕ) → Item Pad → ℕ

@@ -11,7 +11,7 @@ use Rattle.run_machine.specs.Lines.{Doing, Rests, Drives, Copies, Breaks, Line}
 use Rattle.run_machine.specs.Tasks.{Carried, Empty, Brings, Carries, Fails, TaskState, Writer, Rescuer, Completer, Keeper}
 use Rattle.run_machine.specs.Opened.{Scenario, scene, start}
 use Rattle.run_machine.specs.Runs.{State, IsRun}
-use Rattle.block_core.specs.Sound.{IsScenario, IsNaming}
+use Rattle.block_core.specs.Scenarios.{IsScenario, IsNaming}
 
 -- the writes of all that a task has at work are such
 abbrev pub AreSuch : (ℕ → Type 0) → List (Item Pad) → Type 0

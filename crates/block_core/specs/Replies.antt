@@ -9,7 +9,7 @@ use Rattle.run_machine.specs.Tasks.{request, look_of, answered}
 use Rattle.run_machine.specs.Objects.{Objects, Serves}
 use Rattle.run_machine.specs.Opened.{Scenario, scene, start}
 use Rattle.run_machine.specs.Runs.{State, IsLet, Steps, IsRun}
-use Rattle.block_core.specs.Sound.{IsScenario, IsNaming}
+use Rattle.block_core.specs.Scenarios.{IsScenario, IsNaming}
 use Rattle.block_core.specs.Breaks.{IsAllowed}
 
 -- the task goes on with the reply by an event, or neither it nor an object changes

@@ -12,7 +12,7 @@ use Rattle.run_machine.specs.Tasks.{Todo}
 use Rattle.run_machine.specs.Opened.{Scenario, scene, start}
 use Rattle.run_machine.specs.Runs.{State, IsRun}
 use Rattle.block_core.specs.Weights.{Weight, Spot, Lined, Rescued, Pending, Brought, total, one, legs_left}
-use Rattle.block_core.specs.Sound.{IsScenario, IsNaming}
+use Rattle.block_core.specs.Scenarios.{IsScenario, IsNaming}
 
 -- the nodes that a bio at its device still needs
 abbrev pub need_at : Setup → Bio → ℕ

@@ -11,7 +11,7 @@ use Rattle.run_machine.specs.Opened.{Scenario}
 use Rattle.run_machine.specs.Scenario.{scenario_of}
 use Rattle.block_core.specs.Bounded.{waits, most_steps}
 use Rattle.block_core.specs.Breaks.{IsAllowed}
-use Rattle.block_core.specs.Sound.{IsScenario, HasReserves, AreInOrder}
+use Rattle.block_core.specs.Scenarios.{IsScenario, HasReserves, AreInOrder}
 
 -- 65,536 entries in each of 66 scripts, 1,024 rounds behind the first and 4,096 changes of reserves
 abbrev pub most_waits : ℕ

@@ -1,80 +1,69 @@
--- What holds after every event of every run.
-use Rattle.std.specs.Prelude.{◌≡◌, ◌+◌, ◌^◌, ◌<◌, ◌≤◌, ℕ, List, [], ◌∷◌, length, slice_get, All, Some}
+-- What is sound of a state that a run of a scenario leads to.
+use Rattle.std.specs.Prelude.{◌≡◌, ◌+◌, ◌<◌, ◌≤◌, ℕ, List, [], slice_index_or, Some}
 use Rattle.elem_ledger.specs.Ledger.{LedgerId}
-use Rattle.stack_base.specs.declared.stack.Device.{Device}
-use Rattle.stack_base.specs.declared.stack.Kind.{Kind}
-use Rattle.stack_base.specs.declared.stack.Kind.TheVariants.{Disk, Linear, Stripe, Zoned, Limit, Mirror}
-use Rattle.stack_base.specs.Stack.{IsStack, HasRescuers}
+use Rattle.fail_script.specs.Script.{entries_of}
+use Rattle.stack_base.specs.Stack.{HasRescuers}
+use Rattle.stack_base.specs.Tree.{size, tree}
+use Rattle.stack_base.specs.Words.{zero_sector}
 use Rattle.mempool_core.specs.Facts.{AddsUp}
-use Rattle.layout_model.specs.declared.write.Write.{Write}
-use Rattle.layout_model.specs.Writes.{IsWrite}
+use Rattle.layout_model.specs.declared.fragment.Fragment.{Fragment}
+use Rattle.layout_model.specs.May.{fault_of}
 use Rattle.bio_books.specs.Books.{Node, node_at}
 use Rattle.run_machine.specs.declared.event.Event.{Event}
-use Rattle.run_machine.specs.declared.event.What.{What}
-use Rattle.run_machine.specs.declared.event.What.TheVariants as what
-use Rattle.run_machine.specs.Scene.{Scene}
-use Rattle.run_machine.specs.Opened.{Change, Scenario, scene, start}
-use Rattle.run_machine.specs.Runs.{State, IsRun, unfinished, HasFree}
+use Rattle.run_machine.specs.Opened.{Scenario, scene, start, setup}
+use Rattle.run_machine.specs.Runs.{State, IsRun}
+use Rattle.block_core.specs.Scenarios.{IsScenario, IsNaming}
+use Rattle.block_core.specs.Weights.{total, elements, refs, count_of}
+use Rattle.block_core.specs.EachBio.{EachBio}
+use Rattle.block_core.specs.Fragments.{completed, to_come, is_it, times, IsOfScenario}
+use Rattle.block_core.specs.Hands.{HandsAreRight}
+use Rattle.block_core.specs.Images.{HasItsWord, held_after}
+use Rattle.block_core.specs.KeptEnds.{EndsAreKept}
 use Rattle.block_core.specs.Levels.{HasLevels}
+use Rattle.block_core.specs.Orders.{AreInListOrder}
 use Rattle.block_core.specs.Places.{HasPlaces}
+use Rattle.block_core.specs.Roles.{HasRoles}
 use Rattle.block_core.specs.Rounds.{IsTallied}
+use Rattle.block_core.specs.Values.{IsValued, write_may}
 use Rattle.block_core.specs.Waits.{NoneWaitsForItself}
-use Rattle.block_core.specs.Weights.{one, total, elements, refs, count_of}
 
--- what an accepted text means: its stack is one, and serves its writes, whose writers have numbers below 8, and each write has a round
-pub record IsScenario (s : Scenario) : Type 0 where
-  pub stack : IsStack s.stack
-  pub writes : All (IsWrite s.stack) s.writes
-  pub writers : All (λ (write : Write). write.task < 8) s.writes
-  pub rounds : length s.rounds ≡ length s.writes
+pub record IsSound (s : Scenario) (ledger : ℕ → LedgerId) (events : List Event) (state : State) (run : IsRun (scene s ledger) (start s) events state) : Type 0 where
+  -- each pool adds up, and is not past the entries of its script
+  pub pools : (number : ℕ) → AddsUp (state.objects.pool number).facts
+  pub positions : (number : ℕ) → (state.objects.pool number).facts.pos ≤ entries_of (state.objects.pool number).script
+  -- what is out of each pool is in the tasks' hands, lists and bios at work, in rescue lists, in disks and in nodes, and nowhere else
+  pub outs : (number : ℕ) → (state.objects.pool number).facts.out ≡ total (scene s ledger) (elements number) state
+  -- a node waits for as many ends as refer to it, and nothing refers to a node that is not open
+  pub counts : (writer place : ℕ) → count_of (node_at (state.objects.book writer) place) ≡ total (scene s ledger) (refs (setup s) writer place) state
+  -- an open node waits for at least one end, so the last of them closes it
+  pub alive : (writer place : ℕ) (node : Node) → node_at (state.objects.book writer) place ≡ Some node → 1 ≤ node.count
+  -- these are by its role its children or legs, the legs that are still to be made, and its own part, which was dropped or is in one place
+  pub roles : HasRoles (scene s ledger) state
+  -- a node keeps what the run told it since it was opened, and nothing that its run cannot end with
+  pub kept : EndsAreKept events state
+  pub valued : IsValued (scene s ledger) (fault_of s.stack) (write_may s) state
+  -- what nodes hold is of pools whose numbers rise from each node to its parent
+  pub levels : HasLevels (scene s ledger) state
+  -- bios are in their order in lists, and no task waits for a bio of a set of which it has one in its lists
+  pub lists : AreInListOrder (scene s ledger) state
+  pub waits : HasRescuers s.stack → NoneWaitsForItself (scene s ledger) state
+  -- each fragment of each write was completed or is still to come, once, and no other; and each bio has the data of its place
+  pub fragments : (f : Fragment) → IsOfScenario s f
+      → times f (completed (scene s ledger) (start s) events state run) + total (scene s ledger) (to_come (setup s) (is_it f)) state ≡ 1
+  pub others : (f : Fragment) → 0 < times f (completed (scene s ledger) (start s) events state run) + total (scene s ledger) (to_come (setup s) (is_it f)) state
+      → IsOfScenario s f
+  pub words : EachBio (λ item. HasItsWord s item.bio) (scene s ledger) state
+  -- each sector of each disk holds the data of the last fragment without a fault there that was completed, and zeros where there is none
+  pub images : (disk at : ℕ) → at < size (tree s.stack disk)
+      → slice_index_or (state.objects.disk disk).image at [] ≡ held_after s disk at (completed (scene s ledger) (start s) events state run) zero_sector
+  -- each round has as many unfinished writes as the tally says, and what is begun is of the present round
+  pub tally : IsTallied s.rounds (scene s ledger) state
+  -- a book has a place for each node that its writer's writes still open
+  pub places : HasPlaces (scene s ledger) state
+  -- what tasks have in hand is of the pools that they asked
+  pub hands : HandsAreRight (scene s ledger) state
 
--- the ledger of each pool has the pool's number
-abbrev pub IsNaming : (ℕ → LedgerId) → Type 0
-IsNaming ledger = (number : ℕ) → (ledger number).no ≡ number
-
--- how often events tell a write done
-abbrev pub done_in : ℕ → What → ℕ
-done_in write (what.Done other status) = one other write
-done_in write what = 0
-
-abbrev pub times_done : ℕ → List Event → ℕ
-times_done write [] = 0
-times_done write (event ∷ events) = done_in write event.what + times_done write events
-
--- no run tells a write done twice
-abbrev pub EachIsDoneOnce : Type 0
-EachIsDoneOnce = (s : Scenario) (ledger : ℕ → LedgerId) (events : List Event) (state : State) → IsScenario s → IsNaming ledger
-    → IsRun (scene s ledger) (start s) events state → (write : ℕ) → times_done write events ≤ 1
-
--- where each mirror of two members or more has a rescuer, no task ever waits for an element of a set of which it has a bio in its lists
-abbrev pub NoTaskWaitsForItself : Type 0
-NoTaskWaitsForItself = (s : Scenario) (ledger : ℕ → LedgerId) (events : List Event) (state : State) → IsScenario s → HasRescuers s.stack → IsNaming ledger
-    → IsRun (scene s ledger) (start s) events state → NoneWaitsForItself (scene s ledger) state
-
--- the rounds of writes go up
-abbrev pub AreInOrder : List ℕ → Type 0
-AreInOrder [] = Unit {0}
-AreInOrder (round ∷ rounds) = All (λ later. round ≤ later) rounds × AreInOrder rounds
-
--- no pool of a device is without an element
-abbrev pub KeepsSome : Kind → ℕ → Type 0
-KeepsSome (Disk sectors bad) reserve = Unit {0}
-KeepsSome Linear reserve = 1 ≤ reserve
-KeepsSome (Stripe chunk) reserve = 1 ≤ reserve
-KeepsSome (Zoned chunk) reserve = 1 ≤ reserve
-KeepsSome (Limit longest chunk) reserve = 1 ≤ reserve
-KeepsSome (Mirror records) reserve = (1 ≤ reserve) × (1 ≤ records)
-
--- nor any other, at the start and behind each change
-pub record HasReserves (s : Scenario) : Type 0 where
-  pub bios : 1 ≤ s.stack.fs_bios
-  pub vecs : 1 ≤ s.stack.fs_vecs
-  pub devices : (number : ℕ) (device : Device) → slice_get s.stack.devices.items number ≡ Some device → KeepsSome device.kind device.reserve
-  pub changes : All (λ (change : Change). 1 ≤ change.min) s.changes
-
--- While a write is unfinished, an event can come next that needs no ordinary memory, so memory may fail from any moment on: where each mirror of
--- two members or more has a rescuer, each pool keeps an element and the rounds go up, as long as fewer events came than a counter of 64 bits
--- holds.
-abbrev pub NoStateIsStuck : Type 0
-NoStateIsStuck = (s : Scenario) (ledger : ℕ → LedgerId) (events : List Event) (state : State) → IsScenario s → HasRescuers s.stack → HasReserves s → AreInOrder s.rounds
-    → IsNaming ledger → IsRun (scene s ledger) (start s) events state → length events + 9 < 2 ^ 64 → 1 ≤ unfinished state → HasFree (scene s ledger) state
+-- after every event of every run of every scenario
+abbrev pub EveryRunIsSound : Type 0
+EveryRunIsSound = (s : Scenario) (ledger : ℕ → LedgerId) (events : List Event) (state : State) → IsScenario s → IsNaming ledger
+    → (run : IsRun (scene s ledger) (start s) events state) → IsSound s ledger events state run

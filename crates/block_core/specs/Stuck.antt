@@ -1,12 +1,19 @@
 -- That no state of a run is stuck, however long the run is.
-use Rattle.std.specs.Prelude.{◌≤◌, ◌⊎◌, ℕ, List}
+use Rattle.std.specs.Prelude.{◌+◌, ◌^◌, ◌<◌, ◌≤◌, ◌⊎◌, ℕ, List, length}
 use Rattle.elem_ledger.specs.Ledger.{LedgerId}
 use Rattle.run_machine.specs.declared.event.Event.{Event}
 use Rattle.run_machine.specs.Opened.{Scenario, scene, start}
 use Rattle.run_machine.specs.Runs.{State, IsRun, unfinished, HasFree, HasEnded}
 use Rattle.stack_base.specs.Stack.{HasRescuers}
-use Rattle.block_core.specs.Sound.{IsScenario, IsNaming, HasReserves, AreInOrder}
+use Rattle.block_core.specs.Scenarios.{IsScenario, IsNaming, HasReserves, AreInOrder}
 use Rattle.block_core.specs.Breaks.{IsAllowed}
+
+-- While a write is unfinished, an event can come next that needs no ordinary memory, so memory may fail from any moment on: where each mirror of
+-- two members or more has a rescuer, each pool keeps an element and the rounds go up, as long as fewer events came than a counter of 64 bits
+-- holds.
+abbrev pub NoStateIsStuck : Type 0
+NoStateIsStuck = (s : Scenario) (ledger : ℕ → LedgerId) (events : List Event) (state : State) → IsScenario s → HasRescuers s.stack → HasReserves s → AreInOrder s.rounds
+    → IsNaming ledger → IsRun (scene s ledger) (start s) events state → length events + 9 < 2 ^ 64 → 1 ≤ unfinished state → HasFree (scene s ledger) state
 
 -- While a write of a scenario that is allowed is unfinished, an event can come next that needs no ordinary memory: where each mirror of two
 -- members or more has a rescuer, each pool keeps an element and the rounds go up.

@@ -21,9 +21,9 @@ use Rattle.run_machine.specs.Tasks.{Todo}
 use Rattle.run_machine.specs.Opened.{Scenario, scene, start}
 use Rattle.run_machine.specs.Runs.{State, IsRun}
 use Rattle.block_core.specs.Weights.{Weight, Spot, Lined, Rescued, Pending, Brought, total, one, names, under, legs_left}
-use Rattle.block_core.specs.Levels.{apart}
+use Rattle.block_core.specs.Weights.{apart}
 use Rattle.block_core.specs.Fragments.{offset_of, fragment_of}
-use Rattle.block_core.specs.Sound.{IsScenario, IsNaming}
+use Rattle.block_core.specs.Scenarios.{IsScenario, IsNaming}
 
 abbrev pub yes : Bool → ℕ
 yes b = if b then 1 else 0

@@ -1,11 +1,16 @@
 -- Tasks that wait for an element, and what stands behind them meanwhile.
-use Rattle.std.specs.Prelude.{◌≡◌, ◌⊎◌, ℕ, true, false, [], All}
+use Rattle.std.specs.Prelude.{◌≡◌, ◌⊎◌, ℕ, true, false, List, [], All}
+use Rattle.elem_ledger.specs.Ledger.{LedgerId}
 use Rattle.stack_base.specs.declared.ids.DevId.{DevId}
+use Rattle.stack_base.specs.Stack.{HasRescuers}
 use Rattle.bio_records.specs.declared.tasks.TaskLists.{TaskLists}
+use Rattle.run_machine.specs.declared.event.Event.{Event}
 use Rattle.run_machine.specs.Scene.{Setup, Scene}
 use Rattle.run_machine.specs.Lines.{Want, Takes, Punts, Links, ToPush, ToCut, ToRecord, ToMaster, Doing, Rests, Drives, Copies, Breaks, is_of}
 use Rattle.run_machine.specs.Tasks.{TaskState, Writer, Rescuer, Completer, Keeper}
-use Rattle.run_machine.specs.Runs.{State}
+use Rattle.run_machine.specs.Opened.{Scenario, scene, start}
+use Rattle.run_machine.specs.Runs.{State, IsRun}
+use Rattle.block_core.specs.Scenarios.{IsScenario, IsNaming}
 
 -- no bio of a device's set is in the lists of a task that waits for one, and one is tried for without waiting, and others are punted, only
 -- where the set has a rescuer
@@ -34,3 +39,8 @@ pub record NoneWaitsForItself (scene : Scene) (state : State) : Type 0 where
   pub tasks : (place : ℕ) → TaskDoesNotWait scene.setup (state.task place)
   -- bios wait for rescuers only where there is one
   pub rescued : (dev : ℕ) → (state.objects.rescue dev ≡ []) ⊎ (scene.setup.rescuer dev ≡ true)
+
+-- where each mirror of two members or more has a rescuer, no task ever waits for an element of a set of which it has a bio in its lists
+abbrev pub NoTaskWaitsForItself : Type 0
+NoTaskWaitsForItself = (s : Scenario) (ledger : ℕ → LedgerId) (events : List Event) (state : State) → IsScenario s → HasRescuers s.stack → IsNaming ledger
+    → IsRun (scene s ledger) (start s) events state → NoneWaitsForItself (scene s ledger) state

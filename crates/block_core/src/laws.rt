@@ -14,8 +14,10 @@ ghost use Rattle.block_core.specs.OfOneWrite.{AllAreOfOneWrite};
 ghost use Rattle.block_core.specs.Replies.{RepliesAreEvents};
 ghost use Rattle.block_core.specs.Rooms.{BooksHaveRoom};
 ghost use Rattle.block_core.specs.Runnable.{AcceptedTextsAreRunnable, StepsAreFew};
-ghost use Rattle.block_core.specs.Sound.{EachIsDoneOnce, NoStateIsStuck, NoTaskWaitsForItself};
-ghost use Rattle.block_core.specs.Soundness.{EveryRunIsSound};
+ghost use Rattle.block_core.specs.Dones.{EachIsDoneOnce};
+ghost use Rattle.block_core.specs.Stuck.{NoStateIsStuck};
+ghost use Rattle.block_core.specs.Waits.{NoTaskWaitsForItself};
+ghost use Rattle.block_core.specs.Sound.{EveryRunIsSound};
 ghost use Rattle.block_core.specs.Stuck.{EachRunGoesOnOrHasEnded, NoAllowedStateIsStuck};
 ghost use Rattle.block_core.specs.Values.{NodesAreValued};
 

@@ -10,7 +10,7 @@ use Rattle.run_machine.specs.Runs.{State, HasEnded}
 use Rattle.run_machine.specs.Tasks.{TaskState, request, answered, look_of}
 use Rattle.block_core.specs.Breaks.{is_broken}
 use Rattle.block_core.specs.Runnable.{IsRunnable}
-use Rattle.block_core.specs.Sound.{IsNaming}
+use Rattle.block_core.specs.Scenarios.{IsNaming}
 use Rattle.run_merge.specs.Entries.{struck}
 use Rattle.run_merge.specs.Machines.{ServesAt, LeadsObject}
 use Rattle.run_merge.specs.Merging.{Noted, Histories, entries_of, sorted, all_of, history_of, done_by, TallyThen, LetsAsk, Shown}

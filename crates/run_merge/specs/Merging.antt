@@ -7,7 +7,7 @@ use Rattle.run_machine.specs.Opened.{Scenario, start, setup}
 use Rattle.run_machine.specs.Requests.{Request, Reply}
 use Rattle.run_machine.specs.Runs.{State}
 use Rattle.run_machine.specs.Tasks.{TaskState, look_of, lets}
-use Rattle.block_core.specs.Sound.{IsScenario, IsNaming}
+use Rattle.block_core.specs.Scenarios.{IsScenario, IsNaming}
 use Rattle.run_merge.specs.Entries.{Entry, is_event}
 use Rattle.run_merge.specs.Machines.{TallyServes, LeadsObject}
 use Rattle.run_merge.specs.ObjectsByName.{is_same, get}

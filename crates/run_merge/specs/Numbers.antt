@@ -7,7 +7,7 @@ use Rattle.run_machine.specs.declared.event.What.{What}
 use Rattle.run_machine.specs.declared.event.What.TheVariants as what
 use Rattle.run_machine.specs.Opened.{Scenario, scene, start}
 use Rattle.run_machine.specs.Runs.{State, IsRun}
-use Rattle.block_core.specs.Sound.{IsScenario, IsNaming}
+use Rattle.block_core.specs.Scenarios.{IsScenario, IsNaming}
 
 -- the numbers of the rounds that events start, in the order of the events
 abbrev pub round_in : What → List ℕ

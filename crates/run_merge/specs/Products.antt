@@ -11,7 +11,7 @@ use Rattle.run_machine.specs.Runs.{State, IsRun}
 use Rattle.run_machine.specs.Scene.{Setup}
 use Rattle.run_machine.specs.Tasks.{Todo, Taken, NoBio, TaskState, Writer, request, answered}
 use Rattle.block_core.specs.Rounds.{round_of}
-use Rattle.block_core.specs.Sound.{IsScenario, IsNaming}
+use Rattle.block_core.specs.Scenarios.{IsScenario, IsNaming}
 use Rattle.run_merge.specs.Entries.{Entry, AreEvents, struck, entries_in}
 use Rattle.run_merge.specs.Machines.{LeadsObject, entries_at}
 use Rattle.run_merge.specs.ObjectsByName.{get}

@@ -22,7 +22,7 @@ use Rattle.run_machine.specs.Runs.{State}
 use Rattle.run_machine.specs.Scene.{Scene, Setup, is_disk, keeps_data}
 use Rattle.task_steps.specs.TaskViews.{TaskOf}
 use Rattle.run_machine.specs.Tasks.{TaskState}
-use Rattle.block_core.specs.Sound.{IsScenario, HasReserves, AreInOrder}
+use Rattle.block_core.specs.Scenarios.{IsScenario, HasReserves, AreInOrder}
 use Rattle.block_core.proofs.PostStarts.{start_crew}
 use Rattle.serial_run.proofs.Disks.{is_disk_kind, by_kind}
 

@@ -23,7 +23,7 @@ use Rattle.run_machine.specs.Opened.{most_writers}
 use Rattle.task_steps.specs.TaskViews.{TaskOf}
 use Rattle.block_core.specs.Bounded.{most_steps}
 use Rattle.block_core.specs.Runnable.{IsRunnable}
-use Rattle.block_core.specs.Sound.{IsNaming}
+use Rattle.block_core.specs.Scenarios.{IsNaming}
 use Rattle.block_core.proofs.Bounded.{runs_are_bounded}
 use Rattle.block_core.proofs.Ending.{runs_end_with_their_writes, started_rounds_are_there}
 use Rattle.block_core.proofs.NeverStuck.{no_allowed_state_is_stuck}

@@ -10,7 +10,7 @@ use Rattle.layout_model.specs.declared.write.Write.{Write}
 use Rattle.layout_model.specs.Writes.{IsWrite}
 use Rattle.run_machine.proofs.cases.OneDisk.{stack}
 use Rattle.run_machine.proofs.cases.RoundsRun.{scenario, write}
-use Rattle.block_core.specs.Sound.{IsScenario}
+use Rattle.block_core.specs.Scenarios.{IsScenario}
 
 module _ (memory : Global) where
   no_member : (d i m : ℕ) → IsMember (stack memory 8) d i m → ⊥

@@ -11,7 +11,7 @@ use Rattle.run_machine.specs.Objects.{Serves}
 use Rattle.run_machine.specs.Opened.{Scenario, scene, start, tasks}
 use Rattle.run_machine.specs.Runs.{State, IsRun, HasFree, HasEnded, unfinished}
 use Rattle.block_core.specs.Runnable.{IsRunnable}
-use Rattle.block_core.specs.Sound.{IsNaming}
+use Rattle.block_core.specs.Scenarios.{IsNaming}
 use Rattle.block_core.proofs.Bounded.{runs_are_bounded}
 use Rattle.block_core.proofs.Ending.{runs_end_with_their_writes}
 use Rattle.block_core.proofs.NeverStuck.{each_run_goes_on_or_has_ended}

@@ -11,7 +11,7 @@ use Rattle.run_machine.specs.Opened.{Scenario, scene, start, setup}
 use Rattle.run_machine.specs.Requests.{Present, LeftOver}
 use Rattle.run_machine.specs.Runs.{State, IsLet}
 use Rattle.run_machine.specs.Tasks.{TaskState, Writer, Rescuer, Completer, Keeper, Keeps, Stops, Todo, Taken, NoBio, request, look_of, writer_look, later_of}
-use Rattle.block_core.specs.Sound.{IsScenario, IsNaming}
+use Rattle.block_core.specs.Scenarios.{IsScenario, IsNaming}
 use Rattle.run_merge.specs.Entries.{Entry, is_event, struck, entries_in}
 use Rattle.run_merge.specs.Machines.{LeadsObject, entries_at}
 use Rattle.run_merge.specs.ObjectsByName.{is_same, get}

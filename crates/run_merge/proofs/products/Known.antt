@@ -8,7 +8,8 @@ use Rattle.run_machine.specs.Opened.{Scenario, scene, start, writes_from, setup 
 use Rattle.run_machine.specs.Tasks.{Keeper, Keeps, Duty, Resizes, Starts, later_of}
 use Rattle.run_machine.specs.Runs.{State}
 use Rattle.block_core.specs.Rounds.{round_of, is_of_round}
-use Rattle.block_core.specs.Sound.{IsScenario, IsNaming, times_done}
+use Rattle.block_core.specs.Scenarios.{IsScenario, IsNaming}
+use Rattle.block_core.specs.Dones.{times_done}
 use Rattle.block_core.specs.Weights.{total, one}
 use Rattle.block_core.proofs.Charged.{below_or}
 use Rattle.block_core.proofs.DoneOnce.{stage}

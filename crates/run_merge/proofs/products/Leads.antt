@@ -19,7 +19,7 @@ use Rattle.run_machine.specs.Runs.{State, Steps}
 use Rattle.run_machine.specs.Scene.{Scene}
 use Rattle.run_machine.specs.Tasks.{TaskState, request, answered}
 use Rattle.run_machine.proofs.Frames.{upd_same, upd_other}
-use Rattle.block_core.specs.Sound.{IsScenario, IsNaming}
+use Rattle.block_core.specs.Scenarios.{IsScenario, IsNaming}
 use Rattle.block_core.proofs.Charged.{below_or}
 use Rattle.run_merge.specs.Entries.{Entry, AreEvents, is_event, struck}
 use Rattle.run_merge.specs.Machines.{ServesAt, LeadsObject, entries_at}

@@ -12,7 +12,7 @@ use Rattle.run_machine.specs.Requests.{Request, TakeBio, NextRound}
 use Rattle.run_machine.specs.Runs.{State, IsRun}
 use Rattle.run_machine.specs.Tasks.{TaskState, Writer, Rescuer, Completer, Keeper, Keeps, Stops, Resizes, Starts, request}
 use Rattle.run_machine.proofs.Able.{Needs, can_of}
-use Rattle.block_core.specs.Sound.{IsScenario, IsNaming}
+use Rattle.block_core.specs.Scenarios.{IsScenario, IsNaming}
 use Rattle.run_merge.specs.Entries.{Entry, struck}
 use Rattle.run_merge.specs.Numbers.{round_in, rounds_in, RoundsAreNumbered}
 use Rattle.run_merge.specs.Products.{starts_round}

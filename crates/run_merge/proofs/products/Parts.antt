@@ -13,7 +13,7 @@ use Rattle.run_machine.specs.Runs.{State, Steps, IsRun}
 use Rattle.run_machine.specs.Scene.{Scene}
 use Rattle.run_machine.specs.Tasks.{TaskState, request, answered}
 use Rattle.run_machine.proofs.Frames.{upd_same, upd_other}
-use Rattle.block_core.specs.Sound.{IsScenario, IsNaming}
+use Rattle.block_core.specs.Scenarios.{IsScenario, IsNaming}
 use Rattle.run_merge.specs.Entries.{Entry, AreEvents, is_event, struck, entries_in}
 use Rattle.run_merge.specs.Machines.{ServesAt, LeadsObject, entries_at}
 use Rattle.run_merge.specs.ObjectsByName.{is_same, get}

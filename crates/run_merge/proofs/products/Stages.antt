@@ -11,7 +11,7 @@ use Rattle.run_machine.specs.Tasks.{Todo}
 use Rattle.run_machine.specs.Opened.{Scenario, scene, start}
 use Rattle.run_machine.specs.Runs.{State}
 use Rattle.block_core.specs.Rounds.{tops, tops_left, all_worth, unfinished_of}
-use Rattle.block_core.specs.Sound.{IsScenario}
+use Rattle.block_core.specs.Scenarios.{IsScenario}
 use Rattle.block_core.specs.Weights.{total, one}
 use Rattle.block_core.proofs.Calm.{zero_or}
 use Rattle.block_core.proofs.DoneOnce.{to_begin, top_role, top_parent, stage}

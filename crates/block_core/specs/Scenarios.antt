@@ -1,0 +1,42 @@
+-- What laws ask of a scenario, and of ledgers.
+use Rattle.std.specs.Prelude.{◌≡◌, ◌<◌, ◌≤◌, ℕ, List, [], ◌∷◌, length, slice_get, All, Some}
+use Rattle.elem_ledger.specs.Ledger.{LedgerId}
+use Rattle.stack_base.specs.declared.stack.Device.{Device}
+use Rattle.stack_base.specs.declared.stack.Kind.{Kind}
+use Rattle.stack_base.specs.declared.stack.Kind.TheVariants.{Disk, Linear, Stripe, Zoned, Limit, Mirror}
+use Rattle.stack_base.specs.Stack.{IsStack}
+use Rattle.layout_model.specs.declared.write.Write.{Write}
+use Rattle.layout_model.specs.Writes.{IsWrite}
+use Rattle.run_machine.specs.Opened.{Change, Scenario}
+
+-- what an accepted text means: its stack is one, and serves its writes, whose writers have numbers below 8, and each write has a round
+pub record IsScenario (s : Scenario) : Type 0 where
+  pub stack : IsStack s.stack
+  pub writes : All (IsWrite s.stack) s.writes
+  pub writers : All (λ (write : Write). write.task < 8) s.writes
+  pub rounds : length s.rounds ≡ length s.writes
+
+-- the ledger of each pool has the pool's number
+abbrev pub IsNaming : (ℕ → LedgerId) → Type 0
+IsNaming ledger = (number : ℕ) → (ledger number).no ≡ number
+
+-- the rounds of writes go up
+abbrev pub AreInOrder : List ℕ → Type 0
+AreInOrder [] = Unit {0}
+AreInOrder (round ∷ rounds) = All (λ later. round ≤ later) rounds × AreInOrder rounds
+
+-- no pool of a device is without an element
+abbrev pub KeepsSome : Kind → ℕ → Type 0
+KeepsSome (Disk sectors bad) reserve = Unit {0}
+KeepsSome Linear reserve = 1 ≤ reserve
+KeepsSome (Stripe chunk) reserve = 1 ≤ reserve
+KeepsSome (Zoned chunk) reserve = 1 ≤ reserve
+KeepsSome (Limit longest chunk) reserve = 1 ≤ reserve
+KeepsSome (Mirror records) reserve = (1 ≤ reserve) × (1 ≤ records)
+
+-- nor any other, at the start and behind each change
+pub record HasReserves (s : Scenario) : Type 0 where
+  pub bios : 1 ≤ s.stack.fs_bios
+  pub vecs : 1 ≤ s.stack.fs_vecs
+  pub devices : (number : ℕ) (device : Device) → slice_get s.stack.devices.items number ≡ Some device → KeepsSome device.kind device.reserve
+  pub changes : All (λ (change : Change). 1 ≤ change.min) s.changes
