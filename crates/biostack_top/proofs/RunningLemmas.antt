@@ -12,7 +12,8 @@ use Rattle.work_text.proofs.Ready.{writes_ready}
 use Rattle.task_core.specs.declared.ended.Ended.{Ended}
 use Rattle.run_machine.specs.declared.event.Event.{Event}
 use Rattle.task_core.specs.declared.opening.Opened.{Opened}
-use Rattle.task_core.specs.opened.OfOne.{IsOpened, IsReadBehind, scenario_in}
+use Rattle.task_core.specs.opened.OfOne.{IsOpened, scenario_in}
+use Rattle.run_machine.specs.ReadBehind.{IsReadBehind}
 use Rattle.task_core.specs.Plains.{stage_of}
 use Rattle.run_machine.specs.Opened.{scene, start}
 use Rattle.run_machine.specs.Scenario.{scenario_of}
@@ -35,17 +36,17 @@ module _ (text : List ℕ) (accepted : Accepted) (work : Work) (says : Says text
   read_behind = record { text = text; begins = says.begins; reads = says.reads; served = says.served }
 
   pub runnable : IsRunnable (scenario_of accepted work)
-  runnable = (accepted_texts_are_runnable text accepted work says.begins says.reads says.served).0
+  runnable = (accepted_texts_are_runnable accepted work read_behind).0
 
   -- its bound is small
   pub few_steps : most_steps work.bound < 2 ^ 64
   few_steps =
-      let by = accepted_texts_are_runnable text accepted work says.begins says.reads says.served in
+      let by = accepted_texts_are_runnable accepted work read_behind in
       omega (arith, by.1, steps_are_few (scenario_of accepted work) by.0)
 
   pub every_run : EveryRunIsAsClaimed accepted work
   every_run = λ ledger events state naming run.
-      accepted_texts_run_as_claimed text accepted work says.begins says.reads says.served says.rescuers ledger events state naming run
+      accepted_texts_run_as_claimed accepted work read_behind says.rescuers ledger events state naming run
 
   module _ (number : ℕ) (events : List Event) (ended : Ended) (has : HasRun (scenario_of accepted work) number events ended) where
     pub is_of : IsOf accepted.stack ended

@@ -40,7 +40,7 @@ every_run_is_as_claimed s ledger events state runnable rescuers naming run =
     }
 
 pub accepted_texts_run_as_claimed : AcceptedTextsRunAsClaimed
-accepted_texts_run_as_claimed text accepted work begins reads served rescuers ledger events state naming run =
-    let runnable = accepted_texts_are_runnable text accepted work begins reads served in
+accepted_texts_run_as_claimed accepted work read rescuers ledger events state naming run =
+    let runnable = accepted_texts_are_runnable accepted work read in
     let all = every_run_is_as_claimed (scenario_of accepted work) ledger events state runnable.0 rescuers naming run in
     (all, omega (arith, all.bounded, runnable.1))

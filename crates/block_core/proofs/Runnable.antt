@@ -61,10 +61,10 @@ keeps_some (Limit longest chunk) reserve rescuer fit = fit.0
 keeps_some (Mirror records) reserve rescuer fit = (fit.1.0, fit.0.0)
 
 pub accepted_texts_are_runnable : AcceptedTextsAreRunnable
-accepted_texts_are_runnable text accepted work begins reads served =
+accepted_texts_are_runnable accepted work read =
     let stack = accepted.stack in
-    let is = reads.1 in
-    let fit = work_is_fit text accepted work begins reads in
+    let is = read.reads.1 in
+    let fit = work_is_fit read.text accepted work read.begins read.reads in
     let kept = accepted_fit accepted in
     let ordered = in_order work.rounds.items fit.order in
     let entries = entries_few stack accepted.scripts.items accepted.is_stack accepted.declared in
@@ -74,7 +74,7 @@ accepted_texts_are_runnable text accepted work begins reads served =
       record {
         scenario = record {
           stack = accepted.is_stack;
-          writes = All-weaker (Contains work.writes.items) (IsWrite stack) served work.writes.items (All-contains_itself work.writes.items);
+          writes = All-weaker (Contains work.writes.items) (IsWrite stack) read.served work.writes.items (All-contains_itself work.writes.items);
           writers = All-weaker (λ (write : Write). write.task ≤ 7) (λ (write : Write). write.task < 8) (λ write le. omega (arith, le)) work.writes.items fit.writers;
           rounds = fit.paired;
         };

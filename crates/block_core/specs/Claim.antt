@@ -4,15 +4,12 @@ use Rattle.elem_ledger.specs.Ledger.{LedgerId}
 use Rattle.stack_base.specs.Stack.{HasRescuers}
 use Rattle.stack_base.specs.declared.ids.Status.{Status}
 use Rattle.mempool_core.specs.Facts.{AddsUp}
-use Rattle.layout_model.specs.declared.write.Write.{Write}
-use Rattle.layout_model.specs.Writes.{IsWrite}
-use Rattle.decl_text.specs.Reading.{declarations}
 use Rattle.decl_text.specs.declared.accepted.Accepted.{Accepted}
-use Rattle.work_text.specs.Reading.{ReadsWork, work_lines}
 use Rattle.work_text.specs.declared.Work.{Work}
 use Rattle.run_machine.specs.declared.event.Event.{Event}
 use Rattle.run_machine.specs.declared.event.What.TheVariants as what
 use Rattle.run_machine.specs.Opened.{Scenario, scene, start}
+use Rattle.run_machine.specs.ReadBehind.{IsReadBehind}
 use Rattle.run_machine.specs.Scenario.{scenario_of}
 use Rattle.run_machine.specs.Runs.{State, Happens, IsRun, unfinished, HasFree, HasEnded}
 use Rattle.block_core.specs.Bounded.{most_steps}
@@ -63,11 +60,10 @@ abbrev pub EveryRunIsAsClaimed : Type 0
 EveryRunIsAsClaimed = (s : Scenario) (ledger : ℕ → LedgerId) (events : List Event) (state : State) → IsRunnable s → HasRescuers s.stack → IsNaming ledger
     → (run : IsRun (scene s ledger) (start s) events state) → IsAsClaimed s ledger events state run
 
--- so in every run of what a text means of which no line is refused, where its declarations were accepted and its mirrors have rescuers; and it has
--- no more events than the bound says that was told of the text
+-- so in every run of what a text means of which no line is refused, where its mirrors have rescuers; and it has no more events than the bound says
+-- that was told of the text
 abbrev pub AcceptedTextsRunAsClaimed : Type 0
-AcceptedTextsRunAsClaimed = (text : List ℕ) (accepted : Accepted) (work : Work) → declarations (work_lines text accepted) ≡ [] → ReadsWork text accepted (Ok work)
-    → ((write : Write) → Contains work.writes.items write → IsWrite accepted.stack write) → HasRescuers accepted.stack
+AcceptedTextsRunAsClaimed = (accepted : Accepted) (work : Work) → IsReadBehind accepted work → HasRescuers accepted.stack
     → (ledger : ℕ → LedgerId) (events : List Event) (state : State) → IsNaming ledger
     → (run : IsRun (scene (scenario_of accepted work) ledger) (start (scenario_of accepted work)) events state)
     → IsAsClaimed (scenario_of accepted work) ledger events state run × (length events ≤ 8 * work.bound.e + 2 * work.bound.g + work.bound.z)

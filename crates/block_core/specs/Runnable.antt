@@ -1,13 +1,10 @@
 -- Scenarios that can be run: what all laws ask of one, but that mirrors have rescuers.
-use Rattle.std.specs.Prelude.{◌≡◌, ◌+◌, ◌*◌, ◌^◌, ◌<◌, ◌≤◌, ℕ, List, [], Contains, Ok}
-use Rattle.layout_model.specs.declared.write.Write.{Write}
+use Rattle.std.specs.Prelude.{◌≡◌, ◌+◌, ◌*◌, ◌^◌, ◌<◌, ◌≤◌, ℕ}
 use Rattle.layout_model.specs.OneWay.{AreApartByRounds}
-use Rattle.layout_model.specs.Writes.{IsWrite}
-use Rattle.decl_text.specs.Reading.{declarations}
 use Rattle.decl_text.specs.declared.accepted.Accepted.{Accepted}
-use Rattle.work_text.specs.Reading.{ReadsWork, work_lines}
 use Rattle.work_text.specs.declared.Work.{Work}
 use Rattle.run_machine.specs.Opened.{Scenario}
+use Rattle.run_machine.specs.ReadBehind.{IsReadBehind}
 use Rattle.run_machine.specs.Scenario.{scenario_of}
 use Rattle.block_core.specs.Bounded.{waits, most_steps}
 use Rattle.block_core.specs.Breaks.{IsAllowed}
@@ -35,9 +32,7 @@ pub record IsRunnable (s : Scenario) : Type 0 where
 abbrev pub StepsAreFew : Type 0
 StepsAreFew = (s : Scenario) → IsRunnable s → most_steps s < 2 ^ 24
 
--- What a text means of which no line is refused can be run, and the steps of its bound are those of its scenario: for declarations that were
--- accepted, and for work that was read behind them.
+-- What a text means of which no line is refused can be run, and the steps of its bound are those of its scenario.
 abbrev pub AcceptedTextsAreRunnable : Type 0
-AcceptedTextsAreRunnable = (text : List ℕ) (accepted : Accepted) (work : Work) → declarations (work_lines text accepted) ≡ [] → ReadsWork text accepted (Ok work)
-    → ((write : Write) → Contains work.writes.items write → IsWrite accepted.stack write)
+AcceptedTextsAreRunnable = (accepted : Accepted) (work : Work) → IsReadBehind accepted work
     → IsRunnable (scenario_of accepted work) × (most_steps (scenario_of accepted work) ≡ 8 * work.bound.e + 2 * work.bound.g + work.bound.z)

@@ -8,7 +8,7 @@ ghost use Rattle.layout_model.specs.declared.write.Write.{Write as Writes};
 ghost use Rattle.layout_model.specs.Bound.{all_elements, most_elements};
 ghost use Rattle.layout_model.specs.Writes.{IsWrite};
 ghost use Rattle.work_text.specs.declared.Resize.{Resize as Resizes};
-ghost use Rattle.task_core.specs.opened.OfOne.{IsReadBehind};
+ghost use Rattle.run_machine.specs.ReadBehind.{IsReadBehind};
 ghost use Rattle.trace_text.specs.Names.{IsNamed};
 ghost use Rattle.plain_core.specs.Opening.{CanOpen};
 

@@ -1,7 +1,7 @@
 -- Which texts can be opened without an object.
 use Rattle.decl_text.specs.declared.accepted.Accepted.{Accepted}
 use Rattle.work_text.specs.declared.Work.{Work}
-use Rattle.task_core.specs.opened.OfOne.{IsReadBehind}
+use Rattle.run_machine.specs.ReadBehind.{IsReadBehind}
 use Rattle.plain_core.specs.Opening.{CanOpen}
 
 -- All of them of which no line is refused, with the work that was read behind their declarations.

@@ -11,4 +11,5 @@ pub mod Named
 pub mod Opened
 pub mod Laws
 pub mod Scenario
+pub mod ReadBehind
 pub mod OneState

@@ -1,6 +1,6 @@
 //! Texts that a test writes, and the names of their tasks.
 ghost use Rattle.std.specs.Prelude.{IfOk};
-ghost use Rattle.task_core.specs.opened.OfOne.{IsReadBehind};
+ghost use Rattle.run_machine.specs.ReadBehind.{IsReadBehind};
 ghost use Rattle.trace_text.specs.Names.{IsNamed};
 
 use decl_text::{Accepted, ReadFault, read_decl};

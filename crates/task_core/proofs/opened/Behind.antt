@@ -40,7 +40,7 @@ use Rattle.work_text.specs.declared.Resize.{Resize}
 use Rattle.work_text.specs.declared.Work.{Work}
 use Rattle.work_text.proofs.Fit.{work_is_fit}
 use Rattle.task_core.specs.opened.NewTasks.{AreShared, reserves_in}
-use Rattle.task_core.specs.opened.OfOne.{IsReadBehind}
+use Rattle.run_machine.specs.ReadBehind.{IsReadBehind}
 use Rattle.run_machine.specs.Opened.{at, is_numbered, records_of as records_at, reserve_of, script_at}
 use Rattle.task_core.specs.opened.Openings.{has_pool, uses_set, uses_slips}
 use Rattle.task_steps.specs.Routed.{Routing, copies, keeps, setup}

@@ -32,7 +32,8 @@ use Rattle.task_core.specs.Leaving.{HasRoom}
 use Rattle.run_machine.specs.Lines.{rests}
 use Rattle.task_core.specs.opened.NewTasks.{AreShared, ArePlaced, writers_of, others_in, tally_in, reserves_in, shown, with_routing}
 use Rattle.run_machine.specs.Objects.{Objects, TallyState}
-use Rattle.task_core.specs.opened.OfOne.{states, AreOfOne, IsOpened, IsReadBehind, scenario_in}
+use Rattle.task_core.specs.opened.OfOne.{states, AreOfOne, IsOpened, scenario_in}
+use Rattle.run_machine.specs.ReadBehind.{IsReadBehind}
 use Rattle.run_machine.specs.Opened.{Change, Scenario, at, is_by, todos, todos_of, writers, places_of, reserve_of, script_at, keepers, duties, duties_of, writes_from, round_count, tasks}
 use Rattle.run_machine.specs.Opened as opened
 use Rattle.task_core.specs.opened.Openings.{widest, AreOpened}

@@ -1,11 +1,5 @@
 -- Objects and tasks of one scenario, and what was opened of an accepted text.
-use Rattle.std.specs.Prelude.{◌≡◌, ℕ, List, All, Contains, map, length, slice_index_or, [], Ok}
-use Rattle.layout_model.specs.declared.write.Write.{Write}
-use Rattle.layout_model.specs.Writes.{IsWrite}
-use Rattle.decl_text.specs.declared.accepted.Accepted.{Accepted}
-use Rattle.decl_text.specs.Reading.{declarations}
-use Rattle.work_text.specs.Reading.{ReadsWork, work_lines}
-use Rattle.work_text.specs.declared.Work.{Work}
+use Rattle.std.specs.Prelude.{◌≡◌, ℕ, List, All, map, length, slice_index_or}
 use Rattle.task_core.specs.declared.opening.Opened.{Opened}
 use Rattle.task_core.specs.declared.plain.Plain.{Plain}
 use Rattle.task_steps.specs.Homes.{IsTaskOf}
@@ -16,6 +10,7 @@ use Rattle.task_core.specs.Plains.{objects_of, stage_of, Holds}
 use Rattle.task_core.specs.PlainSteps.{state_of}
 use Rattle.task_steps.specs.Routed.{setup}
 use Rattle.run_machine.specs.Runs.{State}
+use Rattle.run_machine.specs.ReadBehind.{IsReadBehind}
 use Rattle.run_machine.specs.Scenario.{scenario_of}
 use Rattle.task_steps.specs.TaskViews.{TaskOf}
 use Rattle.run_machine.specs.Tasks.{TaskState}
@@ -35,13 +30,6 @@ pub record AreOfOne (plain : Plain) (tasks : List TaskOf) : Type 0 where
   pub holds : Holds plain
   pub routing : All (λ (task : TaskOf). task.routing ≡ (stage_of plain).routing) tasks
   pub home : All (λ (task : TaskOf). IsTaskOf (stage_of plain) task.state) tasks
-
--- the work was read behind these declarations, by a text of which no line is refused
-pub record IsReadBehind (accepted : Accepted) (work : Work) : Type 0 where
-  pub text : List ℕ
-  pub begins : declarations (work_lines text accepted) ≡ []
-  pub reads : ReadsWork text accepted (Ok work)
-  pub served : (write : Write) → Contains work.writes.items write → IsWrite accepted.stack write
 
 -- what it was opened of
 abbrev pub scenario_in : Opened → Scenario
