@@ -13,7 +13,7 @@ use Rattle.block_core.specs.Runnable.{IsRunnable}
 use Rattle.block_core.specs.Scenarios.{IsNaming}
 use Rattle.run_merge.specs.Entries.{struck}
 use Rattle.run_merge.specs.Machines.{ServesAt, LeadsObject}
-use Rattle.run_merge.specs.Merging.{Noted, Histories, entries_of, sorted, all_of, history_of, done_by, TallyThen, LetsAsk, Shown}
+use Rattle.run_merge.specs.Merging.{Ticketed, Histories, entries_of, sorted, all_of, history_of, done_by, TallyThen, LetsAsk, Shown}
 use Rattle.run_merge.specs.ObjectsByName.{StateAt, get}
 use Rattle.run_merge.specs.Products.{AreOfRun}
 
@@ -30,12 +30,12 @@ pub record IsRefused (s : Scenario) (ledger : ℕ → LedgerId) (histories : His
   pub ticket : ℕ
   pub asks : asked ≡ struck (request (setup s) task)
   pub looked : LetsAsk s ledger (history_of OfTally histories) ticket task (look_of task)
-  pub mine : All (λ (n : Noted). n.ticket < ticket) (done_by place histories)
-  pub before : List Noted
-  pub later : List Noted
+  pub mine : All (λ (n : Ticketed). n.ticket < ticket) (done_by place histories)
+  pub before : List Ticketed
+  pub later : List Ticketed
   pub history : history_of (object_of asked) histories ≡ before ++ later
-  pub smaller : All (λ (n : Noted). n.ticket < ticket) before
-  pub greater : All (λ (n : Noted). ticket < n.ticket) later
+  pub smaller : All (λ (n : Ticketed). n.ticket < ticket) before
+  pub greater : All (λ (n : Ticketed). ticket < n.ticket) later
   pub object : StateAt (object_of asked)
   pub leads : LeadsObject ledger (object_of asked) (get (start s).objects (object_of asked)) (entries_of before) object
   pub serves : ServesAt ledger (object_of asked) object asked reply object

@@ -14,71 +14,71 @@ use Rattle.run_merge.specs.ObjectsByName.{is_same, get}
 use Rattle.run_merge.specs.Products.{LeadsTask, task_behind, AreOfRun}
 
 -- an entry with the ticket that its call drew
-pub record Noted : Type 0 where
+pub record Ticketed : Type 0 where
   pub entry : Entry
   pub ticket : ℕ
 
-abbrev pub entries_of : List Noted → List Entry
-entries_of notes = map (λ (n : Noted). n.entry) notes
+abbrev pub entries_of : List Ticketed → List Entry
+entries_of ns = map (λ (n : Ticketed). n.entry) ns
 
 -- each ticket is greater than `last` and than the one before
-abbrev pub Rises : ℕ → List Noted → Type 0
+abbrev pub Rises : ℕ → List Ticketed → Type 0
 Rises last [] = Unit {0}
 Rises last (n ∷ ns) = (last < n.ticket) × Rises n.ticket ns
 
 -- in the order of tickets, where each is put before the first that has no smaller one
-abbrev pub insert : Noted → List Noted → List Noted
+abbrev pub insert : Ticketed → List Ticketed → List Ticketed
 insert n [] = n ∷ []
 insert n (x ∷ xs) = if nat_lt x.ticket n.ticket then x ∷ insert n xs else n ∷ x ∷ xs
 
-abbrev pub sorted : List Noted → List Noted
+abbrev pub sorted : List Ticketed → List Ticketed
 sorted [] = []
 sorted (n ∷ ns) = insert n (sorted ns)
 
 -- the histories of objects, by their names
 abbrev pub Histories : Type 0
-Histories = List (Object × List Noted)
+Histories = List (Object × List Ticketed)
 
-abbrev pub all_of : Histories → List Noted
+abbrev pub all_of : Histories → List Ticketed
 all_of [] = []
 all_of (h ∷ hs) = h.1 ++ all_of hs
 
-abbrev pub history_of : Object → Histories → List Noted
+abbrev pub history_of : Object → Histories → List Ticketed
 history_of name [] = []
 history_of name (h ∷ hs) = if is_same name h.0 then h.1 else history_of name hs
 
 -- no two are of one object
 abbrev pub AreApart : Histories → Type 0
 AreApart [] = Unit {0}
-AreApart (h ∷ hs) = All (λ (other : Object × List Noted). is_same h.0 other.0 ≡ false) hs × AreApart hs
+AreApart (h ∷ hs) = All (λ (other : Object × List Ticketed). is_same h.0 other.0 ≡ false) hs × AreApart hs
 
 -- the entries of each are at its object
 abbrev pub AreTagged : Histories → Type 0
 AreTagged [] = Unit {0}
-AreTagged (h ∷ hs) = All (λ (n : Noted). object_of n.entry.asked ≡ h.0) h.1 × AreTagged hs
+AreTagged (h ∷ hs) = All (λ (n : Ticketed). object_of n.entry.asked ≡ h.0) h.1 × AreTagged hs
 
 -- what a task did, in the order of its tickets
-abbrev pub done_by : ℕ → Histories → List Noted
-done_by place histories = sorted (filter (λ (n : Noted). place == n.entry.place) (all_of histories))
+abbrev pub done_by : ℕ → Histories → List Ticketed
+done_by place histories = sorted (filter (λ (n : Ticketed). place == n.entry.place) (all_of histories))
 
 -- the tally as it was behind the first entries of its history
-pub record TallyThen (s : Scenario) (ledger : ℕ → LedgerId) (tally : List Noted) : Type 0 where
-  pub seen : List Noted
-  pub later : List Noted
+pub record TallyThen (s : Scenario) (ledger : ℕ → LedgerId) (tally : List Ticketed) : Type 0 where
+  pub seen : List Ticketed
+  pub later : List Ticketed
   pub history : tally ≡ seen ++ later
   pub shown : TallyState
   pub leads : LeadsObject ledger OfTally (start s).objects.tally (entries_of seen) shown
 
 -- What a task looks at lets it ask: so the tally replied as it was behind entries with smaller tickets than the one that the task then drew.
-abbrev pub LetsAsk : Scenario → (ℕ → LedgerId) → List Noted → ℕ → TaskState → Option Request → Type 0
+abbrev pub LetsAsk : Scenario → (ℕ → LedgerId) → List Ticketed → ℕ → TaskState → Option Request → Type 0
 LetsAsk s ledger tally ticket task None = Unit {0}
 LetsAsk s ledger tally ticket task (Some look) =
-    (was : TallyThen s ledger tally) × All (λ (n : Noted). n.ticket < ticket) was.seen
+    (was : TallyThen s ledger tally) × All (λ (n : Ticketed). n.ticket < ticket) was.seen
     × (reply : Reply) × TallyServes was.shown look reply was.shown × IsTrue (lets task reply)
 
 -- What histories show of a run, with the objects and tasks that they leave.
 pub record Shown (s : Scenario) (ledger : ℕ → LedgerId) (histories : Histories) (last : State) : Type 0 where
-  pub events : All (λ (n : Noted). IsTrue (is_event n.entry.asked n.entry.reply)) (all_of histories)
+  pub events : All (λ (n : Ticketed). IsTrue (is_event n.entry.asked n.entry.reply)) (all_of histories)
   pub apart : AreApart histories
   pub tagged : AreTagged histories
   -- tickets rise along each object, and its entries are a run of its machine
@@ -87,7 +87,7 @@ pub record Shown (s : Scenario) (ledger : ℕ → LedgerId) (histories : Histori
   -- what each task did, in the order of its tickets, leads it on
   pub tasks : (place : ℕ) → LeadsTask (setup s) ((start s).task place) (entries_of (done_by place histories)) (last.task place)
   -- and each looked before it asked, where it has to
-  pub looks : (place : ℕ) (mine rest : List Noted) (n : Noted) → done_by place histories ≡ mine ++ n ∷ rest
+  pub looks : (place : ℕ) (mine rest : List Ticketed) (n : Ticketed) → done_by place histories ≡ mine ++ n ∷ rest
       → let task = task_behind s place (entries_of mine) in LetsAsk s ledger (history_of OfTally histories) n.ticket task (look_of task)
 
 -- The merge of them is the entries of a run, which leaves these objects and tasks.

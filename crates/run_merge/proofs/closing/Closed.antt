@@ -19,7 +19,7 @@ use Rattle.block_core.proofs.Runnable.{steps_are_few}
 use Rattle.block_core.proofs.Unbroken.{no_task_breaks}
 use Rattle.run_merge.specs.Closing.{IsThrough, IsRefused, HasLast, IsClosed, HasMerged, ClosedRunsEnd}
 use Rattle.run_merge.specs.Machines.{LeadsObject}
-use Rattle.run_merge.specs.Merging.{Noted, Histories, entries_of, sorted, all_of, history_of, TallyThen, Shown}
+use Rattle.run_merge.specs.Merging.{Ticketed, Histories, entries_of, sorted, all_of, history_of, TallyThen, Shown}
 use Rattle.run_merge.specs.ObjectsByName.{get}
 use Rattle.run_merge.specs.Products.{AreOfRun}
 use Rattle.run_merge.proofs.closing.Counts.{merge_length}
@@ -45,7 +45,7 @@ module _ (s : Scenario) (ledger : ℕ → LedgerId) (good : IsRunnable s) (rescu
   none_left : (last : State) → Shown s ledger hs last → (was : TallyThen s ledger (history_of OfTally hs)) → sum was.shown.left ≡ 0 → unfinished last ≡ 0
   none_left last shown was none =
       let leads = subst (λ l. LeadsObject ledger OfTally (start s).objects.tally l last.objects.tally)
-      (ap entries_of was.history ∙ map-append (λ (n : Noted). n.entry) was.seen was.later) (shown.objects OfTally) in
+      (ap entries_of was.history ∙ map-append (λ (n : Ticketed). n.entry) was.seen was.later) (shown.objects OfTally) in
       let parts = object_split ledger OfTally (entries_of was.seen) (entries_of was.later) (start s).objects.tally last.objects.tally leads in
       let later = from_there ledger (entries_of was.seen) (entries_of was.later) (start s).objects.tally parts.0 was.shown last.objects.tally parts.1 was.leads parts.2 in
       omega (arith, later.left, none)

@@ -11,7 +11,7 @@ use Rattle.run_machine.specs.Runs.{State}
 use Rattle.run_machine.specs.Tasks.{TaskState, look_of}
 use Rattle.run_merge.specs.Entries.{is_event}
 use Rattle.run_merge.specs.Machines.{LeadsObject}
-use Rattle.run_merge.specs.Merging.{Noted, Histories, entries_of, sorted, Rises, all_of, history_of, AreApart, AreTagged, done_by, LetsAsk, Shown}
+use Rattle.run_merge.specs.Merging.{Ticketed, Histories, entries_of, sorted, Rises, all_of, history_of, AreApart, AreTagged, done_by, LetsAsk, Shown}
 use Rattle.run_merge.specs.ObjectsByName.{StateAt, is_same, get, put}
 use Rattle.run_merge.specs.Products.{LeadsTask, task_behind}
 use Rattle.run_merge.proofs.merging.Picked.{is_by, filter_swap}
@@ -24,11 +24,11 @@ early_histories ticket [] = []
 early_histories ticket (h ∷ hs) = (h.0, early ticket h.1) ∷ early_histories ticket hs
 
 -- along an object tickets rise
-rises_from : (m n : ℕ) (ns : List Noted) → m ≤ n → Rises n ns → Rises m ns
+rises_from : (m n : ℕ) (ns : List Ticketed) → m ≤ n → Rises n ns → Rises m ns
 rises_from m n [] le r = tt
 rises_from m n (e ∷ ns) le r = (let lt = r.0 in omega (arith, le, lt), r.1)
 
-rises_filter : (p : Noted → Bool) (n : ℕ) (ns : List Noted) → Rises n ns → Rises n (filter p ns)
+rises_filter : (p : Ticketed → Bool) (n : ℕ) (ns : List Ticketed) → Rises n ns → Rises n (filter p ns)
 rises_filter p n [] r = tt
 rises_filter p n (e ∷ ns) r = by_test (p e) (rises_filter p e.ticket ns r.1)
   where
@@ -39,7 +39,7 @@ rises_filter p n (e ∷ ns) r = by_test (p e) (rises_filter p e.ticket ns r.1)
 module _ (ticket : ℕ) where
   all_early : (hs : Histories) → all_of (early_histories ticket hs) ≡ early ticket (all_of hs)
   all_early [] = refl
-  all_early (h ∷ hs) = ap (λ l. early ticket h.1 ++ l) (all_early hs) ∙ sym (filter-append (λ (n : Noted). nat_lt n.ticket ticket) h.1 (all_of hs))
+  all_early (h ∷ hs) = ap (λ l. early ticket h.1 ++ l) (all_early hs) ∙ sym (filter-append (λ (n : Ticketed). nat_lt n.ticket ticket) h.1 (all_of hs))
 
   pub history_early : (name : Object) (hs : Histories) → history_of name (early_histories ticket hs) ≡ early ticket (history_of name hs)
   history_early name [] = refl
@@ -53,34 +53,34 @@ module _ (ticket : ℕ) where
   pub done_early : (place : ℕ) (hs : Histories) → done_by place (early_histories ticket hs) ≡ early ticket (done_by place hs)
   done_early place hs =
       ap (λ l. sorted (filter (is_by place) l)) (all_early hs)
-      ∙ ap sorted (filter_swap (is_by place) (λ (n : Noted). nat_lt n.ticket ticket) (all_of hs))
-      ∙ sym (filter_sorted (λ (n : Noted). nat_lt n.ticket ticket) (filter (is_by place) (all_of hs)))
+      ∙ ap sorted (filter_swap (is_by place) (λ (n : Ticketed). nat_lt n.ticket ticket) (all_of hs))
+      ∙ sym (filter_sorted (λ (n : Ticketed). nat_lt n.ticket ticket) (filter (is_by place) (all_of hs)))
 
   apart_early : (hs : Histories) → AreApart hs → AreApart (early_histories ticket hs)
   apart_early [] a = tt
   apart_early (h ∷ hs) a = (others hs a.0, apart_early hs a.1)
     where
-      others : (hs : Histories) → All (λ (other : Object × List Noted). is_same h.0 other.0 ≡ false) hs
-          → All (λ (other : Object × List Noted). is_same h.0 other.0 ≡ false) (early_histories ticket hs)
-      others [] a = All-nil (λ (other : Object × List Noted). is_same h.0 other.0 ≡ false)
+      others : (hs : Histories) → All (λ (other : Object × List Ticketed). is_same h.0 other.0 ≡ false) hs
+          → All (λ (other : Object × List Ticketed). is_same h.0 other.0 ≡ false) (early_histories ticket hs)
+      others [] a = All-nil (λ (other : Object × List Ticketed). is_same h.0 other.0 ≡ false)
       others (o ∷ os) a =
-          All-cons (λ (other : Object × List Noted). is_same h.0 other.0 ≡ false) (o.0, early ticket o.1) (early_histories ticket os)
-          (All-head (λ (other : Object × List Noted). is_same h.0 other.0 ≡ false) o os a) (others os (All-tail (λ (other : Object × List Noted). is_same h.0 other.0 ≡ false) o os a))
+          All-cons (λ (other : Object × List Ticketed). is_same h.0 other.0 ≡ false) (o.0, early ticket o.1) (early_histories ticket os)
+          (All-head (λ (other : Object × List Ticketed). is_same h.0 other.0 ≡ false) o os a) (others os (All-tail (λ (other : Object × List Ticketed). is_same h.0 other.0 ≡ false) o os a))
 
   tagged_early : (hs : Histories) → AreTagged hs → AreTagged (early_histories ticket hs)
   tagged_early [] a = tt
-  tagged_early (h ∷ hs) a = (All-filter (λ (n : Noted). nat_lt n.ticket ticket) (λ (n : Noted). object_of n.entry.asked ≡ h.0) h.1 a.0, tagged_early hs a.1)
+  tagged_early (h ∷ hs) a = (All-filter (λ (n : Ticketed). nat_lt n.ticket ticket) (λ (n : Ticketed). object_of n.entry.asked ≡ h.0) h.1 a.0, tagged_early hs a.1)
 
   -- what was seen with smaller tickets is there
-  pub lets_early : (s : Scenario) (ledger : ℕ → LedgerId) (tally : List Noted) (own : ℕ) (task : TaskState) (look : Option Request) → own ≤ ticket
+  pub lets_early : (s : Scenario) (ledger : ℕ → LedgerId) (tally : List Ticketed) (own : ℕ) (task : TaskState) (look : Option Request) → own ≤ ticket
       → LetsAsk s ledger tally own task look → LetsAsk s ledger (early ticket tally) own task look
   lets_early s ledger tally own task None le looked = tt
   lets_early s ledger tally own task (Some look) le (was, few, reply, serves, may) =
-      let less : All (λ (n : Noted). n.ticket < ticket) was.seen = weaker was.seen few in (
+      let less : All (λ (n : Ticketed). n.ticket < ticket) was.seen = weaker was.seen few in (
         record {
           seen = was.seen;
           later = early ticket was.later;
-          history = ap (early ticket) was.history ∙ filter-append (λ (n : Noted). nat_lt n.ticket ticket) was.seen was.later
+          history = ap (early ticket) was.history ∙ filter-append (λ (n : Ticketed). nat_lt n.ticket ticket) was.seen was.later
               ∙ ap (λ l. l ++ early ticket was.later) (early_all ticket was.seen less);
           shown = was.shown;
           leads = was.leads;
@@ -91,18 +91,18 @@ module _ (ticket : ℕ) where
         may,
       )
     where
-      weaker : (ns : List Noted) → All (λ (n : Noted). n.ticket < own) ns → All (λ (n : Noted). n.ticket < ticket) ns
-      weaker [] a = All-nil (λ (n : Noted). n.ticket < ticket)
+      weaker : (ns : List Ticketed) → All (λ (n : Ticketed). n.ticket < own) ns → All (λ (n : Ticketed). n.ticket < ticket) ns
+      weaker [] a = All-nil (λ (n : Ticketed). n.ticket < ticket)
       weaker (n ∷ ns) a =
-          let lt = All-head (λ (m : Noted). m.ticket < own) n ns a in
-          All-cons (λ (m : Noted). m.ticket < ticket) n ns (omega (arith, lt, le)) (weaker ns (All-tail (λ (m : Noted). m.ticket < own) n ns a))
+          let lt = All-head (λ (m : Ticketed). m.ticket < own) n ns a in
+          All-cons (λ (m : Ticketed). m.ticket < ticket) n ns (omega (arith, lt, le)) (weaker ns (All-tail (λ (m : Ticketed). m.ticket < own) n ns a))
 
   module _ (s : Scenario) (ledger : ℕ → LedgerId) (hs : Histories) (last : State) (shown : Shown s ledger hs last) where
     object_then : (name : Object) → (mid : StateAt name) × LeadsObject ledger name (get (start s).objects name) (entries_of (history_of name (early_histories ticket hs))) mid
     object_then name =
         let p = early_first ticket 0 (history_of name hs) (rises_ordered 0 (history_of name hs) (shown.rises name)) in
         let l = subst (λ l. LeadsObject ledger name (get (start s).objects name) l (get last.objects name))
-        (ap entries_of p.1 ∙ map-append (λ (n : Noted). n.entry) (early ticket (history_of name hs)) p.0) (shown.objects name) in
+        (ap entries_of p.1 ∙ map-append (λ (n : Ticketed). n.entry) (early ticket (history_of name hs)) p.0) (shown.objects name) in
         let r = object_split ledger name (entries_of (early ticket (history_of name hs))) (entries_of p.0) (get (start s).objects name) (get last.objects name) l in
         (r.0, subst (λ l. LeadsObject ledger name (get (start s).objects name) (entries_of l) r.0) (sym (history_early name hs)) r.1)
 
@@ -110,7 +110,7 @@ module _ (ticket : ℕ) where
     task_then place =
         let p = early_first ticket 0 (done_by place hs) (sorted_ordered (filter (is_by place) (all_of hs))) in
         let l = subst (λ l. LeadsTask (setup s) ((start s).task place) l (last.task place))
-        (ap entries_of p.1 ∙ map-append (λ (n : Noted). n.entry) (early ticket (done_by place hs)) p.0) (shown.tasks place) in
+        (ap entries_of p.1 ∙ map-append (λ (n : Ticketed). n.entry) (early ticket (done_by place hs)) p.0) (shown.tasks place) in
         let r = task_split (setup s) (entries_of (early ticket (done_by place hs))) (entries_of p.0) ((start s).task place) (last.task place) l in
         subst (λ l. LeadsTask (setup s) ((start s).task place) (entries_of l) (task_behind s place (entries_of (early ticket (done_by place hs))))) (sym (done_early place hs)) r.0
 
@@ -123,21 +123,21 @@ module _ (ticket : ℕ) where
     then_task place = refl
 
     -- what a task does of them has smaller tickets
-    ticket_few : (place : ℕ) (mine rest : List Noted) (n : Noted) → done_by place (early_histories ticket hs) ≡ mine ++ n ∷ rest → n.ticket < ticket
-    ticket_few place mine rest n is = one_of mine (subst (All (λ (m : Noted). m.ticket < ticket)) (sym (done_early place hs) ∙ is) (early_few ticket (done_by place hs)))
+    ticket_few : (place : ℕ) (mine rest : List Ticketed) (n : Ticketed) → done_by place (early_histories ticket hs) ≡ mine ++ n ∷ rest → n.ticket < ticket
+    ticket_few place mine rest n is = one_of mine (subst (All (λ (m : Ticketed). m.ticket < ticket)) (sym (done_early place hs) ∙ is) (early_few ticket (done_by place hs)))
       where
-        one_of : (ms : List Noted) → All (λ (m : Noted). m.ticket < ticket) (ms ++ n ∷ rest) → n.ticket < ticket
-        one_of [] a = All-head (λ (m : Noted). m.ticket < ticket) n rest a
-        one_of (m ∷ ms) a = one_of ms (All-tail (λ (m : Noted). m.ticket < ticket) m (ms ++ n ∷ rest) a)
+        one_of : (ms : List Ticketed) → All (λ (m : Ticketed). m.ticket < ticket) (ms ++ n ∷ rest) → n.ticket < ticket
+        one_of [] a = All-head (λ (m : Ticketed). m.ticket < ticket) n rest a
+        one_of (m ∷ ms) a = one_of ms (All-tail (λ (m : Ticketed). m.ticket < ticket) m (ms ++ n ∷ rest) a)
 
     pub shown_early : Shown s ledger (early_histories ticket hs) then_state
     unfolding then_state
     shown_early = record {
-      events = subst (All (λ (n : Noted). IsTrue (is_event n.entry.asked n.entry.reply))) (sym (all_early hs))
-          (All-filter (λ (n : Noted). nat_lt n.ticket ticket) (λ (n : Noted). IsTrue (is_event n.entry.asked n.entry.reply)) (all_of hs) shown.events);
+      events = subst (All (λ (n : Ticketed). IsTrue (is_event n.entry.asked n.entry.reply))) (sym (all_early hs))
+          (All-filter (λ (n : Ticketed). nat_lt n.ticket ticket) (λ (n : Ticketed). IsTrue (is_event n.entry.asked n.entry.reply)) (all_of hs) shown.events);
       apart = apart_early hs shown.apart;
       tagged = tagged_early hs shown.tagged;
-      rises = λ name. subst (Rises 0) (sym (history_early name hs)) (rises_filter (λ (n : Noted). nat_lt n.ticket ticket) 0 (history_of name hs) (shown.rises name));
+      rises = λ name. subst (Rises 0) (sym (history_early name hs)) (rises_filter (λ (n : Ticketed). nat_lt n.ticket ticket) 0 (history_of name hs) (shown.rises name));
       objects = λ name. subst (LeadsObject ledger name (get (start s).objects name) (entries_of (history_of name (early_histories ticket hs))))
           (sym (get_made (λ name. (object_then name).0) name)) (object_then name).1;
       tasks = task_then;

@@ -23,7 +23,7 @@ use Rattle.block_core.proofs.Unbroken.{no_task_breaks}
 use Rattle.run_merge.specs.Closing.{IsRefused}
 use Rattle.run_merge.specs.Entries.{Entry, struck}
 use Rattle.run_merge.specs.Machines.{ServesAt, LeadsObject}
-use Rattle.run_merge.specs.Merging.{Noted, Histories, entries_of, sorted, all_of, history_of, done_by, LetsAsk, Shown}
+use Rattle.run_merge.specs.Merging.{Ticketed, Histories, entries_of, sorted, all_of, history_of, done_by, LetsAsk, Shown}
 use Rattle.run_merge.specs.ObjectsByName.{StateAt, get, put}
 use Rattle.run_merge.specs.Products.{LeadsTask, AreOfRun, led_by, task_behind}
 use Rattle.run_merge.proofs.closing.Early.{early_histories, history_early, lets_early, then_state, then_task, shown_early, shown_put}
@@ -116,9 +116,9 @@ module _ (s : Scenario) (ledger : ℕ → LedgerId) (good : IsRunnable s) (namin
 
       history_is : history_of name (early_histories r.ticket hs) ≡ r.before
       history_is =
-          history_early r.ticket name hs ∙ ap (early r.ticket) r.history ∙ filter-append (λ (n : Noted). nat_lt n.ticket r.ticket) r.before r.later
+          history_early r.ticket name hs ∙ ap (early r.ticket) r.history ∙ filter-append (λ (n : Ticketed). nat_lt n.ticket r.ticket) r.before r.later
           ∙ ap (λ l. l ++ early r.ticket r.later) (early_all r.ticket r.before r.smaller)
-          ∙ ap (λ l. r.before ++ l) (early_none r.ticket r.later (All-weaker (λ (n : Noted). r.ticket < n.ticket) (λ (n : Noted). r.ticket ≤ n.ticket) (λ n lt. omega (arith, lt)) r.later r.greater))
+          ∙ ap (λ l. r.before ++ l) (early_none r.ticket r.later (All-weaker (λ (n : Ticketed). r.ticket < n.ticket) (λ (n : Ticketed). r.ticket ≤ n.ticket) (λ n lt. omega (arith, lt)) r.later r.greater))
           ∙ append-nil r.before
 
       shown_call : Shown s ledger (early_histories r.ticket hs) (record (then_state r.ticket s ledger hs left shown) { objects = put (then_state r.ticket s ledger hs left shown).objects name r.object })

@@ -16,7 +16,7 @@ use Rattle.run_merge.specs.Entries.{Entry, is_event, struck, entries_in}
 use Rattle.run_merge.specs.Machines.{LeadsObject, entries_at}
 use Rattle.run_merge.specs.ObjectsByName.{is_same, get}
 use Rattle.run_merge.specs.Products.{LeadsTask, entries_by, task_behind, AreOfRun}
-use Rattle.run_merge.specs.Merging.{Noted, Histories, entries_of, sorted, all_of, history_of, done_by, TallyThen, LetsAsk, Shown, MergesAreRuns}
+use Rattle.run_merge.specs.Merging.{Ticketed, Histories, entries_of, sorted, all_of, history_of, done_by, TallyThen, LetsAsk, Shown, MergesAreRuns}
 use Rattle.run_merge.proofs.merging.Picked.{is_at, is_by, entries_filter, merge_at, merge_by, merge_entries_at, merge_entries_by}
 use Rattle.run_merge.proofs.merging.Splits.{cut, object_split, task_split, smaller_first}
 use Rattle.run_merge.proofs.merging.Tally.{IsLater, from_there}
@@ -28,13 +28,13 @@ use Rattle.run_merge.proofs.products.Lets.{ComesBehind, comes_by}
 use Rattle.run_merge.proofs.products.Parts.{run_objects}
 
 module _ (s : Scenario) (ledger : ℕ → LedgerId) (good : IsScenario s) (naming : IsNaming ledger) (hs : Histories) (last : State) (shown : Shown s ledger hs last) where
-  merged : List Noted
+  merged : List Ticketed
   merged = sorted (all_of hs)
 
   -- What a task saw of the tally still lets it ask when it draws its ticket: the tally that it saw is an earlier one.
-  module _ (between : List Entry) (state : State) (reached : AreOfRun s ledger between state) (ticket : ℕ) (before after : List Noted)
+  module _ (between : List Entry) (state : State) (reached : AreOfRun s ledger between state) (ticket : ℕ) (before after : List Ticketed)
       (all : sorted (all_of hs) ≡ before ++ after) (above : Ordered ticket after) (entries : entries_of before ≡ between) where
-    is_later : (was : TallyThen s ledger (history_of OfTally hs)) → All (λ (n : Noted). n.ticket < ticket) was.seen → IsLater was.shown state.objects.tally
+    is_later : (was : TallyThen s ledger (history_of OfTally hs)) → All (λ (n : Ticketed). n.ticket < ticket) was.seen → IsLater was.shown state.objects.tally
     is_later was few =
         let history : filter (is_at OfTally) before ++ filter (is_at OfTally) after ≡ was.seen ++ was.later =
         sym (filter-append (is_at OfTally) before after) ∙ ap (filter (is_at OfTally)) (sym all)
@@ -43,7 +43,7 @@ module _ (s : Scenario) (ledger : ℕ → LedgerId) (good : IsScenario s) (namin
         (ordered_filter (is_at OfTally) ticket after above) few in
         let own : entries_at OfTally (entries_in (scene s ledger) (start s) reached.0 state reached.1) ≡ entries_of was.seen ++ entries_of more.0 =
         ap (entries_at OfTally) (reached.2 ∙ sym entries) ∙ entries_filter (λ (e : Entry). is_same OfTally (object_of e.asked)) before
-        ∙ ap entries_of more.1 ∙ map-append (λ (n : Noted). n.entry) was.seen more.0 in
+        ∙ ap entries_of more.1 ∙ map-append (λ (n : Ticketed). n.entry) was.seen more.0 in
         let run = subst (λ l. LeadsObject ledger OfTally (start s).objects.tally l state.objects.tally) own
         (run_objects (scene s ledger) OfTally (start s) reached.0 state reached.1) in
         let parts = object_split ledger OfTally (entries_of was.seen) (entries_of more.0) (start s).objects.tally state.objects.tally run in
@@ -82,7 +82,7 @@ module _ (s : Scenario) (ledger : ℕ → LedgerId) (good : IsScenario s) (namin
     still_let place (Keeper (Stops breach)) at looked = tt
 
   -- so its entry stands behind all that it has to
-  comes_here : (between : List Entry) (state : State) (reached : AreOfRun s ledger between state) (before after : List Noted) (here : Noted)
+  comes_here : (between : List Entry) (state : State) (reached : AreOfRun s ledger between state) (before after : List Ticketed) (here : Ticketed)
       → sorted (all_of hs) ≡ before ++ here ∷ after → entries_of before ≡ between → ComesBehind s between (state.task here.entry.place) here.entry.asked
   comes_here between state reached before after here all entries =
       let place = here.entry.place in
@@ -95,7 +95,7 @@ module _ (s : Scenario) (ledger : ℕ → LedgerId) (good : IsScenario s) (namin
       let task_is : state.task place ≡ task =
       b.mine place ∙ ap (task_behind s place) (ap (entries_by place) (sym entries) ∙ entries_filter (λ (e : Entry). place == e.place) before) in
       let led = subst (λ l. LeadsTask (setup s) ((start s).task place) l (last.task place))
-      (ap entries_of own ∙ map-append (λ (n : Noted). n.entry) mine (here ∷ filter (is_by place) after)) (shown.tasks place) in
+      (ap entries_of own ∙ map-append (λ (n : Ticketed). n.entry) mine (here ∷ filter (is_by place) after)) (shown.tasks place) in
       let asks : here.entry.asked ≡ struck (request (setup s) task) =
       (task_split (setup s) (entries_of mine) (here.entry ∷ entries_of (filter (is_by place) after)) ((start s).task place) (last.task place) led).1.0 in
       let above = (ordered_split 0 before (here ∷ after) (subst (Ordered 0) all (sorted_ordered (all_of hs)))).1.1 in
@@ -113,8 +113,8 @@ module _ (s : Scenario) (ledger : ℕ → LedgerId) (good : IsScenario s) (namin
   pub merge_runs : AreOfRun s ledger (entries_of (sorted (all_of hs))) last
   merge_runs =
       leads s ledger good naming [] (entries_of (sorted (all_of hs))) (start s) last (at_start s ledger)
-      (All-map (λ (e : Entry). IsTrue (is_event e.asked e.reply)) (λ (n : Noted). n.entry) (sorted (all_of hs))
-      (all_sorted (λ (n : Noted). IsTrue (is_event n.entry.asked n.entry.reply)) (all_of hs) shown.events))
+      (All-map (λ (e : Entry). IsTrue (is_event e.asked e.reply)) (λ (n : Ticketed). n.entry) (sorted (all_of hs))
+      (all_sorted (λ (n : Ticketed). IsTrue (is_event n.entry.asked n.entry.reply)) (all_of hs) shown.events))
       (λ name. subst (λ l. LeadsObject ledger name (get (start s).objects name) l (get last.objects name)) (sym (merge_entries_at hs shown.apart shown.tagged shown.rises name)) (shown.objects name))
       (λ place. subst (λ l. LeadsTask (setup s) ((start s).task place) l (last.task place)) (sym (merge_entries_by hs place)) (shown.tasks place))
       comes

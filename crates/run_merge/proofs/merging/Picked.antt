@@ -8,16 +8,16 @@ use Rattle.run_merge.specs.Entries.{Entry}
 use Rattle.run_merge.specs.Machines.{entries_at}
 use Rattle.run_merge.specs.ObjectsByName.{is_same}
 use Rattle.run_merge.specs.Products.{entries_by}
-use Rattle.run_merge.specs.Merging.{Noted, Histories, entries_of, sorted, Rises, all_of, history_of, AreApart, AreTagged, done_by}
+use Rattle.run_merge.specs.Merging.{Ticketed, Histories, entries_of, sorted, Rises, all_of, history_of, AreApart, AreTagged, done_by}
 use Rattle.run_merge.proofs.merging.Tickets.{rising_sorted, filter_sorted}
 use Rattle.run_merge.proofs.products.Names.{same_is}
 
-pub entries_filter : (q : Entry → Bool) (ns : List Noted) → filter q (entries_of ns) ≡ entries_of (filter (λ (n : Noted). q n.entry) ns)
+pub entries_filter : (q : Entry → Bool) (ns : List Ticketed) → filter q (entries_of ns) ≡ entries_of (filter (λ (n : Ticketed). q n.entry) ns)
 entries_filter q [] = refl
 entries_filter q (n ∷ ns) = by_test (q n.entry) (entries_filter q ns)
   where
-    rest : List Noted
-    rest = filter (λ (x : Noted). q x.entry) ns
+    rest : List Ticketed
+    rest = filter (λ (x : Ticketed). q x.entry) ns
 
     by_test : (b : Bool) → filter q (entries_of ns) ≡ entries_of rest
         → cond b (n.entry ∷ filter q (entries_of ns)) (filter q (entries_of ns)) ≡ entries_of (cond b (n ∷ rest) rest)
@@ -25,7 +25,7 @@ entries_filter q (n ∷ ns) = by_test (q n.entry) (entries_filter q ns)
     by_test false is = is
 
 -- it does not matter which test comes first
-pub filter_swap : (p q : Noted → Bool) (ns : List Noted) → filter p (filter q ns) ≡ filter q (filter p ns)
+pub filter_swap : (p q : Ticketed → Bool) (ns : List Ticketed) → filter p (filter q ns) ≡ filter q (filter p ns)
 filter_swap p q [] = refl
 filter_swap p q (n ∷ ns) = by_tests (p n) (q n) refl refl (filter_swap p q ns)
   where
@@ -38,29 +38,29 @@ filter_swap p q (n ∷ ns) = by_tests (p n) (q n) refl refl (filter_swap p q ns)
     by_tests false true x y is = ap (λ b. cond b (n ∷ filter p (filter q ns)) (filter p (filter q ns))) x ∙ is
     by_tests false false x y is = is
 
-abbrev pub is_at : Object → Noted → Bool
+abbrev pub is_at : Object → Ticketed → Bool
 is_at name n = is_same name (object_of n.entry.asked)
 
-abbrev pub is_by : ℕ → Noted → Bool
+abbrev pub is_by : ℕ → Ticketed → Bool
 is_by place n = place == n.entry.place
 
 -- of all entries, those at an object are its history
-pick_tagged : (name other : Object) (same : Bool) → is_same name other ≡ same → (ns : List Noted) → All (λ (n : Noted). object_of n.entry.asked ≡ other) ns
+pick_tagged : (name other : Object) (same : Bool) → is_same name other ≡ same → (ns : List Ticketed) → All (λ (n : Ticketed). object_of n.entry.asked ≡ other) ns
     → filter (is_at name) ns ≡ cond same ns []
 pick_tagged name other true same [] a = refl
 pick_tagged name other false same [] a = refl
 pick_tagged name other true same (n ∷ ns) a =
-    ap (λ b. cond b (n ∷ filter (is_at name) ns) (filter (is_at name) ns)) (ap (is_same name) (All-head (λ (x : Noted). object_of x.entry.asked ≡ other) n ns a) ∙ same)
-    ∙ ap (λ l. n ∷ l) (pick_tagged name other true same ns (All-tail (λ (x : Noted). object_of x.entry.asked ≡ other) n ns a))
+    ap (λ b. cond b (n ∷ filter (is_at name) ns) (filter (is_at name) ns)) (ap (is_same name) (All-head (λ (x : Ticketed). object_of x.entry.asked ≡ other) n ns a) ∙ same)
+    ∙ ap (λ l. n ∷ l) (pick_tagged name other true same ns (All-tail (λ (x : Ticketed). object_of x.entry.asked ≡ other) n ns a))
 pick_tagged name other false same (n ∷ ns) a =
-    ap (λ b. cond b (n ∷ filter (is_at name) ns) (filter (is_at name) ns)) (ap (is_same name) (All-head (λ (x : Noted). object_of x.entry.asked ≡ other) n ns a) ∙ same)
-    ∙ pick_tagged name other false same ns (All-tail (λ (x : Noted). object_of x.entry.asked ≡ other) n ns a)
+    ap (λ b. cond b (n ∷ filter (is_at name) ns) (filter (is_at name) ns)) (ap (is_same name) (All-head (λ (x : Ticketed). object_of x.entry.asked ≡ other) n ns a) ∙ same)
+    ∙ pick_tagged name other false same ns (All-tail (λ (x : Ticketed). object_of x.entry.asked ≡ other) n ns a)
 
-none_among : (name : Object) (hs : Histories) → All (λ (other : Object × List Noted). is_same name other.0 ≡ false) hs → history_of name hs ≡ []
+none_among : (name : Object) (hs : Histories) → All (λ (other : Object × List Ticketed). is_same name other.0 ≡ false) hs → history_of name hs ≡ []
 none_among name [] apart = refl
 none_among name (h ∷ hs) apart =
-    ap (λ b. if b then h.1 else history_of name hs) (All-head (λ (other : Object × List Noted). is_same name other.0 ≡ false) h hs apart)
-    ∙ none_among name hs (All-tail (λ (other : Object × List Noted). is_same name other.0 ≡ false) h hs apart)
+    ap (λ b. if b then h.1 else history_of name hs) (All-head (λ (other : Object × List Ticketed). is_same name other.0 ≡ false) h hs apart)
+    ∙ none_among name hs (All-tail (λ (other : Object × List Ticketed). is_same name other.0 ≡ false) h hs apart)
 
 pub at_is : (name : Object) (hs : Histories) → AreApart hs → AreTagged hs → filter (is_at name) (all_of hs) ≡ history_of name hs
 at_is name [] apart tagged = refl

@@ -9,7 +9,7 @@ use Rattle.run_machine.specs.Scene.{Setup}
 use Rattle.run_machine.specs.Tasks.{TaskState, answered}
 use Rattle.run_merge.specs.Entries.{Entry}
 use Rattle.run_merge.specs.Machines.{LeadsObject}
-use Rattle.run_merge.specs.Merging.{Noted, entries_of}
+use Rattle.run_merge.specs.Merging.{Ticketed, entries_of}
 use Rattle.run_merge.specs.ObjectsByName.{StateAt}
 use Rattle.run_merge.specs.Products.{LeadsTask, led_by}
 use Rattle.run_merge.proofs.merging.Tickets.{Ordered}
@@ -27,15 +27,15 @@ task_split setup [] ys old new l = (refl, l)
 task_split setup (x ∷ xs) ys old new l = let r = task_split setup xs ys (answered setup old x.reply) new l.1 in ((l.0, r.0), r.1)
 
 -- a list of entries that is cut, with its tickets
-pub record IsCut (ns : List Noted) (between : List Entry) (e : Entry) : Type 0 where
-  pub before : List Noted
-  pub here : Noted
-  pub after : List Noted
+pub record IsCut (ns : List Ticketed) (between : List Entry) (e : Entry) : Type 0 where
+  pub before : List Ticketed
+  pub here : Ticketed
+  pub after : List Ticketed
   pub all : ns ≡ before ++ here ∷ after
   pub entries : entries_of before ≡ between
   pub entry : here.entry ≡ e
 
-pub cut : (ns : List Noted) (between after : List Entry) (e : Entry) → entries_of ns ≡ between ++ e ∷ after → IsCut ns between e
+pub cut : (ns : List Ticketed) (between after : List Entry) (e : Entry) → entries_of ns ≡ between ++ e ∷ after → IsCut ns between e
 cut [] [] after e is = absurd (true≢false (ap is_none is))
 cut [] (b ∷ between) after e is = absurd (true≢false (ap is_none is))
 cut (n ∷ ns) [] after e is = record { before = []; here = n; after = ns; all = refl; entries = refl; entry = ap (first_or e) is }
@@ -45,16 +45,16 @@ cut (n ∷ ns) (b ∷ between) after e is =
     record { before = n ∷ c.before; here = c.here; after = c.after; all = ap (λ l. n ∷ l) c.all; entries = λ i. head i ∷ c.entries i; entry = c.entry }
 
 -- of a list that is cut twice, what has smaller tickets than the second part of a cut is in its first part
-pub smaller_first : (ticket : ℕ) (xs ys seen later : List Noted) → xs ++ ys ≡ seen ++ later → Ordered ticket ys → All (λ (n : Noted). n.ticket < ticket) seen
-    → (rest : List Noted) × (xs ≡ seen ++ rest)
+pub smaller_first : (ticket : ℕ) (xs ys seen later : List Ticketed) → xs ++ ys ≡ seen ++ later → Ordered ticket ys → All (λ (n : Ticketed). n.ticket < ticket) seen
+    → (rest : List Ticketed) × (xs ≡ seen ++ rest)
 smaller_first ticket xs ys [] later is above few = (xs, refl)
 smaller_first ticket [] [] (n ∷ seen) later is above few = absurd (true≢false (ap is_none is))
 smaller_first ticket [] (y ∷ ys) (n ∷ seen) later is above few =
-    let same = ap (λ (m : Noted). m.ticket) (ap (first_or n) is) in
+    let same = ap (λ (m : Ticketed). m.ticket) (ap (first_or n) is) in
     let le = above.0 in
-    let lt = All-head (λ (m : Noted). m.ticket < ticket) n seen few in
+    let lt = All-head (λ (m : Ticketed). m.ticket < ticket) n seen few in
     absurd (omega (arith, same, le, lt))
 smaller_first ticket (x ∷ xs) ys (n ∷ seen) later is above few =
     let head : x ≡ n = ap (first_or n) is in
-    let rest = smaller_first ticket xs ys seen later (ap behind_first is) above (All-tail (λ (m : Noted). m.ticket < ticket) n seen few) in
+    let rest = smaller_first ticket xs ys seen later (ap behind_first is) above (All-tail (λ (m : Ticketed). m.ticket < ticket) n seen few) in
     (rest.0, λ i. head i ∷ rest.1 i)
