@@ -5,3 +5,4 @@ pub mod Products
 pub mod Numbers
 pub mod Merging
 pub mod Closing
+pub mod Joining
