@@ -18,8 +18,8 @@ use Rattle.task_core.specs.Plains.{stage_of}
 use Rattle.run_machine.specs.Opened.{scene, start}
 use Rattle.run_machine.specs.Scenario.{scenario_of}
 use Rattle.block_core.specs.Runnable.{IsRunnable}
-use Rattle.block_core.proofs.Claim.{accepted_texts_run_as_claimed}
-use Rattle.block_core.proofs.Runnable.{accepted_texts_are_runnable, steps_are_few}
+use Rattle.block_core.proofs.claim.Claim.{accepted_texts_run_as_claimed}
+use Rattle.block_core.proofs.claim.Runnable.{accepted_texts_are_runnable, steps_are_few}
 use Rattle.rand_pcg.specs.Lcg.{Lcg}
 use Rattle.serial_run.specs.Schedule.{Follows}
 use Rattle.serial_run.specs.Serial.{IsSerialRun}

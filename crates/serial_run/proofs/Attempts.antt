@@ -30,7 +30,7 @@ use Rattle.run_machine.proofs.Frames.{upd_same, upd_other, upd_own}
 use Rattle.task_steps.proofs.Named.{tasks_name_the_stack}
 use Rattle.task_core.proofs.opened.Seen.{steps_are_events}
 use Rattle.task_steps.proofs.Turned.{turns_home}
-use Rattle.block_core.proofs.Sums.{same_or_not}
+use Rattle.block_core.proofs.moves.Sums.{same_or_not}
 use Rattle.serial_run.specs.Schedule.{word, behind, Picks}
 use Rattle.serial_run.specs.Turning.{GoesWell, Hands, Tried}
 use Rattle.serial_run.proofs.Breaks.{unbroken}

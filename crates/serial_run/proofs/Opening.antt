@@ -23,7 +23,7 @@ use Rattle.run_machine.specs.Scene.{Scene, Setup, is_disk, keeps_data}
 use Rattle.task_steps.specs.TaskViews.{TaskOf}
 use Rattle.run_machine.specs.Tasks.{TaskState}
 use Rattle.block_core.specs.Scenarios.{IsScenario, HasReserves, AreInOrder}
-use Rattle.block_core.proofs.PostStarts.{start_crew}
+use Rattle.block_core.proofs.start.PostsAtStart.{start_crew}
 use Rattle.serial_run.proofs.Disks.{is_disk_kind, by_kind}
 
 module _ (o : Opened) (is : IsOpened o) where

@@ -24,10 +24,10 @@ use Rattle.task_steps.specs.TaskViews.{TaskOf}
 use Rattle.block_core.specs.Bounded.{most_steps}
 use Rattle.block_core.specs.Runnable.{IsRunnable}
 use Rattle.block_core.specs.Scenarios.{IsNaming}
-use Rattle.block_core.proofs.Bounded.{runs_are_bounded}
-use Rattle.block_core.proofs.Ending.{runs_end_with_their_writes, started_rounds_are_there}
-use Rattle.block_core.proofs.NeverStuck.{no_allowed_state_is_stuck}
-use Rattle.block_core.proofs.Unbroken.{no_task_breaks}
+use Rattle.block_core.proofs.bound.Bounded.{runs_are_bounded}
+use Rattle.block_core.proofs.stuck.RunsEnd.{runs_end_with_their_writes, started_rounds_are_there}
+use Rattle.block_core.proofs.stuck.NeverStuck.{no_allowed_state_is_stuck}
+use Rattle.block_core.proofs.unrefused.Unbroken.{no_task_breaks}
 use Rattle.serial_run.specs.Schedule.{Follows, IsTurn}
 use Rattle.serial_run.specs.Serial.{HandsOn, IsSerialRun}
 use Rattle.serial_run.specs.Turning.{GoesWell, Turned}

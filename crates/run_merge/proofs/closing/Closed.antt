@@ -12,11 +12,11 @@ use Rattle.run_machine.specs.Opened.{Scenario, scene, start, tasks}
 use Rattle.run_machine.specs.Runs.{State, IsRun, HasFree, HasEnded, unfinished}
 use Rattle.block_core.specs.Runnable.{IsRunnable}
 use Rattle.block_core.specs.Scenarios.{IsNaming}
-use Rattle.block_core.proofs.Bounded.{runs_are_bounded}
-use Rattle.block_core.proofs.Ending.{runs_end_with_their_writes}
-use Rattle.block_core.proofs.NeverStuck.{each_run_goes_on_or_has_ended}
-use Rattle.block_core.proofs.Runnable.{steps_are_few}
-use Rattle.block_core.proofs.Unbroken.{no_task_breaks}
+use Rattle.block_core.proofs.bound.Bounded.{runs_are_bounded}
+use Rattle.block_core.proofs.stuck.RunsEnd.{runs_end_with_their_writes}
+use Rattle.block_core.proofs.stuck.NeverStuck.{each_run_goes_on_or_has_ended}
+use Rattle.block_core.proofs.claim.Runnable.{steps_are_few}
+use Rattle.block_core.proofs.unrefused.Unbroken.{no_task_breaks}
 use Rattle.run_merge.specs.Closing.{IsThrough, IsRefused, HasLast, IsClosed, HasMerged, ClosedRunsEnd}
 use Rattle.run_merge.specs.Machines.{LeadsObject}
 use Rattle.run_merge.specs.Merging.{Ticketed, Histories, entries_of, sorted, all_of, history_of, TallyThen, Shown}

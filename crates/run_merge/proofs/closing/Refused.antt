@@ -18,8 +18,8 @@ use Rattle.block_core.specs.Breaks.{is_broken}
 use Rattle.block_core.specs.Replies.{IsEventOrNothing}
 use Rattle.block_core.specs.Runnable.{IsRunnable}
 use Rattle.block_core.specs.Scenarios.{IsNaming}
-use Rattle.block_core.proofs.Answered.{replies_are_events}
-use Rattle.block_core.proofs.Unbroken.{no_task_breaks}
+use Rattle.block_core.proofs.unrefused.Answered.{replies_are_events}
+use Rattle.block_core.proofs.unrefused.Unbroken.{no_task_breaks}
 use Rattle.run_merge.specs.Closing.{IsRefused}
 use Rattle.run_merge.specs.Entries.{Entry, struck}
 use Rattle.run_merge.specs.Machines.{ServesAt, LeadsObject}

@@ -11,15 +11,15 @@ use Rattle.block_core.specs.Rounds.{round_of, is_of_round}
 use Rattle.block_core.specs.Scenarios.{IsScenario, IsNaming}
 use Rattle.block_core.specs.Dones.{times_done}
 use Rattle.block_core.specs.Weights.{total, one}
-use Rattle.block_core.proofs.Charged.{below_or}
-use Rattle.block_core.proofs.DoneOnce.{stage}
-use Rattle.block_core.proofs.Grounds.{ground}
-use Rattle.block_core.proofs.Kept.{Fair}
-use Rattle.block_core.proofs.Orders.{Ground}
-use Rattle.block_core.proofs.Rounds.{DutiesFit, TaskRounds, Tallied}
-use Rattle.block_core.proofs.RoundStarts.{keeper_place, start_tallied}
-use Rattle.block_core.proofs.Sums.{one-same, one-other, same_or_not}
-use Rattle.block_core.proofs.Wholes.{Whole, runs_whole, runs_done, runs_tallied, start_whole, stage_once}
+use Rattle.block_core.proofs.bound.EventCharges.{below_or}
+use Rattle.block_core.proofs.sound.DoneOnce.{stage}
+use Rattle.block_core.proofs.moves.Devices.{ground}
+use Rattle.block_core.proofs.sound.Facts.{Fair}
+use Rattle.block_core.proofs.sound.Orders.{Ground}
+use Rattle.block_core.proofs.sound.Rounds.{DutiesFit, TaskRounds, Tallied}
+use Rattle.block_core.proofs.start.TallyAtStart.{keeper_place, start_tallied}
+use Rattle.block_core.proofs.moves.Sums.{one-same, one-other, same_or_not}
+use Rattle.block_core.proofs.sound.Wholes.{Whole, runs_whole, runs_done, runs_tallied, start_whole, stage_once}
 use Rattle.run_merge.specs.Entries.{Entry}
 use Rattle.run_merge.specs.Products.{AreDone, AreOfRun}
 use Rattle.run_merge.proofs.products.Ends.{ends, ended_is_told, told_is_ended}

@@ -20,7 +20,7 @@ use Rattle.run_machine.specs.Scene.{Scene}
 use Rattle.run_machine.specs.Tasks.{TaskState, request, answered}
 use Rattle.run_machine.proofs.Frames.{upd_same, upd_other}
 use Rattle.block_core.specs.Scenarios.{IsScenario, IsNaming}
-use Rattle.block_core.proofs.Charged.{below_or}
+use Rattle.block_core.proofs.bound.EventCharges.{below_or}
 use Rattle.run_merge.specs.Entries.{Entry, AreEvents, is_event, struck}
 use Rattle.run_merge.specs.Machines.{ServesAt, LeadsObject, entries_at}
 use Rattle.run_merge.specs.ObjectsByName.{is_same, StateAt, get, put}

@@ -13,12 +13,12 @@ use Rattle.run_machine.specs.Runs.{State}
 use Rattle.block_core.specs.Rounds.{tops, tops_left, all_worth, unfinished_of}
 use Rattle.block_core.specs.Scenarios.{IsScenario}
 use Rattle.block_core.specs.Weights.{total, one}
-use Rattle.block_core.proofs.Calm.{zero_or}
-use Rattle.block_core.proofs.DoneOnce.{to_begin, top_role, top_parent, stage}
-use Rattle.block_core.proofs.Kept.{Kept}
-use Rattle.block_core.proofs.Parts.{under_in_all}
-use Rattle.block_core.proofs.RoundStarts.{numbered, unfinished_at_start}
-use Rattle.block_core.proofs.Sums.{one-same, one-other, same_or_not}
+use Rattle.block_core.proofs.stuck.NothingWaits.{zero_or}
+use Rattle.block_core.proofs.sound.DoneOnce.{to_begin, top_role, top_parent, stage}
+use Rattle.block_core.proofs.sound.Facts.{Kept}
+use Rattle.block_core.proofs.moves.SumsCompared.{under_in_all}
+use Rattle.block_core.proofs.start.TallyAtStart.{numbered, unfinished_at_start}
+use Rattle.block_core.proofs.moves.Sums.{one-same, one-other, same_or_not}
 
 -- what is in stage is unfinished: two words for one weight
 begin_is : (w : ℕ) (ts : List Todo) → to_begin w ts ≡ all_worth (λ n. one n w) ts

@@ -1,4 +1,4 @@
-use Rattle.block_core.proofs.Runnable.{accepted_texts_are_runnable, steps_are_few}
+use Rattle.block_core.proofs.claim.Runnable.{accepted_texts_are_runnable, steps_are_few}
 use Rattle.block_core.proofs.laws.accepted_texts_are_runnable.Goals as goal
 
 -- src/laws.rt

@@ -1,4 +1,4 @@
-use Rattle.block_core.proofs.LaidOnce.{ended_runs_leave_the_same, laid_is_one}
+use Rattle.block_core.proofs.images.LaidOnce.{ended_runs_leave_the_same, laid_is_one}
 use Rattle.block_core.proofs.laws.ended_runs_leave_the_same.Goals as goal
 
 -- src/laws.rt

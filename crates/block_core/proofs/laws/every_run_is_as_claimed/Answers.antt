@@ -1,4 +1,4 @@
-use Rattle.block_core.proofs.Claim.{accepted_texts_run_as_claimed, every_run_is_as_claimed}
+use Rattle.block_core.proofs.claim.Claim.{accepted_texts_run_as_claimed, every_run_is_as_claimed}
 use Rattle.block_core.proofs.laws.every_run_is_as_claimed.Goals as goal
 
 -- src/laws.rt

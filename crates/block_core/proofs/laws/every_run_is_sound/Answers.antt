@@ -1,4 +1,4 @@
-use Rattle.block_core.proofs.Soundness.{every_run_is_sound}
+use Rattle.block_core.proofs.sound.Soundness.{every_run_is_sound}
 use Rattle.block_core.proofs.laws.every_run_is_sound.Goals as goal
 
 -- src/laws.rt

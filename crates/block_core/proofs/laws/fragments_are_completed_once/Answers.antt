@@ -1,5 +1,5 @@
-use Rattle.block_core.proofs.Completed.{fragments_add_up}
-use Rattle.block_core.proofs.PlannedOnce.{none_is_completed_twice, no_other_is_completed, each_is_completed_once}
+use Rattle.block_core.proofs.images.Completed.{fragments_add_up}
+use Rattle.block_core.proofs.images.PlannedOnce.{none_is_completed_twice, no_other_is_completed, each_is_completed_once}
 use Rattle.block_core.proofs.laws.fragments_are_completed_once.Goals as goal
 
 -- src/laws.rt

@@ -1,4 +1,4 @@
-use Rattle.block_core.proofs.Held.{images_are_of_completed}
+use Rattle.block_core.proofs.images.ImageData.{images_are_of_completed}
 use Rattle.block_core.proofs.laws.images_are_of_completed.Goals as goal
 
 -- src/laws.rt

@@ -1,4 +1,4 @@
-use Rattle.block_core.proofs.Few.{outs_are_few, ends_are_few, no_counter_is_full}
+use Rattle.block_core.proofs.sound.Few.{outs_are_few, ends_are_few, no_counter_is_full}
 use Rattle.block_core.proofs.laws.no_counter_is_full.Goals as goal
 
 -- src/laws.rt

@@ -1,5 +1,5 @@
-use Rattle.block_core.proofs.NeverStuck.{no_allowed_state_is_stuck}
-use Rattle.block_core.proofs.Wholes.{no_state_is_stuck}
+use Rattle.block_core.proofs.stuck.NeverStuck.{no_allowed_state_is_stuck}
+use Rattle.block_core.proofs.sound.Wholes.{no_state_is_stuck}
 use Rattle.block_core.proofs.laws.no_state_is_stuck.Goals as goal
 
 -- src/laws.rt

@@ -1,5 +1,5 @@
-use Rattle.block_core.proofs.Answered.{replies_are_events}
-use Rattle.block_core.proofs.Unbroken.{no_task_breaks}
+use Rattle.block_core.proofs.unrefused.Answered.{replies_are_events}
+use Rattle.block_core.proofs.unrefused.Unbroken.{no_task_breaks}
 use Rattle.block_core.proofs.laws.no_task_breaks.Goals as goal
 
 -- src/laws.rt

@@ -1,4 +1,4 @@
-use Rattle.block_core.proofs.OfOneWrite.{all_of_one_write}
+use Rattle.block_core.proofs.sound.OfOneWrite.{all_of_one_write}
 use Rattle.block_core.proofs.laws.nodes_are_of_one_write.Goals as goal
 
 -- src/laws.rt

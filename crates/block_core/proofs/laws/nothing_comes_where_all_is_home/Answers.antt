@@ -1,5 +1,5 @@
-use Rattle.block_core.proofs.Ends.{nothing_comes_where_ended}
-use Rattle.block_core.proofs.Homes.{nothing_comes_where_all_is_home}
+use Rattle.block_core.proofs.images.EndedRuns.{nothing_comes_where_ended}
+use Rattle.block_core.proofs.images.NothingComes.{nothing_comes_where_all_is_home}
 use Rattle.block_core.proofs.laws.nothing_comes_where_all_is_home.Goals as goal
 
 -- src/laws.rt

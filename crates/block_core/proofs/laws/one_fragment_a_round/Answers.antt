@@ -1,4 +1,4 @@
-use Rattle.block_core.proofs.ImagesLaid.{one_fragment_a_round}
+use Rattle.block_core.proofs.images.ImagesLaid.{one_fragment_a_round}
 use Rattle.block_core.proofs.laws.one_fragment_a_round.Goals as goal
 
 -- src/laws.rt

@@ -1,4 +1,4 @@
-use Rattle.block_core.proofs.RoundByRound.{rounds_come_in_order}
+use Rattle.block_core.proofs.images.RoundByRound.{rounds_come_in_order}
 use Rattle.block_core.proofs.laws.rounds_come_in_order.Goals as goal
 
 -- src/laws.rt

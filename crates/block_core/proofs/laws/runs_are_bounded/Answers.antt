@@ -1,4 +1,4 @@
-use Rattle.block_core.proofs.Bounded.{events_lower_rank, opened_rank_is_bounded, runs_are_bounded, outs_are_bounded}
+use Rattle.block_core.proofs.bound.Bounded.{events_lower_rank, opened_rank_is_bounded, runs_are_bounded, outs_are_bounded}
 use Rattle.block_core.proofs.laws.runs_are_bounded.Goals as goal
 
 -- src/laws.rt

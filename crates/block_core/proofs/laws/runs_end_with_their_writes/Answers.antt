@@ -1,4 +1,4 @@
-use Rattle.block_core.proofs.Ending.{runs_end_with_their_writes}
+use Rattle.block_core.proofs.stuck.RunsEnd.{runs_end_with_their_writes}
 use Rattle.block_core.proofs.laws.runs_end_with_their_writes.Goals as goal
 
 -- src/laws.rt

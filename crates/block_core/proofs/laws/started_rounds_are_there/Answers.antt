@@ -1,4 +1,4 @@
-use Rattle.block_core.proofs.Ending.{started_rounds_are_there}
+use Rattle.block_core.proofs.stuck.RunsEnd.{started_rounds_are_there}
 use Rattle.block_core.proofs.laws.started_rounds_are_there.Goals as goal
 
 -- src/laws.rt

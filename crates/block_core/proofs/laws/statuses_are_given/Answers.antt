@@ -1,4 +1,4 @@
-use Rattle.block_core.proofs.Statuses.{nodes_are_valued, statuses_are_given, ended_statuses_are_given}
+use Rattle.block_core.proofs.status.Statuses.{nodes_are_valued, statuses_are_given, ended_statuses_are_given}
 use Rattle.block_core.proofs.laws.statuses_are_given.Goals as goal
 
 -- src/laws.rt

@@ -1,7 +1,7 @@
 use Rattle.std.proofs.Common.{◌-◌, ◌<◌, ◌≤◌, ◌+◌, sym, subst, arith}
 use Rattle.task_core.specs.opened.OfOne.{scenario_in}
 use Rattle.block_core.specs.Bounded.{most_steps}
-use Rattle.block_core.proofs.Runnable.{steps_are_few}
+use Rattle.block_core.proofs.claim.Runnable.{steps_are_few}
 use Rattle.serial_run.proofs.UnderWay.{IsUnderWay, starts, well, free, few, turns, some_task, ends}
 use Rattle.serial_run.proofs.run.run_serial.Goals as goal
 

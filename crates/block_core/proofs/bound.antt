@@ -1,0 +1,5 @@
+pub mod RunCharges
+pub mod DeviceCharges
+pub mod EventCharges
+pub mod ChargesAtStart
+pub mod Bounded

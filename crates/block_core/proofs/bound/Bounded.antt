@@ -1,0 +1,120 @@
+-- Every event of every run lowers the rank, so no run has more events than the rank at its start.
+use Rattle.std.proofs.Common.{◌+◌, ◌*◌, ◌≤◌, ℕ, List, [], ◌∷◌, length, inl, inr, refl, sym, ap, subst, arith}
+use Rattle.elem_ledger.specs.Ledger.{LedgerId}
+use Rattle.run_machine.specs.declared.event.Event.{Event}
+use Rattle.mempool_core.specs.Move.{PoolState, Move as PoolMove, after_move, takes_ordinary, takes_spare, misses, gives, resizes}
+use Rattle.stack_base.specs.PoolId.{pool_number}
+use Rattle.run_machine.specs.Maps.{upd}
+use Rattle.run_machine.specs.Scene.{Scene}
+use Rattle.run_machine.specs.Opened.{Scenario, scene, start, setup as setup_in}
+use Rattle.run_machine.specs.Runs.{State, Steps, IsRun}
+use Rattle.block_core.specs.Charges.{charged, spent, rank, EventsLowerRank}
+use Rattle.block_core.specs.Scenarios.{IsScenario, IsNaming}
+use Rattle.block_core.specs.Bounded.{most_steps, OpenedRankIsBounded, OutsAreBounded, RunsAreBounded}
+use Rattle.block_core.proofs.moves.Moves.{Move, after}
+use Rattle.block_core.proofs.moves.Moves as moves
+use Rattle.block_core.proofs.moves.Sums.{upd-same, upd-other, same_or_not}
+use Rattle.block_core.proofs.sound.Facts.{Fair}
+use Rattle.block_core.proofs.sound.Orders.{Ground}
+use Rattle.block_core.proofs.moves.Devices.{ground}
+use Rattle.block_core.proofs.moves.StepMoves.{step_is_move}
+use Rattle.block_core.proofs.bound.DeviceCharges.{Priced, priced}
+use Rattle.block_core.proofs.bound.EventCharges.{lowers, covers}
+use Rattle.block_core.proofs.bound.ChargesAtStart.{start_charge}
+use Rattle.block_core.proofs.sound.Wholes.{Whole, runs_whole, start_whole}
+
+-- an event takes one element out of a pool at most
+move_out : (pool : PoolState) (move : PoolMove) → (after_move pool move).facts.out ≤ pool.facts.out + 1
+move_out pool takes_ordinary = omega arith
+move_out pool takes_spare = omega arith
+move_out pool (misses used) = omega arith
+move_out pool gives = omega arith
+move_out pool (resizes min) = omega arith
+
+pool_out : (pools : ℕ → PoolState) (p : ℕ) (move : PoolMove) (q : ℕ) → (upd pools p (after_move (pools p) move) q).facts.out ≤ (pools q).facts.out + 1
+pool_out pools p move q = elim (same_or_not q p) [
+  | inl e ↦ subst (λ (k : ℕ). (upd pools p (after_move (pools p) move) k).facts.out ≤ (pools k).facts.out + 1) (sym e)
+      (let same = ap (λ (y : PoolState). y.facts.out) (upd-same pools p (after_move (pools p) move)) in omega (arith, same, move_out (pools p) move))
+  | inr ne ↦ let same = ap (λ (y : PoolState). y.facts.out) (upd-other pools p (after_move (pools p) move) q ne) in omega (arith, same)
+]
+
+event_out : (scene : Scene) (s : State) (m : Move) (q : ℕ) → ((after scene s m).objects.pool q).facts.out ≤ (s.objects.pool q).facts.out + 1
+event_out scene s (moves.TakesFirst place writer todo later move) q = pool_out s.objects.pool 65 move q
+event_out scene s (moves.TakesVector place writer todo later item move) q = pool_out s.objects.pool 64 move q
+event_out scene s (moves.TakesSub place x doing lists dev waits move) q = pool_out s.objects.pool (2 * dev.0) move q
+event_out scene s (moves.TakesSlip place x bio lists move) q = pool_out s.objects.pool (2 * bio.bio.dev.0 + 1) move q
+event_out scene s (moves.MissesOne place x number used) q = pool_out s.objects.pool number (misses used) q
+event_out scene s (moves.MissesTry place x doing lists dev used) q = pool_out s.objects.pool (2 * dev.0) (misses used) q
+event_out scene s (moves.Gives place disk writer number closed held) q = pool_out s.objects.pool number gives q
+event_out scene s (moves.Resized place pool min later duties) q = pool_out s.objects.pool (pool_number pool) (resizes min) q
+event_out scene s (moves.Punts place x doing lists dev) q = omega arith
+event_out scene s (moves.Pops place dev bio bios) q = omega arith
+event_out scene s (moves.Pushes place x bio lists) q = omega arith
+event_out scene s (moves.Completed place disk index bio status new) q = omega arith
+event_out scene s (moves.Begins place writer todo later item vector key) q = omega arith
+event_out scene s (moves.Chained place x bio lists hand number kind sizes members key node) q = omega arith
+event_out scene s (moves.Mastered place x bio lists slip key node) q = omega arith
+event_out scene s (moves.Legged place x bio lists master leg hand key node) q = omega arith
+event_out scene s (moves.Told place disk carried writer key status part node) q = omega arith
+event_out scene s (moves.Closes place disk carried writer key status part node) q = omega arith
+event_out scene s (moves.Ends place disk writer closed) q = omega arith
+event_out scene s (moves.Started place round later duties) q = omega arith
+
+module _ (scene : Scene) (f : Fair scene) (g : Ground scene.setup) (p : Priced scene.setup) where
+  -- one event
+  step_lowers : (s : State) (place : ℕ) (event : Event) (new : State) → Whole scene s → Whole scene new → Steps scene s place event new → rank scene new + 1 ≤ rank scene s
+  step_lowers s place event new i j steps =
+      let moved = step_is_move scene s f i.kept place event new steps in
+      let low = lowers scene s g p i.kept i.placed moved.move moved.can in
+      let charges = ap (charged scene) moved.is in
+      let spends = ap (spent scene) moved.is in
+      omega (arith, low, charges, spends, covers scene new g p j.kept j.placed)
+
+  pub runs_lower : (s : State) (events : List Event) (new : State) → Whole scene s → IsRun scene s events new → length events + rank scene new ≤ rank scene s
+  runs_lower s [] new i run = let same = ap (rank scene) run in omega (arith, same)
+  runs_lower s (event ∷ events) new i (next, (place, steps), run) =
+      let j = runs_whole scene f g s (event ∷ []) next i (next, (place, steps), refl) in
+      omega (arith, step_lowers s place event next i j steps, runs_lower next events new j run)
+
+  pub runs_out : (q : ℕ) (s : State) (events : List Event) (new : State) → Whole scene s → IsRun scene s events new
+      → (new.objects.pool q).facts.out ≤ (s.objects.pool q).facts.out + length events
+  runs_out q s [] new i run = let same = ap (λ (x : State). (x.objects.pool q).facts.out) run in omega (arith, same)
+  runs_out q s (event ∷ events) new i (next, (place, steps), run) =
+      let j = runs_whole scene f g s (event ∷ []) next i (next, (place, steps), refl) in
+      let moved = step_is_move scene s f i.kept place event next steps in
+      let is = ap (λ (x : State). (x.objects.pool q).facts.out) moved.is in
+      omega (arith, is, event_out scene s moved.move q, runs_out q next events new j run)
+
+module _ (s : Scenario) (ledger : ℕ → LedgerId) (good : IsScenario s) (naming : IsNaming ledger) where
+  fair : Fair (scene s ledger)
+  fair = record { named = naming }
+
+  run_lowers : (before later : List Event) (old new : State) → IsRun (scene s ledger) (start s) before old → IsRun (scene s ledger) old later new
+      → length later + rank (scene s ledger) new ≤ rank (scene s ledger) old
+  run_lowers before later old new first second =
+      let g = ground s.stack good.stack (setup_in s).places in
+      let p = priced s.stack good.stack (setup_in s).places in
+      let i = runs_whole (scene s ledger) fair g (start s) before old (start_whole s ledger good naming) first in
+      runs_lower (scene s ledger) fair g p old later new i second
+
+  run_bounded : (events : List Event) (state : State) → IsRun (scene s ledger) (start s) events state → length events ≤ most_steps s
+  run_bounded events state run = omega (arith, run_lowers [] events (start s) state refl run, start_charge s good ledger)
+
+  run_out : (events : List Event) (state : State) → IsRun (scene s ledger) (start s) events state → (q : ℕ) → (state.objects.pool q).facts.out ≤ most_steps s
+  run_out events state run q =
+      let i = start_whole s ledger good naming in
+      let g = ground s.stack good.stack (setup_in s).places in
+      let p = priced s.stack good.stack (setup_in s).places in
+      omega (arith, runs_out (scene s ledger) fair g p q (start s) events state i run, run_bounded events state run)
+
+pub events_lower_rank : EventsLowerRank
+events_lower_rank s ledger before later old new good naming first second = run_lowers s ledger good naming before later old new first second
+
+pub runs_are_bounded : RunsAreBounded
+runs_are_bounded s ledger events state good naming run = run_bounded s ledger good naming events state run
+
+pub opened_rank_is_bounded : OpenedRankIsBounded
+opened_rank_is_bounded s ledger good naming = omega (arith, start_charge s good ledger)
+
+pub outs_are_bounded : OutsAreBounded
+outs_are_bounded s ledger events state good naming run number = run_out s ledger good naming events state run number

@@ -1,0 +1,3 @@
+pub mod RankCases
+pub mod FragmentCases
+pub mod ValueCases

@@ -1,0 +1,17 @@
+pub mod FragmentCounts
+pub mod StillToCome
+pub mod Completions
+pub mod Completed
+pub mod PlannedOnce
+pub mod Ancestors
+pub mod Present
+pub mod BioData
+pub mod ImageData
+pub mod LaidOut
+pub mod RoundByRound
+pub mod MasterRecords
+pub mod NothingComes
+pub mod EndedRuns
+pub mod ImagesLaid
+pub mod LaidOnce
+pub mod DoneWrites

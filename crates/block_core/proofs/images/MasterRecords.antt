@@ -1,0 +1,96 @@
+-- A master holds its record as long as it is open.
+use Rattle.std.proofs.Common.{◌≡◌, ◌+◌, ℕ, List, [], ◌∷◌, Option, None, Some, refl, arith}
+use Rattle.std.specs.Prelude.{sum_by}
+use Rattle.std.proofs.lemmas.List.Sums.{sum_by-cons}
+use Rattle.bio_records.specs.declared.bio.Pad.{Pad}
+use Rattle.bio_records.specs.Items.{Item}
+use Rattle.bio_lists.specs.Submission.{submitted}
+use Rattle.bio_books.specs.declared.node.Role.{Role}
+use Rattle.bio_books.specs.declared.node.Role.TheVariants as role
+use Rattle.bio_books.specs.Books.{SlipItem}
+use Rattle.run_machine.specs.Scene.{Scene, tree_at}
+use Rattle.run_machine.specs.Lines.{Takes, Punts as WantsPunt, Links, ToPush, ToCut, ToRecord, ToMaster, Doing, Rests, Drives, Copies, Breaks, Line, settled, goes_on, copies, first_length, leg_at, punted}
+use Rattle.run_machine.specs.Runs.{State}
+use Rattle.block_core.specs.Weights.{Weight, total, doing_weight, line_weight}
+use Rattle.block_core.proofs.moves.Moves.{Move, Can, after, lost, gained, limit_of, with_line, HasLine, Wants, with_want, taken_of, filled_of, vector_of, cut_lists, Tells, Hands, piece}
+use Rattle.block_core.proofs.moves.Moves as moves
+use Rattle.block_core.proofs.moves.Deltas.{delta}
+
+abbrev pub bare_slip : Option SlipItem → ℕ
+bare_slip None = 1
+bare_slip (Some slip) = 0
+
+-- 1 for a master without its record
+abbrev pub bare_node : Role → Option SlipItem → ℕ
+bare_node role.Top slip = 0
+bare_node (role.Chain parent) slip = 0
+bare_node (role.Master parent) slip = bare_slip slip
+bare_node (role.Leg parent) slip = 0
+
+abbrev pub bare : Weight
+bare = record {
+  todo = λ writer todos taken. 0;
+  bio = λ spot bio. 0;
+  copy = λ bio master leg. 0;
+  hand = λ bio. 0;
+  vector = λ vector. 0;
+  slip = λ slip. 0;
+  node = λ writer place node. bare_node node.role node.held.slip;
+  closed = λ task writer closed. 0;
+}
+
+pub zeros : (items : List (Item Pad)) → sum_by (λ (item : Item Pad). 0) items ≡ 0
+zeros [] = refl
+zeros (item ∷ items) = omega (arith, sum_by-cons (λ (item : Item Pad). 0) item items, zeros items)
+
+doing_zero : (limit : ℕ) (doing : Doing) → doing_weight bare limit doing ≡ 0
+doing_zero limit Rests = refl
+doing_zero limit (Drives bio ToPush) = refl
+doing_zero limit (Drives bio (ToCut (Takes waits))) = refl
+doing_zero limit (Drives bio (ToCut WantsPunt)) = refl
+doing_zero limit (Drives bio (ToCut (Links hand))) = refl
+doing_zero limit (Drives bio ToRecord) = refl
+doing_zero limit (Drives bio (ToMaster slip)) = refl
+doing_zero limit (Copies bio master leg (Takes waits)) = refl
+doing_zero limit (Copies bio master leg WantsPunt) = refl
+doing_zero limit (Copies bio master leg (Links hand)) = refl
+doing_zero limit (Breaks breach kept) = refl
+
+line_zero : (limit : ℕ) (line : Line) → line_weight bare limit line ≡ 0
+line_zero limit line = omega (arith, doing_zero limit line.doing, zeros line.lists.list0, zeros line.lists.list1)
+
+pub no_bare : (scene : Scene) (s : State) → total scene bare s ≡ 0 → (m : Move) → Can scene s m → total scene bare (after scene s m) ≡ 0
+no_bare scene s none (moves.TakesFirst place writer todo later move) c = omega (arith, none, delta scene bare s (moves.TakesFirst place writer todo later move) c)
+no_bare scene s none (moves.TakesVector place writer todo later item move) c = omega (arith, none, delta scene bare s (moves.TakesVector place writer todo later item move) c)
+no_bare scene s none (moves.TakesSub place x doing lists dev waits move) c = omega (arith, none, delta scene bare s (moves.TakesSub place x doing lists dev waits move) c)
+no_bare scene s none (moves.TakesSlip place x bio lists move) c = omega (arith, none, delta scene bare s (moves.TakesSlip place x bio lists move) c)
+no_bare scene s none (moves.MissesOne place x number used) c = omega (arith, none, delta scene bare s (moves.MissesOne place x number used) c)
+no_bare scene s none (moves.MissesTry place x doing lists dev used) c = omega (arith, none, delta scene bare s (moves.MissesTry place x doing lists dev used) c)
+no_bare scene s none (moves.Punts place x doing lists dev) c = omega (arith, none, delta scene bare s (moves.Punts place x doing lists dev) c, zeros (punted dev lists))
+no_bare scene s none (moves.Pops place dev bio bios) c = omega (arith, none, delta scene bare s (moves.Pops place dev bio bios) c, line_zero dev.0 (settled scene.setup (bio ∷ [])))
+no_bare scene s none (moves.Pushes place x bio lists) c = omega (arith, none, delta scene bare s (moves.Pushes place x bio lists) c, line_zero (limit_of x) (goes_on scene.setup bio.bio.dev lists))
+no_bare scene s none (moves.Completed place disk index bio status new) c = omega (arith, none, delta scene bare s (moves.Completed place disk index bio status new) c)
+no_bare scene s none (moves.Begins place writer todo later item vector key) c =
+    omega (arith, none, delta scene bare s (moves.Begins place writer todo later item vector key) c, line_zero 32 (settled scene.setup (filled_of writer todo item vector key ∷ [])))
+no_bare scene s none (moves.Chained place x bio lists hand number kind sizes members key node) c =
+    omega (
+      arith,
+      none,
+      delta scene bare s (moves.Chained place x bio lists hand number kind sizes members key node) c,
+      line_zero (limit_of x) (goes_on scene.setup bio.bio.dev (cut_lists bio lists hand (first_length kind sizes bio.bio.range) key kind sizes members)),
+    )
+no_bare scene s none (moves.Mastered place x bio lists slip key node) c =
+    omega (arith, none, delta scene bare s (moves.Mastered place x bio lists slip key node) c, line_zero (limit_of x) (copies scene.setup lists bio.bio key 0))
+no_bare scene s none (moves.Legged place x bio lists master leg hand key node) c =
+    omega (
+      arith,
+      none,
+      delta scene bare s (moves.Legged place x bio lists master leg hand key node) c,
+      line_zero (limit_of x) (copies scene.setup (submitted (leg_at bio hand leg key (tree_at scene.setup bio.dev)) lists) bio master (leg + 1)),
+    )
+no_bare scene s none (moves.Told place disk carried writer key status part node) c = omega (arith, none, delta scene bare s (moves.Told place disk carried writer key status part node) c)
+no_bare scene s none (moves.Closes place disk carried writer key status part node) c = omega (arith, none, delta scene bare s (moves.Closes place disk carried writer key status part node) c)
+no_bare scene s none (moves.Gives place disk writer number closed held) c = omega (arith, none, delta scene bare s (moves.Gives place disk writer number closed held) c)
+no_bare scene s none (moves.Ends place disk writer closed) c = omega (arith, none, delta scene bare s (moves.Ends place disk writer closed) c)
+no_bare scene s none (moves.Resized place pool min later duties) c = omega (arith, none, delta scene bare s (moves.Resized place pool min later duties) c)
+no_bare scene s none (moves.Started place round later duties) c = omega (arith, none, delta scene bare s (moves.Started place round later duties) c)

@@ -1,0 +1,198 @@
+-- Where no element is out and each write was begun, nothing is left to come.
+use Rattle.std.proofs.Common.{◌≡◌, ◌*◌, ◌<◌, ◌≤◌, ◌⊎◌, ℕ, List, [], ◌∷◌, length, Option, None, Some, inl, inr, refl, sym, ◌∙◌, ap, subst, arith}
+use Rattle.std.specs.Prelude.{sum_by}
+use Rattle.std.proofs.lemmas.List.Sums.{sum_by-cons}
+use Rattle.bio_records.specs.declared.bio.Pad.{Pad}
+use Rattle.bio_records.specs.Items.{Item}
+use Rattle.bio_books.specs.declared.node.Role.{Role}
+use Rattle.bio_books.specs.declared.node.Role.TheVariants as role
+use Rattle.bio_books.specs.Books.{Node, SlipItem, node_at}
+use Rattle.model_disks.specs.Disks.{DiskState}
+use Rattle.run_machine.specs.Scene.{Scene, tree_at}
+use Rattle.run_machine.specs.Lines.{Takes, Punts as WantsPunt, Links, Doing, Rests, Drives, Copies, Breaks, Line, rests, legs_of}
+use Rattle.run_machine.specs.Tasks.{TaskState, Writer, Rescuer, Completer, Keeper, Taken, NoBio, HasBio, HasBoth, Empty, Brings, Carries, Fails}
+use Rattle.run_machine.specs.Runs.{State}
+use Rattle.block_core.specs.Weights.{Weight, Pending, Rescued, Lined, total, one, weigh_option, doing_weight, task_weight, line_weight, taken_weight, book_weight, elements, holding_elements, refs, legs_left, count_of}
+use Rattle.block_core.specs.Fragments.{HasNone, NothingComes, HasBegun, AllIsHome, NothingComesWhereAllIsHome}
+use Rattle.block_core.proofs.moves.Sums.{one-same, within_book}
+use Rattle.block_core.proofs.sound.Places.{sum_at-ge}
+use Rattle.block_core.specs.Roles.{named}
+use Rattle.block_core.proofs.sound.Facts.{away, own_part, own_of, TaskFits, LineFits, DoingFits, Kept}
+use Rattle.block_core.proofs.images.PlannedOnce.{sum_none, node_none}
+use Rattle.block_core.proofs.images.MasterRecords.{bare_slip, bare_node, bare, no_bare}
+use Rattle.layout_model.proofs.RangeSums.{sum_of_zero}
+use Rattle.run_machine.specs.declared.event.Event.{Event}
+use Rattle.run_machine.specs.Opened.{scene as opened_scene, start, todos, setup as setup_in}
+use Rattle.run_machine.specs.Runs.{IsRun}
+use Rattle.block_core.proofs.sound.Facts.{Fair}
+use Rattle.block_core.proofs.sound.Orders.{Ground}
+use Rattle.block_core.proofs.moves.Devices.{ground}
+use Rattle.block_core.proofs.moves.StepMoves.{step_is_move}
+use Rattle.block_core.proofs.sound.Wholes.{Whole, runs_whole, start_whole}
+use Rattle.block_core.proofs.images.Completed.{opened_total}
+
+-- no bio is in a list that has an element of no pool
+no_items : (xs : List (Item Pad)) → ((p : ℕ) → sum_by (λ (bio : Item Pad). one bio.share.no p) xs ≡ 0) → xs ≡ []
+no_items [] none = refl
+no_items (x ∷ xs) none = absurd (omega (arith, none x.share.no, sum_by-cons (λ (bio : Item Pad). one bio.share.no x.share.no) x xs, one-same x.share.no))
+
+want_named : (w k : ℕ) (limit : ℕ) (doing : Doing) → ((p : ℕ) → doing_weight (elements p) limit doing ≡ 0) → doing_weight (named w k) limit doing ≡ 0
+want_named w k limit Rests none = refl
+want_named w k limit (Breaks breach kept) none = refl
+want_named w k limit (Copies bio master leg (Takes waits)) none = refl
+want_named w k limit (Copies bio master leg WantsPunt) none = refl
+want_named w k limit (Copies bio master leg (Links hand)) none = refl
+want_named w k limit (Drives bio ask) none = absurd (let h = none bio.share.no in let e = one-same bio.share.no in omega (arith, h, e))
+
+line_named : (w k limit : ℕ) (line : Line) → ((p : ℕ) → line_weight (elements p) limit line ≡ 0) → line_weight (named w k) limit line ≡ 0
+line_named w k limit line none =
+    let l0 = no_items line.lists.list0 (λ p. omega (arith, none p)) in
+    let l1 = no_items line.lists.list1 (λ p. omega (arith, none p)) in
+    let d = want_named w k limit line.doing (λ p. omega (arith, none p)) in
+    omega (arith, d, ap (sum_by ((named w k).bio (Lined limit))) l0, ap (sum_by ((named w k).bio (Lined limit))) l1)
+
+task_named : (w k place : ℕ) (x : TaskState) → ((p : ℕ) → task_weight (elements p) place x ≡ 0) → task_weight (named w k) place x ≡ 0
+task_named w k place (Writer number todos taken line) none = omega (arith, taken_named taken, line_named w k 32 line (λ p. omega (arith, none p)))
+  where
+    taken_named : (taken : Taken) → taken_weight (named w k) taken ≡ 0
+    taken_named NoBio = refl
+    taken_named (HasBio bio) = refl
+    taken_named (HasBoth bio vector) = refl
+task_named w k place (Rescuer dev line) none = line_named w k dev.0 line none
+task_named w k place (Completer disk Empty) none = refl
+task_named w k place (Completer disk (Brings bio status)) none = absurd (omega (arith, none bio.share.no, one-same bio.share.no))
+task_named w k place (Completer disk (Carries writer closed)) none = refl
+task_named w k place (Completer disk (Fails breach kept)) none = refl
+task_named w k place (Keeper keeping) none = refl
+
+held_some : (node : Node) → bare_node node.role node.held.slip ≡ 0 → own_part node.role node.held.bio ≡ 0 → ((p : ℕ) → holding_elements p node.held ≡ 0) → ⊥
+held_some node slipped owned none = by_role node.role node.held.bio node.held.slip refl refl slipped owned
+  where
+    by_bio : (bio : Option (Item Pad)) → node.held.bio ≡ bio → away bio ≡ 0 → ⊥
+    by_bio None is h = omega (arith, h)
+    by_bio (Some bio) is h =
+        let e : weigh_option (λ (b : Item Pad). one b.share.no bio.share.no) node.held.bio ≡ one bio.share.no bio.share.no = ap (weigh_option (λ (b : Item Pad). one b.share.no bio.share.no)) is in
+        omega (arith, e, one-same bio.share.no, none bio.share.no)
+
+    by_slip : (slip : Option SlipItem) → node.held.slip ≡ slip → bare_slip slip ≡ 0 → ⊥
+    by_slip None is h = omega (arith, h)
+    by_slip (Some slip) is h =
+        let e : weigh_option (λ (x : SlipItem). one x.share.no slip.share.no) node.held.slip ≡ one slip.share.no slip.share.no = ap (weigh_option (λ (x : SlipItem). one x.share.no slip.share.no)) is in
+        omega (arith, e, one-same slip.share.no, none slip.share.no)
+
+    by_role : (r : Role) (bio : Option (Item Pad)) (slip : Option SlipItem) → node.held.bio ≡ bio → node.held.slip ≡ slip → bare_node r slip ≡ 0 → own_part r bio ≡ 0 → ⊥
+    by_role role.Top bio slip b s h o = by_bio bio b o
+    by_role (role.Chain parent) bio slip b s h o = by_bio bio b o
+    by_role (role.Master parent) bio slip b s h o = by_slip slip s h
+    by_role (role.Leg parent) bio slip b s h o = by_bio bio b o
+
+module _ (scene : Scene) (s : State) (i : Kept scene s) (slips : total scene bare s ≡ 0) (out : (p : ℕ) → (s.objects.pool p).facts.out ≡ 0) where
+  all_home : (p : ℕ) → total scene (elements p) s ≡ 0
+  all_home p = sym (i.outs p) ∙ out p
+
+  task_home : (p place : ℕ) → place < scene.tasks → task_weight (elements p) place (s.task place) ≡ 0
+  task_home p place lt = omega (arith, all_home p, sum_at-ge (task_weight (elements p)) scene.tasks s.task place lt)
+
+  rescue_home : (dev : ℕ) → dev < scene.setup.count → s.objects.rescue dev ≡ []
+  rescue_home dev lt = no_items (s.objects.rescue dev) (λ p. omega (arith, all_home p, sum_at-ge (λ dev bios. sum_by ((elements p).bio Rescued) bios) scene.setup.count s.objects.rescue dev lt))
+
+  disk_home : (dev : ℕ) → dev < scene.setup.count → (s.objects.disk dev).pending ≡ []
+  disk_home dev lt =
+      no_items (s.objects.disk dev).pending (λ p. omega (arith, all_home p, sum_at-ge (λ dev (disk : DiskState). sum_by ((elements p).bio Pending) disk.pending) scene.setup.count s.objects.disk dev lt))
+
+  -- no bio names a node
+  none_named : (w k : ℕ) → total scene (named w k) s ≡ 0
+  none_named w k =
+      omega (
+        arith,
+        sum_none (task_weight (named w k)) scene.tasks s.task (λ place lt. task_named w k place (s.task place) (λ p. task_home p place lt)),
+        sum_none (λ dev bios. sum_by ((named w k).bio Rescued) bios) scene.setup.count s.objects.rescue (λ dev lt. ap (sum_by ((named w k).bio Rescued)) (rescue_home dev lt)),
+        sum_none (λ dev (disk : DiskState). sum_by ((named w k).bio Pending) disk.pending) scene.setup.count s.objects.disk (λ dev lt. ap (sum_by ((named w k).bio Pending)) (disk_home dev lt)),
+        sum_none (book_weight (named w k)) scene.books s.objects.book (λ writer lt. sum_none (λ place. weigh_option ((named w k).node writer place)) _ _ (λ place below. node_none _)),
+      )
+
+  below_or : (a b : ℕ) → (a < b) ⊎ (b ≤ a)
+  below_or a b = grind arith
+
+  node_weighs : (w : Weight) (writer k : ℕ) (node : Node) → writer < scene.books → node_at (s.objects.book writer) k ≡ Some node → w.node writer k node ≤ total scene w s
+  node_weighs w writer k node lt at =
+      let within = within_book (s.objects.book writer) k node at in
+      let a = sum_at-ge (book_weight w) scene.books s.objects.book writer lt in
+      let b = sum_at-ge (λ place. weigh_option (w.node writer place)) (length (s.objects.book writer).nodes) (node_at (s.objects.book writer)) k within in
+      let c : weigh_option (w.node writer k) (node_at (s.objects.book writer) k) ≡ w.node writer k node = ap (weigh_option (w.node writer k)) at in
+      omega (arith, a, b, c)
+
+  -- so no node is open
+  none_open : (writer k : ℕ) (node : Node) → node_at (s.objects.book writer) k ≡ Some node → ⊥
+  none_open writer k node at = elim (below_or writer scene.books) [
+    | inl lt ↦
+        let owned : own_of (node_at (s.objects.book writer) k) ≡ own_part node.role node.held.bio = ap own_of at in
+        held_some node (omega (arith, slips, node_weighs bare writer k node lt at)) (omega (arith, owned, i.owns writer k, none_named writer k))
+        (λ p. omega (arith, all_home p, node_weighs (elements p) writer k node lt at))
+    | inr ge ↦
+        let none : node_at (s.objects.book writer) k ≡ None = ap (λ nodes. node_at (record { writer = (s.objects.book writer).writer; nodes = nodes }) k) (i.inside writer ge) in
+        absurd (let e : None ≡ Some node = sym none ∙ at in cc)
+  ]
+
+  no_refs : (writer k : ℕ) → total scene (refs scene.setup writer k) s ≡ 0
+  no_refs writer k = by_node (node_at (s.objects.book writer) k) refl
+    where
+      by_node : (found : Option Node) → node_at (s.objects.book writer) k ≡ found → total scene (refs scene.setup writer k) s ≡ 0
+      by_node None at = sym (i.counts writer k) ∙ ap count_of at
+      by_node (Some node) at = absurd (none_open writer k node at)
+
+  -- and no line is at work
+  line_rests : (place limit : ℕ) (x : TaskState) (line : Line) → place < scene.tasks → s.task place ≡ x → LineFits scene.setup line
+      → ((w : Weight) → line_weight w limit line ≤ task_weight w place x) → line ≡ rests
+  line_rests place limit x line lt is fits part = by_doing line.doing refl fits
+    where
+      weighs : (w : Weight) → doing_weight w limit line.doing ≤ total scene w s
+      weighs w =
+          let a = sum_at-ge (task_weight w) scene.tasks s.task place lt in
+          let b : task_weight w place (s.task place) ≡ task_weight w place x = ap (task_weight w place) is in
+          omega (arith, a, b, part w)
+
+      by_doing : (doing : Doing) → line.doing ≡ doing → DoingFits scene.setup line.doing line.lists → line ≡ rests
+      by_doing Rests q f = let lists = subst (λ d. DoingFits scene.setup d line.lists) q f in λ j. record { doing = q j; lists = lists j }
+      by_doing (Breaks breach kept) q f = absurd (subst (λ d. DoingFits scene.setup d line.lists) q f)
+      by_doing (Drives bio ask) q f =
+          let a = weighs (elements bio.share.no) in
+          let b : doing_weight (elements bio.share.no) limit line.doing ≡ doing_weight (elements bio.share.no) limit (Drives bio ask) = ap (doing_weight (elements bio.share.no) limit) q in
+          absurd (omega (arith, a, b, one-same bio.share.no, all_home bio.share.no))
+      by_doing (Copies bio master leg want) q f =
+          let lt : leg < legs_of (tree_at scene.setup bio.dev) = subst (λ d. DoingFits scene.setup d line.lists) q f in
+          let w = refs scene.setup bio.writer master in
+          let a = weighs w in
+          let b : doing_weight w limit line.doing ≡ doing_weight w limit (Copies bio master leg want) = ap (doing_weight w limit) q in
+          let c : one bio.writer bio.writer * one master master * legs_left scene.setup bio leg ≡ legs_left scene.setup bio leg = rw (one-same bio.writer, one-same master) (omega arith) in
+          absurd (omega (arith, a, b, c, lt, no_refs bio.writer master))
+
+  has_none : (place : ℕ) (x : TaskState) → place < scene.tasks → s.task place ≡ x → TaskFits scene x → HasBegun x → HasNone x
+  has_none place (Writer number todos taken line) lt is fits begun = (begun, line_rests place 32 (Writer number todos taken line) line lt is fits.1 (λ w. omega arith))
+  has_none place (Rescuer dev line) lt is fits begun = line_rests place dev.0 (Rescuer dev line) line lt is fits.1 (λ w. omega arith)
+  has_none place (Completer disk carried) lt is fits begun = tt
+  has_none place (Keeper keeping) lt is fits begun = tt
+
+  pub home_comes : AllIsHome scene s → NothingComes scene s
+  home_comes home = record {
+    tasks = λ place lt. has_none place (s.task place) lt refl (i.tasks place) (home.tasks place lt);
+    rescued = rescue_home;
+    pending = disk_home;
+  }
+
+module _ (scene : Scene) (f : Fair scene) (g : Ground scene.setup) where
+  runs_hold_slips : (s : State) (events : List Event) (new : State) → Whole scene s → total scene bare s ≡ 0 → IsRun scene s events new → total scene bare new ≡ 0
+  runs_hold_slips s [] new i none run = ap (total scene bare) run ∙ none
+  runs_hold_slips s (event ∷ events) new i none (next, (place, steps), run) =
+      let moved = step_is_move scene s f i.kept place event next steps in
+      let j = runs_whole scene f g s (event ∷ []) next i (next, (place, steps), refl) in
+      runs_hold_slips next events new j (ap (total scene bare) moved.is ∙ no_bare scene s none moved.move moved.can) run
+
+pub nothing_comes_where_all_is_home : NothingComesWhereAllIsHome
+nothing_comes_where_all_is_home s ledger events state good naming run home =
+    let f : Fair (opened_scene s ledger) = record { named = naming } in
+    let g = ground s.stack good.stack (setup_in s).places in
+    let i = start_whole s ledger good naming in
+    let opened = opened_total s good ledger bare (λ todo. 0) (λ n ts. sym (sum_of_zero ts)) refl ∙ sum_of_zero (todos s) in
+    let kept = (runs_whole (opened_scene s ledger) f g (start s) events state i run).kept in
+    home_comes (opened_scene s ledger) state kept (runs_hold_slips (opened_scene s ledger) f g (start s) events state i opened run) home.pools home

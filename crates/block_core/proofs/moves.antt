@@ -1,0 +1,14 @@
+pub mod Moves
+pub mod Sums
+pub mod Listed
+pub mod Deltas
+pub mod BookMaps
+pub mod StepMoves
+pub mod Geometry
+pub mod Devices
+pub mod LegTrees
+pub mod Totals
+pub mod SumsCompared
+pub mod Marked
+pub mod Landings
+pub mod Misfits

@@ -1,0 +1,315 @@
+-- Each write is told done at most once: it is to be begun, or its top node is open or carried, and then no more.
+use Rattle.std.proofs.Common.{◌≡◌, ◌+◌, ◌*◌, ◌==◌, ℕ, Bool, true, false, List, [], ◌∷◌, Option, None, Some, inl, inr, refl, ◌∙◌, ap, arith, set}
+use Rattle.std.specs.Prelude.{sum_by}
+use Rattle.std.proofs.lemmas.List.Sums.{sum_by-cons}
+use Rattle.stack_base.specs.declared.ids.DevId.{DevId}
+use Rattle.stack_base.specs.declared.ids.Status.{Status}
+use Rattle.bio_records.specs.declared.bio.Pad.{Pad}
+use Rattle.bio_records.specs.declared.tasks.TaskLists.{TaskLists}
+use Rattle.bio_records.specs.Items.{Item}
+use Rattle.bio_lists.specs.Submission.{submitted}
+use Rattle.bio_books.specs.declared.node.Role.{Role}
+use Rattle.bio_books.specs.declared.node.Role.TheVariants as role
+use Rattle.bio_books.specs.Books.{VectorItem, Holding, told, parent_of}
+use Rattle.bio_books.specs.Drops.{Closed, closed_of}
+use Rattle.run_machine.specs.Scene.{Setup, Scene, tree_at}
+use Rattle.run_machine.specs.Lines.{Takes, Punts as WantsPunt, Links, ToPush, ToCut, ToRecord, ToMaster, Doing, Rests, Drives, Copies, Breaks, Line, settled, goes_on, copies, first_length, leg_at, punted}
+use Rattle.run_machine.specs.Tasks.{Completer, Todo, Carried, Empty, Brings, Carries, Fails}
+use Rattle.run_machine.specs.Runs.{State}
+use Rattle.block_core.specs.Weights.{Weight, Pending, total, one, doing_weight, line_weight, carried_weight}
+use Rattle.block_core.proofs.moves.Moves.{Move, IsTaking, place_of, Can, after, lost, gained, limit_of, with_line, HasLine, Wants, with_want, taken_of, filled_of, vector_of, cut_lists, IsTake, Tells, Hands, piece, with_pool, with_book}
+use Rattle.block_core.proofs.moves.Moves as moves
+use Rattle.block_core.proofs.moves.Deltas.{delta}
+use Rattle.run_machine.specs.declared.event.What.{What}
+use Rattle.run_machine.specs.Events.{what_of, resize_of}
+use Rattle.run_machine.specs.Lines.{line_request}
+use Rattle.run_machine.specs.Requests as requests
+use Rattle.run_machine.specs.Requests.{Request, Reply, Opening}
+use Rattle.run_machine.specs.Tasks.{request, closed_request, with_bio, needs_vector}
+use Rattle.bio_books.specs.Links.{Made, NoRoom, Stray}
+use Rattle.bio_books.specs.Drops.{Ended}
+use Rattle.bio_books.specs.Drops as end
+use Rattle.block_core.specs.Dones.{done_in}
+use Rattle.block_core.proofs.sound.TaskLines.{wants_busy}
+use Rattle.block_core.proofs.moves.StepMoves.{asks_line}
+
+-- 1 where a request tells this write done
+abbrev pub asked : ℕ → Request → ℕ
+asked w (requests.Done write status) = one write w
+asked w request = 0
+
+abbrev pub done_by : ℕ → Move → ℕ
+done_by w (moves.Ends place disk writer closed) = one closed.write w
+done_by w m = 0
+
+abbrev pub done_of : ℕ → Option What → ℕ
+done_of w None = 0
+done_of w (Some what) = done_in w what
+
+none_told : {X : Type 0} (what : What) → None ≡ Some what → X
+none_told what is = absurd cc
+
+-- an event tells a write done exactly where its request does
+pub told_done : (w : ℕ) (request : Request) (reply : Reply) (what : What) → what_of request reply ≡ Some what → done_of w (what_of request reply) ≡ asked w request
+told_done w (requests.TakeBio set true) (requests.HadBio from bio) what told = refl
+told_done w (requests.TakeBio set false) (requests.HadBio from bio) what told = refl
+told_done w (requests.TakeBio set true) (requests.Missed true) what told = refl
+told_done w (requests.TakeBio set true) (requests.Missed false) what told = none_told what told
+told_done w (requests.TakeBio set false) (requests.Missed used) what told = refl
+told_done w (requests.TakeBio set waits) reply what told = none_told what told
+told_done w requests.TakeVec (requests.HadVec from vector) what told = refl
+told_done w requests.TakeVec (requests.Missed true) what told = refl
+told_done w requests.TakeVec (requests.Missed false) what told = none_told what told
+told_done w requests.TakeVec reply what told = none_told what told
+told_done w (requests.TakeSlip dev) (requests.HadSlip from slip) what told = refl
+told_done w (requests.TakeSlip dev) (requests.Missed true) what told = refl
+told_done w (requests.TakeSlip dev) (requests.Missed false) what told = none_told what told
+told_done w (requests.TakeSlip dev) reply what told = none_told what told
+told_done w (requests.GiveBio bio) requests.Did what told = refl
+told_done w (requests.GiveBio bio) reply what told = none_told what told
+told_done w (requests.GiveVec vector) requests.Did what told = refl
+told_done w (requests.GiveVec vector) reply what told = none_told what told
+told_done w (requests.GiveSlip slip) requests.Did what told = refl
+told_done w (requests.GiveSlip slip) reply what told = none_told what told
+told_done w (requests.Punt dev moved) requests.Did what told = refl
+told_done w (requests.Punt dev moved) reply what told = none_told what told
+told_done w (requests.Pop dev) (requests.Popped bio) what told = refl
+told_done w (requests.Pop dev) reply what told = none_told what told
+told_done w (requests.Push bio) requests.Did what told = refl
+told_done w (requests.Push bio) reply what told = none_told what told
+told_done w (requests.Complete disk) (requests.Completed index bio status) what told = refl
+told_done w (requests.Complete disk) reply what told = none_told what told
+told_done w (requests.Link writer opening) (requests.LinkedTo (Made node)) what told = refl
+told_done w (requests.Link writer opening) (requests.LinkedTo (NoRoom back)) what told = none_told what told
+told_done w (requests.Link writer opening) (requests.LinkedTo (Stray back)) what told = none_told what told
+told_done w (requests.Link writer opening) reply what told = none_told what told
+told_done w (requests.Drop writer node status part) (requests.DroppedTo end.Left) what told = refl
+told_done w (requests.Drop writer node status part) (requests.DroppedTo (end.Up closed)) what told = refl
+told_done w (requests.Drop writer node status part) (requests.DroppedTo (end.Top closed)) what told = refl
+told_done w (requests.Drop writer node status part) (requests.DroppedTo (end.Stray back)) what told = none_told what told
+told_done w (requests.Drop writer node status part) reply what told = none_told what told
+told_done w (requests.Done write status) requests.Did what told = refl
+told_done w (requests.Done write status) reply what told = none_told what told
+told_done w (requests.Resize pool min) (requests.OutIs out) what told = by_test (out == 0)
+  where
+    by_test : (v : Bool) → done_of w (resize_of v pool min) ≡ 0
+    by_test true = refl
+    by_test false = refl
+told_done w (requests.Resize pool min) reply what told = none_told what told
+told_done w (requests.NextRound round) requests.Did what told = refl
+told_done w (requests.NextRound round) reply what told = none_told what told
+told_done w requests.LookRound reply what told = none_told what told
+told_done w requests.LookLeft reply what told = none_told what told
+told_done w requests.Rest reply what told = none_told what told
+
+-- no submission tells a write done
+line_asks_none : (w : ℕ) (setup : Setup) (doing : Doing) (lists : TaskLists) → asked w (line_request setup doing lists) ≡ 0
+line_asks_none w setup Rests lists = refl
+line_asks_none w setup (Breaks breach kept) lists = refl
+line_asks_none w setup (Drives bio ToPush) lists = refl
+line_asks_none w setup (Drives bio (ToCut (Takes waits))) lists = refl
+line_asks_none w setup (Drives bio (ToCut WantsPunt)) lists = refl
+line_asks_none w setup (Drives bio (ToCut (Links hand))) lists = refl
+line_asks_none w setup (Drives bio ToRecord) lists = refl
+line_asks_none w setup (Drives bio (ToMaster slip)) lists = refl
+line_asks_none w setup (Copies bio master leg (Takes waits)) lists = refl
+line_asks_none w setup (Copies bio master leg WantsPunt) lists = refl
+line_asks_none w setup (Copies bio master leg (Links hand)) lists = refl
+
+taking_asks_none : (w : ℕ) (request : Request) → IsTaking request → asked w request ≡ 0
+taking_asks_none w (requests.TakeBio set waits) h = refl
+taking_asks_none w requests.TakeVec h = refl
+taking_asks_none w (requests.TakeSlip dev) h = refl
+taking_asks_none w request h = absurd h
+
+tells_asks_none : (w : ℕ) (disk : DevId) (carried : Carried) (writer key : ℕ) (status : Status) (part : Option (Item Pad)) (setup : Setup) → Tells carried writer key status part
+    → asked w (request setup (Completer disk carried)) ≡ 0
+tells_asks_none w disk (Brings bio ending) writer key status part setup t = refl
+tells_asks_none w disk (Carries of closed) writer key status part setup t =
+    ap (λ (held : Holding). asked w (closed_request of closed held.vector held.bio held.slip closed.parent)) t.4
+    ∙ ap (λ parent. asked w (closed_request of closed None None None parent)) t.1
+tells_asks_none w disk Empty writer key status part setup t = absurd t
+tells_asks_none w disk (Fails breach kept) writer key status part setup t = absurd t
+
+hands_asks_none : (w : ℕ) (disk : DevId) (writer number : ℕ) (closed : Closed) (held : Holding) (setup : Setup) → Hands closed.held number held
+    → asked w (request setup (Completer disk (Carries writer closed))) ≡ 0
+hands_asks_none w disk writer number closed held setup (inl h) =
+    ap (λ vector. asked w (closed_request writer closed vector closed.held.bio closed.held.slip closed.parent)) h.1
+hands_asks_none w disk writer number closed held setup (inr (inl h)) = by_vector closed.held.vector
+  where
+    by_vector : (vector : Option VectorItem) → asked w (closed_request writer closed vector closed.held.bio closed.held.slip closed.parent) ≡ 0
+    by_vector None = ap (λ bio. asked w (closed_request writer closed None bio closed.held.slip closed.parent)) h.1
+    by_vector (Some vector) = refl
+hands_asks_none w disk writer number closed held setup (inr (inr h)) = by_two closed.held.vector closed.held.bio
+  where
+    by_two : (vector : Option VectorItem) (bio : Option (Item Pad)) → asked w (closed_request writer closed vector bio closed.held.slip closed.parent) ≡ 0
+    by_two None None = ap (λ slip. asked w (closed_request writer closed None None slip closed.parent)) h.1
+    by_two None (Some bio) = refl
+    by_two (Some vector) bio = refl
+
+-- what the task asks for tells a write done exactly where the event is its end
+pub asked_by : (scene : Scene) (s : State) (w : ℕ) (m : Move) → Can scene s m → asked w (request scene.setup (s.task (place_of m))) ≡ done_by w m
+asked_by scene s w (moves.TakesFirst place writer todo later move) c = ap (λ x. asked w (request scene.setup x)) c.1
+asked_by scene s w (moves.TakesVector place writer todo later item move) c = ap (λ x. asked w (request scene.setup x)) c.1 ∙ with_vector (needs_vector todo.write)
+  where
+    with_vector : (b : Bool) → asked w (with_bio writer b todo) ≡ 0
+    with_vector true = refl
+    with_vector false = refl
+asked_by scene s w (moves.TakesSub place x doing lists dev waits move) c =
+    ap (λ x. asked w (request scene.setup x)) c.1 ∙ ap (asked w) (asks_line scene.setup x doing lists c.2 (wants_busy doing dev (Takes waits) c.3)) ∙ line_asks_none w scene.setup doing lists
+asked_by scene s w (moves.TakesSlip place x bio lists move) c =
+    ap (λ x. asked w (request scene.setup x)) c.1 ∙ ap (asked w) (asks_line scene.setup x (Drives bio ToRecord) lists c.2 tt)
+asked_by scene s w (moves.MissesOne place x number used) c = ap (λ x. asked w (request scene.setup x)) c.1 ∙ taking_asks_none w (request scene.setup x) c.3
+asked_by scene s w (moves.MissesTry place x doing lists dev used) c =
+    ap (λ x. asked w (request scene.setup x)) c.1 ∙ ap (asked w) (asks_line scene.setup x doing lists c.2 (wants_busy doing dev (Takes false) c.3)) ∙ line_asks_none w scene.setup doing lists
+asked_by scene s w (moves.Punts place x doing lists dev) c =
+    ap (λ x. asked w (request scene.setup x)) c.1 ∙ ap (asked w) (asks_line scene.setup x doing lists c.2 (wants_busy doing dev WantsPunt c.3)) ∙ line_asks_none w scene.setup doing lists
+asked_by scene s w (moves.Pops place dev bio bios) c = ap (λ x. asked w (request scene.setup x)) c.1
+asked_by scene s w (moves.Pushes place x bio lists) c =
+    ap (λ x. asked w (request scene.setup x)) c.1 ∙ ap (asked w) (asks_line scene.setup x (Drives bio ToPush) lists c.2 tt)
+asked_by scene s w (moves.Completed place disk index bio status new) c = ap (λ x. asked w (request scene.setup x)) c.1
+asked_by scene s w (moves.Begins place writer todo later item None key) c = ap (λ x. asked w (request scene.setup x)) c.1 ∙ with_none (needs_vector todo.write)
+  where
+    with_none : (b : Bool) → asked w (with_bio writer b todo) ≡ 0
+    with_none true = refl
+    with_none false = refl
+asked_by scene s w (moves.Begins place writer todo later item (Some vector) key) c = ap (λ x. asked w (request scene.setup x)) c.1
+asked_by scene s w (moves.Chained place x bio lists hand number kind sizes members key node) c =
+    ap (λ x. asked w (request scene.setup x)) c.1 ∙ ap (asked w) (asks_line scene.setup x (Drives bio (ToCut (Links hand))) lists c.2 tt)
+asked_by scene s w (moves.Mastered place x bio lists slip key node) c =
+    ap (λ x. asked w (request scene.setup x)) c.1 ∙ ap (asked w) (asks_line scene.setup x (Drives bio (ToMaster slip)) lists c.2 tt)
+asked_by scene s w (moves.Legged place x bio lists master leg hand key node) c =
+    ap (λ x. asked w (request scene.setup x)) c.1 ∙ ap (asked w) (asks_line scene.setup x (Copies bio master leg (Links hand)) lists c.2 tt)
+asked_by scene s w (moves.Told place disk carried writer key status part node) c =
+    ap (λ x. asked w (request scene.setup x)) c.1 ∙ tells_asks_none w disk carried writer key status part scene.setup c.2
+asked_by scene s w (moves.Closes place disk carried writer key status part node) c =
+    ap (λ x. asked w (request scene.setup x)) c.1 ∙ tells_asks_none w disk carried writer key status part scene.setup c.2
+asked_by scene s w (moves.Gives place disk writer number closed held) c =
+    ap (λ x. asked w (request scene.setup x)) c.1 ∙ hands_asks_none w disk writer number closed held scene.setup c.2
+asked_by scene s w (moves.Ends place disk writer closed) c =
+    ap (λ x. asked w (request scene.setup x)) c.1
+    ∙ ap (λ (held : Holding). asked w (closed_request writer closed held.vector held.bio held.slip closed.parent)) c.2
+    ∙ ap (λ parent. asked w (closed_request writer closed None None None parent)) c.3
+asked_by scene s w (moves.Resized place pool min later duties) c = ap (λ x. asked w (request scene.setup x)) c.1
+asked_by scene s w (moves.Started place round later duties) c = ap (λ x. asked w (request scene.setup x)) c.1
+
+-- how often a write is to be begun
+abbrev pub to_begin : ℕ → List Todo → ℕ
+to_begin w [] = 0
+to_begin w (todo ∷ todos) = one todo.number w + to_begin w todos
+
+abbrev pub top_role : Role → ℕ
+top_role role.Top = 1
+top_role (role.Chain parent) = 0
+top_role (role.Master parent) = 0
+top_role (role.Leg parent) = 0
+
+abbrev pub top_parent : Option ℕ → ℕ
+top_parent None = 1
+top_parent (Some parent) = 0
+
+pub same_top : (r : Role) → top_parent (parent_of r) ≡ top_role r
+same_top role.Top = refl
+same_top (role.Chain parent) = refl
+same_top (role.Master parent) = refl
+same_top (role.Leg parent) = refl
+
+-- a write is to be begun, or its top node is open, or what is left of it is carried
+abbrev pub stage : ℕ → Weight
+stage w = record {
+  todo = λ writer todos taken. to_begin w todos;
+  bio = λ spot bio. 0;
+  copy = λ bio master leg. 0;
+  hand = λ bio. 0;
+  vector = λ vector. 0;
+  slip = λ slip. 0;
+  node = λ writer place node. top_role node.role * one node.write w;
+  closed = λ task writer closed. top_parent closed.parent * one closed.write w;
+}
+
+zeros : (w : ℕ) (items : List (Item Pad)) → sum_by ((stage w).bio Pending) items ≡ 0
+zeros w [] = refl
+zeros w (item ∷ items) = omega (arith, sum_by-cons ((stage w).bio Pending) item items, zeros w items)
+
+line_zero : (w limit : ℕ) (line : Line) → line_weight (stage w) limit line ≡ 0
+line_zero w limit line = omega (arith, doing_zero line.doing, zeros w line.lists.list0, zeros w line.lists.list1)
+  where
+    doing_zero : (doing : Doing) → doing_weight (stage w) limit doing ≡ 0
+    doing_zero Rests = refl
+    doing_zero (Drives bio ToPush) = refl
+    doing_zero (Drives bio (ToCut (Takes waits))) = refl
+    doing_zero (Drives bio (ToCut WantsPunt)) = refl
+    doing_zero (Drives bio (ToCut (Links hand))) = refl
+    doing_zero (Drives bio ToRecord) = refl
+    doing_zero (Drives bio (ToMaster slip)) = refl
+    doing_zero (Copies bio master leg (Takes waits)) = refl
+    doing_zero (Copies bio master leg WantsPunt) = refl
+    doing_zero (Copies bio master leg (Links hand)) = refl
+    doing_zero (Breaks breach kept) = refl
+
+-- what is carried of a child tells no top
+carried_child : (w task : ℕ) (carried : Carried) (writer key : ℕ) (status : Status) (part : Option (Item Pad)) → Tells carried writer key status part
+    → carried_weight (stage w) task carried ≡ 0
+carried_child w task (Brings bio ending) writer key status part t = refl
+carried_child w task (Carries of closed) writer key status part t = ap (λ parent. top_parent parent * one closed.write w) t.1 ∙ omega arith
+carried_child w task Empty writer key status part t = absurd t
+carried_child w task (Fails breach kept) writer key status part t = absurd t
+
+-- an event takes a write's stage away exactly where it tells it done
+pub staged : (scene : Scene) (s : State) (w : ℕ) (m : Move) → Can scene s m → total scene (stage w) (after scene s m) + done_by w m ≡ total scene (stage w) s
+staged scene s w (moves.TakesFirst place writer todo later move) c = omega (arith, delta scene (stage w) s (moves.TakesFirst place writer todo later move) c)
+staged scene s w (moves.TakesVector place writer todo later item move) c = omega (arith, delta scene (stage w) s (moves.TakesVector place writer todo later item move) c)
+staged scene s w (moves.TakesSub place x doing lists dev waits move) c = omega (arith, delta scene (stage w) s (moves.TakesSub place x doing lists dev waits move) c)
+staged scene s w (moves.TakesSlip place x bio lists move) c = omega (arith, delta scene (stage w) s (moves.TakesSlip place x bio lists move) c)
+staged scene s w (moves.MissesOne place x number used) c = omega (arith, delta scene (stage w) s (moves.MissesOne place x number used) c)
+staged scene s w (moves.MissesTry place x doing lists dev used) c = omega (arith, delta scene (stage w) s (moves.MissesTry place x doing lists dev used) c)
+staged scene s w (moves.Punts place x doing lists dev) c =
+    omega (arith, delta scene (stage w) s (moves.Punts place x doing lists dev) c, zeros w (punted dev lists))
+staged scene s w (moves.Pops place dev bio bios) c = omega (arith, delta scene (stage w) s (moves.Pops place dev bio bios) c, line_zero w dev.0 (settled scene.setup (bio ∷ [])))
+staged scene s w (moves.Pushes place x bio lists) c =
+    omega (
+      arith,
+      delta scene (stage w) s (moves.Pushes place x bio lists) c,
+      line_zero w (limit_of x) (goes_on scene.setup bio.bio.dev lists),
+      line_zero w (limit_of x) (record { doing = Drives bio ToPush; lists = lists }),
+    )
+staged scene s w (moves.Completed place disk index bio status new) c = omega (arith, delta scene (stage w) s (moves.Completed place disk index bio status new) c)
+staged scene s w (moves.Begins place writer todo later item None key) c =
+    omega (arith, delta scene (stage w) s (moves.Begins place writer todo later item None key) c, line_zero w 32 (settled scene.setup (filled_of writer todo item None key ∷ [])))
+staged scene s w (moves.Begins place writer todo later item (Some vector) key) c =
+    omega (arith, delta scene (stage w) s (moves.Begins place writer todo later item (Some vector) key) c, line_zero w 32 (settled scene.setup (filled_of writer todo item (Some vector) key ∷ [])))
+staged scene s w (moves.Chained place x bio lists hand number kind sizes members key node) c =
+    omega (
+      arith,
+      delta scene (stage w) s (moves.Chained place x bio lists hand number kind sizes members key node) c,
+      line_zero w (limit_of x) (goes_on scene.setup bio.bio.dev (cut_lists bio lists hand (first_length kind sizes bio.bio.range) key kind sizes members)),
+      line_zero w (limit_of x) (record { doing = Drives bio (ToCut (Links hand)); lists = lists }),
+    )
+staged scene s w (moves.Mastered place x bio lists slip key node) c =
+    omega (
+      arith,
+      delta scene (stage w) s (moves.Mastered place x bio lists slip key node) c,
+      line_zero w (limit_of x) (copies scene.setup lists bio.bio key 0),
+      line_zero w (limit_of x) (record { doing = Drives bio (ToMaster slip); lists = lists }),
+    )
+staged scene s w (moves.Legged place x bio lists master leg hand key node) c =
+    omega (
+      arith,
+      delta scene (stage w) s (moves.Legged place x bio lists master leg hand key node) c,
+      line_zero w (limit_of x) (copies scene.setup (submitted (leg_at bio hand leg key (tree_at scene.setup bio.dev)) lists) bio master (leg + 1)),
+      line_zero w (limit_of x) (record { doing = Copies bio master leg (Links hand); lists = lists }),
+    )
+staged scene s w (moves.Told place disk carried writer key status part node) c =
+    omega (arith, delta scene (stage w) s (moves.Told place disk carried writer key status part node) c, carried_child w place carried writer key status part c.2)
+staged scene s w (moves.Closes place disk carried writer key status part node) c =
+    omega (
+      arith,
+      delta scene (stage w) s (moves.Closes place disk carried writer key status part node) c,
+      carried_child w place carried writer key status part c.2,
+      ap (λ n. n * one node.write w) (same_top node.role),
+    )
+staged scene s w (moves.Gives place disk writer number closed held) c = omega (arith, delta scene (stage w) s (moves.Gives place disk writer number closed held) c)
+staged scene s w (moves.Ends place disk writer closed) c =
+    omega (arith, delta scene (stage w) s (moves.Ends place disk writer closed) c, ap (λ parent. top_parent parent * one closed.write w) c.3)
+staged scene s w (moves.Resized place pool min later duties) c = omega (arith, delta scene (stage w) s (moves.Resized place pool min later duties) c)
+staged scene s w (moves.Started place round later duties) c = omega (arith, delta scene (stage w) s (moves.Started place round later duties) c)

@@ -1,0 +1,213 @@
+-- Events keep all nodes on levels.
+use Rattle.std.proofs.Common.{◌≡◌, ◌≢◌, ◌+◌, ◌-◌, ◌*◌, ◌<◌, ◌≤◌, ◌==◌, ℕ, [], ◌∷◌, Option, None, Some, inr, refl, sym, ◌∙◌, ap, subst, arith}
+use Rattle.std.proofs.lemmas.List.Sums.{sum_by-cons, sum_by_push}
+use Rattle.stack_base.specs.declared.ids.Status.{Status}
+use Rattle.stack_base.specs.Tree.{Tree, Leaf, Split, Mirrored}
+use Rattle.bio_records.specs.declared.bio.Bio.{Bio}
+use Rattle.bio_records.specs.declared.bio.Pad.{Pad}
+use Rattle.bio_records.specs.declared.tasks.TaskLists.{TaskLists}
+use Rattle.bio_records.specs.Items.{Item}
+use Rattle.bio_lists.specs.Submission.{submitted}
+use Rattle.bio_books.specs.Books.{Node, VectorItem, node_at, told, later_part}
+use Rattle.bio_books.specs.Links.{IsVacant}
+use Rattle.run_machine.specs.Scene.{Scene, tree_at}
+use Rattle.run_machine.specs.Lines.{Links, ToCut, ToMaster, Doing, Drives, Copies, first_length, legs_of, leg_at}
+use Rattle.run_machine.specs.Tasks.{TaskState, Todo, Carried, Empty, Brings, Carries, Fails}
+use Rattle.run_machine.specs.Runs.{State}
+use Rattle.block_core.specs.Weights.{total, weigh_option, task_weight, carried_weight}
+use Rattle.block_core.proofs.moves.Moves.{Move, IsTaking, place_of, Can, after, lost, gained, limit_of, with_line, HasLine, Wants, with_want, taken_of, filled_of, vector_of, cut_lists, IsTake, Tells, Hands, piece, with_pool, with_book}
+use Rattle.block_core.proofs.moves.Moves as moves
+use Rattle.block_core.proofs.sound.Facts.{TaskFits, Kept}
+use Rattle.block_core.proofs.sound.TaskLines.{line_fits}
+use Rattle.block_core.proofs.sound.Orders.{AskFits, DoingPlaced, HandHome, TaskPlaced, Placed, Ground}
+use Rattle.std.specs.Prelude.{min}
+use Rattle.block_core.proofs.sound.OrdersKept.{line_placed}
+use Rattle.block_core.proofs.moves.Deltas.{vacant_at, delta}
+use Rattle.block_core.proofs.sound.Places.{sum_at-ge, copies_weight, unless, unless_none, cut_weight, line_part}
+use Rattle.block_core.proofs.moves.Listed.{IsBlind, landed_same, first_weight, goes_weight}
+use Rattle.block_core.specs.Weights.{apart}
+use Rattle.block_core.proofs.sound.OffLevels.{bio_off, held_off, off_levels, AreLeveled}
+use Rattle.block_core.proofs.moves.Marked.{with_mark, mark_here, mark_other}
+use Rattle.block_core.proofs.sound.Levels.{total_null}
+
+blind_levels : (level : ℕ → ℕ → ℕ) → IsBlind (off_levels level)
+blind_levels level limit item t = landed_same (λ (bio : Bio). apart (level bio.writer bio.node) (min item.share.no 64)) (λ to members bio. refl) t item.bio
+
+-- a bio on the level of its node
+at_level : (level : ℕ → ℕ → ℕ) (item : Item Pad) (n : ℕ) → item.share.no ≡ n → n ≤ 64 → level item.bio.writer item.bio.node ≡ n → bio_off level item ≡ 0
+at_level level item n share le is = rw (is, share) (omega (arith, le))
+
+-- a leg's bio
+leg_on : (level : ℕ → ℕ → ℕ) (bio : Bio) (hand : Item Pad) (leg key n : ℕ) (t : Tree) → leg < legs_of t → hand.share.no ≡ n → n ≤ 64 → level bio.writer key ≡ n → bio_off level (leg_at bio hand leg key t) ≡ 0
+leg_on level bio hand leg key n (Leaf number sectors) lt share le is = absurd (omega (arith, lt))
+leg_on level bio hand leg key n (Split number kind sizes members) lt share le is = absurd (omega (arith, lt))
+leg_on level bio hand leg key n (Mirrored number sizes members) lt share le is = at_level level (leg_at bio hand leg key (Mirrored number sizes members)) n share le is
+
+-- what a node holds once it was told
+told_on : (level : ℕ → ℕ → ℕ) (writer key : ℕ) (status : Status) (part : Option (Item Pad)) (carried : Carried) (node : Node) → Tells carried writer key status part
+    → carried_weight (off_levels level) 0 carried ≡ 0 → held_off (level writer key) (told node status part).held ≤ held_off (level writer key) node.held
+told_on level writer key status part (Brings bio ending) node t off =
+    let own : level bio.bio.writer bio.bio.node ≡ level writer key = ap (level bio.bio.writer) (sym t.1) ∙ ap (λ v. level v key) (sym t.0) in
+    let none : apart (level writer key) (min bio.share.no 64) ≡ 0 = omega (arith, own, off) in
+    let is : held_off (level writer key) (told node status part).held ≡ held_off (level writer key) (record node.held { bio = Some bio }) =
+    ap (λ p. held_off (level writer key) (record node.held { bio = later_part node.held.bio p })) t.3 in
+    omega (arith, is, none)
+told_on level writer key status part (Carries of closed) node t off =
+    let is : held_off (level writer key) (told node status part).held ≡ held_off (level writer key) node.held =
+    ap (λ p. held_off (level writer key) (record node.held { bio = later_part node.held.bio p })) t.3 in
+    omega (arith, is)
+told_on level writer key status part Empty node t off = absurd t
+told_on level writer key status part (Fails breach kept) node t off = absurd t
+
+-- the vector of a write is on the level of its top
+vector_on : (level : ℕ → ℕ → ℕ) (writer key : ℕ) (todo : Todo) (item : Item Pad) (vector : Option VectorItem) → HandHome (taken_of item vector) → level writer key ≡ 64
+    → weigh_option (λ (v : VectorItem). apart (level writer key) (min v.share.no 64)) (vector_of todo vector) ≡ 0
+vector_on level writer key todo item None home is = refl
+vector_on level writer key todo item (Some vector) home is = let own = home.1 in omega (arith, own, is)
+
+-- and so is its bio
+begun_on : (level : ℕ → ℕ → ℕ) (writer : ℕ) (todo : Todo) (item : Item Pad) (vector : Option VectorItem) (key : ℕ) → HandHome (taken_of item vector) → level writer key ≡ 64
+    → bio_off level (filled_of writer todo item vector key) ≡ 0
+begun_on level writer todo item None key home is = rw (is, home) (omega arith)
+begun_on level writer todo item (Some vector) key home is = rw (is, home.0) (omega arith)
+
+module _ (scene : Scene) (s : State) (g : Ground scene.setup) (i : Kept scene s) (p : Placed scene.setup s) (level : ℕ → ℕ → ℕ) (off : total scene (off_levels level) s ≡ 0) where
+  -- the levels stay
+  same : (m : Move) → Can scene s m → gained scene (off_levels level) s m ≤ lost scene (off_levels level) s m → AreLeveled scene (after scene s m)
+  same m c le = (level, omega (arith, off, delta scene (off_levels level) s m c, le))
+
+  -- a vacant place gets one
+  one_more : (m : Move) → Can scene s m → (writer key n : ℕ) → IsVacant (s.objects.book writer) key
+      → gained scene (off_levels (with_mark level writer key n)) s m ≤ lost scene (off_levels (with_mark level writer key n)) s m → AreLeveled scene (after scene s m)
+  one_more m c writer key n v le =
+      (with_mark level writer key n, omega (arith, total_null level writer key n scene s i v off, delta scene (off_levels (with_mark level writer key n)) s m c, le))
+
+  at : (place : ℕ) (x : TaskState) (doing : Doing) (lists : TaskLists) → s.task place ≡ x → HasLine x doing lists → DoingPlaced scene.setup (limit_of x) doing lists
+  at place x doing lists is h = line_placed scene.setup x doing lists (subst (TaskPlaced scene.setup) is (p.tasks place)) h
+
+  -- an open node has another place than a vacant one
+  other_place : (writer key place : ℕ) (node : Node) → IsVacant (s.objects.book writer) key → node_at (s.objects.book writer) place ≡ Some node → place ≢ key
+  other_place writer key place node v found q =
+      let a = vacant_at (s.objects.book writer) key v in
+      let x : node_at (s.objects.book writer) place ≡ node_at (s.objects.book writer) key = ap (node_at (s.objects.book writer)) q in
+      let y : None ≡ Some node = sym a.0 ∙ sym x ∙ found in cc
+
+  pub stays_leveled : (m : Move) → Can scene s m → AreLeveled scene (after scene s m)
+  stays_leveled (moves.TakesFirst place writer todo later move) c = same (moves.TakesFirst place writer todo later move) c (omega arith)
+  stays_leveled (moves.TakesVector place writer todo later item move) c = same (moves.TakesVector place writer todo later item move) c (omega arith)
+  stays_leveled (moves.TakesSub place x doing lists dev waits move) c = same (moves.TakesSub place x doing lists dev waits move) c (omega arith)
+  stays_leveled (moves.TakesSlip place x bio lists move) c = same (moves.TakesSlip place x bio lists move) c (omega arith)
+  stays_leveled (moves.MissesOne place x number used) c = same (moves.MissesOne place x number used) c (omega arith)
+  stays_leveled (moves.MissesTry place x doing lists dev used) c = same (moves.MissesTry place x doing lists dev used) c (omega arith)
+  stays_leveled (moves.Punts place x doing lists dev) c = same (moves.Punts place x doing lists dev) c (omega arith)
+  stays_leveled (moves.Pops place dev bio bios) c =
+      same (moves.Pops place dev bio bios) c (omega (arith, first_weight (off_levels level) (blind_levels level) dev.0 scene.setup (bio ∷ []), sum_by-cons (bio_off level) bio []))
+  stays_leveled (moves.Pushes place x bio lists) c =
+      same (moves.Pushes place x bio lists) c (omega (arith, goes_weight (off_levels level) (blind_levels level) (limit_of x) scene.setup bio.bio.dev lists))
+  stays_leveled (moves.Completed place disk index bio status new) c = same (moves.Completed place disk index bio status new) c (omega arith)
+  stays_leveled (moves.Begins place writer todo later item vector key) c =
+      let new = with_mark level writer key 64 in
+      let here = mark_here level writer key 64 in
+      let t = subst (TaskPlaced scene.setup) c.1 (p.tasks place) in
+      one_more (moves.Begins place writer todo later item vector key) c writer key 64 c.3
+      (omega (
+        arith,
+        first_weight (off_levels new) (blind_levels new) 32 scene.setup (filled_of writer todo item vector key ∷ []),
+        sum_by-cons (bio_off new) (filled_of writer todo item vector key) [],
+        begun_on new writer todo item vector key t.2 here,
+        vector_on new writer key todo item vector t.2 here,
+      ))
+  stays_leveled (moves.Chained place x bio lists hand number kind sizes members key node) c =
+      let n = first_length kind sizes bio.bio.range in
+      let dev = bio.bio.dev.0 in
+      let new = with_mark level bio.bio.writer key (2 * dev) in
+      let here = mark_here level bio.bio.writer key (2 * dev) in
+      let d = at place x (Drives bio (ToCut (Links hand))) lists c.1 c.2 in
+      let known = d.1.0.0.device in
+      let few = g.few in
+      let suits : AskFits (Split number kind sizes members) bio.bio.range dev (ToCut (Links hand)) = subst (λ t. AskFits t bio.bio.range dev (ToCut (Links hand))) c.3 d.3 in
+      let part = line_part scene (off_levels level) s place x (Drives bio (ToCut (Links hand))) lists c.0 c.1 c.2 in
+      let parent : new bio.bio.writer bio.bio.node ≡ level bio.bio.writer bio.bio.node =
+      mark_other level bio.bio.writer key (2 * dev) bio.bio.writer bio.bio.node (inr (other_place bio.bio.writer key bio.bio.node node c.6 c.5)) in
+      let up = d.1.0.1 in
+      let above : 2 * dev + 1 ≤ level bio.bio.writer bio.bio.node = omega (arith, part, off, up, known, few) in
+      let fits : bio_off new (piece bio hand n key kind sizes members) ≡ 0 = at_level new (piece bio hand n key kind sizes members) (2 * dev) suits.1 (omega (arith, known, few)) here in
+      let child : (new bio.bio.writer key + 1) - new bio.bio.writer bio.bio.node ≡ 0 = omega (arith, here, parent, above) in
+      one_more (moves.Chained place x bio lists hand number kind sizes members key node) c bio.bio.writer key (2 * dev) c.6
+      (omega (
+        arith,
+        goes_weight (off_levels new) (blind_levels new) (limit_of x) scene.setup bio.bio.dev (cut_lists bio lists hand n key kind sizes members),
+        cut_weight (bio_off new) bio lists hand n key kind sizes members,
+        fits,
+        child,
+      ))
+  stays_leveled (moves.Mastered place x bio lists slip key node) c =
+      let dev = bio.bio.dev.0 in
+      let new = with_mark level bio.bio.writer key (2 * dev + 1) in
+      let here = mark_here level bio.bio.writer key (2 * dev + 1) in
+      let legs = legs_of (tree_at scene.setup bio.bio.dev) in
+      let d = at place x (Drives bio (ToMaster slip)) lists c.1 c.2 in
+      let known = d.1.0.0.device in
+      let few = g.few in
+      let own : slip.share.no ≡ 2 * dev + 1 = by_tree (tree_at scene.setup bio.bio.dev) d.3 in
+      let part = line_part scene (off_levels level) s place x (Drives bio (ToMaster slip)) lists c.0 c.1 c.2 in
+      let parent : new bio.bio.writer bio.bio.node ≡ level bio.bio.writer bio.bio.node =
+      mark_other level bio.bio.writer key (2 * dev + 1) bio.bio.writer bio.bio.node (inr (other_place bio.bio.writer key bio.bio.node node c.5 c.4)) in
+      let up = d.1.0.1 in
+      let above : 2 * dev + 2 ≤ level bio.bio.writer bio.bio.node = omega (arith, part, off, up, known, few) in
+      let at_own : apart (level bio.bio.writer bio.bio.node) (min bio.share.no 64) ≡ 0 = omega (arith, part, off) in
+      let child : (new bio.bio.writer key + 1) - new bio.bio.writer bio.bio.node ≡ 0 = omega (arith, here, parent, above) in
+      let holds : apart (new bio.bio.writer key) (min slip.share.no 64) ≡ 0 = omega (arith, here, own, known, few) in
+      let keeps : apart (new bio.bio.writer bio.bio.node) (min bio.share.no 64) ≡ 0 = omega (arith, parent, at_own) in
+      let copy : apart (new bio.bio.writer key) (2 * dev + 1) ≡ 0 = omega (arith, here) in
+      one_more (moves.Mastered place x bio lists slip key node) c bio.bio.writer key (2 * dev + 1) c.5
+      (omega (
+        arith,
+        copies_weight (off_levels new) (blind_levels new) (limit_of x) scene.setup lists bio.bio key 0,
+        ap (unless (0 == legs)) copy,
+        unless_none (0 == legs),
+        child,
+        holds,
+        keeps,
+      ))
+    where
+      by_tree : (t : Tree) → AskFits t bio.bio.range bio.bio.dev.0 (ToMaster slip) → slip.share.no ≡ 2 * bio.bio.dev.0 + 1
+      by_tree (Leaf number sectors) a = absurd a
+      by_tree (Split number kind sizes members) a = absurd a
+      by_tree (Mirrored number sizes members) a = a
+  stays_leveled (moves.Legged place x bio lists master leg hand key node) c =
+      let dev = bio.dev.0 in
+      let new = with_mark level bio.writer key (2 * dev) in
+      let here = mark_here level bio.writer key (2 * dev) in
+      let legs = legs_of (tree_at scene.setup bio.dev) in
+      let item = leg_at bio hand leg key (tree_at scene.setup bio.dev) in
+      let d = at place x (Copies bio master leg (Links hand)) lists c.1 c.2 in
+      let known = d.0.device in
+      let few = g.few in
+      let lt = line_fits scene x (Copies bio master leg (Links hand)) lists (subst (TaskFits scene) c.1 (i.tasks place)) c.2 in
+      let part = line_part scene (off_levels level) s place x (Copies bio master leg (Links hand)) lists c.0 c.1 c.2 in
+      let parent : new bio.writer master ≡ level bio.writer master =
+      mark_other level bio.writer key (2 * dev) bio.writer master (inr (other_place bio.writer key master node c.5 c.4)) in
+      let above : level bio.writer master ≡ 2 * dev + 1 = omega (arith, part, off) in
+      let fits : bio_off new item ≡ 0 = leg_on new bio hand leg key (2 * dev) (tree_at scene.setup bio.dev) lt d.6 (omega (arith, known, few)) here in
+      let child : (new bio.writer key + 1) - new bio.writer master ≡ 0 = omega (arith, here, parent, above) in
+      let copy : apart (new bio.writer master) (2 * dev + 1) ≡ 0 = omega (arith, parent, above) in
+      one_more (moves.Legged place x bio lists master leg hand key node) c bio.writer key (2 * dev) c.5
+      (omega (
+        arith,
+        copies_weight (off_levels new) (blind_levels new) (limit_of x) scene.setup (submitted item lists) bio master (leg + 1),
+        ap (unless (leg + 1 == legs)) copy,
+        unless_none (leg + 1 == legs),
+        sum_by_push (bio_off new) lists.list0 item,
+        fits,
+        child,
+      ))
+  stays_leveled (moves.Told place disk carried writer key status part node) c =
+      let a : task_weight (off_levels level) place (s.task place) ≡ carried_weight (off_levels level) 0 carried = ap (task_weight (off_levels level) 0) c.1 in
+      let b = sum_at-ge (task_weight (off_levels level)) scene.tasks s.task place c.0 in
+      same (moves.Told place disk carried writer key status part node) c (omega (arith, told_on level writer key status part carried node c.2 (omega (arith, a, b, off))))
+  stays_leveled (moves.Closes place disk carried writer key status part node) c = same (moves.Closes place disk carried writer key status part node) c (omega arith)
+  stays_leveled (moves.Gives place disk writer number closed held) c = same (moves.Gives place disk writer number closed held) c (omega arith)
+  stays_leveled (moves.Ends place disk writer closed) c = same (moves.Ends place disk writer closed) c (omega arith)
+  stays_leveled (moves.Resized place pool min later duties) c = same (moves.Resized place pool min later duties) c (omega arith)
+  stays_leveled (moves.Started place round later duties) c = same (moves.Started place round later duties) c (omega arith)

@@ -1,0 +1,255 @@
+-- Events keep a node, the bios that name it and the nodes under it parts of one write.
+use Rattle.std.proofs.Common.{◌≡◌, ◌≢◌, ◌+◌, ◌<◌, ◌≤◌, ◌==◌, ℕ, List, [], ◌∷◌, Option, None, Some, inr, refl, sym, ◌∙◌, ap, subst, arith}
+use Rattle.std.proofs.lemmas.List.Sums.{sum_by-cons, sum_by_push}
+use Rattle.elem_ledger.specs.Ledger.{LedgerId}
+use Rattle.stack_base.specs.declared.ids.DevId.{DevId}
+use Rattle.stack_base.specs.declared.ids.Status.{Status}
+use Rattle.stack_base.specs.Tree.{Tree, Leaf, Split, Mirrored}
+use Rattle.bio_records.specs.declared.bio.Bio.{Bio}
+use Rattle.bio_records.specs.declared.bio.Pad.{Pad}
+use Rattle.bio_records.specs.declared.tasks.TaskLists.{TaskLists}
+use Rattle.bio_records.specs.Items.{Item}
+use Rattle.bio_lists.specs.Submission.{submitted}
+use Rattle.bio_books.specs.Books.{Node, VectorItem, node_at, parent_of}
+use Rattle.bio_books.specs.Links.{IsVacant}
+use Rattle.run_machine.specs.declared.event.Event.{Event}
+use Rattle.run_machine.specs.Scene.{Scene, tree_at}
+use Rattle.run_machine.specs.Lines.{Want, Ask, Links, ToCut, ToMaster, Drives, Copies, first_length, legs_of, leg_at}
+use Rattle.run_machine.specs.Tasks.{TaskState, Todo, Completer, Carried, Empty, Brings, Carries, Fails}
+use Rattle.run_machine.specs.Opened.{Scenario, scene, start, setup as setup_in}
+use Rattle.run_machine.specs.Runs.{State, IsRun}
+use Rattle.block_core.specs.Weights.{total, task_weight, carried_weight, under}
+use Rattle.block_core.specs.Weights.{apart}
+use Rattle.block_core.specs.Scenarios.{IsScenario}
+use Rattle.block_core.specs.OfOneWrite.{bio_strays, parent_strays, strays, AreOfOneWrite, AllAreOfOneWrite}
+use Rattle.block_core.proofs.moves.Moves.{Move, Can, after, lost, gained, limit_of, HasLine, taken_of, filled_of, vector_of, cut_lists, Tells, piece}
+use Rattle.block_core.proofs.moves.Moves as moves
+use Rattle.block_core.proofs.sound.Facts.{TaskFits, Fair, Kept}
+use Rattle.block_core.proofs.sound.TaskLines.{line_fits}
+use Rattle.block_core.proofs.sound.Orders.{Ground}
+use Rattle.block_core.proofs.moves.Devices.{ground}
+use Rattle.block_core.proofs.moves.Deltas.{vacant_at, delta}
+use Rattle.block_core.proofs.sound.Places.{sum_at-ge, copies_weight, unless, unless_none, cut_weight, line_part}
+use Rattle.block_core.proofs.moves.Listed.{IsBlind, landed_same, first_weight, goes_weight}
+use Rattle.block_core.proofs.moves.Marked.{with_mark, mark_here, mark_other, mark_still, IsUnmoved, none_moves}
+use Rattle.block_core.proofs.stuck.Idle.{node_part}
+use Rattle.block_core.proofs.moves.StepMoves.{step_is_move}
+use Rattle.block_core.proofs.start.FactsAtStart.{total_zero, start_opened}
+use Rattle.block_core.proofs.sound.Wholes.{Whole, runs_whole, start_whole}
+
+blind_strays : (write_of : ℕ → ℕ → ℕ) → IsBlind (strays write_of)
+blind_strays write_of limit item t = landed_same (λ (bio : Bio). apart (write_of bio.writer bio.node) bio.write) (λ to members bio. refl) t item.bio
+
+-- the write of what a completer carries
+abbrev pub write_in : Carried → ℕ
+write_in Empty = 0
+write_in (Brings bio status) = bio.bio.write
+write_in (Carries writer closed) = closed.write
+write_in (Fails breach kept) = 0
+
+-- what names another place than a vacant one stays with its write
+module _ (write_of : ℕ → ℕ → ℕ) (writer key n : ℕ) where
+  abbrev new : ℕ → ℕ → ℕ
+  new = with_mark write_of writer key n
+
+  parent_same : (w : ℕ) (parent : Option ℕ) (write : ℕ) → under writer key w parent ≡ 0 → parent_strays new w parent write ≡ parent_strays write_of w parent write
+  parent_same w None write none = refl
+  parent_same w (Some parent) write none = ap (λ x. apart x write) (mark_still write_of writer key n w parent none)
+
+  unmoved : IsUnmoved (strays new) (strays write_of) writer key
+  unmoved = record {
+    todo = λ w todos taken. omega arith;
+    bio = λ spot item none. omega (arith, mark_still write_of writer key n item.bio.writer item.bio.node none);
+    copy = λ bio master leg none. omega (arith, mark_still write_of writer key n bio.writer master none);
+    hand = λ item. omega arith;
+    vector = λ vector. omega arith;
+    slip = λ slip. omega arith;
+    node = λ w k node other none. omega (arith, mark_other write_of writer key n w k other, parent_same w (parent_of node.role) node.write none);
+    closed = λ task w closed none. omega (arith, parent_same w closed.parent closed.write none);
+  }
+
+  -- so a vacant place may have any
+  pub vacant_strays : (scene : Scene) (s : State) → Kept scene s → IsVacant (s.objects.book writer) key → total scene (strays write_of) s ≡ 0 → total scene (strays new) s ≡ 0
+  vacant_strays scene s i vacant off = omega (arith, off, none_moves scene s i writer key vacant (strays new) (strays write_of) unmoved)
+
+begun_of_write : (write_of : ℕ → ℕ → ℕ) (writer : ℕ) (todo : Todo) (item : Item Pad) (vector : Option VectorItem) (key : ℕ) → write_of writer key ≡ todo.number
+    → bio_strays write_of (filled_of writer todo item vector key) ≡ 0
+begun_of_write write_of writer todo item None key is = omega (arith, is)
+begun_of_write write_of writer todo item (Some vector) key is = omega (arith, is)
+
+leg_of_write : (write_of : ℕ → ℕ → ℕ) (bio : Bio) (hand : Item Pad) (leg key : ℕ) (t : Tree) → leg < legs_of t → write_of bio.writer key ≡ bio.write → bio_strays write_of (leg_at bio hand leg key t) ≡ 0
+leg_of_write write_of bio hand leg key (Leaf number sectors) lt is = absurd (omega (arith, lt))
+leg_of_write write_of bio hand leg key (Split number kind sizes members) lt is = absurd (omega (arith, lt))
+leg_of_write write_of bio hand leg key (Mirrored number sizes members) lt is = omega (arith, is)
+
+module _ (scene : Scene) (s : State) (i : Kept scene s) (write_of : ℕ → ℕ → ℕ) (none : total scene (strays write_of) s ≡ 0) where
+  -- the writes stay
+  same : (m : Move) → Can scene s m → gained scene (strays write_of) s m ≤ lost scene (strays write_of) s m → AreOfOneWrite scene (after scene s m)
+  same m c le = (write_of, omega (arith, none, delta scene (strays write_of) s m c, le))
+
+  -- a vacant place gets one
+  one_more : (m : Move) → Can scene s m → (writer key n : ℕ) → IsVacant (s.objects.book writer) key
+      → gained scene (strays (with_mark write_of writer key n)) s m ≤ lost scene (strays (with_mark write_of writer key n)) s m → AreOfOneWrite scene (after scene s m)
+  one_more m c writer key n v le =
+      (with_mark write_of writer key n, omega (arith, vacant_strays write_of writer key n scene s i v none, delta scene (strays (with_mark write_of writer key n)) s m c, le))
+
+  -- an open node has the write of its place, behind the event too
+  pub node_write : (writer key : ℕ) (node : Node) → node_at (s.objects.book writer) key ≡ Some node → write_of writer key ≡ node.write
+  node_write writer key node at = omega (arith, none, node_part scene s i (strays write_of) writer key node at)
+
+  other_place : (writer key place : ℕ) (node : Node) → IsVacant (s.objects.book writer) key → node_at (s.objects.book writer) place ≡ Some node → place ≢ key
+  other_place writer key place node v found q =
+      let a = vacant_at (s.objects.book writer) key v in
+      let x : node_at (s.objects.book writer) place ≡ node_at (s.objects.book writer) key = ap (node_at (s.objects.book writer)) q in
+      let y : None ≡ Some node = sym a.0 ∙ sym x ∙ found in cc
+
+  pub stays_of_one_write : (m : Move) → Can scene s m → AreOfOneWrite scene (after scene s m)
+  stays_of_one_write (moves.TakesFirst place writer todo later move) c = same (moves.TakesFirst place writer todo later move) c (omega arith)
+  stays_of_one_write (moves.TakesVector place writer todo later item move) c = same (moves.TakesVector place writer todo later item move) c (omega arith)
+  stays_of_one_write (moves.TakesSub place x doing lists dev waits move) c = same (moves.TakesSub place x doing lists dev waits move) c (omega arith)
+  stays_of_one_write (moves.TakesSlip place x bio lists move) c = same (moves.TakesSlip place x bio lists move) c (omega arith)
+  stays_of_one_write (moves.MissesOne place x number used) c = same (moves.MissesOne place x number used) c (omega arith)
+  stays_of_one_write (moves.MissesTry place x doing lists dev used) c = same (moves.MissesTry place x doing lists dev used) c (omega arith)
+  stays_of_one_write (moves.Punts place x doing lists dev) c = same (moves.Punts place x doing lists dev) c (omega arith)
+  stays_of_one_write (moves.Pops place dev bio bios) c =
+      same (moves.Pops place dev bio bios) c (omega (arith, first_weight (strays write_of) (blind_strays write_of) dev.0 scene.setup (bio ∷ []), sum_by-cons (bio_strays write_of) bio []))
+  stays_of_one_write (moves.Pushes place x bio lists) c =
+      same (moves.Pushes place x bio lists) c (omega (arith, goes_weight (strays write_of) (blind_strays write_of) (limit_of x) scene.setup bio.bio.dev lists))
+  stays_of_one_write (moves.Completed place disk index bio status new) c = same (moves.Completed place disk index bio status new) c (omega arith)
+  stays_of_one_write (moves.Begins place writer todo later item vector key) c =
+      let new = with_mark write_of writer key todo.number in
+      let here = mark_here write_of writer key todo.number in
+      one_more (moves.Begins place writer todo later item vector key) c writer key todo.number c.3
+      (omega (
+        arith,
+        here,
+        first_weight (strays new) (blind_strays new) 32 scene.setup (filled_of writer todo item vector key ∷ []),
+        sum_by-cons (bio_strays new) (filled_of writer todo item vector key) [],
+        begun_of_write new writer todo item vector key here,
+      ))
+  stays_of_one_write (moves.Chained place x bio lists hand number kind sizes members key node) c =
+      let n = first_length kind sizes bio.bio.range in
+      let new = with_mark write_of bio.bio.writer key node.write in
+      let here = mark_here write_of bio.bio.writer key node.write in
+      let part = line_part scene (strays write_of) s place x (Drives bio (ToCut (Links hand))) lists c.0 c.1 c.2 in
+      let parent : new bio.bio.writer bio.bio.node ≡ write_of bio.bio.writer bio.bio.node =
+      mark_other write_of bio.bio.writer key node.write bio.bio.writer bio.bio.node (inr (other_place bio.bio.writer key bio.bio.node node c.6 c.5)) in
+      let of_node = node_write bio.bio.writer bio.bio.node node c.5 in
+      let of_bio : write_of bio.bio.writer bio.bio.node ≡ bio.bio.write = omega (arith, none, part) in
+      one_more (moves.Chained place x bio lists hand number kind sizes members key node) c bio.bio.writer key node.write c.6
+      (omega (
+        arith,
+        here,
+        parent,
+        of_node,
+        of_bio,
+        goes_weight (strays new) (blind_strays new) (limit_of x) scene.setup bio.bio.dev (cut_lists bio lists hand n key kind sizes members),
+        cut_weight (bio_strays new) bio lists hand n key kind sizes members,
+      ))
+  stays_of_one_write (moves.Mastered place x bio lists slip key node) c =
+      let new = with_mark write_of bio.bio.writer key node.write in
+      let here = mark_here write_of bio.bio.writer key node.write in
+      let legs = legs_of (tree_at scene.setup bio.bio.dev) in
+      let part = line_part scene (strays write_of) s place x (Drives bio (ToMaster slip)) lists c.0 c.1 c.2 in
+      let parent : new bio.bio.writer bio.bio.node ≡ write_of bio.bio.writer bio.bio.node =
+      mark_other write_of bio.bio.writer key node.write bio.bio.writer bio.bio.node (inr (other_place bio.bio.writer key bio.bio.node node c.5 c.4)) in
+      let of_node = node_write bio.bio.writer bio.bio.node node c.4 in
+      let of_bio : write_of bio.bio.writer bio.bio.node ≡ bio.bio.write = omega (arith, none, part) in
+      let copy : apart (new bio.bio.writer key) bio.bio.write ≡ 0 = omega (arith, here, of_node, of_bio) in
+      one_more (moves.Mastered place x bio lists slip key node) c bio.bio.writer key node.write c.5
+      (omega (
+        arith,
+        here,
+        parent,
+        of_node,
+        copies_weight (strays new) (blind_strays new) (limit_of x) scene.setup lists bio.bio key 0,
+        ap (unless (0 == legs)) copy,
+        unless_none (0 == legs),
+      ))
+  stays_of_one_write (moves.Legged place x bio lists master leg hand key node) c =
+      let new = with_mark write_of bio.writer key node.write in
+      let here = mark_here write_of bio.writer key node.write in
+      let legs = legs_of (tree_at scene.setup bio.dev) in
+      let item = leg_at bio hand leg key (tree_at scene.setup bio.dev) in
+      let lt = line_fits scene x (Copies bio master leg (Links hand)) lists (subst (TaskFits scene) c.1 (i.tasks place)) c.2 in
+      let part = line_part scene (strays write_of) s place x (Copies bio master leg (Links hand)) lists c.0 c.1 c.2 in
+      let parent : new bio.writer master ≡ write_of bio.writer master =
+      mark_other write_of bio.writer key node.write bio.writer master (inr (other_place bio.writer key master node c.5 c.4)) in
+      let of_node = node_write bio.writer master node c.4 in
+      let of_bio : write_of bio.writer master ≡ bio.write = omega (arith, none, part) in
+      let fits : bio_strays new item ≡ 0 = leg_of_write new bio hand leg key (tree_at scene.setup bio.dev) lt (omega (arith, here, of_node, of_bio)) in
+      let copy : apart (new bio.writer master) bio.write ≡ 0 = omega (arith, parent, of_bio) in
+      one_more (moves.Legged place x bio lists master leg hand key node) c bio.writer key node.write c.5
+      (omega (
+        arith,
+        here,
+        parent,
+        of_node,
+        copies_weight (strays new) (blind_strays new) (limit_of x) scene.setup (submitted item lists) bio master (leg + 1),
+        ap (unless (leg + 1 == legs)) copy,
+        unless_none (leg + 1 == legs),
+        sum_by_push (bio_strays new) lists.list0 item,
+        fits,
+      ))
+  stays_of_one_write (moves.Told place disk carried writer key status part node) c = same (moves.Told place disk carried writer key status part node) c (omega arith)
+  stays_of_one_write (moves.Closes place disk carried writer key status part node) c = same (moves.Closes place disk carried writer key status part node) c (omega arith)
+  stays_of_one_write (moves.Gives place disk writer number closed held) c = same (moves.Gives place disk writer number closed held) c (omega arith)
+  stays_of_one_write (moves.Ends place disk writer closed) c = same (moves.Ends place disk writer closed) c (omega arith)
+  stays_of_one_write (moves.Resized place pool min later duties) c = same (moves.Resized place pool min later duties) c (omega arith)
+  stays_of_one_write (moves.Started place round later duties) c = same (moves.Started place round later duties) c (omega arith)
+
+  -- Of what a task has at hand: the bio that it drives is of the write of the open node that it names, and so is one that it copies of the
+  -- write of its master;
+  pub driven_of_write : (place : ℕ) (x : TaskState) (bio : Item Pad) (ask : Ask) (lists : TaskLists) (node : Node) → place < scene.tasks → s.task place ≡ x → HasLine x (Drives bio ask) lists
+      → node_at (s.objects.book bio.bio.writer) bio.bio.node ≡ Some node → node.write ≡ bio.bio.write
+  driven_of_write place x bio ask lists node here is h at =
+      omega (arith, none, node_write bio.bio.writer bio.bio.node node at, line_part scene (strays write_of) s place x (Drives bio ask) lists here is h)
+
+  pub copied_of_write : (place : ℕ) (x : TaskState) (bio : Bio) (master leg : ℕ) (want : Want) (lists : TaskLists) (node : Node) → place < scene.tasks → s.task place ≡ x
+      → HasLine x (Copies bio master leg want) lists → node_at (s.objects.book bio.writer) master ≡ Some node → node.write ≡ bio.write
+  copied_of_write place x bio master leg want lists node here is h at =
+      omega (arith, none, node_write bio.writer master node at, line_part scene (strays write_of) s place x (Copies bio master leg want) lists here is h)
+
+  -- what a completer tells a node is of the node's write,
+  pub told_of_write : (place : ℕ) (disk : DevId) (carried : Carried) (writer key : ℕ) (status : Status) (part : Option (Item Pad)) (node : Node) → place < scene.tasks
+      → s.task place ≡ Completer disk carried → Tells carried writer key status part → node_at (s.objects.book writer) key ≡ Some node → write_in carried ≡ node.write
+  told_of_write place disk carried writer key status part node here is t at =
+      let a : task_weight (strays write_of) place (s.task place) ≡ carried_weight (strays write_of) place carried = ap (task_weight (strays write_of) place) is in
+      let b = sum_at-ge (task_weight (strays write_of)) scene.tasks s.task place here in
+      let c = node_write writer key node at in
+      by_carried carried t (omega (arith, a, b, none)) c
+    where
+      by_carried : (x : Carried) → Tells x writer key status part → carried_weight (strays write_of) place x ≡ 0 → write_of writer key ≡ node.write → write_in x ≡ node.write
+      by_carried Empty t off of_node = absurd t
+      by_carried (Brings bio ending) t off of_node =
+          let same : write_of bio.bio.writer bio.bio.node ≡ write_of writer key = ap (write_of bio.bio.writer) (sym t.1) ∙ ap (λ v. write_of v key) (sym t.0) in
+          omega (arith, same, off, of_node)
+      by_carried (Carries of closed) t off of_node =
+          let up : parent_strays write_of of closed.parent closed.write ≡ apart (write_of of key) closed.write = ap (λ p. parent_strays write_of of p closed.write) t.1 in
+          let same : write_of of key ≡ write_of writer key = ap (λ v. write_of v key) (sym t.0) in
+          omega (arith, up, same, off, of_node)
+      by_carried (Fails breach kept) t off of_node = absurd t
+
+  -- and a node is of the write of the one that it is under
+  pub child_of_write : (writer key parent : ℕ) (child node : Node) → node_at (s.objects.book writer) key ≡ Some child → parent_of child.role ≡ Some parent
+      → node_at (s.objects.book writer) parent ≡ Some node → child.write ≡ node.write
+  child_of_write writer key parent child node at under_it up =
+      let same : parent_strays write_of writer (parent_of child.role) child.write ≡ apart (write_of writer parent) child.write = ap (λ p. parent_strays write_of writer p child.write) under_it in
+      omega (arith, none, same, node_part scene s i (strays write_of) writer key child at, node_write writer parent node up)
+
+-- every run keeps it
+module _ (scene : Scene) (f : Fair scene) (g : Ground scene.setup) where
+  pub runs_of_one_write : (s : State) (events : List Event) (new : State) → Whole scene s → AreOfOneWrite scene s → IsRun scene s events new → AreOfOneWrite scene new
+  runs_of_one_write s [] new i t run = subst (AreOfOneWrite scene) (sym run) t
+  runs_of_one_write s (event ∷ events) new i t (next, (place, steps), run) =
+      let moved = step_is_move scene s f i.kept place event next steps in
+      runs_of_one_write next events new (runs_whole scene f g s (event ∷ []) next i (next, (place, steps), refl))
+      (subst (AreOfOneWrite scene) (sym moved.is) (stays_of_one_write scene s i.kept t.0 t.1 moved.move moved.can)) run
+
+pub start_of_one_write : (s : Scenario) → IsScenario s → (ledger : ℕ → LedgerId) → AreOfOneWrite (scene s ledger) (start s)
+start_of_one_write s good ledger = (λ writer place. 0, total_zero (scene s ledger) (start s) (strays (λ writer place. 0)) (λ n todos. refl) (start_opened s good ledger))
+
+pub all_of_one_write : AllAreOfOneWrite
+all_of_one_write s ledger events state good naming run =
+    runs_of_one_write (scene s ledger) (record { named = naming }) (ground s.stack good.stack (setup_in s).places) (start s) events state (start_whole s ledger good naming)
+    (start_of_one_write s good ledger) run

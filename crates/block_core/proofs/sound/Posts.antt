@@ -1,0 +1,277 @@
+-- What each task is there for: tasks stay what they are, none has failed, writers go by rounds, the keeper has all rounds before it, and each
+-- pool at which a task can wait keeps an element.
+use Rattle.std.proofs.Common.{◌≡◌, ◌+◌, ◌-◌, ◌*◌, ◌<◌, ◌≤◌, ◌⊎◌, ℕ, true, List, [], ◌∷◌, length, inl, inr, refl, sym, ◌∙◌, ap, subst, arith}
+use Rattle.std.specs.Prelude.{slice_index_or}
+use Rattle.std.proofs.lemmas.List.{length-set}
+use Rattle.std.proofs.lemmas.Option.{slice_get_within}
+use Rattle.stack_base.specs.declared.ids.DevId.{DevId}
+use Rattle.stack_base.specs.PoolId.{pool_number}
+use Rattle.stack_base.specs.Tree.{Tree, Leaf, Split, Mirrored}
+use Rattle.mempool_core.specs.Move.{PoolState, Move as PoolMove, after_move, takes_ordinary, takes_spare, misses, gives, resizes}
+use Rattle.bio_records.specs.declared.bio.Bio.{Bio}
+use Rattle.bio_records.specs.declared.tasks.TaskLists.{TaskLists}
+use Rattle.bio_books.specs.Books.{keeping}
+use Rattle.bio_books.specs.Drops.{Closed}
+use Rattle.model_disks.specs.Disks.{DiskState}
+use Rattle.model_disks.specs.Moves.{pushed}
+use Rattle.run_machine.specs.Maps.{upd}
+use Rattle.run_machine.specs.Scene.{Scene, tree_at}
+use Rattle.run_machine.specs.Lines.{Links, ToPush, ToCut, ToRecord, ToMaster, Doing, Drives, Copies, Line, rests}
+use Rattle.run_machine.specs.Tasks.{TaskState, Writer, Rescuer, Completer, Keeper, Keeps, Stops, Duty, Resizes, Starts, Todo, Taken, NoBio, HasBio, HasBoth, Carried, Empty, Brings, Carries, Fails}
+use Rattle.run_machine.specs.Objects.{done_one}
+use Rattle.run_machine.specs.Runs.{State}
+use Rattle.block_core.proofs.moves.Moves.{Move, IsTaking, place_of, Can, after, lost, gained, limit_of, with_line, HasLine, Wants, with_want, taken_of, filled_of, vector_of, cut_lists, IsTake, Tells, Hands, piece, with_pool, with_book}
+use Rattle.block_core.proofs.moves.Moves as moves
+use Rattle.block_core.proofs.moves.Sums.{upd-same, upd-other, same_or_not}
+use Rattle.block_core.proofs.sound.Facts.{Suits, TaskFits, Kept}
+use Rattle.block_core.proofs.sound.TaskLines.{line_fits}
+use Rattle.block_core.proofs.sound.Orders.{Each}
+use Rattle.block_core.proofs.sound.OrdersKept.{all_at}
+use Rattle.block_core.proofs.sound.Rounds.{TaskRounds, Tallied}
+use Rattle.block_core.proofs.stuck.NothingWaits.{IsPool}
+use Rattle.run_machine.specs.Scene.{keeps_data, is_disk, is_device}
+use Rattle.run_machine.specs.Objects.{TallyState}
+use Rattle.run_machine.specs.Events.{id_of}
+use Rattle.run_machine.specs.declared.event.TaskId.{TaskId}
+
+-- the writes of a writer stand by their rounds
+abbrev pub ByRounds : List Todo → Type 0
+ByRounds [] = Unit {0}
+ByRounds (todo ∷ todos) = Each (λ (other : Todo). todo.round ≤ other.round) todos × ByRounds todos
+
+-- something is taken for a write alone
+abbrev pub TakenFits : List Todo → Taken → Type 0
+TakenFits todo NoBio = Unit {0}
+TakenFits [] (HasBio item) = ⊥
+TakenFits (todo ∷ todos) (HasBio item) = Unit {0}
+TakenFits [] (HasBoth item vector) = ⊥
+TakenFits (todo ∷ todos) (HasBoth item vector) = Unit {0}
+
+abbrev pub Carrying : Carried → Type 0
+Carrying Empty = Unit {0}
+Carrying (Brings bio status) = Unit {0}
+Carrying (Carries writer closed) = Unit {0}
+Carrying (Fails breach kept) = ⊥
+
+-- each change of a reserve leaves one, and how many rounds are still to start
+abbrev pub Mins : List Duty → Type 0
+Mins [] = Unit {0}
+Mins (Resizes pool min later ∷ duties) = (1 ≤ min) × Mins duties
+Mins (Starts round later ∷ duties) = Mins duties
+
+abbrev pub starts : List Duty → ℕ
+starts [] = 0
+starts (Resizes pool min later ∷ duties) = starts duties
+starts (Starts round later ∷ duties) = 1 + starts duties
+
+abbrev pub InTasks : Scene → List Duty → ℕ → Type 0
+InTasks scene [] place = Unit {0}
+InTasks scene (duty ∷ duties) place = place < scene.tasks
+
+abbrev pub Keeping_ : ℕ → Scene → TallyState → ℕ → List Duty → Type 0
+Keeping_ keeper scene tally place duties =
+    Mins duties × (place ≡ keeper → tally.round + starts duties + 1 ≡ length tally.left) × InTasks scene duties place
+
+abbrev pub Manned : ℕ → Scene → TallyState → ℕ → TaskState → Type 0
+Manned keeper scene tally place (Writer number todo taken line) = ByRounds todo × TakenFits todo taken
+Manned keeper scene tally place (Rescuer dev line) = Unit {0}
+Manned keeper scene tally place (Completer disk carried) = Carrying carried
+Manned keeper scene tally place (Keeper (Keeps duties)) = Keeping_ keeper scene tally place duties
+Manned keeper scene tally place (Keeper (Stops breach)) = Unit {0}
+
+abbrev pub AtPost : (ℕ → TaskId) → ℕ → Scene → TallyState → ℕ → TaskState → Type 0
+AtPost ids keeper scene tally place x = (id_of x ≡ ids place) × Manned keeper scene tally place x
+
+pub record Posted (ids : ℕ → TaskId) (keeper : ℕ) (scene : Scene) (s : State) : Type 0 where
+  pub tasks : (place : ℕ) → AtPost ids keeper scene s.objects.tally place (s.task place)
+  pub mins : (number : ℕ) → IsPool scene.setup number → 1 ≤ (s.objects.pool number).facts.min
+  -- only disks have bios
+  pub disks : (dev : ℕ) → ((s.objects.disk dev).pending ≡ []) ⊎ (is_disk scene.setup dev ≡ true)
+
+module _ (rounds : List ℕ) (ids : ℕ → TaskId) (keeper : ℕ) (scene : Scene) (s : State) (k : Kept scene s) (r : Tallied rounds keeper scene s) (i : Posted ids keeper scene s) where
+  abbrev Post : TallyState → ℕ → TaskState → Type 0
+  Post = AtPost ids keeper scene
+
+  at : (place : ℕ) (x : TaskState) → s.task place ≡ x → Post s.objects.tally place x
+  at place x is = subst (Post s.objects.tally place) is (i.tasks place)
+
+  goes : (place : ℕ) (y : TaskState) → Post s.objects.tally place y → (j : ℕ) → Post s.objects.tally j (upd s.task place y j)
+  goes place y fits = all_at (Post s.objects.tally) s.task place y i.tasks fits
+
+  relined : (place : ℕ) (x : TaskState) (doing : Doing) (lists : TaskLists) (new : Line) → HasLine x doing lists → Post s.objects.tally place x → Post s.objects.tally place (with_line x new)
+  relined place (Writer number todo taken line) doing lists new h t = t
+  relined place (Rescuer dev line) doing lists new h t = t
+  relined place (Completer disk carried) doing lists new h t = absurd h
+  relined place (Keeper keeping) doing lists new h t = absurd h
+
+  on_line : (place : ℕ) (x : TaskState) (doing : Doing) (lists : TaskLists) (new : Line) → s.task place ≡ x → HasLine x doing lists → (j : ℕ) → Post s.objects.tally j (upd s.task place (with_line x new) j)
+  on_line place x doing lists new is h = goes place (with_line x new) (relined place x doing lists new h (at place x is))
+
+  -- the tally goes on
+  other_tally : (tally : TallyState) (place : ℕ) (x : TaskState) → ((duties : List Duty) → (place ≡ keeper → s.objects.tally.round + starts duties + 1 ≡ length s.objects.tally.left)
+      → place ≡ keeper → tally.round + starts duties + 1 ≡ length tally.left) → Post s.objects.tally place x → Post tally place x
+  other_tally tally place (Writer number todo taken line) same t = t
+  other_tally tally place (Rescuer dev line) same t = t
+  other_tally tally place (Completer disk carried) same t = t
+  other_tally tally place (Keeper (Keeps duties)) same t = (t.0, (t.1.0, same duties t.1.1, t.1.2))
+  other_tally tally place (Keeper (Stops breach)) same t = t
+
+  in_tasks : (place : ℕ) (duties : List Duty) → place < scene.tasks → InTasks scene duties place
+  in_tasks place [] lt = tt
+  in_tasks place (duty ∷ duties) lt = lt
+
+  started : (place round later : ℕ) (duties : List Duty) → Can scene s (moves.Started place round later duties) → (j : ℕ)
+      → Post (record s.objects.tally { round = s.objects.tally.round + 1 }) j (upd s.task place (Keeper (Keeps duties)) j)
+  started place round later duties c j =
+      let tally = record s.objects.tally { round = s.objects.tally.round + 1 } in
+      let t = at place _ c.1 in
+      let mine : TaskRounds rounds keeper s.objects.tally.round place (Keeper (Keeps (Starts round later ∷ duties))) = subst (TaskRounds rounds keeper s.objects.tally.round place) c.1 (r.tasks place) in
+      elim (same_or_not j place) [
+        | inl e ↦
+            let P : ℕ → Type 0 = λ n. Post tally n (upd s.task place (Keeper (Keeps duties)) n) in
+            subst P (sym e) (subst (Post tally place) (sym (upd-same s.task place (Keeper (Keeps duties))))
+            (t.0, (t.1.0, (λ own. let q = t.1.1 own in omega (arith, q)), in_tasks place duties c.0)))
+        | inr ne ↦
+            subst (Post tally j) (sym (upd-other s.task place (Keeper (Keeps duties)) j ne))
+            (other_tally tally j (s.task j) (λ ds was own. absurd (ne (own ∙ sym mine.0))) (i.tasks j))
+      ]
+
+  -- a write is told done
+  ended : (place : ℕ) (disk : DevId) (writer : ℕ) (closed : Closed) → Can scene s (moves.Ends place disk writer closed) → (j : ℕ)
+      → Post (done_one closed.write closed.status s.objects.tally) j (upd s.task place (Completer disk Empty) j)
+  ended place disk writer closed c j =
+      let tally = done_one closed.write closed.status s.objects.tally in
+      let t = at place _ c.1 in
+      let long = length-set s.objects.tally.left s.objects.tally.round (slice_index_or s.objects.tally.left s.objects.tally.round 0 - 1) in
+      other_tally tally j (upd s.task place (Completer disk Empty) j) (λ ds was own. let q = was own in omega (arith, q, long)) (goes place (Completer disk Empty) (t.0, tt) j)
+
+  tasks : (m : Move) → Can scene s m → (j : ℕ) → Post (after scene s m).objects.tally j ((after scene s m).task j)
+  tasks (moves.TakesFirst place writer todo later move) c = let t = at place _ c.1 in goes place _ (t.0, (t.1.0, tt))
+  tasks (moves.TakesVector place writer todo later item move) c = let t = at place _ c.1 in goes place _ (t.0, (t.1.0, tt))
+  tasks (moves.TakesSub place x doing lists dev waits move) c = on_line place x doing lists _ c.1 c.2
+  tasks (moves.TakesSlip place x bio lists move) c = on_line place x (Drives bio ToRecord) lists _ c.1 c.2
+  tasks (moves.MissesOne place x number used) c = goes place x (at place x c.1)
+  tasks (moves.MissesTry place x doing lists dev used) c = on_line place x doing lists _ c.1 c.2
+  tasks (moves.Punts place x doing lists dev) c = on_line place x doing lists _ c.1 c.2
+  tasks (moves.Pops place dev bio bios) c = let t = at place _ c.1 in goes place _ (t.0, tt)
+  tasks (moves.Pushes place x bio lists) c = on_line place x (Drives bio ToPush) lists _ c.1 c.2
+  tasks (moves.Completed place disk index bio status new) c = let t = at place _ c.1 in goes place _ (t.0, tt)
+  tasks (moves.Begins place writer todo later item vector key) c =
+      let t = at place (Writer writer (todo ∷ later) (taken_of item vector) rests) c.1 in goes place _ (t.0, (t.1.0.1, tt))
+  tasks (moves.Chained place x bio lists hand number kind sizes members key node) c = on_line place x (Drives bio (ToCut (Links hand))) lists _ c.1 c.2
+  tasks (moves.Mastered place x bio lists slip key node) c = on_line place x (Drives bio (ToMaster slip)) lists _ c.1 c.2
+  tasks (moves.Legged place x bio lists master leg hand key node) c = on_line place x (Copies bio master leg (Links hand)) lists _ c.1 c.2
+  tasks (moves.Told place disk carried writer key status part node) c = let t = at place _ c.1 in goes place _ (t.0, tt)
+  tasks (moves.Closes place disk carried writer key status part node) c = let t = at place _ c.1 in goes place _ (t.0, tt)
+  tasks (moves.Gives place disk writer number closed held) c = let t = at place _ c.1 in goes place _ (t.0, tt)
+  tasks (moves.Ends place disk writer closed) c = ended place disk writer closed c
+  tasks (moves.Resized place pool min later duties) c = let t = at place _ c.1 in goes place _ (t.0, (t.1.0.1, t.1.1, in_tasks place duties c.0))
+  tasks (moves.Started place round later duties) c = started place round later duties c
+
+  -- a move but a resize leaves a pool its reserve
+  one_pool : (number : ℕ) (move : PoolMove) → (after_move (s.objects.pool number) move).facts.min ≡ (s.objects.pool number).facts.min
+      → (q : ℕ) → IsPool scene.setup q → 1 ≤ (upd s.objects.pool number (after_move (s.objects.pool number) move) q).facts.min
+  one_pool number move same q is =
+      all_at (λ q (pool : PoolState). IsPool scene.setup q → 1 ≤ pool.facts.min) s.objects.pool number (after_move (s.objects.pool number) move) i.mins
+      (λ own. let old = i.mins number own in omega (arith, old, same)) q is
+
+  take_min : (pool : PoolState) (move : PoolMove) → IsTake move → (after_move pool move).facts.min ≡ pool.facts.min
+  take_min pool takes_ordinary h = refl
+  take_min pool takes_spare h = refl
+  take_min pool (misses used) h = absurd h
+  take_min pool gives h = absurd h
+  take_min pool (resizes min) h = absurd h
+
+  mins : (m : Move) → Can scene s m → (q : ℕ) → IsPool scene.setup q → 1 ≤ ((after scene s m).objects.pool q).facts.min
+  mins (moves.TakesFirst place writer todo later move) c = one_pool 65 move (take_min (s.objects.pool 65) move c.2)
+  mins (moves.TakesVector place writer todo later item move) c = one_pool 64 move (take_min (s.objects.pool 64) move c.2)
+  mins (moves.TakesSub place x doing lists dev waits move) c = one_pool (2 * dev.0) move (take_min (s.objects.pool (2 * dev.0)) move c.4)
+  mins (moves.TakesSlip place x bio lists move) c = one_pool (2 * bio.bio.dev.0 + 1) move (take_min (s.objects.pool (2 * bio.bio.dev.0 + 1)) move c.3)
+  mins (moves.MissesOne place x number used) c = one_pool number (misses used) refl
+  mins (moves.MissesTry place x doing lists dev used) c = one_pool (2 * dev.0) (misses used) refl
+  mins (moves.Punts place x doing lists dev) c = i.mins
+  mins (moves.Pops place dev bio bios) c = i.mins
+  mins (moves.Pushes place x bio lists) c = i.mins
+  mins (moves.Completed place disk index bio status new) c = i.mins
+  mins (moves.Begins place writer todo later item vector key) c = i.mins
+  mins (moves.Chained place x bio lists hand number kind sizes members key node) c = i.mins
+  mins (moves.Mastered place x bio lists slip key node) c = i.mins
+  mins (moves.Legged place x bio lists master leg hand key node) c = i.mins
+  mins (moves.Told place disk carried writer key status part node) c = i.mins
+  mins (moves.Closes place disk carried writer key status part node) c = i.mins
+  mins (moves.Gives place disk writer number closed held) c = one_pool number gives refl
+  mins (moves.Ends place disk writer closed) c = i.mins
+  mins (moves.Resized place pool min later duties) c =
+      let t = at place _ c.1 in
+      all_at (λ q (pool : PoolState). IsPool scene.setup q → 1 ≤ pool.facts.min) s.objects.pool (pool_number pool) (after_move (s.objects.pool (pool_number pool)) (resizes min)) i.mins (λ own. t.1.0.0)
+  mins (moves.Started place round later duties) c = i.mins
+
+  disk_there : (bio : Bio) → bio.dev.0 < scene.setup.count → Suits (tree_at scene.setup bio.dev) ToPush → is_disk scene.setup bio.dev.0 ≡ true
+  disk_there bio lt suits =
+      let a : is_device scene.setup bio.dev.0 ≡ true = search (lt, arith) in
+      let b : keeps_data (scene.setup.tree bio.dev.0) ≡ true = by_tree (tree_at scene.setup bio.dev) suits in
+      rw (a, b) refl
+    where
+      by_tree : (t : Tree) → Suits t ToPush → keeps_data t ≡ true
+      by_tree (Leaf number sectors) suits = refl
+      by_tree (Split number kind sizes members) suits = absurd suits
+      by_tree (Mirrored number sizes members) suits = absurd suits
+
+  disks : (m : Move) → Can scene s m → (dev : ℕ) → (((after scene s m).objects.disk dev).pending ≡ []) ⊎ (is_disk scene.setup dev ≡ true)
+  disks (moves.Pushes place x bio lists) c =
+      let suits = line_fits scene x (Drives bio ToPush) lists (subst (TaskFits scene) c.1 (k.tasks place)) c.2 in
+      all_at (λ d (disk : DiskState). (disk.pending ≡ []) ⊎ (is_disk scene.setup d ≡ true)) s.objects.disk bio.bio.dev.0 (pushed bio (s.objects.disk bio.bio.dev.0)) i.disks
+      (inr (disk_there bio.bio c.3 suits))
+  disks (moves.Completed place disk index bio status new) c =
+      all_at (λ d (disk : DiskState). (disk.pending ≡ []) ⊎ (is_disk scene.setup d ≡ true)) s.objects.disk disk.0 new i.disks (by_old (i.disks disk.0))
+    where
+      by_old : ((s.objects.disk disk.0).pending ≡ []) ⊎ (is_disk scene.setup disk.0 ≡ true) → (new.pending ≡ []) ⊎ (is_disk scene.setup disk.0 ≡ true)
+      by_old (inl none) =
+          let lt = slice_get_within (s.objects.disk disk.0).pending index bio c.3.taken in
+          let z : length (s.objects.disk disk.0).pending ≡ 0 = ap length none in
+          absurd (omega (arith, lt, z))
+      by_old (inr is) = inr is
+  disks (moves.TakesFirst place writer todo later move) c = i.disks
+  disks (moves.TakesVector place writer todo later item move) c = i.disks
+  disks (moves.TakesSub place x doing lists dev waits move) c = i.disks
+  disks (moves.TakesSlip place x bio lists move) c = i.disks
+  disks (moves.MissesOne place x number used) c = i.disks
+  disks (moves.MissesTry place x doing lists dev used) c = i.disks
+  disks (moves.Punts place x doing lists dev) c = i.disks
+  disks (moves.Pops place dev bio bios) c = i.disks
+  disks (moves.Begins place writer todo later item vector key) c = i.disks
+  disks (moves.Chained place x bio lists hand number kind sizes members key node) c = i.disks
+  disks (moves.Mastered place x bio lists slip key node) c = i.disks
+  disks (moves.Legged place x bio lists master leg hand key node) c = i.disks
+  disks (moves.Told place disk carried writer key status part node) c = i.disks
+  disks (moves.Closes place disk carried writer key status part node) c = i.disks
+  disks (moves.Gives place disk writer number closed held) c = i.disks
+  disks (moves.Ends place disk writer closed) c = i.disks
+  disks (moves.Resized place pool min later duties) c = i.disks
+  disks (moves.Started place round later duties) c = i.disks
+
+  pub stays_posted : (m : Move) → Can scene s m → Posted ids keeper scene (after scene s m)
+  stays_posted m c = record { tasks = tasks m c; mins = mins m c; disks = disks m c }
+
+-- no event adds a round
+pub left_long : (scene : Scene) (s : State) (m : Move) → length (after scene s m).objects.tally.left ≡ length s.objects.tally.left
+left_long scene s (moves.TakesFirst place writer todo later move) = refl
+left_long scene s (moves.TakesVector place writer todo later item move) = refl
+left_long scene s (moves.TakesSub place x doing lists dev waits move) = refl
+left_long scene s (moves.TakesSlip place x bio lists move) = refl
+left_long scene s (moves.MissesOne place x number used) = refl
+left_long scene s (moves.MissesTry place x doing lists dev used) = refl
+left_long scene s (moves.Punts place x doing lists dev) = refl
+left_long scene s (moves.Pops place dev bio bios) = refl
+left_long scene s (moves.Pushes place x bio lists) = refl
+left_long scene s (moves.Completed place disk index bio status new) = refl
+left_long scene s (moves.Begins place writer todo later item vector key) = refl
+left_long scene s (moves.Chained place x bio lists hand number kind sizes members key node) = refl
+left_long scene s (moves.Mastered place x bio lists slip key node) = refl
+left_long scene s (moves.Legged place x bio lists master leg hand key node) = refl
+left_long scene s (moves.Told place disk carried writer key status part node) = refl
+left_long scene s (moves.Closes place disk carried writer key status part node) = refl
+left_long scene s (moves.Gives place disk writer number closed held) = refl
+left_long scene s (moves.Ends place disk writer closed) = length-set s.objects.tally.left s.objects.tally.round (slice_index_or s.objects.tally.left s.objects.tally.round 0 - 1)
+left_long scene s (moves.Resized place pool min later duties) = refl
+left_long scene s (moves.Started place round later duties) = refl

@@ -1,0 +1,370 @@
+-- Each open node waits for its parts by its role, and one master at most stands for its own part.
+use Rattle.std.proofs.Common.{◌≡◌, ◌+◌, ◌*◌, ◌<◌, ◌≤◌, ◌==◌, if◌then◌else◌, not, ℕ, Bool, true, false, [], ◌∷◌, Option, None, Some, inl, inr, refl, sym, ◌∙◌, ap, subst, arith}
+use Rattle.stack_base.specs.declared.ids.DevId.{DevId}
+use Rattle.stack_base.specs.declared.ids.Status.{Status}
+use Rattle.bio_records.specs.declared.bio.Pad.{Pad}
+use Rattle.bio_records.specs.Items.{Item}
+use Rattle.bio_lists.specs.Submission.{submitted}
+use Rattle.bio_books.specs.declared.node.Role.{Role}
+use Rattle.bio_books.specs.declared.node.Role.TheVariants as role
+use Rattle.bio_books.specs.Books.{Node, BookState, node_at, parent_of, top_node, child_node, master_node, leg_node, keeping, raised, lowered, told}
+use Rattle.bio_books.specs.Drops.{Closed}
+use Rattle.bio_books.specs.Links.{IsVacant}
+use Rattle.run_machine.specs.Maps.{upd}
+use Rattle.run_machine.specs.Scene.{Setup, Scene, tree_at}
+use Rattle.run_machine.specs.Lines.{ToMaster, Drives, punted, first_length, legs_of, leg_at}
+use Rattle.run_machine.specs.Tasks.{Completer, Carried, Brings, Carries}
+use Rattle.run_machine.specs.Runs.{State}
+use Rattle.block_core.specs.Weights.{Weight, total, one, task_weight, carried_weight, refs, under, legs_left, count_of}
+use Rattle.block_core.specs.Roles.{is_master, is_leg, named, masters, children, legs_to_make, WaitsForParts, HasRoles}
+use Rattle.block_core.specs.Values.{yes, mismatch}
+use Rattle.block_core.proofs.moves.Moves.{Move, Can, after, lost, gained, limit_of, HasLine, taken_of, filled_of, vector_of, cut_lists, Tells, piece}
+use Rattle.block_core.proofs.moves.Moves as moves
+use Rattle.block_core.proofs.moves.Sums.{upd-same, upd-other, same_or_not, one-same, one-other}
+use Rattle.block_core.proofs.sound.Facts.{own_part, own_of, Kept}
+use Rattle.block_core.proofs.moves.Deltas.{vacant_at, delta}
+use Rattle.block_core.proofs.sound.Places.{copies_weight, unless, unless_none, is_away}
+use Rattle.block_core.proofs.moves.BookMaps.{made, became, chained}
+use Rattle.block_core.proofs.moves.Listed.{IsBlind, first_weight, goes_weight}
+use Rattle.block_core.proofs.sound.Owns.{brought, told_own, own_some}
+use Rattle.block_core.proofs.moves.Marked.{no_ref}
+use Rattle.block_core.proofs.sound.Splitting.{IsSumOf, total_sum, IsSameButClosed, total_but}
+use Rattle.block_core.proofs.sound.Misplaced.{wrong_parent, wrong_above, misplaced, ArePlaced, was_after, stays_right}
+use Rattle.block_core.proofs.moves.Totals.{task_part}
+use Rattle.block_core.proofs.stuck.Idle.{node_part}
+use Rattle.block_core.proofs.images.Ancestors.{open_at}
+use Rattle.block_core.proofs.moves.SumsCompared.{under_in_all}
+use Rattle.block_core.proofs.images.MasterRecords.{zeros}
+use Rattle.block_core.proofs.sound.Places as places
+
+-- what refers to a node
+pub refs_are : (setup : Setup) (was_master : ℕ → Bool) (w k : ℕ) → IsSumOf (refs setup w k) (named w k) (masters was_master w k) (children was_master w k) (legs_to_make setup w k)
+refs_are setup was_master w k = record {
+  todo = λ writer todos taken. refl;
+  bio = λ spot item. omega arith;
+  copy = λ bio master leg. omega arith;
+  hand = λ item. refl;
+  vector = λ vector. refl;
+  slip = λ slip. refl;
+  node = λ writer place node. by_test (is_master node.role) (under w k writer (parent_of node.role));
+  closed = λ task writer closed. by_test (was_master task) (under w k writer closed.parent);
+}
+  where
+    by_test : (b : Bool) (n : ℕ) → n ≡ 0 + (if b then n else 0) + (if b then 0 else n) + 0
+    by_test true n = omega arith
+    by_test false n = omega arith
+
+blind : (was_master : ℕ → Bool) (w k : ℕ) → IsBlind (masters was_master w k)
+blind was_master w k limit item t = refl
+
+same_but : (was_master other : ℕ → Bool) (w k : ℕ) → IsSameButClosed (masters was_master w k) (masters other w k)
+same_but was_master other w k = record { todo = refl; bio = refl; copy = refl; hand = refl; vector = refl; slip = refl; node = refl }
+
+-- a node that is told of an end by a part keeps it then, and else what it kept
+less_own : (writer key : ℕ) (status : Status) (part : Option (Item Pad)) (carried : Carried) (node : Node) → Tells carried writer key status part
+    → ((bio : Item Pad) (ending : Status) → carried ≡ Brings bio ending → (node.held.bio ≡ None) × (own_part node.role None ≡ 1))
+    → own_of (Some (lowered (told node status part))) ≤ own_of (Some node)
+less_own writer key status part carried node t none = omega (arith, told_own writer key status part carried node t none)
+
+abbrev pub AreStoodFor : Scene → State → (ℕ → Bool) → Type 0
+AreStoodFor scene s was_master = (w k : ℕ) → total scene (masters was_master w k) s + own_of (node_at (s.objects.book w) k) ≤ 1
+
+module _ (scene : Scene) (s : State) (i : Kept scene s) (was_master : ℕ → Bool) (all : AreStoodFor scene s was_master) where
+  abbrev w_of : ℕ → ℕ → Weight
+  w_of w k = masters was_master w k
+
+  same : (m : Move) → Can scene s m → (w k : ℕ) → (after scene s m).objects.book ≡ s.objects.book → gained scene (w_of w k) s m ≤ lost scene (w_of w k) s m
+      → total scene (w_of w k) (after scene s m) + own_of (node_at ((after scene s m).objects.book w) k) ≤ 1
+  same m c w k books le =
+      let b : own_of (node_at ((after scene s m).objects.book w) k) ≡ own_of (node_at (s.objects.book w) k) = ap (λ (book : ℕ → BookState). own_of (node_at (book w) k)) books in
+      omega (arith, b, all w k, delta scene (w_of w k) s m c, le)
+
+  -- no master is under a vacant place
+  at_vacant : (writer key : ℕ) → IsVacant (s.objects.book writer) key → (w k : ℕ)
+      → total scene (w_of w k) s + own_of (node_at (s.objects.book w) k) + one writer w * (one key k * 1) ≤ 1
+  at_vacant writer key v w k = elim (same_or_not writer w) [
+    | inl e ↦ elim (same_or_not key k) [
+      | inl also ↦
+          let P : ℕ → ℕ → Type 0 = λ a b. total scene (w_of a b) s + own_of (node_at (s.objects.book a) b) + one writer a * (one key b * 1) ≤ 1 in
+          let none : own_of (node_at (s.objects.book writer) key) ≡ 0 = ap own_of (vacant_at (s.objects.book writer) key v).0 in
+          let here : P writer key =
+          rw (one-same writer, one-same key)
+          (omega (
+            arith,
+            none,
+            no_ref scene s i writer key v,
+            total_sum (refs scene.setup writer key) _ _ _ _ (refs_are scene.setup was_master writer key) scene s,
+          )) in
+          subst (P w) also (subst (λ a. P a key) e here)
+      | inr ne ↦ let z = one-other key k ne in omega (arith, all w k, ap (λ n. one writer w * (n * 1)) z)
+    ]
+    | inr ne ↦ let z = one-other writer w ne in omega (arith, all w k, ap (λ n. n * (one key k * 1)) z)
+  ]
+
+  pub stays_stood_for : (m : Move) → Can scene s m → AreStoodFor scene (after scene s m) (was_after was_master m)
+  stays_stood_for (moves.TakesFirst place writer todo later move) c w k = same (moves.TakesFirst place writer todo later move) c w k refl (omega arith)
+  stays_stood_for (moves.TakesVector place writer todo later item move) c w k = same (moves.TakesVector place writer todo later item move) c w k refl (omega arith)
+  stays_stood_for (moves.TakesSub place x doing lists dev waits move) c w k = same (moves.TakesSub place x doing lists dev waits move) c w k refl (omega arith)
+  stays_stood_for (moves.TakesSlip place x bio lists move) c w k = same (moves.TakesSlip place x bio lists move) c w k refl (omega arith)
+  stays_stood_for (moves.MissesOne place x number used) c w k = same (moves.MissesOne place x number used) c w k refl (omega arith)
+  stays_stood_for (moves.MissesTry place x doing lists dev used) c w k = same (moves.MissesTry place x doing lists dev used) c w k refl (omega arith)
+  stays_stood_for (moves.Punts place x doing lists dev) c w k = same (moves.Punts place x doing lists dev) c w k refl (omega (arith, zeros (punted dev lists)))
+  stays_stood_for (moves.Pops place dev bio bios) c w k =
+      same (moves.Pops place dev bio bios) c w k refl (omega (arith, first_weight (w_of w k) (blind was_master w k) dev.0 scene.setup (bio ∷ []), zeros (bio ∷ [])))
+  stays_stood_for (moves.Pushes place x bio lists) c w k =
+      same (moves.Pushes place x bio lists) c w k refl
+      (omega (arith, goes_weight (w_of w k) (blind was_master w k) (limit_of x) scene.setup bio.bio.dev lists, zeros lists.list0, zeros lists.list1))
+  stays_stood_for (moves.Completed place disk index bio status new) c w k = same (moves.Completed place disk index bio status new) c w k refl (omega arith)
+  stays_stood_for (moves.Begins place writer todo later item vector key) c w k =
+      let first = filled_of writer todo item vector key ∷ [] in
+      omega (
+        arith,
+        at_vacant writer key c.3 w k,
+        delta scene (w_of w k) s (moves.Begins place writer todo later item vector key) c,
+        first_weight (w_of w k) (blind was_master w k) 32 scene.setup first,
+        zeros first,
+        made own_of refl s.objects.book writer key (top_node todo.number (vector_of todo vector)) w k 1 c.3 refl,
+      )
+  stays_stood_for (moves.Chained place x bio lists hand number kind sizes members key node) c w k =
+      let cut = cut_lists bio lists hand (first_length kind sizes bio.bio.range) key kind sizes members in
+      omega (
+        arith,
+        at_vacant bio.bio.writer key c.6 w k,
+        delta scene (w_of w k) s (moves.Chained place x bio lists hand number kind sizes members key node) c,
+        goes_weight (w_of w k) (blind was_master w k) (limit_of x) scene.setup bio.bio.dev cut,
+        zeros cut.list0,
+        zeros cut.list1,
+        chained own_of refl s.objects.book bio.bio.writer key bio.bio.node node (child_node node.write bio.bio.node) (raised node) w k 1 0 0 c.6 c.5 refl refl,
+      )
+  stays_stood_for (moves.Mastered place x bio lists slip key node) c w k =
+      let legs = legs_of (tree_at scene.setup bio.bio.dev) in
+      let part = places.line_part scene (named bio.bio.writer bio.bio.node) s place x (Drives bio (ToMaster slip)) lists c.0 c.1 c.2 in
+      let a = places.named_away scene s bio node i c.4 (omega (arith, part)) in
+      let b : own_part node.role node.held.bio ≡ own_part node.role None = ap (own_part node.role) a.0 in
+      let lost_own : own_of (Some (keeping bio node)) + 1 ≡ own_of (Some node) + 0 = omega (arith, a.1, b, own_some node.role bio) in
+      omega (
+        arith,
+        all w k,
+        delta scene (w_of w k) s (moves.Mastered place x bio lists slip key node) c,
+        copies_weight (w_of w k) (blind was_master w k) (limit_of x) scene.setup lists bio.bio key 0,
+        unless_none (0 == legs),
+        zeros lists.list0,
+        zeros lists.list1,
+        chained own_of refl s.objects.book bio.bio.writer key bio.bio.node node (master_node node.write bio.bio.node slip legs) (keeping bio node) w k 0 0 1 c.5 c.4 refl lost_own,
+      )
+  stays_stood_for (moves.Legged place x bio lists master leg hand key node) c w k =
+      let legs = legs_of (tree_at scene.setup bio.dev) in
+      let item = leg_at bio hand leg key (tree_at scene.setup bio.dev) in
+      omega (
+        arith,
+        at_vacant bio.writer key c.5 w k,
+        delta scene (w_of w k) s (moves.Legged place x bio lists master leg hand key node) c,
+        copies_weight (w_of w k) (blind was_master w k) (limit_of x) scene.setup (submitted item lists) bio master (leg + 1),
+        unless_none (leg + 1 == legs),
+        zeros (submitted item lists).list0,
+        zeros lists.list1,
+        made own_of refl s.objects.book bio.writer key (leg_node node.write master) w k 1 c.5 refl,
+      )
+  stays_stood_for (moves.Told place disk carried writer key status part node) c w k =
+      let own = less_own writer key status part carried node c.2 (is_away scene s place disk carried writer key status part node i c.0 c.1 c.2 c.4) in
+      let less = told_own writer key status part carried node c.2 (is_away scene s place disk carried writer key status part node i c.0 c.1 c.2 c.4) in
+      omega (
+        arith,
+        all w k,
+        delta scene (w_of w k) s (moves.Told place disk carried writer key status part node) c,
+        became own_of s.objects.book writer key node (Some (lowered (told node status part))) w k (brought carried) c.4 less,
+      )
+  stays_stood_for (moves.Closes place disk carried writer key status part node) c w k =
+      let m : Move = moves.Closes place disk carried writer key status part node in
+      let other = upd was_master place (is_master node.role) in
+      let new = masters other w k in
+      let here : task_weight new place (s.task place) ≡ carried_weight new place carried = ap (task_weight new place) c.1 in
+      let old : task_weight (w_of w k) place (s.task place) ≡ carried_weight (w_of w k) place carried = ap (task_weight (w_of w k) place) c.1 in
+      let is : (if other place then under w k writer (parent_of node.role) else 0) ≡ (if is_master node.role then under w k writer (parent_of node.role) else 0) =
+      ap (λ b. if b then under w k writer (parent_of node.role) else 0) (upd-same was_master place (is_master node.role)) in
+      let off = total_but new (w_of w k) (same_but other was_master w k) scene s place c.0
+      (λ j ne of closed. ap (λ b. if b then under w k of closed.parent else 0) (upd-other was_master place (is_master node.role) j ne)) in
+      omega (
+        arith,
+        all w k,
+        delta scene new s m c,
+        here,
+        old,
+        is,
+        off,
+        became own_of s.objects.book writer key node None w k (own_of (Some node)) c.4 (omega arith),
+      )
+  stays_stood_for (moves.Gives place disk writer number closed held) c w k = same (moves.Gives place disk writer number closed held) c w k refl (omega arith)
+  stays_stood_for (moves.Ends place disk writer closed) c w k = same (moves.Ends place disk writer closed) c w k refl (omega arith)
+  stays_stood_for (moves.Resized place pool min later duties) c w k = same (moves.Resized place pool min later duties) c w k refl (omega arith)
+  stays_stood_for (moves.Started place round later duties) c w k = same (moves.Started place round later duties) c w k refl (omega arith)
+
+pub record Stands (scene : Scene) (s : State) : Type 0 where
+  pub was_master : ℕ → Bool
+  pub right : ArePlaced scene s was_master
+  pub all : AreStoodFor scene s was_master
+
+pub stays_standing : (scene : Scene) (s : State) → Kept scene s → Stands scene s → (m : Move) → Can scene s m → Stands scene (after scene s m)
+stays_standing scene s i t m c = record {
+  was_master = was_after t.was_master m;
+  right = stays_right scene s i t.was_master t.right.0 t.right.1 m c;
+  all = stays_stood_for scene s i t.was_master t.all m c;
+}
+
+-- a node's kind is its mark
+kind_is : (r : Role) (b : Bool) → mismatch r b ≡ 0 → is_master r ≡ b
+kind_is role.Top true none = absurd (omega (arith, none))
+kind_is role.Top false none = refl
+kind_is (role.Chain parent) true none = absurd (omega (arith, none))
+kind_is (role.Chain parent) false none = refl
+kind_is (role.Master parent) true none = refl
+kind_is (role.Master parent) false none = absurd (omega (arith, none))
+kind_is (role.Leg parent) true none = absurd (omega (arith, none))
+kind_is (role.Leg parent) false none = refl
+
+is_false : (b : Bool) → yes b ≡ 0 → b ≡ false
+is_false true none = absurd (omega (arith, none))
+is_false false none = refl
+
+is_true : (b : Bool) → yes (not b) ≡ 0 → b ≡ true
+is_true true none = refl
+is_true false none = absurd (omega (arith, none))
+
+-- the parent of a node is of the kind that its role says
+parent_kind : (mark : ℕ → Bool) (r : Role) (parent : ℕ) → wrong_parent mark r ≡ 0 → parent_of r ≡ Some parent → mark parent ≡ is_leg r
+parent_kind mark role.Top parent none is = absurd cc
+parent_kind mark (role.Chain above) parent none is = let e : above ≡ parent = cc in subst (λ k. mark k ≡ false) e (is_false (mark above) none)
+parent_kind mark (role.Master above) parent none is = let e : above ≡ parent = cc in subst (λ k. mark k ≡ false) e (is_false (mark above) none)
+parent_kind mark (role.Leg above) parent none is = let e : above ≡ parent = cc in subst (λ k. mark k ≡ true) e (is_true (mark above) none)
+
+above_kind : (mark : ℕ → Bool) (b : Bool) (found : Option ℕ) (parent : ℕ) → wrong_above mark b found ≡ 0 → found ≡ Some parent → b ≡ true → mark parent ≡ false
+above_kind mark false found parent none is same = absurd cc
+above_kind mark true None parent none is same = absurd cc
+above_kind mark true (Some above) parent none is same = let e : above ≡ parent = cc in subst (λ k. mark k ≡ false) e (is_false (mark above) none)
+
+-- what refers to a place is right there by the place's mark
+marked : (mark : ℕ → ℕ → Bool) (writer w p k : ℕ) → mark w k ≡ true → one writer w * one p k ≤ yes (mark writer p)
+marked mark writer w p k is = elim (same_or_not writer w) [
+  | inr ne ↦ let z = one-other writer w ne in omega (arith, ap (λ n. n * one p k) z)
+  | inl e ↦ elim (same_or_not p k) [
+    | inr ne ↦ let z = one-other p k ne in omega (arith, ap (λ n. one writer w * n) z)
+    | inl also ↦
+        let P : ℕ → ℕ → Type 0 = λ a b. one a w * one b k ≤ yes (mark a b) in
+        let here : P w k = rw (one-same w, one-same k, is) (omega arith) in
+        subst (λ b. P writer b) (sym also) (subst (λ a. P a k) (sym e) here)
+  ]
+]
+
+not_marked : (mark : ℕ → ℕ → Bool) (writer w p k n : ℕ) → mark w k ≡ false → mark writer p ≡ true → one writer w * one p k * n ≡ 0
+not_marked mark writer w p k n other is = elim (same_or_not writer w) [
+  | inr ne ↦ let z = one-other writer w ne in omega (arith, ap (λ m. m * one p k * n) z)
+  | inl e ↦ elim (same_or_not p k) [
+    | inr ne ↦ let z = one-other p k ne in omega (arith, ap (λ m. one writer w * m * n) z)
+    | inl also ↦ let same : mark w k ≡ true = subst (λ b. mark w b ≡ true) also (subst (λ a. mark a p ≡ true) e is) in absurd cc
+  ]
+]
+
+-- what a node waits for, by its role
+waits_by : (r : Role) (part : Option (Item Pad)) (count bios standing below legs : ℕ) → count ≡ bios + standing + below + legs → own_part r part ≡ bios → standing + own_part r part ≤ 1
+    → (is_master r ≡ true → standing ≡ 0) → (is_master r ≡ false → legs ≡ 0) → WaitsForParts (is_master r) part count bios standing below legs
+waits_by (role.Master parent) part count bios standing below legs all own one_each alone made = let z = alone refl in (sym own, z, omega (arith, all, own, z))
+waits_by role.Top None count bios standing below legs all own one_each alone made = let z = made refl in ((sym own, omega (arith, one_each)), z, omega (arith, all, z))
+waits_by role.Top (Some bio) count bios standing below legs all own one_each alone made = let z = made refl in ((sym own, omega (arith, one_each)), z, omega (arith, all, z))
+waits_by (role.Chain parent) None count bios standing below legs all own one_each alone made = let z = made refl in ((sym own, omega (arith, one_each)), z, omega (arith, all, z))
+waits_by (role.Chain parent) (Some bio) count bios standing below legs all own one_each alone made = let z = made refl in ((sym own, omega (arith, one_each)), z, omega (arith, all, z))
+waits_by (role.Leg parent) None count bios standing below legs all own one_each alone made = let z = made refl in ((sym own, omega (arith, one_each)), z, omega (arith, all, z))
+waits_by (role.Leg parent) (Some bio) count bios standing below legs all own one_each alone made = let z = made refl in ((sym own, omega (arith, one_each)), z, omega (arith, all, z))
+
+module _ (scene : Scene) (s : State) (i : Kept scene s) (t : Stands scene s) where
+  abbrev mark : ℕ → ℕ → Bool
+  mark = t.right.0
+
+  abbrev off : Weight
+  off = misplaced t.right.0 t.was_master
+
+  kind : (writer place : ℕ) (node : Node) → node_at (s.objects.book writer) place ≡ Some node → is_master node.role ≡ mark writer place
+  kind writer place node at = kind_is node.role (mark writer place) (omega (arith, t.right.1, node_part scene s i off writer place node at))
+
+  no_masters : (w k : ℕ) → mark w k ≡ true → total scene (masters t.was_master w k) s ≡ 0
+  no_masters w k is =
+      omega (
+        arith,
+        t.right.1,
+        under_in_all scene s i (masters t.was_master w k) off (record {
+          todo = λ writer todos taken part. omega arith;
+          bio = λ spot item part. omega arith;
+          copy = λ bio master leg left part. omega arith;
+          hand = λ item. omega arith;
+          vector = λ vector. omega arith;
+          slip = λ slip. omega arith;
+          node = λ writer place node at part. omega (arith, by_role writer (mark writer place) node.role);
+          closed = λ task writer closed part. by_kind writer (t.was_master task) closed.parent;
+        }),
+      )
+    where
+      by_role : (writer : ℕ) (b : Bool) (r : Role) → (if is_master r then under w k writer (parent_of r) else 0) ≤ mismatch r b + wrong_parent (mark writer) r
+      by_role writer b role.Top = omega arith
+      by_role writer b (role.Chain parent) = omega arith
+      by_role writer b (role.Master parent) = omega (arith, marked mark writer w parent k is)
+      by_role writer b (role.Leg parent) = omega arith
+
+      by_kind : (writer : ℕ) (b : Bool) (parent : Option ℕ) → (if b then under w k writer parent else 0) ≤ wrong_above (mark writer) b parent
+      by_kind writer false parent = omega arith
+      by_kind writer true None = omega arith
+      by_kind writer true (Some parent) = marked mark writer w parent k is
+
+  no_legs : (w k : ℕ) → mark w k ≡ false → total scene (legs_to_make scene.setup w k) s ≡ 0
+  no_legs w k other =
+      omega (
+        arith,
+        t.right.1,
+        under_in_all scene s i (legs_to_make scene.setup w k) off (record {
+          todo = λ writer todos taken part. omega arith;
+          bio = λ spot item part. omega arith;
+          copy = λ bio master leg left part.
+              let none : yes (not (mark bio.writer master)) ≡ 0 = omega (arith, t.right.1, part off) in
+              omega (arith, not_marked mark bio.writer w master k (legs_left scene.setup bio leg) other (is_true (mark bio.writer master) none));
+          hand = λ item. omega arith;
+          vector = λ vector. omega arith;
+          slip = λ slip. omega arith;
+          node = λ writer place node at part. omega arith;
+          closed = λ task writer closed part. omega arith;
+        }),
+      )
+
+  waits : (writer place : ℕ) (node : Node) → node_at (s.objects.book writer) place ≡ Some node
+      → WaitsForParts (is_master node.role) node.held.bio node.count (total scene (named writer place) s) (total scene (masters t.was_master writer place) s)
+      (total scene (children t.was_master writer place) s) (total scene (legs_to_make scene.setup writer place) s)
+  waits writer place node at =
+      let own : own_of (node_at (s.objects.book writer) place) ≡ own_part node.role node.held.bio = ap own_of at in
+      let count : count_of (node_at (s.objects.book writer) place) ≡ node.count = ap count_of at in
+      let is = kind writer place node at in
+      waits_by node.role node.held.bio node.count (total scene (named writer place) s) (total scene (masters t.was_master writer place) s)
+      (total scene (children t.was_master writer place) s) (total scene (legs_to_make scene.setup writer place) s)
+      (omega (arith, count, i.counts writer place, total_sum (refs scene.setup writer place) _ _ _ _ (refs_are scene.setup t.was_master writer place) scene s))
+      (sym own ∙ i.owns writer place)
+      (omega (arith, own, t.all writer place))
+      (λ same. no_masters writer place (sym is ∙ same))
+      (λ same. no_legs writer place (sym is ∙ same))
+
+  refers : (writer parent : ℕ) (found : Option ℕ) → found ≡ Some parent → under writer parent writer found ≡ 1
+  refers writer parent found is = ap (under writer parent writer) is ∙ (ap (λ n. n * one parent parent) (one-same writer) ∙ ap (λ n. 1 * n) (one-same parent))
+
+  parents : (writer place : ℕ) (node : Node) (parent : ℕ) → node_at (s.objects.book writer) place ≡ Some node → parent_of node.role ≡ Some parent
+      → (above : Node) × (node_at (s.objects.book writer) parent ≡ Some above) × (is_master above.role ≡ is_leg node.role)
+  parents writer place node parent at is =
+      let up = open_at scene s i writer parent
+      (omega (arith, refers writer parent (parent_of node.role) is, node_part scene s i (refs scene.setup writer parent) writer place node at)) in
+      let right : wrong_parent (mark writer) node.role ≡ 0 = omega (arith, t.right.1, node_part scene s i off writer place node at) in
+      (up.0, up.1, kind writer parent up.0 up.1 ∙ parent_kind (mark writer) node.role parent right is)
+
+  carried : (place : ℕ) (disk : DevId) (writer : ℕ) (closed : Closed) (parent : ℕ) → place < scene.tasks → s.task place ≡ Completer disk (Carries writer closed) → closed.parent ≡ Some parent
+      → (above : Node) × (node_at (s.objects.book writer) parent ≡ Some above) × (t.was_master place ≡ true → is_master above.role ≡ false)
+  carried place disk writer closed parent here is found =
+      let up = open_at scene s i writer parent
+      (omega (arith, refers writer parent closed.parent found, task_part scene (refs scene.setup writer parent) s place (Completer disk (Carries writer closed)) here is)) in
+      let right : wrong_above (mark writer) (t.was_master place) closed.parent ≡ 0 = omega (arith, t.right.1, task_part scene off s place (Completer disk (Carries writer closed)) here is) in
+      (up.0, up.1, λ same. kind writer parent up.0 up.1 ∙ above_kind (mark writer) (t.was_master place) closed.parent parent right found same)
+
+  pub has_roles : HasRoles scene s
+  has_roles = record { was_master = t.was_master; waits = waits; parents = parents; carried = carried }

@@ -1,0 +1,124 @@
+-- Every run of every scenario is sound.
+use Rattle.std.proofs.Common.{◌≡◌, ◌+◌, ◌-◌, ℕ, Bool, false, refl, sym, ◌∙◌, ap, subst, arith}
+use Rattle.std.specs.Prelude.{min}
+use Rattle.bio_records.specs.declared.bio.Pad.{Pad}
+use Rattle.bio_records.specs.Items.{Item}
+use Rattle.bio_books.specs.Books.{VectorItem, SlipItem, Holding, node_at, parent_of}
+use Rattle.run_machine.specs.Scene.{Scene}
+use Rattle.run_machine.specs.Lines.{Line}
+use Rattle.run_machine.specs.Tasks.{TaskState, Writer, Rescuer, Completer, Keeper}
+use Rattle.run_machine.specs.Opened.{scene, start, setup as setup_in}
+use Rattle.run_machine.specs.Runs.{State}
+use Rattle.block_core.specs.Weights.{total, weigh_option}
+use Rattle.block_core.specs.Fragments.{is_it}
+use Rattle.block_core.specs.Weights.{apart}
+use Rattle.block_core.proofs.sound.OffLevels.{parent_off, held_off, off_levels}
+use Rattle.block_core.specs.Levels.{HoldsLevel, HasLevels}
+use Rattle.block_core.specs.Images.{HasItsWord}
+use Rattle.block_core.specs.Sound.{EveryRunIsSound}
+use Rattle.block_core.proofs.sound.Facts.{own_of, Fair, Kept}
+use Rattle.block_core.proofs.start.FactsAtStart.{Begins, IsOpened, total_zero, start_opened}
+use Rattle.block_core.proofs.moves.Devices.{ground}
+use Rattle.block_core.proofs.sound.Wholes.{runs_whole, run_tallied, runs_leveled, runs_roomy, start_whole, start_leveled, none_waits_for_itself}
+use Rattle.block_core.proofs.sound.Lasting.{runs_keep}
+use Rattle.block_core.proofs.sound.EachBio.{each_bio}
+use Rattle.block_core.proofs.stuck.Idle.{node_part}
+use Rattle.block_core.proofs.sound.Misplaced.{misplaced}
+use Rattle.block_core.proofs.sound.Roles.{Stands, stays_standing, has_roles}
+use Rattle.block_core.proofs.sound.LegLists.{TaskHasLegs, HasLegs, Legged, stays_legged}
+use Rattle.block_core.proofs.sound.ListOrder.{hands_right, in_list_order}
+use Rattle.block_core.proofs.status.KeptEnds.{ends_are_kept}
+use Rattle.block_core.proofs.sound.Positions.{IsWithin, stays_within}
+use Rattle.block_core.proofs.sound.Alive.{IsAlive}
+use Rattle.block_core.proofs.start.RoomAtStart.{start_roomy}
+use Rattle.block_core.proofs.unrefused.BioNeeds.{worth}
+use Rattle.block_core.proofs.images.Completed.{fragments_add_up}
+use Rattle.block_core.proofs.images.PlannedOnce.{planned_is, is_planned}
+use Rattle.block_core.proofs.moves.Misfits.{misfits, no_misfits}
+use Rattle.block_core.proofs.images.BioData.{unfit, tied, unfit_follows}
+use Rattle.block_core.proofs.images.ImageData.{start_fits, images_are_of_completed}
+use Rattle.block_core.proofs.status.Statuses.{nodes_are_valued}
+use Rattle.block_core.specs.Roles.{masters}
+
+-- the levels that all is on, as facts
+module _ (scene : Scene) (s : State) (i : Kept scene s) (level : ℕ → ℕ → ℕ) (off : total scene (off_levels level) s ≡ 0) where
+  on_level : (l : ℕ) (held : Holding) → held_off l held ≡ 0 → HoldsLevel l held
+  on_level l held none = record {
+    bio = λ bio is.
+        let part : weigh_option (λ (bio : Item Pad). apart l (min bio.share.no 64)) held.bio ≡ apart l (min bio.share.no 64) =
+        ap (weigh_option (λ (bio : Item Pad). apart l (min bio.share.no 64))) is in
+        omega (arith, none, part);
+    vector = λ vector is.
+        let part : weigh_option (λ (vector : VectorItem). apart l (min vector.share.no 64)) held.vector ≡ apart l (min vector.share.no 64) =
+        ap (weigh_option (λ (vector : VectorItem). apart l (min vector.share.no 64))) is in
+        omega (arith, none, part);
+    slip = λ slip is.
+        let part : weigh_option (λ (slip : SlipItem). apart l (min slip.share.no 64)) held.slip ≡ apart l (min slip.share.no 64) =
+        ap (weigh_option (λ (slip : SlipItem). apart l (min slip.share.no 64))) is in
+        omega (arith, none, part);
+  }
+
+  pools_rise : HasLevels scene s
+  pools_rise = record {
+    level = level;
+    held = λ writer place node at. on_level (level writer place) node.held (omega (arith, off, node_part scene s i (off_levels level) writer place node at));
+    named = each_bio (λ item. min item.share.no 64 ≡ level item.bio.writer item.bio.node) (off_levels level) (λ spot item none. omega (arith, none)) scene s off;
+    under = λ writer place node parent at is.
+        let here : parent_off level writer place (parent_of node.role) ≡ (level writer place + 1) - level writer parent = ap (parent_off level writer place) is in
+        omega (arith, off, here, node_part scene s i (off_levels level) writer place node at);
+  }
+
+-- a task that did nothing yet copies no bio
+begins_legless : (scene : Scene) (s : State) (x : TaskState) → Begins scene x → TaskHasLegs s x
+begins_legless scene s (Writer number todo taken line) h = subst (λ (l : Line). HasLegs s l.doing l.lists) (sym h.2) tt
+begins_legless scene s (Rescuer dev line) h = subst (λ (l : Line). HasLegs s l.doing l.lists) (sym h.1) tt
+begins_legless scene s (Completer disk carried) h = tt
+begins_legless scene s (Keeper keeping) h = tt
+
+opened_stands : (scene : Scene) (s : State) → IsOpened scene s → Stands scene s
+opened_stands scene s o =
+    let none : ℕ → Bool = λ place. false in record {
+      was_master = none;
+      right = (λ w k. false, total_zero scene s (misplaced (λ w k. false) none) (λ n todos. refl) o);
+      all = λ w k.
+          let own : own_of (node_at (s.objects.book w) k) ≡ 0 = ap own_of (o.books w k) in
+          omega (arith, own, total_zero scene s (masters none w k) (λ n todos. refl) o);
+    }
+
+pub every_run_is_sound : EveryRunIsSound
+every_run_is_sound s ledger events state good naming run =
+    let sc = scene s ledger in
+    let f : Fair sc = record { named = naming } in
+    let g = ground s.stack good.stack (setup_in s).places in
+    let o = start_opened s good ledger in
+    let first = start_whole s ledger good naming in
+    let i = runs_whole sc f g (start s) events state first run in
+    let l = runs_leveled sc f g (start s) events state first (start_leveled s ledger good naming) run in
+    let legs =
+    runs_keep sc f g (Legged sc) (λ old m before after can held. stays_legged sc old before.kept before.placed held m can after.kept) (start s) events state first
+    (record { tasks = λ place lt. begins_legless sc (start s) ((start s).task place) (o.tasks place) }) run in
+    let fits =
+    runs_keep sc f g (λ st. total sc (misfits (unfit s)) st ≡ 0) (λ old m before after can none. no_misfits (unfit s) (unfit_follows s) sc old before.kept none m can) (start s) events state first
+    (start_fits s ledger good) run in
+    let all = fragments_add_up s ledger events state good naming run in
+    record {
+      pools = i.kept.pools;
+      positions =
+          runs_keep sc f g (λ st. (p : ℕ) → IsWithin (st.objects.pool p)) (λ old m before after can within. stays_within sc old within m) (start s) events state first (λ p. omega arith) run;
+      outs = i.kept.outs;
+      counts = i.kept.counts;
+      alive = λ writer place node at. subst IsAlive at (i.alive writer place);
+      roles = has_roles sc state i.kept (runs_keep sc f g (Stands sc) (λ old m before after can held. stays_standing sc old before.kept held m can) (start s) events state first (opened_stands sc (start s) o) run);
+      kept = ends_are_kept sc (start s) events state o.books run;
+      valued = nodes_are_valued s ledger events state good naming run;
+      levels = pools_rise sc state i.kept l.0 l.1;
+      lists = in_list_order sc state i.kept i.placed legs;
+      waits = λ rescuers. none_waits_for_itself s ledger events state good rescuers naming run;
+      fragments = λ fragment is. all (is_it fragment) ∙ is_planned s good ledger fragment is;
+      others = λ fragment some. planned_is s good ledger fragment (omega (arith, some, all (is_it fragment)));
+      words = each_bio (λ item. HasItsWord s item.bio) (misfits (unfit s)) (λ spot item none. tied s item.bio (omega (arith, none))) sc state fits;
+      images = λ disk at lt. images_are_of_completed s ledger events state good naming run disk at lt;
+      tally = run_tallied s ledger good naming events state run;
+      places = runs_roomy sc f g (worth s.stack good.stack (setup_in s).places) (start s) events state first (start_roomy s good ledger) run;
+      hands = hands_right sc state i.kept i.placed;
+    }

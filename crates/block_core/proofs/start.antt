@@ -1,0 +1,7 @@
+pub mod FactsAtStart
+pub mod StagesAtStart
+pub mod WritesAtStart
+pub mod TallyAtStart
+pub mod RoomAtStart
+pub mod PostsAtStart
+pub mod PlacesAtStart

@@ -1,0 +1,378 @@
+-- At every end of a write of every run its status is one that its fragments give.
+use Rattle.std.proofs.Common.{◌≡◌, ◌≢◌, ◌+◌, ◌-◌, ◌*◌, ◌<◌, ◌≤◌, ◌⊎◌, ℕ, zero, suc, Bool, true, false, List, [], ◌∷◌, length, map, Option, None, Some, inl, inr, refl, sym, ◌∙◌, ap, subst, arith, set}
+use Rattle.std.specs.Prelude.{slice_get, slice_set, zip}
+use Rattle.std.specs.List.{range_with_len}
+use Rattle.std.specs.Option.{option_map_or}
+use Rattle.std.proofs.lemmas.List.{length-set, get_or-set_same, get_or-set_other, length-replicate}
+use Rattle.std.proofs.lemmas.Option.{slice_get_within, slice_get-get_or, get_or_from_slice_get}
+use Rattle.layout_model.proofs.RangeSums.{sum_of_zero}
+use Rattle.elem_ledger.specs.Ledger.{LedgerId}
+use Rattle.stack_base.specs.declared.ids.DevId.{DevId}
+use Rattle.stack_base.specs.declared.ids.Status.{Status}
+use Rattle.stack_base.specs.declared.ids.Status.TheVariants as status
+use Rattle.stack_base.specs.Tree.{tree}
+use Rattle.layout_model.specs.declared.write.Write.{Write}
+use Rattle.layout_model.specs.Plan.{plan}
+use Rattle.layout_model.specs.May.{may_end, fault_of}
+use Rattle.bio_records.specs.declared.tasks.TaskLists.{TaskLists}
+use Rattle.bio_books.specs.declared.node.Role.{Role}
+use Rattle.bio_books.specs.declared.node.Role.TheVariants as role
+use Rattle.bio_books.specs.Books.{Holding}
+use Rattle.bio_books.specs.Drops.{Closed}
+use Rattle.run_machine.specs.declared.event.Event.{Event}
+use Rattle.run_machine.specs.declared.event.What.TheVariants as what
+use Rattle.run_machine.specs.Events.{what_of}
+use Rattle.run_machine.specs.Maps.{upd}
+use Rattle.run_machine.specs.Scene.{Scene}
+use Rattle.run_machine.specs.Lines.{Doing, Line}
+use Rattle.run_machine.specs.Tasks.{TaskState, Writer, Rescuer, Completer, Keeper, Todo, Empty, Brings, Carries, request, closed_request}
+use Rattle.run_machine.specs.Opened.{Scenario, scene, start, todos, setup as setup_in}
+use Rattle.run_machine.specs.Requests as requests
+use Rattle.run_machine.specs.Requests.{Request, Reply}
+use Rattle.run_machine.specs.Runs.{State, IsRun, Happens, HasEnded}
+use Rattle.block_core.specs.Weights.{total, one}
+use Rattle.block_core.specs.Rounds.{round_of, is_of_round, tops, tops_left, all_worth, unfinished_of}
+use Rattle.block_core.specs.Scenarios.{IsScenario, IsNaming}
+use Rattle.block_core.specs.Values.{yes, is, may, todo_may, write_may, Mark, IsMark, lack, above, unallowed, IsValued, NodesAreValued}
+use Rattle.block_core.specs.DoneWrites.{IsGiven, StatusesAreGiven, HasGivenStatuses, EndedStatusesAreGiven}
+use Rattle.block_core.proofs.moves.Sums.{one-same, one-other, same_or_not}
+use Rattle.block_core.proofs.moves.Moves.{Move, place_of, Can, after, with_line, HasLine}
+use Rattle.block_core.proofs.moves.Moves as moves
+use Rattle.block_core.proofs.sound.Facts.{Fair}
+use Rattle.block_core.proofs.sound.TaskLines.{all-upd}
+use Rattle.block_core.proofs.sound.Orders.{Ground}
+use Rattle.block_core.proofs.moves.Devices.{ground}
+use Rattle.block_core.proofs.moves.StepMoves.{step_is_move}
+use Rattle.block_core.proofs.start.FactsAtStart.{Begins, start_opened}
+use Rattle.block_core.proofs.sound.DoneOnce.{done_of, told_done, done_by, asked_by, to_begin, top_role, top_parent, stage, staged}
+use Rattle.block_core.proofs.sound.Wholes.{Whole, runs_whole, start_whole, run_tallied}
+use Rattle.block_core.proofs.moves.Totals.{IsWithin, within, task_part}
+use Rattle.block_core.proofs.images.EndedRuns.{zero_at}
+use Rattle.block_core.proofs.moves.Misfits.{misfits, no_misfits}
+use Rattle.block_core.proofs.images.StillToCome.{over}
+use Rattle.block_core.proofs.images.Completed.{over_follows, opened_total, all_sum, start_counted}
+use Rattle.block_core.proofs.images.PlannedOnce.{begins_sum}
+use Rattle.block_core.proofs.images.BioData.{own_writes}
+use Rattle.block_core.proofs.images.ImageData.{IsOwn, own_stays, completed_ends, start_own}
+use Rattle.block_core.proofs.status.RunEndings.{Given, given}
+use Rattle.block_core.proofs.status.NodeValues.{is_itself}
+use Rattle.block_core.proofs.status.ValuesKept.{HasEnding, stays_valued}
+
+-- a task with a submission brings nothing
+line_ending : (s : Scenario) (x : TaskState) (doing : Doing) (lists : TaskLists) (line : Line) → HasLine x doing lists → HasEnding (fault_of s.stack) (with_line x line)
+line_ending s (Writer number todos taken old) doing lists line h = tt
+line_ending s (Rescuer dev old) doing lists line h = tt
+line_ending s (Completer disk carried) doing lists line h = absurd h
+line_ending s (Keeper keeping) doing lists line h = tt
+
+module _ (s : Scenario) (ledger : ℕ → LedgerId) (st : State) (own : (number : ℕ) → IsOwn s number (st.objects.disk number))
+    (endings : (place : ℕ) → HasEnding (fault_of s.stack) (st.task place)) where
+  goes : (place : ℕ) (y : TaskState) → HasEnding (fault_of s.stack) y → (p : ℕ) → HasEnding (fault_of s.stack) (upd st.task place y p)
+  goes place y fits = all-upd (HasEnding (fault_of s.stack)) st.task place y endings fits
+
+  endings_stay : (m : Move) → Can (scene s ledger) st m → (p : ℕ) → HasEnding (fault_of s.stack) ((after (scene s ledger) st m).task p)
+  endings_stay (moves.TakesFirst place writer todo later move) c = goes place _ tt
+  endings_stay (moves.TakesVector place writer todo later item move) c = goes place _ tt
+  endings_stay (moves.TakesSub place x doing lists dev waits move) c = goes place _ (line_ending s x doing lists _ c.2)
+  endings_stay (moves.TakesSlip place x bio lists move) c = goes place _ (line_ending s x _ lists _ c.2)
+  endings_stay (moves.MissesOne place x number used) c = goes place x (subst (HasEnding (fault_of s.stack)) c.1 (endings place))
+  endings_stay (moves.MissesTry place x doing lists dev used) c = goes place _ (line_ending s x doing lists _ c.2)
+  endings_stay (moves.Punts place x doing lists dev) c = goes place _ (line_ending s x doing lists _ c.2)
+  endings_stay (moves.Pops place dev bio bios) c = goes place _ tt
+  endings_stay (moves.Pushes place x bio lists) c = goes place _ (line_ending s x _ lists _ c.2)
+  endings_stay (moves.Completed place disk index bio ending new) c =
+      goes place (Completer disk (Brings bio ending)) (completed_ends s disk.0 (st.objects.disk disk.0) index bio ending new (own disk.0) c.3)
+  endings_stay (moves.Begins place writer todo later item vector key) c = goes place _ tt
+  endings_stay (moves.Chained place x bio lists hand number kind sizes members key node) c = goes place _ (line_ending s x _ lists _ c.2)
+  endings_stay (moves.Mastered place x bio lists slip key node) c = goes place _ (line_ending s x _ lists _ c.2)
+  endings_stay (moves.Legged place x bio lists master leg hand key node) c = goes place _ (line_ending s x _ lists _ c.2)
+  endings_stay (moves.Told place disk carried writer key ending part node) c = goes place (Completer disk Empty) tt
+  endings_stay (moves.Closes place disk carried writer key ending part node) c = goes place (Completer disk (Carries writer _)) tt
+  endings_stay (moves.Gives place disk writer number closed held) c = goes place (Completer disk (Carries writer _)) tt
+  endings_stay (moves.Ends place disk writer closed) c = goes place (Completer disk Empty) tt
+  endings_stay (moves.Resized place pool min later duties) c = goes place _ tt
+  endings_stay (moves.Started place round later duties) c = goes place _ tt
+
+-- such an end of a write
+may_given : (s : Scenario) (number : ℕ) (end : Status) → 1 ≤ write_may s number end → IsGiven s number end
+may_given s number end may_come = by_write (slice_get s.writes number) refl may_come
+  where
+    so : (b : Bool) → 1 ≤ yes b → b ≡ true
+    so true le = refl
+    so false le = absurd (omega (arith, le))
+
+    by_write : (found : Option Write) → slice_get s.writes number ≡ found
+        → 1 ≤ option_map_or (λ (write : Write). may (fault_of s.stack) (plan (tree s.stack write.dev.0) number 0 write.start write.count) end) found 0 → IsGiven s number end
+    by_write None at le = absurd (omega (arith, le))
+    by_write (Some write) at le = (write, at, so (may_end (fault_of s.stack) (plan (tree s.stack write.dev.0) number 0 write.start write.count) end) le)
+
+-- all that is known of statuses
+pub record IsTold (s : Scenario) (ledger : ℕ → LedgerId) (st : State) : Type 0 where
+  pub counted : total (scene s ledger) (misfits over) st ≡ 0
+  pub own : (number : ℕ) → IsOwn s number (st.objects.disk number)
+  pub endings : (place : ℕ) → HasEnding (fault_of s.stack) (st.task place)
+  pub valued : IsValued (scene s ledger) (fault_of s.stack) (write_may s) st
+  -- a write is unfinished, or its status is one that it may have
+  pub all : length st.objects.tally.statuses ≡ length s.writes
+  pub tallied : (number : ℕ) → number < length s.writes
+      → (1 ≤ total (scene s ledger) (stage number) st) ⊎ ((end : Status) × (slice_get st.objects.tally.statuses number ≡ Some end) × IsGiven s number end)
+
+-- what is left of a top node ends as its write may
+ends_given : (s : Scenario) (ledger : ℕ → LedgerId) (st : State) → IsTold s ledger st → (place : ℕ) (disk : DevId) (writer : ℕ) (closed : Closed)
+    → Can (scene s ledger) st (moves.Ends place disk writer closed) → IsGiven s closed.write closed.status
+ends_given s ledger st t place disk writer closed c =
+    let w = unallowed (setup_in s) (fault_of s.stack) (write_may s) t.valued.mark closed.status in
+    let off : is closed.status closed.status - write_may s closed.write closed.status ≡ 0 =
+    ap (above (write_may s) t.valued.mark closed.status (is closed.status closed.status) writer closed.write) (sym c.3)
+    ∙ omega (arith, t.valued.fits closed.status, task_part (scene s ledger) w st place (Completer disk (Carries writer closed)) c.0 c.1) in
+    may_given s closed.write closed.status (omega (arith, off, is_itself closed.status))
+
+set_get : (xs : List Status) (i : ℕ) (x : Status) → i < length xs → slice_get (slice_set xs i x) i ≡ Some x
+set_get xs i x lt =
+    let long = length-set xs i x in
+    slice_get-get_or (set xs i x) i x (omega (arith, lt, long)) ∙ ap Some (get_or-set_same xs i x x lt)
+
+set_get_other : (xs : List Status) (i j : ℕ) (x y : Status) → j ≢ i → slice_get xs j ≡ Some y → slice_get (slice_set xs i x) j ≡ Some y
+set_get_other xs i j x y ne at =
+    let long = length-set xs i x in
+    let lt = slice_get_within xs j y at in
+    slice_get-get_or (set xs i x) j y (omega (arith, lt, long)) ∙ ap Some (get_or-set_other xs i j x y ne ∙ get_or_from_slice_get xs j y y at)
+
+module _ (s : Scenario) (ledger : ℕ → LedgerId) (f : Fair (scene s ledger)) (g : Ground (setup_in s)) (v : Given (setup_in s) (fault_of s.stack)) where
+  abbrev sc : Scene
+  sc = scene s ledger
+
+  module _ (st : State) (i : Whole sc st) (t : IsTold s ledger st) where
+    Tallied : Move → ℕ → Type 0
+    Tallied m number =
+        (1 ≤ total sc (stage number) (after sc st m)) ⊎ ((end : Status) × (slice_get (after sc st m).objects.tally.statuses number ≡ Some end) × IsGiven s number end)
+
+    same_tallied : (m : Move) → Can sc st m → (number : ℕ) → number < length s.writes → done_by number m ≡ 0 → (after sc st m).objects.tally.statuses ≡ st.objects.tally.statuses → Tallied m number
+    unfolding Tallied
+    same_tallied m c number lt none same = elim (t.tallied number lt) [
+      | inl some ↦ inl (omega (arith, some, none, staged sc st number m c))
+      | inr (end, at, is_given) ↦ inr (end, ap (λ xs. slice_get xs number) same ∙ at, is_given)
+    ]
+
+    ends_tallied : (place : ℕ) (disk : DevId) (writer : ℕ) (closed : Closed) → Can sc st (moves.Ends place disk writer closed) → (number : ℕ) → number < length s.writes
+        → Tallied (moves.Ends place disk writer closed) number
+    unfolding Tallied
+    ends_tallied place disk writer closed c number lt = elim (same_or_not number closed.write) [
+      | inl e ↦ let P : ℕ → Type 0 = λ n. (end : Status) × (slice_get (slice_set st.objects.tally.statuses closed.write closed.status) n ≡ Some end) × IsGiven s n end in
+          let long = t.all in
+          inr (subst P (sym e) (closed.status, set_get st.objects.tally.statuses closed.write closed.status (omega (arith, lt, long, e)), ends_given s ledger st t place disk writer closed c))
+      | inr ne ↦ elim (t.tallied number lt) [
+        | inl some ↦ inl (omega (arith, some, one-other closed.write number (λ q. ne (sym q)), staged sc st number (moves.Ends place disk writer closed) c))
+        | inr (end, at, is_given) ↦ inr (end, set_get_other st.objects.tally.statuses closed.write number closed.status end ne at, is_given)
+      ]
+    ]
+
+    tallied_after : (m : Move) → Can sc st m → (number : ℕ) → number < length s.writes → Tallied m number
+    tallied_after (moves.Ends place disk writer closed) c number lt = ends_tallied place disk writer closed c number lt
+    tallied_after (moves.TakesFirst place writer todo later move) c number lt = same_tallied (moves.TakesFirst place writer todo later move) c number lt refl refl
+    tallied_after (moves.TakesVector place writer todo later item move) c number lt = same_tallied (moves.TakesVector place writer todo later item move) c number lt refl refl
+    tallied_after (moves.TakesSub place x doing lists dev waits move) c number lt = same_tallied (moves.TakesSub place x doing lists dev waits move) c number lt refl refl
+    tallied_after (moves.TakesSlip place x bio lists move) c number lt = same_tallied (moves.TakesSlip place x bio lists move) c number lt refl refl
+    tallied_after (moves.MissesOne place x pool used) c number lt = same_tallied (moves.MissesOne place x pool used) c number lt refl refl
+    tallied_after (moves.MissesTry place x doing lists dev used) c number lt = same_tallied (moves.MissesTry place x doing lists dev used) c number lt refl refl
+    tallied_after (moves.Punts place x doing lists dev) c number lt = same_tallied (moves.Punts place x doing lists dev) c number lt refl refl
+    tallied_after (moves.Pops place dev bio bios) c number lt = same_tallied (moves.Pops place dev bio bios) c number lt refl refl
+    tallied_after (moves.Pushes place x bio lists) c number lt = same_tallied (moves.Pushes place x bio lists) c number lt refl refl
+    tallied_after (moves.Completed place disk index bio ending new) c number lt = same_tallied (moves.Completed place disk index bio ending new) c number lt refl refl
+    tallied_after (moves.Begins place writer todo later item vector key) c number lt = same_tallied (moves.Begins place writer todo later item vector key) c number lt refl refl
+    tallied_after (moves.Chained place x bio lists hand device kind sizes members key node) c number lt =
+        same_tallied (moves.Chained place x bio lists hand device kind sizes members key node) c number lt refl refl
+    tallied_after (moves.Mastered place x bio lists slip key node) c number lt = same_tallied (moves.Mastered place x bio lists slip key node) c number lt refl refl
+    tallied_after (moves.Legged place x bio lists master leg hand key node) c number lt = same_tallied (moves.Legged place x bio lists master leg hand key node) c number lt refl refl
+    tallied_after (moves.Told place disk carried writer key ending part node) c number lt = same_tallied (moves.Told place disk carried writer key ending part node) c number lt refl refl
+    tallied_after (moves.Closes place disk carried writer key ending part node) c number lt = same_tallied (moves.Closes place disk carried writer key ending part node) c number lt refl refl
+    tallied_after (moves.Gives place disk writer pool closed held) c number lt = same_tallied (moves.Gives place disk writer pool closed held) c number lt refl refl
+    tallied_after (moves.Resized place pool min later duties) c number lt = same_tallied (moves.Resized place pool min later duties) c number lt refl refl
+    tallied_after (moves.Started place round later duties) c number lt = same_tallied (moves.Started place round later duties) c number lt refl refl
+
+    long_after : (m : Move) → length (after sc st m).objects.tally.statuses ≡ length st.objects.tally.statuses
+    long_after (moves.Ends place disk writer closed) = length-set st.objects.tally.statuses closed.write closed.status
+    long_after m = refl
+
+    stays_told : (m : Move) → Can sc st m → IsTold s ledger (after sc st m)
+    unfolding Tallied
+    stays_told m c = record {
+      counted = no_misfits over over_follows sc st i.kept t.counted m c;
+      own = own_stays s ledger st i.placed t.own m c;
+      endings = endings_stay s ledger st t.own t.endings m c;
+      valued = stays_valued sc (fault_of s.stack) (write_may s) v st g i.kept i.placed t.counted t.endings t.valued m c;
+      all = long_after m ∙ t.all;
+      tallied = tallied_after m c;
+    }
+
+  pub runs_told : (st : State) (events : List Event) (new : State) → Whole sc st → IsTold s ledger st → IsRun sc st events new → IsTold s ledger new
+  runs_told st [] new i t run = subst (IsTold s ledger) (sym run) t
+  runs_told st (event ∷ events) new i t (next, (place, steps), run) =
+      let moved = step_is_move sc st f i.kept place event next steps in
+      runs_told next events new (runs_whole sc f g st (event ∷ []) next i (next, (place, steps), refl))
+      (subst (IsTold s ledger) (sym moved.is) (stays_told st i t moved.move moved.can)) run
+
+-- each write is to begin at the start
+is_numbered : (w a n : ℕ) (rs : List ℕ) (ws : List Write) → length rs ≡ n → length ws ≡ n → a ≤ w → w < a + n
+    → 1 ≤ to_begin w (map (λ x. record { number = x.0; round = x.1.0; write = x.1.1 }) (zip (range_with_len a n) (zip rs ws)))
+is_numbered w a zero rs ws rl wl ge lt = absurd (omega (arith, ge, lt))
+is_numbered w a (suc n) [] ws rl wl ge lt = absurd (omega (arith, rl))
+is_numbered w a (suc n) (r ∷ rs) [] rl wl ge lt = absurd (omega (arith, wl))
+is_numbered w a (suc n) (r ∷ rs) (x ∷ ws) rl wl ge lt = elim (same_or_not a w) [
+  | inl e ↦ let here : one a w ≡ 1 = ap (one a) (sym e) ∙ one-same a in omega (arith, here)
+  | inr ne ↦ omega (arith, is_numbered w (a + 1) n rs ws (omega (arith, rl)) (omega (arith, wl)) (omega (arith, ge, ne)) (omega (arith, lt)))
+]
+
+module _ (s : Scenario) (good : IsScenario s) (ledger : ℕ → LedgerId) where
+  -- any mark will do where no node is open
+  abbrev plain : Mark
+  plain = record { master = false; ends = is status.Ok }
+
+  plain_fair : IsMark plain
+  plain_fair = record { alone = alone; failed = λ same. absurd cc }
+    where
+      alone : (end : Status) → (end ≢ status.Ok) → is status.Ok end + 1 ≤ 1
+      alone status.Ok ne = absurd (ne refl)
+      alone status.Io ne = omega arith
+      alone status.Medium ne = omega arith
+      alone status.NoSpace ne = omega arith
+
+  begins_ending : (x : TaskState) → Begins (scene s ledger) x → HasEnding (fault_of s.stack) x
+  begins_ending (Writer number todos taken line) h = tt
+  begins_ending (Rescuer dev line) h = tt
+  begins_ending (Completer disk carried) h = subst (λ c. HasEnding (fault_of s.stack) (Completer disk c)) (sym h.1) tt
+  begins_ending (Keeper keeping) h = tt
+
+  start_off : (end : Status) → total (scene s ledger) (unallowed (setup_in s) (fault_of s.stack) (write_may s) (λ w k. plain) end) (start s) ≡ 0
+  start_off end =
+      let of : Todo → ℕ = λ todo. todo_may (setup_in s) (fault_of s.stack) todo end - write_may s todo.number end in
+      opened_total s good ledger (unallowed (setup_in s) (fault_of s.stack) (write_may s) (λ w k. plain) end) of (λ n ts. refl) refl
+      ∙ (all_sum (λ (todo : Todo). slice_get s.writes todo.number ≡ Some todo.write) of (λ todo. 0) (todos s)
+      (λ todo at. omega (
+        arith,
+        ap (λ found. option_map_or (λ (write : Write). may (fault_of s.stack) (plan (tree s.stack write.dev.0) todo.number 0 write.start write.count) end) found 0) at,
+      )) (own_writes s)
+      ∙ sum_of_zero (todos s))
+
+  pub start_staged : (number : ℕ) → number < length s.writes → 1 ≤ total (scene s ledger) (stage number) (start s)
+  start_staged number lt =
+      omega (
+        arith,
+        opened_total s good ledger (stage number) (λ (todo : Todo). one todo.number number) (λ n ts. sym (begins_sum number ts)) refl,
+        begins_sum number (todos s),
+        is_numbered number 0 (length s.writes) s.rounds s.writes good.rounds refl (omega arith) (omega (arith, lt)),
+      )
+
+  pub start_told : IsTold s ledger (start s)
+  start_told =
+      let o = start_opened s good ledger in
+      record {
+        counted = start_counted s good ledger;
+        own = start_own s ledger good;
+        endings = λ place. begins_ending ((start s).task place) (o.tasks place);
+        valued = record {
+          mark = λ w k. plain;
+          fair = λ w k. plain_fair;
+          fits = start_off;
+          decided = λ w k. omega (arith, ap (lack plain) (o.books w k));
+        };
+        all = length-replicate (length s.writes) status.Ok;
+        tallied = λ number lt. inl (start_staged number lt);
+      }
+
+-- a write that is in stage is an unfinished one of its round
+same_round : (rounds : List ℕ) (number n : ℕ) → one n number ≤ is_of_round rounds (round_of rounds number) n
+same_round rounds number n = elim (same_or_not n number) [
+  | inr ne ↦ omega (arith, one-other n number ne)
+  | inl e ↦
+      let here : one n number ≡ 1 = ap (one n) (sym e) ∙ one-same n in
+      let round : is_of_round rounds (round_of rounds number) n ≡ 1 = ap (λ k. one (round_of rounds n) (round_of rounds k)) (sym e) ∙ one-same (round_of rounds n) in
+      omega (arith, here, round)
+]
+
+begins_within : (rounds : List ℕ) (number : ℕ) (todos : List Todo) → to_begin number todos ≤ all_worth (is_of_round rounds (round_of rounds number)) todos
+begins_within rounds number [] = omega arith
+begins_within rounds number (todo ∷ todos) = omega (arith, same_round rounds number todo.number, begins_within rounds number todos)
+
+pub stage_within : (rounds : List ℕ) (number : ℕ) → let u = unfinished_of (is_of_round rounds (round_of rounds number)) in IsWithin (stage number) u u u
+stage_within rounds number = record {
+  todo = λ writer todos taken. omega (arith, begins_within rounds number todos);
+  bio = λ spot item. omega arith;
+  copy = λ bio master leg. omega arith;
+  hand = λ item. omega arith;
+  vector = λ vector. omega arith;
+  slip = λ slip. omega arith;
+  node = λ writer place node. by_role node.role node.write;
+  closed = λ task writer closed. by_parent closed.parent closed.write;
+}
+  where
+    by_role : (r : Role) (write : ℕ) → let worth = tops r * is_of_round rounds (round_of rounds number) write in top_role r * one write number ≤ worth + worth + worth
+    by_role role.Top write = omega (arith, same_round rounds number write)
+    by_role (role.Chain parent) write = omega arith
+    by_role (role.Master parent) write = omega arith
+    by_role (role.Leg parent) write = omega arith
+
+    by_parent : (parent : Option ℕ) (write : ℕ)
+        → let worth = tops_left parent * is_of_round rounds (round_of rounds number) write in top_parent parent * one write number ≤ worth + worth + worth
+    by_parent None write = omega (arith, same_round rounds number write)
+    by_parent (Some parent) write = omega arith
+
+-- a completer that carries all that is left of a top node tells its write done
+done_told : (w : ℕ) (end : Status) (writer : ℕ) (closed : Closed) (reply : Reply) → what_of (requests.Done closed.write closed.status) reply ≡ Some (what.Done w end)
+    → (closed.write ≡ w) × (closed.status ≡ end)
+done_told w end writer closed requests.Did told = (cc, cc)
+done_told w end writer closed _ told = absurd cc
+
+module _ (s : Scenario) (ledger : ℕ → LedgerId) (st : State) (t : IsTold s ledger st) where
+  ends_by : (m : Move) → Can (scene s ledger) st m → (w : ℕ) (end : Status) (reply : Reply) → done_by w m ≡ 1
+      → what_of (request (setup_in s) (st.task (place_of m))) reply ≡ Some (what.Done w end) → IsGiven s w end
+  ends_by (moves.Ends place disk writer closed) c w end reply done told =
+      let asks : request (setup_in s) (st.task place) ≡ requests.Done closed.write closed.status =
+      ap (request (setup_in s)) c.1 ∙ ap (λ (held : Holding). closed_request writer closed held.vector held.bio held.slip closed.parent) c.2
+      ∙ ap (closed_request writer closed None None None) c.3 in
+      let same = done_told w end writer closed reply (ap (λ r. what_of r reply) (sym asks) ∙ told) in
+      subst (λ n. IsGiven s n end) same.0 (subst (IsGiven s closed.write) same.1 (ends_given s ledger st t place disk writer closed c))
+  ends_by _ c w end reply done told = absurd (omega (arith, done))
+
+module _ (s : Scenario) (ledger : ℕ → LedgerId) (events : List Event) (state : State) (good : IsScenario s) (naming : IsNaming ledger) (run : IsRun (scene s ledger) (start s) events state) where
+  told : IsTold s ledger state
+  told =
+      let places = (setup_in s).places in
+      runs_told s ledger (record { named = naming }) (ground s.stack good.stack places) (given s.stack good.stack places (fault_of s.stack)) (start s) events state
+      (start_whole s ledger good naming) (start_told s good ledger) run
+
+  happens_given : (event : Event) (new : State) → Happens (scene s ledger) state event new → (w : ℕ) (end : Status) → event.what ≡ what.Done w end → IsGiven s w end
+  happens_given event new (place, steps) w end tells =
+      let f : Fair (scene s ledger) = record { named = naming } in
+      let i = runs_whole (scene s ledger) f (ground s.stack good.stack (setup_in s).places) (start s) events state (start_whole s ledger good naming) run in
+      let moved = step_is_move (scene s ledger) state f i.kept place event new steps in
+      let here : what_of (request (setup_in s) (state.task place)) steps.reply ≡ Some (what.Done w end) = steps.told ∙ ap Some tells in
+      let at_place : what_of (request (setup_in s) (state.task (place_of moved.move))) steps.reply ≡ Some (what.Done w end) =
+      subst (λ p. what_of (request (setup_in s) (state.task p)) steps.reply ≡ Some (what.Done w end)) (sym moved.at) here in
+      let asks = told_done w (request (setup_in s) (state.task (place_of moved.move))) steps.reply (what.Done w end) at_place in
+      let one_done : done_of w (what_of (request (setup_in s) (state.task (place_of moved.move))) steps.reply) ≡ 1 = ap (done_of w) at_place ∙ one-same w in
+      ends_by s ledger state told moved.move moved.can w end steps.reply (sym (asked_by (scene s ledger) state w moved.move moved.can) ∙ sym asks ∙ one_done) at_place
+
+  ended_given : HasEnded state → HasGivenStatuses s state.objects.tally.statuses
+  ended_given ended =
+      let tally = run_tallied s ledger good naming events state run in
+      record {
+        all = told.all;
+        each = λ number lt. elim (told.tallied number lt) [
+          | inr x ↦ x
+          | inl some ↦
+              let r : ℕ = round_of s.rounds number in
+              let none : total (scene s ledger) (unfinished_of (is_of_round s.rounds r)) state ≡ 0 = sym (tally.left r) ∙ zero_at state.objects.tally.left r ended.writes in
+              let u = unfinished_of (is_of_round s.rounds r) in
+              absurd (omega (arith, some, none, within (stage number) u u u (stage_within s.rounds number) (scene s ledger) state))
+        ];
+      }
+
+pub statuses_are_given : StatusesAreGiven
+statuses_are_given s ledger events state good naming run = happens_given s ledger events state good naming run
+
+pub ended_statuses_are_given : EndedStatusesAreGiven
+ended_statuses_are_given s ledger events state good naming run = ended_given s ledger events state good naming run
+
+pub nodes_are_valued : NodesAreValued
+nodes_are_valued s ledger events state good naming run = (told s ledger events state good naming run).valued

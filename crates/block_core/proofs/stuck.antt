@@ -1,0 +1,9 @@
+pub mod NothingWaits
+pub mod WaitersBelow
+pub mod Frees
+pub mod Stuck
+pub mod Waits
+pub mod Rescuers
+pub mod Idle
+pub mod NeverStuck
+pub mod RunsEnd

@@ -1,0 +1,305 @@
+-- Where no task has anything to do that needs no ordinary memory, each open node and each element that is out has a task that waits below it.
+-- So there is none.
+use Rattle.std.proofs.Common.{◌≡◌, ◌+◌, ◌*◌, ◌<◌, ◌≤◌, ◌⊎◌, ℕ, zero, suc, true, List, [], length, Option, None, Some, inl, inr, refl, ◌∙◌, ap, subst, arith}
+use Rattle.std.specs.Prelude.{sum_by}
+use Rattle.bio_records.specs.declared.bio.Bio.{Bio}
+use Rattle.bio_records.specs.declared.bio.Pad.{Pad}
+use Rattle.bio_records.specs.declared.tasks.TaskLists.{TaskLists}
+use Rattle.bio_records.specs.Items.{Item}
+use Rattle.bio_lists.specs.Submission.{no_lists}
+use Rattle.bio_books.specs.Books.{Node, VectorItem, SlipItem, Holding, node_at, keeping, parent_of}
+use Rattle.model_disks.specs.Disks.{DiskState}
+use Rattle.run_machine.specs.Scene.{Setup, Scene}
+use Rattle.run_machine.specs.Lines.{Doing, Rests, Drives, Copies, Breaks, Line, rests}
+use Rattle.run_machine.specs.Tasks.{TaskState, Writer, Rescuer, Completer, Keeper, Todo, Taken, NoBio, HasBio, HasBoth, Empty, Brings, Carries, Fails}
+use Rattle.run_machine.specs.Runs.{State}
+use Rattle.block_core.specs.Weights.{Weight, Pending, Rescued, Lined, total, sum_at, one, weigh_option, doing_weight, task_weight, line_weight, book_weight, elements, holding_elements, refs, names, under, legs_left, count_of}
+use Rattle.block_core.proofs.sound.Facts.{DoingFits, LineFits, TaskFits, Kept}
+use Rattle.block_core.proofs.sound.TaskLines.{IsBusy}
+use Rattle.block_core.proofs.sound.Orders.{IsOwn, DoingPlaced, TaskPlaced, Placed, Ground}
+use Rattle.std.specs.Prelude.{min}
+use Rattle.block_core.proofs.sound.Alive.{IsAlive}
+use Rattle.block_core.proofs.sound.Places.{sum_at-ge}
+use Rattle.block_core.specs.Weights.{apart}
+use Rattle.block_core.proofs.sound.OffLevels.{bio_off, parent_off, held_off, off_levels}
+use Rattle.block_core.proofs.stuck.Waits.{DoingWaits, TaskWaits, Waits}
+use Rattle.block_core.proofs.stuck.NothingWaits.{IsPool, spares, StillDoing, StillWriter, StillRescuer, IsStill, Calm, Below, lower, zero_or, some_place, some_one, one-eq, both, Found, line_found, line_below}
+
+-- what holds of a state of a run, so far as no task waits for itself
+pub record Known (scene : Scene) (s : State) (level : ℕ → ℕ → ℕ) : Type 0 where
+  pub ground : Ground scene.setup
+  pub kept : Kept scene s
+  pub placed : Placed scene.setup s
+  pub waits : Waits scene.setup s
+  pub alive : (w k : ℕ) → IsAlive (node_at (s.objects.book w) k)
+  pub levels : total scene (off_levels level) s ≡ 0
+  -- each pool that a task can wait at keeps an element
+  pub mins : (number : ℕ) → IsPool scene.setup number → 1 ≤ (s.objects.pool number).facts.min
+
+module _ (scene : Scene) (s : State) (level : ℕ → ℕ → ℕ) (known : Known scene s level) (c : Calm scene s) where
+  abbrev setup : Setup
+  setup = scene.setup
+
+  abbrev off : Weight
+  off = off_levels level
+
+  -- a busy line of a task
+  still_line : (s : State) (todo : List Todo) (taken : Taken) (doing : Doing) → IsBusy doing → StillWriter s todo taken doing → StillDoing s doing
+  still_line s todo taken Rests busy still = absurd busy
+  still_line s todo taken (Drives bio ask) busy still = still
+  still_line s todo taken (Copies bio master leg want) busy still = still
+  still_line s todo taken (Breaks breach kept) busy still = still
+
+  still_rescuer : (s : State) (dev : ℕ) (doing : Doing) → IsBusy doing → StillRescuer s dev doing → StillDoing s doing
+  still_rescuer s dev Rests busy still = absurd busy
+  still_rescuer s dev (Drives bio ask) busy still = still
+  still_rescuer s dev (Copies bio master leg want) busy still = still
+  still_rescuer s dev (Breaks breach kept) busy still = still
+
+  rests_or_busy : (doing : Doing) → (doing ≡ Rests) ⊎ IsBusy doing
+  rests_or_busy Rests = inl refl
+  rests_or_busy (Drives bio ask) = inr tt
+  rests_or_busy (Copies bio master leg want) = inr tt
+  rests_or_busy (Breaks breach kept) = inr tt
+
+  -- at rest the lists are empty
+  rests_zero : (u : Weight) (limit : ℕ) (line : Line) → line.doing ≡ Rests → LineFits setup line → line_weight u limit line ≡ 0
+  rests_zero u limit line is fits =
+      let none : line.lists ≡ no_lists = subst (λ (d : Doing). DoingFits setup d line.lists) is fits in
+      ap (λ (d : Doing). doing_weight u limit d + sum_by (u.bio (Lined limit)) line.lists.list0 + sum_by (u.bio (Lined limit)) line.lists.list1) is
+      ∙ ap (λ (l : TaskLists). 0 + sum_by (u.bio (Lined limit)) l.list0 + sum_by (u.bio (Lined limit)) l.list1) none
+
+  line_any : (u : Weight) (limit : ℕ) (line : Line) → LineFits setup line → DoingPlaced setup limit line.doing line.lists → DoingWaits setup line.doing line.lists
+      → (IsBusy line.doing → StillDoing s line.doing) → 1 ≤ line_weight u limit line → line_weight off limit line ≡ 0 → Found scene s known.ground u off limit
+  line_any u limit line fits d w still some none = elim (rests_or_busy line.doing) [
+    | inl is ↦ absurd (omega (arith, some, rests_zero u limit line is fits))
+    | inr busy ↦ line_found scene s known.ground u off limit line.doing line.lists fits d w (still busy) some none
+  ]
+
+  -- what a task has that weighs: a bio or a run of its line, or a bio in its hand with which it waits for a vector
+  abbrev Has : Weight → Type 0
+  Has u = ((limit : ℕ) × Found scene s known.ground u off limit) ⊎ ((item : Item Pad) × (1 ≤ u.hand item) × (item.share.no ≡ 65) × (spares s 64 ≡ 0))
+
+  task_found : (u : Weight) → ((n : ℕ) (todos : List Todo) (taken : Taken) → u.todo n todos taken ≡ 0) → (place : ℕ) (x : TaskState) → TaskFits scene x → TaskPlaced setup x → TaskWaits setup x → IsStill s x
+      → 1 ≤ task_weight u place x → task_weight off place x ≡ 0 → Has u
+  task_found u todos place (Writer number todo NoBio line) fits t w still some none =
+      let z = todos number todo NoBio in
+      inl (32, line_any u 32 line fits.1 t.1 w (λ busy. still_line s todo NoBio line.doing busy still) (omega (arith, some, z)) (omega (arith, none)))
+  task_found u todos place (Writer number todo (HasBio item) line) fits t w still some none =
+      let z = todos number todo (HasBio item) in
+      let at_rest : line ≡ rests = fits.2 in
+      let empty : spares s 64 ≡ 0 = subst (λ (l : Line). StillWriter s todo (HasBio item) l.doing) at_rest still in
+      let nothing : line_weight u 32 line ≡ 0 = ap (line_weight u 32) at_rest in
+      inr (item, omega (arith, some, z, nothing), t.2, empty)
+  task_found u todos place (Writer number todo (HasBoth item vector) line) fits t w still some none =
+      let at_rest : line ≡ rests = fits.2 in
+      absurd (subst (λ (l : Line). StillWriter s todo (HasBoth item vector) l.doing) at_rest still)
+  task_found u todos place (Rescuer dev line) fits t w still some none =
+      inl (dev.0, line_any u dev.0 line fits.1 t w (λ busy. still_rescuer s dev.0 line.doing busy still) some none)
+  task_found u todos place (Completer disk Empty) fits t w still some none = absurd (omega (arith, some))
+  task_found u todos place (Completer disk (Brings bio status)) fits t w still some none = absurd still
+  task_found u todos place (Completer disk (Carries writer closed)) fits t w still some none = absurd still
+  task_found u todos place (Completer disk (Fails breach kept)) fits t w still some none = absurd still
+  task_found u todos place (Keeper keeping) fits t w still some none = absurd (omega (arith, some))
+
+  -- the rescuer of a list that is not empty waits below its set
+  rescuer_waits : (dev : ℕ) → dev < setup.count → (s.objects.rescue dev ≡ [] → ⊥) → (pool : ℕ) × (pool < 2 * dev) × (pool < 64) × (spares s pool ≡ 0) × IsPool setup pool
+  rescuer_waits dev lt some =
+      let r = c.rescuers dev lt (by_rescuer (known.waits.rescued dev)) in
+      let fits : TaskFits scene (Rescuer (record { 0 = dev }) r.1) = subst (TaskFits scene) r.3 (known.kept.tasks r.0) in
+      let t : TaskPlaced setup (Rescuer (record { 0 = dev }) r.1) = subst (TaskPlaced setup) r.3 (known.placed.tasks r.0) in
+      let still : IsStill s (Rescuer (record { 0 = dev }) r.1) = subst (IsStill s) r.3 (c.still r.0 r.2) in
+      elim (rests_or_busy r.1.doing) [
+        | inl is ↦ absurd (some (subst (StillRescuer s dev) is still))
+        | inr busy ↦ line_below scene s known.ground off off dev r.1.doing r.1.lists fits.1 t busy (still_rescuer s dev r.1.doing busy still)
+      ]
+    where
+      by_rescuer : (s.objects.rescue dev ≡ []) ⊎ (setup.rescuer dev ≡ true) → setup.rescuer dev ≡ true
+      by_rescuer (inl none) = absurd (some none)
+      by_rescuer (inr is) = is
+
+  rescue_found : (u : Weight) (dev : ℕ) → dev < setup.count → 1 ≤ sum_by (u.bio Rescued) (s.objects.rescue dev) → sum_by (off.bio Rescued) (s.objects.rescue dev) ≡ 0
+      → (item : Item Pad) × Below setup s (min item.share.no 64) × (1 ≤ u.bio Rescued item) × (off.bio Rescued item ≡ 0)
+  rescue_found u dev lt some none =
+      let r = rescuer_waits dev lt (λ e. let z : sum_by (u.bio Rescued) (s.objects.rescue dev) ≡ 0 = ap (sum_by (u.bio Rescued)) e in omega (arith, some, z)) in
+      let o = some_one (u.bio Rescued) (off.bio Rescued) (IsOwn setup dev dev) (s.objects.rescue dev) some none (known.placed.rescued dev) in
+      let own : o.0.share.no ≡ 2 * dev = o.1.1 in
+      let low = r.1 in
+      let few = r.2 in
+      (o.0, record { pool = r.0; low = omega (arith, own, low, few); empty = r.3; is = r.4 }, o.2, o.3)
+
+  -- parts of the levels' sum
+  off_task : (place : ℕ) → place < scene.tasks → task_weight off place (s.task place) ≡ 0
+  off_task place lt = let le = sum_at-ge (task_weight off) scene.tasks s.task place lt in let z = known.levels in omega (arith, le, z)
+
+  off_rescue : (dev : ℕ) → dev < setup.count → sum_by (off.bio Rescued) (s.objects.rescue dev) ≡ 0
+  off_rescue dev lt = let le = sum_at-ge (λ dev bios. sum_by (off.bio Rescued) bios) setup.count s.objects.rescue dev lt in let z = known.levels in omega (arith, le, z)
+
+  off_node : (w k : ℕ) (node : Node) → w < scene.books → k < length (s.objects.book w).nodes → node_at (s.objects.book w) k ≡ Some node
+      → (parent_off level w k (parent_of node.role) ≡ 0) × (held_off (level w k) node.held ≡ 0)
+  off_node w k node lt few at =
+      let a = sum_at-ge (book_weight off) scene.books s.objects.book w lt in
+      let b = sum_at-ge (λ place. weigh_option (off.node w place)) (length (s.objects.book w).nodes) (node_at (s.objects.book w)) k few in
+      let e : weigh_option (off.node w k) (node_at (s.objects.book w) k) ≡ parent_off level w k (parent_of node.role) + held_off (level w k) node.held = ap (weigh_option (off.node w k)) at in
+      let z = known.levels in
+      (omega (arith, a, b, e, z), omega (arith, a, b, e, z))
+
+  -- no disk has a bio that weighs
+  no_pending : (u : Weight) → sum_at (λ dev (disk : DiskState). sum_by (u.bio Pending) disk.pending) setup.count s.objects.disk ≡ 0
+  no_pending u = elim (zero_or (sum_at (λ dev (disk : DiskState). sum_by (u.bio Pending) disk.pending) setup.count s.objects.disk)) [
+    | inl z ↦ z
+    | inr some ↦
+        let d = some_place (λ dev (disk : DiskState). sum_by (u.bio Pending) disk.pending) setup.count s.objects.disk some in
+        let none : sum_by (u.bio Pending) (s.objects.disk d.0).pending ≡ 0 = ap (sum_by (u.bio Pending)) (c.disks d.0 d.1) in
+        let more = d.2 in
+        absurd (omega (arith, none, more))
+  ]
+
+  -- a bio that names a node is of the node's level
+  named_below : (w k : ℕ) (item : Item Pad) → Below setup s (min item.share.no 64) → 1 ≤ names w k item → bio_off level item ≡ 0 → Below setup s (level w k)
+  named_below w k item below some none =
+      let b = both (one item.bio.writer w) (one item.bio.node k) some in
+      let a : level item.bio.writer item.bio.node ≡ level w k = ap (level item.bio.writer) (one-eq item.bio.node k b.1) ∙ ap (λ v. level v k) (one-eq item.bio.writer w b.0) in
+      lower setup s (min item.share.no 64) (level w k) (omega (arith, a, none)) below
+
+  copied_below : (w k : ℕ) (bio : Bio) (master leg : ℕ) → Below setup s (2 * bio.dev.0 + 1) → 1 ≤ one bio.writer w * one master k * legs_left setup bio leg
+      → apart (level bio.writer master) (2 * bio.dev.0 + 1) ≡ 0 → Below setup s (level w k)
+  copied_below w k bio master leg below some none =
+      let b = both (one bio.writer w) (one master k) (both (one bio.writer w * one master k) (legs_left setup bio leg) some).0 in
+      let a : level bio.writer master ≡ level w k = ap (level bio.writer) (one-eq master k b.1) ∙ ap (λ v. level v k) (one-eq bio.writer w b.0) in
+      lower setup s (2 * bio.dev.0 + 1) (level w k) (omega (arith, a, none)) below
+
+  -- each open node has a task that waits below its level
+  pub node_waits : (fuel w k : ℕ) (node : Node) → node_at (s.objects.book w) k ≡ Some node → level w k < fuel → Below setup s (level w k)
+  node_waits zero w k node at lt = absurd (omega (arith, lt))
+  node_waits (suc fuel) w k node at lt =
+      let u = refs setup w k in
+      let alive : 1 ≤ node.count = subst IsAlive at (known.alive w k) in
+      let counted : count_of (node_at (s.objects.book w) k) ≡ node.count = ap count_of at in
+      let some : 1 ≤ total scene u s = let all = known.kept.counts w k in omega (arith, alive, counted, all) in
+      let pending = no_pending u in
+      elim (zero_or (sum_at (task_weight u) scene.tasks s.task)) [
+        | inr h ↦
+            let t = some_place (task_weight u) scene.tasks s.task h in
+            by_task (task_found u (λ n todos taken. refl) t.0 (s.task t.0) (known.kept.tasks t.0) (known.placed.tasks t.0) (known.waits.tasks t.0) (c.still t.0 t.1) t.2 (off_task t.0 t.1))
+        | inl no_task ↦ elim (zero_or (sum_at (λ dev bios. sum_by (u.bio Rescued) bios) setup.count s.objects.rescue)) [
+          | inr h ↦
+              let d = some_place (λ dev bios. sum_by (u.bio Rescued) bios) setup.count s.objects.rescue h in
+              let r = rescue_found u d.0 d.1 d.2 (off_rescue d.0 d.1) in
+              named_below w k r.0 r.1 r.2 r.3
+          | inl no_rescue ↦
+              let books : 1 ≤ sum_at (book_weight u) scene.books s.objects.book = omega (arith, some, no_task, no_rescue, pending) in
+              let v = some_place (book_weight u) scene.books s.objects.book books in
+              let j = some_place (λ place. weigh_option (u.node v.0 place)) (length (s.objects.book v.0).nodes) (node_at (s.objects.book v.0)) v.2 in
+              by_node v.0 j.0 v.1 j.1 (node_at (s.objects.book v.0) j.0) refl j.2 (λ w2 k2 node2 at2 lt2. node_waits fuel w2 k2 node2 at2 lt2)
+        ]
+      ]
+    where
+      by_task : Has (refs setup w k) → Below setup s (level w k)
+      by_task (inl (limit, inl (item, below, some, none))) = named_below w k item below some none
+      by_task (inl (limit, inr (bio, master, leg, below, some, none))) = copied_below w k bio master leg below some none
+      by_task (inr (item, some, home, empty)) = absurd (omega (arith, some))
+
+      by_node : (v j : ℕ) → v < scene.books → j < length (s.objects.book v).nodes → (found : Option Node) → node_at (s.objects.book v) j ≡ found
+          → 1 ≤ weigh_option ((refs setup w k).node v j) found → ((w2 k2 : ℕ) (node2 : Node) → node_at (s.objects.book w2) k2 ≡ Some node2 → level w2 k2 < fuel → Below setup s (level w2 k2))
+          → Below setup s (level w k)
+      by_node v j known_book inside None is h again = absurd (omega (arith, h))
+      by_node v j known_book inside (Some child) is h again = by_parent (parent_of child.role) h (off_node v j child known_book inside is).0
+        where
+          by_parent : (parent : Option ℕ) → 1 ≤ under w k v parent → parent_off level v j parent ≡ 0 → Below setup s (level w k)
+          by_parent None h none = absurd (omega (arith, h))
+          by_parent (Some parent) h none =
+              let b = both (one v w) (one parent k) h in
+              let a : level v parent ≡ level w k = ap (level v) (one-eq parent k b.1) ∙ ap (λ x. level x k) (one-eq v w b.0) in
+              lower setup s (level v j) (level w k) (omega (arith, a, none)) (again v j child is (omega (arith, a, none, lt)))
+
+  -- what a node holds is of pools of its level
+  held_above : (q l : ℕ) (held : Holding) → 1 ≤ holding_elements q held → held_off l held ≡ 0 → l ≤ q
+  held_above q l held some none = by_three held.bio held.vector held.slip some none
+    where
+      by_three : (bio : Option (Item Pad)) (vector : Option VectorItem) (slip : Option SlipItem)
+          → 1 ≤ weigh_option (λ (bio : Item Pad). one bio.share.no q) bio + weigh_option (λ (vector : VectorItem). one vector.share.no q) vector + weigh_option (λ (slip : SlipItem). one slip.share.no q) slip
+          → weigh_option (λ (bio : Item Pad). apart l (min bio.share.no 64)) bio + weigh_option (λ (vector : VectorItem). apart l (min vector.share.no 64)) vector + weigh_option (λ (slip : SlipItem). apart l (min slip.share.no 64)) slip ≡ 0
+          → l ≤ q
+      by_three bio vector slip some none = elim (zero_or (weigh_option (λ (bio : Item Pad). one bio.share.no q) bio)) [
+        | inr h ↦ by_bio bio h (omega (arith, none))
+        | inl no_bio ↦ elim (zero_or (weigh_option (λ (vector : VectorItem). one vector.share.no q) vector)) [
+          | inr h ↦ by_vector vector h (omega (arith, none))
+          | inl no_vector ↦ by_slip slip (omega (arith, some, no_bio, no_vector)) (omega (arith, none))
+        ]
+      ]
+        where
+          by_bio : (bio : Option (Item Pad)) → 1 ≤ weigh_option (λ (bio : Item Pad). one bio.share.no q) bio → weigh_option (λ (bio : Item Pad). apart l (min bio.share.no 64)) bio ≡ 0 → l ≤ q
+          by_bio None h z = absurd (omega (arith, h))
+          by_bio (Some bio) h z = omega (arith, one-eq bio.share.no q h, z)
+
+          by_vector : (vector : Option VectorItem) → 1 ≤ weigh_option (λ (vector : VectorItem). one vector.share.no q) vector → weigh_option (λ (vector : VectorItem). apart l (min vector.share.no 64)) vector ≡ 0 → l ≤ q
+          by_vector None h z = absurd (omega (arith, h))
+          by_vector (Some vector) h z = omega (arith, one-eq vector.share.no q h, z)
+
+          by_slip : (slip : Option SlipItem) → 1 ≤ weigh_option (λ (slip : SlipItem). one slip.share.no q) slip → weigh_option (λ (slip : SlipItem). apart l (min slip.share.no 64)) slip ≡ 0 → l ≤ q
+          by_slip None h z = absurd (omega (arith, h))
+          by_slip (Some slip) h z = omega (arith, one-eq slip.share.no q h, z)
+
+  -- a pool with an element out has a task that waits below it
+  pub out_below : (q : ℕ) → 1 ≤ (s.objects.pool q).facts.out → Below setup s q
+  out_below q out =
+      let u = elements q in
+      let some : 1 ≤ total scene u s = let all = known.kept.outs q in omega (arith, out, all) in
+      let pending = no_pending u in
+      elim (zero_or (sum_at (task_weight u) scene.tasks s.task)) [
+        | inr h ↦
+            let t = some_place (task_weight u) scene.tasks s.task h in
+            by_task (task_found u (λ n todos taken. refl) t.0 (s.task t.0) (known.kept.tasks t.0) (known.placed.tasks t.0) (known.waits.tasks t.0) (c.still t.0 t.1) t.2 (off_task t.0 t.1))
+        | inl no_task ↦ elim (zero_or (sum_at (λ dev bios. sum_by (u.bio Rescued) bios) setup.count s.objects.rescue)) [
+          | inr h ↦
+              let d = some_place (λ dev bios. sum_by (u.bio Rescued) bios) setup.count s.objects.rescue h in
+              let r = rescue_found u d.0 d.1 d.2 (off_rescue d.0 d.1) in
+              let same = one-eq r.0.share.no q r.2 in
+              lower setup s (min r.0.share.no 64) q (omega (arith, same)) r.1
+          | inl no_rescue ↦
+              let books : 1 ≤ sum_at (book_weight u) scene.books s.objects.book = omega (arith, some, no_task, no_rescue, pending) in
+              let v = some_place (book_weight u) scene.books s.objects.book books in
+              let j = some_place (λ place. weigh_option (u.node v.0 place)) (length (s.objects.book v.0).nodes) (node_at (s.objects.book v.0)) v.2 in
+              by_node v.0 j.0 v.1 j.1 (node_at (s.objects.book v.0) j.0) refl j.2
+        ]
+      ]
+    where
+      by_task : Has (elements q) → Below setup s q
+      by_task (inl (limit, inl (item, below, some, none))) = let same = one-eq item.share.no q some in lower setup s (min item.share.no 64) q (omega (arith, same)) below
+      by_task (inl (limit, inr (bio, master, leg, below, some, none))) = absurd (omega (arith, some))
+      by_task (inr (item, some, home, empty)) =
+          let same = one-eq item.share.no q some in
+          record { pool = 64; low = omega (arith, same, home); empty = empty; is = inr (inl refl) }
+
+      by_node : (v j : ℕ) → v < scene.books → j < length (s.objects.book v).nodes → (found : Option Node) → node_at (s.objects.book v) j ≡ found
+          → 1 ≤ weigh_option ((elements q).node v j) found → Below setup s q
+      by_node v j known_book inside None is h = absurd (omega (arith, h))
+      by_node v j known_book inside (Some node) is h =
+          lower setup s (level v j) q (held_above q (level v j) node.held h (off_node v j node known_book inside is).1) (node_waits (level v j + 1) v j node is (omega arith))
+
+  -- so no task waits at any pool
+  pub none_below : (fuel l : ℕ) → l < fuel → Below setup s l → ⊥
+  none_below zero l lt below = omega (arith, lt)
+  none_below (suc fuel) l lt below =
+      let q = below.pool in
+      let low = below.low in
+      let empty = below.empty in
+      let adds = (known.kept.pools q).elements in
+      let min_one = known.mins q below.is in
+      none_below fuel q (omega (arith, low, lt)) (out_below q (omega (arith, adds, min_one, empty)))
+
+  -- no node is open
+  pub none_open : (w k : ℕ) (node : Node) → node_at (s.objects.book w) k ≡ Some node → ⊥
+  none_open w k node at = none_below (level w k + 1) (level w k) (omega arith) (node_waits (level w k + 1) w k node at (omega arith))
+
+  -- and every element is at home
+  pub all_home : (q : ℕ) → (s.objects.pool q).facts.out ≡ 0
+  all_home q = elim (zero_or (s.objects.pool q).facts.out) [
+    | inl z ↦ z
+    | inr some ↦ absurd (none_below (q + 1) q (omega arith) (out_below q some))
+  ]
+
+  -- no pool at which a task can wait is without a spare
+  pub has_spare : (q : ℕ) → IsPool setup q → spares s q ≡ 0 → ⊥
+  has_spare q is empty = none_below (q + 2) (q + 1) (omega arith) (record { pool = q; low = omega arith; empty = empty; is = is })

@@ -1,0 +1,296 @@
+-- A task that waits for a bio of a device's set has none of that set in its lists.
+use Rattle.std.proofs.Common.{◌≡◌, ◌+◌, ◌*◌, ◌≤◌, ◌==◌, ◌⊎◌, ◌++◌, ◌&&◌, ◌||◌, not, if◌then◌else◌, ℕ, Bool, true, false, List, [], ◌∷◌, filter, inl, inr, refl, sym, ◌∙◌, ap, subst, arith, true≢false}
+use Rattle.std.proofs.lemmas.Bool.{eq-eqb, eqb-false}
+use Rattle.stack_base.specs.declared.ids.DevId.{DevId}
+use Rattle.stack_base.specs.declared.ids.SetId.{SetId}
+use Rattle.stack_base.specs.declared.ids.SetId.TheVariants.{Fs, Of}
+use Rattle.stack_base.specs.PoolId.{pool_number}
+use Rattle.stack_base.specs.Tree.{Tree, Leaf, Split, Mirrored}
+use Rattle.bio_records.specs.declared.bio.Bio.{Bio}
+use Rattle.bio_records.specs.declared.bio.Pad.{Pad}
+use Rattle.bio_records.specs.declared.tasks.TaskLists.{TaskLists}
+use Rattle.bio_records.specs.Items.{Item}
+use Rattle.bio_lists.specs.Submission.{order, submitted}
+use Rattle.bioset_pools.specs.Sets.{bios_of}
+use Rattle.bio_books.specs.Books.{keeping}
+use Rattle.run_machine.specs.Maps.{upd}
+use Rattle.run_machine.specs.Scene.{Setup, Scene, tree_at}
+use Rattle.run_machine.specs.Lines.{Want, Takes, Punts as WantsPunt, Links, ToPush, ToCut, ToRecord, ToMaster, Doing, Rests, Drives, Copies, Breaks, Line, settled, goes_on, copies, asks_at, first_waits, first_length, landed, legs_of, leg_at, is_of, punted, not_punted}
+use Rattle.run_machine.specs.Tasks.{TaskState, Writer, Rescuer, Completer, Keeper}
+use Rattle.run_machine.specs.Objects.{clear_bio}
+use Rattle.run_machine.specs.Runs.{State}
+use Rattle.block_core.proofs.moves.Moves.{Move, IsTaking, place_of, Can, after, lost, gained, limit_of, with_line, HasLine, Wants, with_want, taken_of, filled_of, vector_of, cut_lists, IsTake, Tells, Hands, piece, with_pool, with_book}
+use Rattle.block_core.proofs.moves.Moves as moves
+use Rattle.block_core.proofs.sound.Facts.{TaskFits, Kept}
+use Rattle.block_core.proofs.moves.Geometry.{IsThere}
+use Rattle.block_core.proofs.sound.TaskLines.{all-upd, line_fits}
+use Rattle.block_core.proofs.sound.Orders.{Each, Above, IsPlaced, IsOwn, DoingPlaced, TaskPlaced, Placed, Ground, of_set}
+use Rattle.std.specs.Prelude.{All}
+use Rattle.std.proofs.lemmas.List.Elements.{All-nil, All-cons}
+use Rattle.run_machine.specs.Lines.{is_empty}
+use Rattle.block_core.proofs.sound.OrdersKept.{all_at, line_placed}
+use Rattle.block_core.specs.Waits.{NoneBehind, DoesNotWaitForItself, TaskDoesNotWait, NoneWaitsForItself}
+
+-- where it waits, list 0 is empty
+abbrev pub WantWaits : Bool → Want → TaskLists → Type 0
+WantWaits rescuer (Takes true) lists = lists.list0 ≡ []
+WantWaits rescuer (Takes false) lists = rescuer ≡ true
+WantWaits rescuer WantsPunt lists = rescuer ≡ true
+WantWaits rescuer (Links hand) lists = Unit {0}
+
+abbrev pub DoingWaits : Setup → Doing → TaskLists → Type 0
+DoingWaits setup Rests lists = Unit {0}
+DoingWaits setup (Drives bio ToPush) lists = Unit {0}
+DoingWaits setup (Drives bio (ToCut want)) lists = WantWaits (setup.rescuer bio.bio.dev.0) want lists
+DoingWaits setup (Drives bio ToRecord) lists = Unit {0}
+DoingWaits setup (Drives bio (ToMaster slip)) lists = Unit {0}
+DoingWaits setup (Copies bio master leg want) lists = WantWaits (setup.rescuer bio.dev.0) want lists
+DoingWaits setup (Breaks breach kept) lists = Unit {0}
+
+abbrev pub TaskWaits : Setup → TaskState → Type 0
+TaskWaits setup (Writer number todo taken line) = DoingWaits setup line.doing line.lists
+TaskWaits setup (Rescuer dev line) = DoingWaits setup line.doing line.lists
+TaskWaits setup (Completer disk carried) = Unit {0}
+TaskWaits setup (Keeper keeping) = Unit {0}
+
+pub record Waits (setup : Setup) (s : State) : Type 0 where
+  pub tasks : (place : ℕ) → TaskWaits setup (s.task place)
+  pub rescued : (dev : ℕ) → (s.objects.rescue dev ≡ []) ⊎ (setup.rescuer dev ≡ true)
+
+-- a bio that is copied twice or more is at a device with a rescuer
+abbrev pub AreRescued : Setup → Type 0
+AreRescued setup = (bio : Bio) → IsThere setup bio → 2 ≤ legs_of (tree_at setup bio.dev) → setup.rescuer bio.dev.0 ≡ true
+
+not_waiting : (rescuer none : Bool) → (not rescuer || none) ≡ false → rescuer ≡ true
+not_waiting true none is = refl
+not_waiting false none is = absurd (true≢false is)
+
+waits_or_tries : (setup : Setup) (dev : DevId) (lists : TaskLists) → lists.list0 ≡ [] → WantWaits (setup.rescuer dev.0) (Takes (first_waits setup dev lists)) lists
+waits_or_tries setup dev lists none = by_test (first_waits setup dev lists) refl
+  where
+    by_test : (v : Bool) → first_waits setup dev lists ≡ v → WantWaits (setup.rescuer dev.0) (Takes v) lists
+    by_test true is = none
+    by_test false is = not_waiting (setup.rescuer dev.0) (is_empty lists.list0 && is_empty lists.list1) is
+
+tries : (setup : Setup) (dev : DevId) (lists : TaskLists) → setup.rescuer dev.0 ≡ true → is_empty lists.list0 ≡ false → WantWaits (setup.rescuer dev.0) (Takes (first_waits setup dev lists)) lists
+tries setup dev lists rescuer some =
+    let is : first_waits setup dev lists ≡ false = rw (rescuer, some) refl in
+    subst (λ v. WantWaits (setup.rescuer dev.0) (Takes v) lists) (sym is) rescuer
+
+one_more : (items : List (Item Pad)) (item : Item Pad) → is_empty (items ++ item ∷ []) ≡ false
+one_more [] item = refl
+one_more (other ∷ items) item = refl
+
+module _ (setup : Setup) (r : AreRescued setup) where
+  pub settled_waits : (items : List (Item Pad)) → DoingWaits setup (settled setup items).doing (settled setup items).lists
+  settled_waits [] = tt
+  settled_waits (item ∷ waiting) =
+      let at : Bio = landed (tree_at setup item.bio.dev) item.bio in
+      by_tree (record item { bio = at }) (record { list0 = []; list1 = waiting }) refl (tree_at setup at.dev)
+    where
+      by_tree : (it : Item Pad) (lists : TaskLists) → lists.list0 ≡ [] → (t : Tree) → DoingWaits setup (asks_at setup lists it t) lists
+      by_tree it lists none (Leaf number sectors) = tt
+      by_tree it lists none (Mirrored number sizes members) = tt
+      by_tree it lists none (Split number kind sizes members) = waits_or_tries setup it.bio.dev lists none
+
+  pub copies_wait : (lists : TaskLists) (bio : Bio) (master leg : ℕ)
+      → ((leg == legs_of (tree_at setup bio.dev)) ≡ false → WantWaits (setup.rescuer bio.dev.0) (Takes (first_waits setup bio.dev lists)) lists)
+      → DoingWaits setup (copies setup lists bio master leg).doing (copies setup lists bio master leg).lists
+  copies_wait lists bio master leg next = by_test (leg == legs_of (tree_at setup bio.dev)) refl
+    where
+      by_test : (v : Bool) → (leg == legs_of (tree_at setup bio.dev)) ≡ v
+          → let line : Line = (if v then goes_on setup bio.dev lists else record { doing = Copies bio master leg (Takes (first_waits setup bio.dev lists)); lists = lists }) in
+          DoingWaits setup line.doing line.lists
+      by_test true is = settled_waits (order bio.dev lists)
+      by_test false is = next is
+
+  -- an element is had
+  links_wait : (doing : Doing) (dev : DevId) (old : Want) (hand : Item Pad) (lists : TaskLists) → Wants doing dev old → DoingWaits setup (with_want doing (Links hand)) lists
+  links_wait (Drives bio (ToCut has)) dev old hand lists h = tt
+  links_wait (Copies bio master leg has) dev old hand lists h = tt
+  links_wait (Drives bio ToPush) dev old hand lists h = absurd h
+  links_wait (Drives bio ToRecord) dev old hand lists h = absurd h
+  links_wait (Drives bio (ToMaster slip)) dev old hand lists h = absurd h
+  links_wait Rests dev old hand lists h = absurd h
+  links_wait (Breaks breach kept) dev old hand lists h = absurd h
+
+  -- an attempt missed
+  punts_wait : (doing : Doing) (dev : DevId) (lists : TaskLists) → Wants doing dev (Takes false) → DoingWaits setup doing lists → DoingWaits setup (with_want doing WantsPunt) lists
+  punts_wait (Drives bio (ToCut has)) dev lists h d = subst (λ want. WantWaits (setup.rescuer bio.bio.dev.0) want lists) h.1 d
+  punts_wait (Copies bio master leg has) dev lists h d = subst (λ want. WantWaits (setup.rescuer bio.dev.0) want lists) h.1 d
+  punts_wait (Drives bio ToPush) dev lists h d = absurd h
+  punts_wait (Drives bio ToRecord) dev lists h d = absurd h
+  punts_wait (Drives bio (ToMaster slip)) dev lists h d = absurd h
+  punts_wait Rests dev lists h d = absurd h
+  punts_wait (Breaks breach kept) dev lists h d = absurd h
+
+  -- one that punts is at a device with a rescuer
+  punts_rescued : (doing : Doing) (dev : DevId) (lists : TaskLists) → Wants doing dev WantsPunt → DoingWaits setup doing lists → setup.rescuer dev.0 ≡ true
+  punts_rescued (Drives bio (ToCut has)) dev lists h d =
+      ap (λ (e : DevId). setup.rescuer e.0) h.0 ∙ subst (λ want. WantWaits (setup.rescuer bio.bio.dev.0) want lists) h.1 d
+  punts_rescued (Copies bio master leg has) dev lists h d =
+      ap (λ (e : DevId). setup.rescuer e.0) h.0 ∙ subst (λ want. WantWaits (setup.rescuer bio.dev.0) want lists) h.1 d
+  punts_rescued (Drives bio ToPush) dev lists h d = absurd h
+  punts_rescued (Drives bio ToRecord) dev lists h d = absurd h
+  punts_rescued (Drives bio (ToMaster slip)) dev lists h d = absurd h
+  punts_rescued Rests dev lists h d = absurd h
+  punts_rescued (Breaks breach kept) dev lists h d = absurd h
+
+-- all bios of a device's own set go to its rescuer
+own_is : (setup : Setup) (dev : DevId) (limit : ℕ) (item : Item Pad) → IsOwn setup dev.0 limit item → is_of dev item ≡ true
+own_is setup dev limit item own = by_set item.bio.set (sym (own.0.3) ∙ own.1)
+  where
+    by_set : (set : SetId) → pool_number (bios_of set) ≡ 2 * dev.0 → is_of dev (record item { bio = record item.bio { set = set } }) ≡ true
+    by_set Fs is = absurd (omega (arith, is))
+    by_set (Of other) is = eq-eqb other.0 dev.0 (omega (arith, is))
+
+none_left : (setup : Setup) (dev : DevId) (limit : ℕ) (items : List (Item Pad)) → Each (IsOwn setup dev.0 limit) items → filter (λ item. not (is_of dev item)) items ≡ []
+none_left setup dev limit [] own = refl
+none_left setup dev limit (item ∷ items) own = by_test (is_of dev item) (own_is setup dev limit item own.0) (none_left setup dev limit items own.1)
+  where
+    by_test : (v : Bool) → v ≡ true → filter (λ item. not (is_of dev item)) items ≡ []
+        → (if not v then item ∷ filter (λ item. not (is_of dev item)) items else filter (λ item. not (is_of dev item)) items) ≡ []
+    by_test true is rest = rest
+    by_test false is rest = absurd (true≢false (sym is))
+
+-- behind a punt it waits
+punted_wait : (setup : Setup) (limit : ℕ) (doing : Doing) (dev : DevId) (lists : TaskLists) → Wants doing dev WantsPunt → DoingPlaced setup limit doing lists
+    → DoingWaits setup (with_want doing (Takes true)) (not_punted dev lists)
+punted_wait setup limit (Drives bio (ToCut has)) dev lists h d = ap (filter (λ item. not (is_of dev item))) d.0
+punted_wait setup limit (Copies bio master leg has) dev lists h d =
+    none_left setup dev limit lists.list0 (subst (λ (e : DevId). Each (IsOwn setup e.0 limit) lists.list0) (sym (h.0)) d.2)
+punted_wait setup limit (Drives bio ToPush) dev lists h d = absurd h
+punted_wait setup limit (Drives bio ToRecord) dev lists h d = absurd h
+punted_wait setup limit (Drives bio (ToMaster slip)) dev lists h d = absurd h
+punted_wait setup limit Rests dev lists h d = absurd h
+punted_wait setup limit (Breaks breach kept) dev lists h d = absurd h
+
+pub line_waits : (setup : Setup) (x : TaskState) (doing : Doing) (lists : TaskLists) → TaskWaits setup x → HasLine x doing lists → DoingWaits setup doing lists
+line_waits setup (Writer number todo taken line) doing lists t h = subst (λ (l : Line). DoingWaits setup l.doing l.lists) h t
+line_waits setup (Rescuer dev line) doing lists t h = subst (λ (l : Line). DoingWaits setup l.doing l.lists) h t
+line_waits setup (Completer disk carried) doing lists t h = absurd h
+line_waits setup (Keeper keeping) doing lists t h = absurd h
+
+relined : (setup : Setup) (x : TaskState) (new : Line) → DoingWaits setup new.doing new.lists → TaskWaits setup (with_line x new)
+relined setup (Writer number todo taken line) new n = n
+relined setup (Rescuer dev line) new n = n
+relined setup (Completer disk carried) new n = tt
+relined setup (Keeper keeping) new n = tt
+
+module _ (scene : Scene) (s : State) (g : Ground scene.setup) (r : AreRescued scene.setup) (k : Kept scene s) (p : Placed scene.setup s) (i : Waits scene.setup s) where
+  goes : (place : ℕ) (y : TaskState) → TaskWaits scene.setup y → (j : ℕ) → TaskWaits scene.setup (upd s.task place y j)
+  goes place y fits = all-upd (TaskWaits scene.setup) s.task place y i.tasks fits
+
+  on_line : (place : ℕ) (x : TaskState) (new : Line) → DoingWaits scene.setup new.doing new.lists → (j : ℕ) → TaskWaits scene.setup (upd s.task place (with_line x new) j)
+  on_line place x new fits = goes place (with_line x new) (relined scene.setup x new fits)
+
+  has : (place : ℕ) (x : TaskState) (doing : Doing) (lists : TaskLists) → s.task place ≡ x → HasLine x doing lists → DoingWaits scene.setup doing lists
+  has place x doing lists is h = line_waits scene.setup x doing lists (subst (TaskWaits scene.setup) is (i.tasks place)) h
+
+  at : (place : ℕ) (x : TaskState) (doing : Doing) (lists : TaskLists) → s.task place ≡ x → HasLine x doing lists → DoingPlaced scene.setup (limit_of x) doing lists
+  at place x doing lists is h = line_placed scene.setup x doing lists (subst (TaskPlaced scene.setup) is (p.tasks place)) h
+
+  tasks : (m : Move) → Can scene s m → (j : ℕ) → TaskWaits scene.setup ((after scene s m).task j)
+  tasks (moves.TakesFirst place writer todo later move) c = goes place _ tt
+  tasks (moves.TakesVector place writer todo later item move) c = goes place _ tt
+  tasks (moves.TakesSub place x doing lists dev waits move) c = on_line place x _ (links_wait scene.setup r doing dev (Takes waits) (clear_bio (scene.ledger (2 * dev.0))) lists c.3)
+  tasks (moves.TakesSlip place x bio lists move) c = on_line place x _ tt
+  tasks (moves.MissesOne place x number used) c = goes place x (subst (TaskWaits scene.setup) c.1 (i.tasks place))
+  tasks (moves.MissesTry place x doing lists dev used) c = on_line place x _ (punts_wait scene.setup r doing dev lists c.3 (has place x doing lists c.1 c.2))
+  tasks (moves.Punts place x doing lists dev) c = on_line place x _ (punted_wait scene.setup (limit_of x) doing dev lists c.3 (at place x doing lists c.1 c.2))
+  tasks (moves.Pops place dev bio bios) c = goes place _ (settled_waits scene.setup r (bio ∷ []))
+  tasks (moves.Pushes place x bio lists) c = on_line place x _ (settled_waits scene.setup r (order bio.bio.dev lists))
+  tasks (moves.Completed place disk index bio status new) c = goes place _ tt
+  tasks (moves.Begins place writer todo later item vector key) c = goes place _ (settled_waits scene.setup r (filled_of writer todo item vector key ∷ []))
+  tasks (moves.Chained place x bio lists hand number kind sizes members key node) c =
+      on_line place x _ (settled_waits scene.setup r (order bio.bio.dev (cut_lists bio lists hand (first_length kind sizes bio.bio.range) key kind sizes members)))
+  tasks (moves.Mastered place x bio lists slip key node) c =
+      let d = at place x (Drives bio (ToMaster slip)) lists c.1 c.2 in
+      on_line place x _ (copies_wait scene.setup r lists bio.bio key 0 (λ is. waits_or_tries scene.setup bio.bio.dev lists d.0))
+  tasks (moves.Legged place x bio lists master leg hand key node) c =
+      let d = at place x (Copies bio master leg (Links hand)) lists c.1 c.2 in
+      let lt = line_fits scene x (Copies bio master leg (Links hand)) lists (subst (TaskFits scene) c.1 (k.tasks place)) c.2 in
+      let item = leg_at bio hand leg key (tree_at scene.setup bio.dev) in
+      on_line place x _ (copies_wait scene.setup r (submitted item lists) bio master (leg + 1)
+      (λ is.
+      let ne = eqb-false (leg + 1) (legs_of (tree_at scene.setup bio.dev)) is in
+      tries scene.setup bio.dev (submitted item lists) (r bio d.0 (omega (arith, lt, ne))) (one_more lists.list0 item)))
+  tasks (moves.Told place disk carried writer key status part node) c = goes place _ tt
+  tasks (moves.Closes place disk carried writer key status part node) c = goes place _ tt
+  tasks (moves.Gives place disk writer number closed held) c = goes place _ tt
+  tasks (moves.Ends place disk writer closed) c = goes place _ tt
+  tasks (moves.Resized place pool min later duties) c = goes place _ tt
+  tasks (moves.Started place round later duties) c = goes place _ tt
+
+  rescued : (m : Move) → Can scene s m → (dev : ℕ) → ((after scene s m).objects.rescue dev ≡ []) ⊎ (scene.setup.rescuer dev ≡ true)
+  rescued (moves.Punts place x doing lists dev) c =
+      all_at (λ d (bios : List (Item Pad)). (bios ≡ []) ⊎ (scene.setup.rescuer d ≡ true)) s.objects.rescue dev.0 (s.objects.rescue dev.0 ++ punted dev lists) i.rescued
+      (inr (punts_rescued scene.setup r doing dev lists c.3 (has place x doing lists c.1 c.2)))
+  rescued (moves.Pops place dev bio bios) c =
+      all_at (λ d (bios : List (Item Pad)). (bios ≡ []) ⊎ (scene.setup.rescuer d ≡ true)) s.objects.rescue dev.0 bios i.rescued (by_old (i.rescued dev.0))
+    where
+      by_old : (s.objects.rescue dev.0 ≡ []) ⊎ (scene.setup.rescuer dev.0 ≡ true) → (bios ≡ []) ⊎ (scene.setup.rescuer dev.0 ≡ true)
+      by_old (inl none) = let e : bio ∷ bios ≡ [] = sym c.3 ∙ none in absurd cc
+      by_old (inr is) = inr is
+  rescued (moves.TakesFirst place writer todo later move) c = i.rescued
+  rescued (moves.TakesVector place writer todo later item move) c = i.rescued
+  rescued (moves.TakesSub place x doing lists dev waits move) c = i.rescued
+  rescued (moves.TakesSlip place x bio lists move) c = i.rescued
+  rescued (moves.MissesOne place x number used) c = i.rescued
+  rescued (moves.MissesTry place x doing lists dev used) c = i.rescued
+  rescued (moves.Pushes place x bio lists) c = i.rescued
+  rescued (moves.Completed place disk index bio status new) c = i.rescued
+  rescued (moves.Begins place writer todo later item vector key) c = i.rescued
+  rescued (moves.Chained place x bio lists hand number kind sizes members key node) c = i.rescued
+  rescued (moves.Mastered place x bio lists slip key node) c = i.rescued
+  rescued (moves.Legged place x bio lists master leg hand key node) c = i.rescued
+  rescued (moves.Told place disk carried writer key status part node) c = i.rescued
+  rescued (moves.Closes place disk carried writer key status part node) c = i.rescued
+  rescued (moves.Gives place disk writer number closed held) c = i.rescued
+  rescued (moves.Ends place disk writer closed) c = i.rescued
+  rescued (moves.Resized place pool min later duties) c = i.rescued
+  rescued (moves.Started place round later duties) c = i.rescued
+
+  pub stays_waiting : (m : Move) → Can scene s m → Waits scene.setup (after scene s m)
+  stays_waiting m c = record { tasks = tasks m c; rescued = rescued m c }
+
+-- what stands behind one that waits is of other sets
+above_other : (dev : DevId) (limit : ℕ) (setup : Setup) (items : List (Item Pad)) → Above dev.0 items → Each (IsPlaced setup limit) items → All (λ item. is_of dev item ≡ false) items
+above_other dev limit setup [] above placed = All-nil (λ item. is_of dev item ≡ false)
+above_other dev limit setup (item ∷ items) above placed =
+    All-cons (λ item. is_of dev item ≡ false) item items (by_test (is_of dev item) refl) (above_other dev limit setup items above.1 placed.1)
+  where
+    by_test : (v : Bool) → is_of dev item ≡ v → v ≡ false
+    by_test true is =
+        let set : pool_number (bios_of item.bio.set) ≡ 2 * dev.0 = of_set dev item.bio.set item is in
+        let own : item.share.no ≡ pool_number (bios_of item.bio.set) = placed.0.3 in
+        let up = above.0 in
+        absurd (omega (arith, set, own, up))
+    by_test false is = refl
+
+module _ (setup : Setup) (limit : ℕ) where
+  waits_behind : (dev : DevId) (want : Want) (lists : TaskLists) → WantWaits (setup.rescuer dev.0) want lists → Above dev.0 lists.list1 → Each (IsPlaced setup limit) lists.list1
+      → NoneBehind setup dev want lists
+  waits_behind dev (Takes true) lists none above placed =
+      (subst (All (λ item. is_of dev item ≡ false)) (sym none) (All-nil (λ item. is_of dev item ≡ false)), above_other dev limit setup lists.list1 above placed)
+  waits_behind dev (Takes false) lists is above placed = is
+  waits_behind dev WantsPunt lists is above placed = is
+  waits_behind dev (Links hand) lists is above placed = tt
+
+  doing_behind : (doing : Doing) (lists : TaskLists) → DoingWaits setup doing lists → DoingPlaced setup limit doing lists → DoesNotWaitForItself setup doing lists
+  doing_behind Rests lists w d = tt
+  doing_behind (Drives bio ToPush) lists w d = tt
+  doing_behind (Drives bio (ToCut want)) lists w d = waits_behind bio.bio.dev want lists w d.2.0 d.1.1
+  doing_behind (Drives bio ToRecord) lists w d = tt
+  doing_behind (Drives bio (ToMaster slip)) lists w d = tt
+  doing_behind (Copies bio master leg want) lists w d = waits_behind bio.dev want lists w d.4 d.3
+  doing_behind (Breaks breach kept) lists w d = tt
+
+task_behind : (setup : Setup) (x : TaskState) → TaskWaits setup x → TaskPlaced setup x → TaskDoesNotWait setup x
+task_behind setup (Writer number todo taken line) w t = doing_behind setup 32 line.doing line.lists w t.1
+task_behind setup (Rescuer dev line) w t = doing_behind setup dev.0 line.doing line.lists w t
+task_behind setup (Completer disk carried) w t = tt
+task_behind setup (Keeper keeping) w t = tt
+
+pub none_waits : (scene : Scene) (s : State) → Placed scene.setup s → Waits scene.setup s → NoneWaitsForItself scene s
+none_waits scene s p w = record { tasks = λ place. task_behind scene.setup (s.task place) (w.tasks place) (p.tasks place); rescued = w.rescued }

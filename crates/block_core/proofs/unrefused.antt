@@ -1,0 +1,11 @@
+pub mod BioNeeds
+pub mod BookRoom
+pub mod NodeNeeds
+pub mod NodesOpened
+pub mod RoomKept
+pub mod Ready
+pub mod Hands
+pub mod Unbroken
+pub mod Resizes
+pub mod Replies
+pub mod Answered

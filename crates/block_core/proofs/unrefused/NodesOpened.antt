@@ -1,0 +1,178 @@
+-- Events open no more nodes than were still to be opened.
+use Rattle.std.proofs.Common.{◌≡◌, ◌+◌, ◌*◌, ◌<◌, ◌≤◌, ◌==◌, ℕ, List, [], ◌∷◌, length, Option, None, Some, inl, inr, refl, sym, ◌∙◌, ap, subst, arith}
+use Rattle.std.specs.Prelude.{sum_by}
+use Rattle.std.proofs.lemmas.List.{length-set}
+use Rattle.std.proofs.lemmas.List.Sums.{sum_by-cons, sum_by_push}
+use Rattle.stack_base.specs.Tree.{Tree, Leaf, Split, Mirrored}
+use Rattle.bio_records.specs.declared.bio.Bio.{Bio}
+use Rattle.bio_records.specs.declared.bio.Pad.{Pad}
+use Rattle.bio_records.specs.declared.tasks.TaskLists.{TaskLists}
+use Rattle.bio_records.specs.Items.{Item}
+use Rattle.bio_lists.specs.Submission.{submitted}
+use Rattle.bio_books.specs.Books.{Node, BookState, VectorItem, with_node}
+use Rattle.run_machine.specs.Maps.{upd}
+use Rattle.run_machine.specs.Scene.{Setup, Scene, tree_at}
+use Rattle.run_machine.specs.Lines.{Links, ToPush, ToCut, ToMaster, Doing, Drives, Copies, rests, copies, first_length, landed, legs_of, leg_at}
+use Rattle.run_machine.specs.Tasks.{TaskState, Writer, Todo}
+use Rattle.run_machine.specs.Runs.{State}
+use Rattle.block_core.specs.Weights.{Lined, line_weight, one}
+use Rattle.block_core.specs.Rooms.{need_at, todo_need, legs_need, room, HasRoom}
+use Rattle.block_core.proofs.moves.Moves.{Move, Can, after, lost, gained, limit_of, HasLine, taken_of, filled_of, cut_lists, piece, with_book}
+use Rattle.block_core.proofs.moves.Moves as moves
+use Rattle.block_core.proofs.moves.Sums.{upd-same, upd-other, same_or_not}
+use Rattle.block_core.proofs.moves.Listed.{landed_same}
+use Rattle.block_core.proofs.sound.Facts.{TaskFits, Kept}
+use Rattle.block_core.proofs.moves.Geometry.{IsThere}
+use Rattle.block_core.proofs.sound.Orders.{Each, IsOwn, DoingPlaced, TodoThere, TaskPlaced, Placed, Ground}
+use Rattle.block_core.proofs.moves.Deltas.{delta}
+use Rattle.block_core.proofs.moves.Landings.{AreThere, IsLanding, settled_there, goes_there, copies_there, all_there, none_there, cut_there, leg_there}
+use Rattle.block_core.proofs.sound.TaskLines.{line_fits}
+use Rattle.block_core.proofs.sound.OrdersKept.{line_placed}
+use Rattle.block_core.proofs.sound.Places.{cut_weight, unless_less}
+use Rattle.block_core.proofs.unrefused.NodeNeeds.{Needs, mirror_need, legs_on}
+
+-- bios of a line need what they needed, the first of them where it lands
+pub landed_room : (setup : Setup) → Needs setup → (w limit : ℕ) (item : Item Pad) → IsThere setup item.bio
+    → (room setup w).bio (Lined limit) (record item { bio = landed (tree_at setup item.bio.dev) item.bio }) ≡ (room setup w).bio (Lined limit) item
+landed_room setup n w limit item is =
+    let at : Bio = landed (tree_at setup item.bio.dev) item.bio in
+    ap (λ v. one v w * need_at setup at) (landed_same (λ (bio : Bio). bio.writer) (λ to members bio. refl) (tree_at setup item.bio.dev) item.bio)
+    ∙ ap (λ v. one item.bio.writer w * v) (n.lands item.bio is)
+
+copies_room : (setup : Setup) (n : Needs setup) (w limit : ℕ) (lists : TaskLists) (bio : Bio) (master leg : ℕ) → AreThere setup lists.list0 → AreThere setup lists.list1
+    → line_weight (room setup w) limit (copies setup lists bio master leg)
+    ≤ one bio.writer w * legs_need setup bio leg + sum_by ((room setup w).bio (Lined limit)) lists.list0 + sum_by ((room setup w).bio (Lined limit)) lists.list1
+copies_room setup n w limit lists bio master leg first second = omega (
+  arith,
+  copies_there setup (room setup w) (landed_room setup n w) limit lists bio master leg first second,
+  unless_less (leg == legs_of (tree_at setup bio.dev)) (one bio.writer w * legs_need setup bio leg),
+)
+
+-- places of books that change none of their number
+kept_places : (f : ℕ → BookState) (places : ℕ → ℕ) (writer : ℕ) (book : BookState) → ((w : ℕ) → length (f w).nodes ≡ places w) → length book.nodes ≡ length (f writer).nodes
+    → (w : ℕ) → length (upd f writer book w).nodes ≡ places w
+kept_places f places writer book all same w = elim (same_or_not w writer) [
+  | inl e ↦ ap (λ k. length (upd f writer book k).nodes) e ∙ ap (λ (b : BookState). length b.nodes) (upd-same f writer book) ∙ same ∙ all writer ∙ ap places (sym e)
+  | inr ne ↦ ap (λ (b : BookState). length b.nodes) (upd-other f writer book w ne) ∙ all w
+]
+
+two_places : (book : BookState) (key place : ℕ) (new other : Option Node) → length (with_node (with_node book key new) place other).nodes ≡ length book.nodes
+two_places book key place new other = length-set (with_node book key new).nodes place other ∙ length-set book.nodes key new
+
+module _ (scene : Scene) (s : State) (g : Ground scene.setup) (n : Needs scene.setup) (i : Kept scene s) (a : Placed scene.setup s) where
+  -- no event needs more nodes than it had
+  abbrev Fits : ℕ → Move → Type 0
+  Fits w m = gained scene (room scene.setup w) s m ≤ lost scene (room scene.setup w) s m
+
+  has : (place : ℕ) (x : TaskState) (doing : Doing) (lists : TaskLists) → s.task place ≡ x → HasLine x doing lists → DoingPlaced scene.setup (limit_of x) doing lists
+  has place x doing lists is h = line_placed scene.setup x doing lists (subst (TaskPlaced scene.setup) is (a.tasks place)) h
+
+  lands : (w : ℕ) → IsLanding scene.setup (room scene.setup w)
+  lands w = landed_room scene.setup n w
+
+  begins : (w place writer : ℕ) (todo : Todo) (later : List Todo) (item : Item Pad) (vector : Option VectorItem) (key : ℕ) → TodoThere scene.setup writer todo
+      → Fits w (moves.Begins place writer todo later item vector key)
+  begins w place writer todo later item None key there =
+      let filled_item : Item Pad = filled_of writer todo item None key in
+      let b = settled_there scene.setup (room scene.setup w) (lands w) 32 (filled_item ∷ []) (there key, tt) in
+      let all = ap (λ k. one writer w * k) (sum_by-cons (todo_need scene.setup) todo later) in
+      omega (arith, b, sum_by-cons ((room scene.setup w).bio (Lined 32)) filled_item [], all)
+  begins w place writer todo later item (Some vector) key there =
+      let filled_item : Item Pad = filled_of writer todo item (Some vector) key in
+      let b = settled_there scene.setup (room scene.setup w) (lands w) 32 (filled_item ∷ []) (there key, tt) in
+      let all = ap (λ k. one writer w * k) (sum_by-cons (todo_need scene.setup) todo later) in
+      omega (arith, b, sum_by-cons ((room scene.setup w).bio (Lined 32)) filled_item [], all)
+
+  fits : (w : ℕ) (m : Move) → Can scene s m → Fits w m
+  fits w (moves.TakesFirst place writer todo later move) c = omega arith
+  fits w (moves.TakesVector place writer todo later item move) c = omega arith
+  fits w (moves.TakesSub place x doing lists dev waits move) c = omega arith
+  fits w (moves.TakesSlip place x bio lists move) c = omega arith
+  fits w (moves.MissesOne place x number used) c = omega arith
+  fits w (moves.MissesTry place x doing lists dev used) c = omega arith
+  fits w (moves.Punts place x doing lists dev) c = omega arith
+  fits w (moves.Pops place dev bio bios) c =
+      let r : Each (IsOwn scene.setup dev.0 dev.0) (bio ∷ bios) = subst (Each (IsOwn scene.setup dev.0 dev.0)) c.3 (a.rescued dev.0) in
+      omega (arith, settled_there scene.setup (room scene.setup w) (lands w) dev.0 (bio ∷ []) (r.0.0.0, tt), sum_by-cons ((room scene.setup w).bio (Lined dev.0)) bio [])
+  fits w (moves.Pushes place x bio lists) c =
+      let d = has place x (Drives bio ToPush) lists c.1 c.2 in
+      omega (arith, goes_there scene.setup (room scene.setup w) (lands w) (limit_of x) bio.bio.dev lists (none_there scene.setup (limit_of x) lists d.0) (all_there scene.setup (limit_of x) lists.list1 d.1.1))
+  fits w (moves.Completed place disk index bio status new) c = omega arith
+  fits w (moves.Begins place writer todo later item vector key) c =
+      let t : TaskPlaced scene.setup (Writer writer (todo ∷ later) (taken_of item vector) rests) = subst (TaskPlaced scene.setup) c.1 (a.tasks place) in
+      begins w place writer todo later item vector key t.0.0
+  fits w (moves.Chained place x bio lists hand number kind sizes members key node) c =
+      let k = first_length kind sizes bio.bio.range in
+      let d = has place x (Drives bio (ToCut (Links hand))) lists c.1 c.2 in
+      let cuts = cut_there scene.setup (limit_of x) g bio hand lists key number kind sizes members d c.3 in
+      let part = ap (λ v. one bio.bio.writer w * v) (n.cut bio hand key number kind sizes members d.1.0.0 c.3 cuts.0) in
+      omega (
+        arith,
+        goes_there scene.setup (room scene.setup w) (lands w) (limit_of x) bio.bio.dev (cut_lists bio lists hand k key kind sizes members) cuts.1 (all_there scene.setup (limit_of x) lists.list1 d.1.1),
+        cut_weight ((room scene.setup w).bio (Lined (limit_of x))) bio lists hand k key kind sizes members,
+        part,
+      )
+  fits w (moves.Mastered place x bio lists slip key node) c =
+      let d = has place x (Drives bio (ToMaster slip)) lists c.1 c.2 in
+      let is = d.1.0.0 in
+      let part = ap (λ v. one bio.bio.writer w * v) (mirror_need (tree_at scene.setup bio.bio.dev) bio.bio.range bio.bio.dev.0 slip d.3 is.some) in
+      omega (arith, copies_room scene.setup n w (limit_of x) lists bio.bio key 0 (none_there scene.setup (limit_of x) lists d.0) (all_there scene.setup (limit_of x) lists.list1 d.1.1), part)
+  fits w (moves.Legged place x bio lists master leg hand key node) c =
+      let d = has place x (Copies bio master leg (Links hand)) lists c.1 c.2 in
+      let lt = line_fits scene x (Copies bio master leg (Links hand)) lists (subst (TaskFits scene) c.1 (i.tasks place)) c.2 in
+      let item = leg_at bio hand leg key (tree_at scene.setup bio.dev) in
+      let more = submitted item lists in
+      let first = leg_there scene.setup (limit_of x) g bio hand lists master leg key d lt in
+      let next = ap (λ v. one bio.writer w * v) (legs_on (tree_at scene.setup bio.dev) bio.range leg lt) in
+      let part = ap (λ v. one bio.writer w * v) (n.leg bio hand leg key d.0 lt) in
+      let own = ap (λ v. one v w * need_at scene.setup item.bio) (leg_writer bio hand leg key (tree_at scene.setup bio.dev) lt) in
+      omega (
+        arith,
+        copies_room scene.setup n w (limit_of x) more bio master (leg + 1) first (all_there scene.setup (limit_of x) lists.list1 d.3),
+        sum_by_push ((room scene.setup w).bio (Lined (limit_of x))) lists.list0 item,
+        next,
+        part,
+        own,
+      )
+    where
+      leg_writer : (bio : Bio) (hand : Item Pad) (leg key : ℕ) (t : Tree) → leg < legs_of t → (leg_at bio hand leg key t).bio.writer ≡ bio.writer
+      leg_writer bio hand leg key (Leaf number sectors) lt = absurd (omega (arith, lt))
+      leg_writer bio hand leg key (Split number kind sizes members) lt = absurd (omega (arith, lt))
+      leg_writer bio hand leg key (Mirrored number sizes members) lt = refl
+  fits w (moves.Told place disk carried writer key status part node) c = omega arith
+  fits w (moves.Closes place disk carried writer key status part node) c = omega arith
+  fits w (moves.Gives place disk writer number closed held) c = omega arith
+  fits w (moves.Ends place disk writer closed) c = omega arith
+  fits w (moves.Resized place pool min later duties) c = omega arith
+  fits w (moves.Started place round later duties) c = omega arith
+
+  places : (m : Move) → Can scene s m → ((w : ℕ) → length (s.objects.book w).nodes ≡ scene.setup.places w) → (w : ℕ) → length ((after scene s m).objects.book w).nodes ≡ scene.setup.places w
+  places (moves.Begins place writer todo later item vector key) c all = kept_places s.objects.book scene.setup.places writer _ all (length-set (s.objects.book writer).nodes key _)
+  places (moves.Chained place x bio lists hand number kind sizes members key node) c all =
+      kept_places s.objects.book scene.setup.places bio.bio.writer _ all (two_places (s.objects.book bio.bio.writer) key bio.bio.node _ _)
+  places (moves.Mastered place x bio lists slip key node) c all =
+      kept_places s.objects.book scene.setup.places bio.bio.writer _ all (two_places (s.objects.book bio.bio.writer) key bio.bio.node _ _)
+  places (moves.Legged place x bio lists master leg hand key node) c all =
+      kept_places s.objects.book scene.setup.places bio.writer _ all (length-set (s.objects.book bio.writer).nodes key _)
+  places (moves.Told place disk carried writer key status part node) c all = kept_places s.objects.book scene.setup.places writer _ all (length-set (s.objects.book writer).nodes key _)
+  places (moves.Closes place disk carried writer key status part node) c all = kept_places s.objects.book scene.setup.places writer _ all (length-set (s.objects.book writer).nodes key _)
+  places (moves.TakesFirst place writer todo later move) c all = all
+  places (moves.TakesVector place writer todo later item move) c all = all
+  places (moves.TakesSub place x doing lists dev waits move) c all = all
+  places (moves.TakesSlip place x bio lists move) c all = all
+  places (moves.MissesOne place x number used) c all = all
+  places (moves.MissesTry place x doing lists dev used) c all = all
+  places (moves.Punts place x doing lists dev) c all = all
+  places (moves.Pops place dev bio bios) c all = all
+  places (moves.Pushes place x bio lists) c all = all
+  places (moves.Completed place disk index bio status new) c all = all
+  places (moves.Gives place disk writer number closed held) c all = all
+  places (moves.Ends place disk writer closed) c all = all
+  places (moves.Resized place pool min later duties) c all = all
+  places (moves.Started place round later duties) c all = all
+
+  pub stays_roomy : (m : Move) → Can scene s m → HasRoom scene s → HasRoom scene (after scene s m)
+  stays_roomy m c r = record {
+    places = places m c r.places;
+    room = λ w. omega (arith, delta scene (room scene.setup w) s m c, fits w m c, r.room w);
+  }

@@ -1,0 +1,399 @@
+-- Each object answers what a task asks it for next, and does not refuse it.
+use Rattle.std.proofs.Common.{◌≡◌, ◌+◌, ◌-◌, ◌*◌, ◌<◌, ◌≤◌, ◌⊎◌, ℕ, zero, suc, Bool, true, false, List, [], ◌∷◌, length, Option, None, Some, IsSome, inl, inr, refl, sym, ◌∙◌, ap, subst, arith, get_or, true≢false}
+use Rattle.std.specs.Prelude.{◌^◌, sum_by, slice_get, All}
+use Rattle.std.proofs.lemmas.List.Elements.{All-nil, All-cons, All-get_or}
+use Rattle.std.proofs.lemmas.List.Sums.{sum_by-cons}
+use Rattle.elem_ledger.specs.Ledger.{LedgerId}
+use Rattle.stack_base.specs.declared.ids.DevId.{DevId}
+use Rattle.stack_base.specs.declared.ids.Status.{Status}
+use Rattle.bio_records.specs.declared.bio.Pad.{Pad}
+use Rattle.bio_records.specs.declared.tasks.TaskLists.{TaskLists}
+use Rattle.bio_records.specs.Items.{Item}
+use Rattle.bio_books.specs.declared.node.Role.{Role}
+use Rattle.bio_books.specs.declared.node.Role.TheVariants as role
+use Rattle.bio_books.specs.Books.{Node, BookState, VectorItem, SlipItem, node_at}
+use Rattle.bio_books.specs.Links.{IsVacant, IsFull, Linked, Made, NoRoom, Stray, ChainsAt, MastersAt, LegsAt}
+use Rattle.bio_books.specs.Drops.{Closed, Ended, DropsAt}
+use Rattle.bio_books.specs.Drops as end
+use Rattle.run_machine.specs.Scene.{Setup, Scene, tree_at}
+use Rattle.run_machine.specs.Lines.{Takes, Punts, Links, ToPush, ToCut, ToRecord, ToMaster, Doing, Rests, Drives, Copies, Breaks, Line, line_request}
+use Rattle.run_machine.specs.Requests as requests
+use Rattle.run_machine.specs.Requests.{Request, Reply, Opening}
+use Rattle.run_machine.specs.Tasks.{TaskState, Writer, Rescuer, Completer, Keeper, Keeping, Keeps, Stops, Resizes, Starts, Todo, Taken, NoBio, HasBio, HasBoth, Carried, Empty, Brings, Carries, Fails, request, with_bio, needs_vector}
+use Rattle.run_machine.specs.Objects.{Objects, Serves}
+use Rattle.run_machine.specs.Runs.{State}
+use Rattle.block_core.specs.Weights.{sum_at, one, weigh_option, task_weight, book_weight, refs, count_of, legs_left}
+use Rattle.block_core.specs.Rooms.{need_at, todo_need, legs_need, room, HasRoom}
+use Rattle.block_core.specs.Breaks.{is_refusal}
+use Rattle.block_core.proofs.moves.Moves.{HasLine}
+use Rattle.block_core.proofs.moves.Sums.{one-same}
+use Rattle.block_core.specs.Roles.{named}
+use Rattle.block_core.proofs.sound.Facts.{own_part, own_of, TaskFits, Kept}
+use Rattle.block_core.proofs.sound.Orders.{TaskPlaced, Placed}
+use Rattle.block_core.proofs.moves.Deltas.{vacant_at}
+use Rattle.block_core.proofs.sound.TaskLines.{line_fits}
+use Rattle.block_core.proofs.sound.OrdersKept.{line_placed}
+use Rattle.block_core.proofs.unrefused.NodeNeeds.{Needs, mirror_need, cut_need, legs_few}
+use Rattle.block_core.proofs.moves.Totals.{task_part, both_parts, line_part, within, refs_within, carrying, carried_few}
+
+-- a book has a vacant place, and a node is open at a place
+abbrev pub HasVacant : BookState → Type 0
+HasVacant book = (place : ℕ) × IsVacant book place
+
+pub record IsOpenAt (book : BookState) (place : ℕ) : Type 0 where
+  pub node : Node
+  pub is : node_at book place ≡ Some node
+  pub waits : 1 ≤ node.count
+  pub few : node.count < 2 ^ 64 - 1
+
+-- what a request of a book needs of it
+abbrev pub CanOpen : BookState → Opening → Type 0
+CanOpen book (requests.Write write vector) = HasVacant book
+CanOpen book (requests.Chain parent) = HasVacant book × IsOpenAt book parent
+CanOpen book (requests.Master parent part slip legs) = HasVacant book × IsOpenAt book parent
+CanOpen book (requests.Leg master) = HasVacant book × IsOpenAt book master
+
+abbrev pub IsReady : Objects → Request → Type 0
+IsReady objects (requests.Link writer opening) = CanOpen (objects.book writer) opening
+IsReady objects (requests.Drop writer node status part) = IsOpenAt (objects.book writer) node
+IsReady objects request = Unit {0}
+
+-- a book with a vacant place is not full
+not_full : (book : BookState) → HasVacant book → IsFull book → ⊥
+not_full book (place, vacant) full =
+    let at = vacant_at book place vacant in
+    let some : IsSome (node_at book place) = All-get_or IsSome book.nodes place None at.1 full in
+    let none : IsSome {T = Node} None = subst IsSome at.0 some in
+    true≢false (sym none)
+
+open_there : (book : BookState) (place : ℕ) → IsOpenAt book place → node_at book place ≡ None → ⊥
+open_there book place stands none = let same : None ≡ Some stands.node = sym none ∙ stands.is in cc
+
+-- and its answer is no refusal
+module _ (ledger : ℕ → LedgerId) (old : Objects) (new : Objects) where
+  no_spent : (request : Request) → Serves ledger old request requests.Spent new → ⊥
+  no_spent (requests.TakeBio set waits) h = h
+  no_spent requests.TakeVec h = h
+  no_spent (requests.TakeSlip dev) h = h
+  no_spent (requests.GiveBio bio) h = h
+  no_spent (requests.GiveVec vector) h = h
+  no_spent (requests.GiveSlip slip) h = h
+  no_spent (requests.Punt dev moved) h = h
+  no_spent (requests.Pop dev) h = h
+  no_spent (requests.Push bio) h = h
+  no_spent (requests.Complete disk) h = h
+  no_spent (requests.Link writer opening) h = h
+  no_spent (requests.Drop writer node status part) h = h
+  no_spent (requests.Done write status) h = h
+  no_spent (requests.Resize pool min) h = h
+  no_spent (requests.NextRound round) h = h
+  no_spent requests.LookRound h = h
+  no_spent requests.LookLeft h = h
+  no_spent requests.Rest h = h
+
+  -- by what stands where the request says
+  chain_made : (book after : BookState) (parent : ℕ) (back : Linked) (stands : IsOpenAt book parent) → HasVacant book
+      → ChainsAt book parent (Some stands.node) back after → is_refusal (requests.LinkedTo back) ≡ false
+  chain_made book after parent (Made place) stands vacant h = refl
+  chain_made book after parent (NoRoom back) stands vacant (inl full, same, stays) = absurd (not_full book vacant full)
+  chain_made book after parent (NoRoom back) stands vacant (inr many, same, stays) = absurd (let few = stands.few in omega (arith, few, many))
+  chain_made book after parent (Stray back) stands vacant h = absurd h
+
+  master_made : (book after : BookState) (parent : ℕ) (part : Item Pad) (slip : SlipItem) (legs : ℕ) (back : Linked) (node : Node) → HasVacant book
+      → MastersAt book parent (Some node) part slip legs back after → is_refusal (requests.LinkedTo back) ≡ false
+  master_made book after parent part slip legs (Made place) node vacant h = refl
+  master_made book after parent part slip legs (NoRoom back) node vacant h = absurd (not_full book vacant h.0)
+  master_made book after parent part slip legs (Stray back) node vacant h = absurd h
+
+  leg_made : (book after : BookState) (master : ℕ) (back : Linked) (node : Node) → HasVacant book
+      → LegsAt book master (Some node) back after → is_refusal (requests.LinkedTo back) ≡ false
+  leg_made book after master (Made place) node vacant h = refl
+  leg_made book after master (NoRoom back) node vacant h = absurd (not_full book vacant h.0)
+  leg_made book after master (Stray back) node vacant h = absurd h
+
+  drop_made : (book after : BookState) (place : ℕ) (status : Status) (part : Option (Item Pad)) (ended : Ended) (node : Node)
+      → DropsAt book place (Some node) status part ended after → is_refusal (requests.DroppedTo ended) ≡ false
+  drop_made book after place status part end.Left node h = refl
+  drop_made book after place status part (end.Up closed) node h = refl
+  drop_made book after place status part (end.Top closed) node h = refl
+  drop_made book after place status part (end.Stray back) node h = absurd h
+
+  opens : (writer : ℕ) (opening : Opening) (answer : Linked) → CanOpen (old.book writer) opening
+      → Serves ledger old (requests.Link writer opening) (requests.LinkedTo answer) new → is_refusal (requests.LinkedTo answer) ≡ false
+  opens writer (requests.Write write vector) (Made place) ready h = refl
+  opens writer (requests.Write write vector) (NoRoom back) ready h = absurd (not_full (old.book writer) ready h.0.0)
+  opens writer (requests.Write write vector) (Stray back) ready h = absurd h.0
+  opens writer (requests.Chain parent) answer ready h =
+      chain_made (old.book writer) (new.book writer) parent answer ready.1 ready.0
+      (subst (λ found. ChainsAt (old.book writer) parent found answer (new.book writer)) ready.1.is h.0)
+  opens writer (requests.Master parent part slip legs) answer ready h =
+      master_made (old.book writer) (new.book writer) parent part slip legs answer ready.1.node ready.0
+      (subst (λ found. MastersAt (old.book writer) parent found part slip legs answer (new.book writer)) ready.1.is h.0)
+  opens writer (requests.Leg master) answer ready h =
+      leg_made (old.book writer) (new.book writer) master answer ready.1.node ready.0
+      (subst (λ found. LegsAt (old.book writer) master found answer (new.book writer)) ready.1.is h.0)
+
+  linked : (request : Request) (answer : Linked) → IsReady old request → Serves ledger old request (requests.LinkedTo answer) new → is_refusal (requests.LinkedTo answer) ≡ false
+  linked (requests.Link writer opening) answer ready h = opens writer opening answer ready h
+  linked (requests.TakeBio set waits) answer ready h = absurd h
+  linked requests.TakeVec answer ready h = absurd h
+  linked (requests.TakeSlip dev) answer ready h = absurd h
+  linked (requests.GiveBio bio) answer ready h = absurd h
+  linked (requests.GiveVec vector) answer ready h = absurd h
+  linked (requests.GiveSlip slip) answer ready h = absurd h
+  linked (requests.Punt dev moved) answer ready h = absurd h
+  linked (requests.Pop dev) answer ready h = absurd h
+  linked (requests.Push bio) answer ready h = absurd h
+  linked (requests.Complete disk) answer ready h = absurd h
+  linked (requests.Drop writer node status part) answer ready h = absurd h
+  linked (requests.Done write status) answer ready h = absurd h
+  linked (requests.Resize pool min) answer ready h = absurd h
+  linked (requests.NextRound round) answer ready h = absurd h
+  linked requests.LookRound answer ready h = absurd h
+  linked requests.LookLeft answer ready h = absurd h
+  linked requests.Rest answer ready h = absurd h
+
+  dropped : (request : Request) (ended : Ended) → IsReady old request → Serves ledger old request (requests.DroppedTo ended) new → is_refusal (requests.DroppedTo ended) ≡ false
+  dropped (requests.Drop writer node status part) ended ready h =
+      drop_made (old.book writer) (new.book writer) node status part ended ready.node
+      (subst (λ found. DropsAt (old.book writer) node found status part ended (new.book writer)) ready.is h.0)
+  dropped (requests.Link writer opening) ended ready h = absurd h
+  dropped (requests.TakeBio set waits) ended ready h = absurd h
+  dropped requests.TakeVec ended ready h = absurd h
+  dropped (requests.TakeSlip dev) ended ready h = absurd h
+  dropped (requests.GiveBio bio) ended ready h = absurd h
+  dropped (requests.GiveVec vector) ended ready h = absurd h
+  dropped (requests.GiveSlip slip) ended ready h = absurd h
+  dropped (requests.Punt dev moved) ended ready h = absurd h
+  dropped (requests.Pop dev) ended ready h = absurd h
+  dropped (requests.Push bio) ended ready h = absurd h
+  dropped (requests.Complete disk) ended ready h = absurd h
+  dropped (requests.Done write status) ended ready h = absurd h
+  dropped (requests.Resize pool min) ended ready h = absurd h
+  dropped (requests.NextRound round) ended ready h = absurd h
+  dropped requests.LookRound ended ready h = absurd h
+  dropped requests.LookLeft ended ready h = absurd h
+  dropped requests.Rest ended ready h = absurd h
+
+  pub not_refused : (request : Request) (reply : Reply) → IsReady old request → Serves ledger old request reply new → is_refusal reply ≡ false
+  not_refused request (requests.LinkedTo answer) ready h = linked request answer ready h
+  not_refused request (requests.DroppedTo ended) ready h = dropped request ended ready h
+  not_refused request requests.Spent ready h = absurd (no_spent request h)
+  not_refused request (requests.HadBio got bio) ready h = refl
+  not_refused request (requests.HadVec got vector) ready h = refl
+  not_refused request (requests.HadSlip got slip) ready h = refl
+  not_refused request (requests.Missed used) ready h = refl
+  not_refused request requests.Did ready h = refl
+  not_refused request (requests.Popped bio) ready h = refl
+  not_refused request (requests.Completed index bio status) ready h = refl
+  not_refused request (requests.OutIs out) ready h = refl
+  not_refused request (requests.Present round) ready h = refl
+  not_refused request (requests.LeftOver count) ready h = refl
+  not_refused request requests.Nothing ready h = refl
+
+-- a list of places has a vacant one, or all are taken
+vacant_or_full : (nodes : List (Option Node)) → ((place : ℕ) × (slice_get nodes place ≡ Some None)) ⊎ All IsSome nodes
+vacant_or_full [] = inr (All-nil IsSome)
+vacant_or_full (None ∷ nodes) = inl (0, refl)
+vacant_or_full (Some node ∷ nodes) = elim (vacant_or_full nodes) [
+  | inl x ↦ inl (suc x.0, x.1)
+  | inr full ↦ inr (All-cons IsSome (Some node) nodes refl full)
+]
+
+-- where all are taken each counts
+all_count : {X : Type 0} (w : ℕ → X → ℕ) (n : ℕ) (f : ℕ → X) → ((i : ℕ) → i < n → w i (f i) ≡ 1) → sum_at w n f ≡ n
+unfolding sum_at
+all_count w zero f one_each = refl
+all_count w (suc n) f one_each = omega (arith, all_count w n f (λ i lt. one_each i (omega (arith, lt))), one_each n (omega arith))
+
+full_weight : (setup : Setup) (writer : ℕ) (book : BookState) → IsFull book → book_weight (room setup writer) writer book ≡ length book.nodes
+full_weight setup writer book full =
+    all_count (λ place. weigh_option ((room setup writer).node writer place)) (length book.nodes) (node_at book)
+    (λ place lt. counts place (node_at book place) (All-get_or IsSome book.nodes place None lt full))
+  where
+    counts : (place : ℕ) (node : Option Node) → IsSome node → weigh_option ((room setup writer).node writer place) node ≡ 1
+    counts place None some = absurd (true≢false (sym some))
+    counts place (Some node) some = one-same writer
+
+own_few : (node : Option Node) → own_of node ≤ 1
+own_few None = omega arith
+own_few (Some node) = by_role node.role node.held.bio
+  where
+    by_role : (role : Role) (part : Option (Item Pad)) → own_part role part ≤ 1
+    by_role role.Top None = omega arith
+    by_role role.Top (Some bio) = omega arith
+    by_role (role.Chain parent) None = omega arith
+    by_role (role.Chain parent) (Some bio) = omega arith
+    by_role (role.Master parent) part = omega arith
+    by_role (role.Leg parent) None = omega arith
+    by_role (role.Leg parent) (Some bio) = omega arith
+
+-- fewer than can be counted
+abbrev pub IsSmall : Scene → Type 0
+IsSmall scene = (writer : ℕ) → 1 + scene.setup.places writer + scene.tasks < 2 ^ 64 - 1
+
+-- no node waits for more ends than its own part, one for each place of its book, and one for each task
+pub ends_few : (scene : Scene) (s : State) → Kept scene s → HasRoom scene s → (writer key : ℕ)
+    → count_of (node_at (s.objects.book writer) key) ≤ 1 + scene.setup.places writer + scene.tasks
+ends_few scene s i r writer key =
+    omega (
+      arith,
+      i.counts writer key,
+      within (refs scene.setup writer key) (named writer key) (room scene.setup writer) carrying (refs_within scene.setup writer key) scene s,
+      own_few (node_at (s.objects.book writer) key),
+      i.owns writer key,
+      r.room writer,
+      carried_few scene s,
+    )
+
+module _ (scene : Scene) (s : State) (n : Needs scene.setup) (small : IsSmall scene) (i : Kept scene s) (a : Placed scene.setup s) (r : HasRoom scene s)
+    (place : ℕ) (here : place < scene.tasks) where
+  -- a task that has still to open a node in a book finds a vacant place there
+  has_vacant : (x : TaskState) (writer : ℕ) → s.task place ≡ x → writer < scene.books → 1 ≤ task_weight (room scene.setup writer) place x → HasVacant (s.objects.book writer)
+  has_vacant x writer is some more = elim (vacant_or_full (s.objects.book writer).nodes) [
+    | inl vacant ↦ vacant
+    | inr full ↦ absurd (omega (
+      arith,
+      more,
+      full_weight scene.setup writer (s.objects.book writer) full,
+      both_parts scene (room scene.setup writer) s place x writer here is some,
+      r.room writer,
+      r.places writer,
+    ))
+  ]
+
+  -- a node that a task refers to is open
+  is_open : (x : TaskState) (writer key : ℕ) → s.task place ≡ x → 1 ≤ task_weight (refs scene.setup writer key) place x → IsOpenAt (s.objects.book writer) key
+  is_open x writer key is more = by_node (node_at (s.objects.book writer) key) refl
+    where
+      by_node : (found : Option Node) → node_at (s.objects.book writer) key ≡ found → IsOpenAt (s.objects.book writer) key
+      by_node None at = absurd (let none : count_of (node_at (s.objects.book writer) key) ≡ 0 = ap count_of at in
+          omega (arith, more, none, i.counts writer key, task_part scene (refs scene.setup writer key) s place x here is))
+      by_node (Some node) at =
+          let count : count_of (node_at (s.objects.book writer) key) ≡ node.count = ap count_of at in
+          record {
+            node = node;
+            is = at;
+            waits = omega (arith, more, count, i.counts writer key, task_part scene (refs scene.setup writer key) s place x here is);
+            few = omega (arith, count, ends_few scene s i r writer key, small writer);
+          }
+
+  -- a book with an open node is one of the books
+  in_books : (writer key : ℕ) → IsOpenAt (s.objects.book writer) key → writer < scene.books
+  in_books writer key stands = elim (below_or writer scene.books) [
+    | inl lt ↦ lt
+    | inr ge ↦
+        let none : node_at (s.objects.book writer) key ≡ None = ap (λ (nodes : List (Option Node)). get_or nodes key None) (i.inside writer ge) in
+        absurd (open_there (s.objects.book writer) key stands none)
+  ]
+    where
+      below_or : (a b : ℕ) → (a < b) ⊎ (b ≤ a)
+      below_or a b = grind arith
+
+  -- a submission
+  ready_line : (x : TaskState) (doing : Doing) (lists : TaskLists) → s.task place ≡ x → HasLine x doing lists → IsReady s.objects (line_request scene.setup doing lists)
+  ready_line x Rests lists is h = tt
+  ready_line x (Breaks breach kept) lists is h = tt
+  ready_line x (Drives bio ToPush) lists is h = tt
+  ready_line x (Drives bio (ToCut (Takes waits))) lists is h = tt
+  ready_line x (Drives bio (ToCut Punts)) lists is h = tt
+  ready_line x (Drives bio (ToCut (Links hand))) lists is h =
+      let doing : Doing = Drives bio (ToCut (Links hand)) in
+      let writer = bio.bio.writer in
+      let key = bio.bio.node in
+      let d = line_placed scene.setup x doing lists (subst (TaskPlaced scene.setup) is (a.tasks place)) h in
+      let need = cut_need scene.setup n bio (Links hand) (tree_at scene.setup bio.bio.dev) refl d.1.0.0 d.3 in
+      let all : one writer writer * need_at scene.setup bio.bio ≡ need_at scene.setup bio.bio = ap (λ k. k * need_at scene.setup bio.bio) (one-same writer) ∙ omega arith in
+      let names_it : one writer writer * one key key ≡ 1 = ap (λ k. k * one key key) (one-same writer) ∙ (ap (λ k. 1 * k) (one-same key)) in
+      let stands = is_open x writer key is (omega (arith, names_it, line_part (refs scene.setup writer key) place x doing lists h)) in
+      (has_vacant x writer is (in_books writer key stands) (omega (arith, need, all, line_part (room scene.setup writer) place x doing lists h)), stands)
+  ready_line x (Drives bio ToRecord) lists is h = tt
+  ready_line x (Drives bio (ToMaster slip)) lists is h =
+      let doing : Doing = Drives bio (ToMaster slip) in
+      let writer = bio.bio.writer in
+      let key = bio.bio.node in
+      let d = line_placed scene.setup x doing lists (subst (TaskPlaced scene.setup) is (a.tasks place)) h in
+      let there = d.1.0.0 in
+      let need = mirror_need (tree_at scene.setup bio.bio.dev) bio.bio.range bio.bio.dev.0 slip d.3 there.some in
+      let all : one writer writer * need_at scene.setup bio.bio ≡ need_at scene.setup bio.bio = ap (λ k. k * need_at scene.setup bio.bio) (one-same writer) ∙ omega arith in
+      let names_it : one writer writer * one key key ≡ 1 = ap (λ k. k * one key key) (one-same writer) ∙ (ap (λ k. 1 * k) (one-same key)) in
+      let stands = is_open x writer key is (omega (arith, names_it, line_part (refs scene.setup writer key) place x doing lists h)) in
+      (has_vacant x writer is (in_books writer key stands) (omega (arith, need, all, line_part (room scene.setup writer) place x doing lists h)), stands)
+  ready_line x (Copies bio master leg (Takes waits)) lists is h = tt
+  ready_line x (Copies bio master leg Punts) lists is h = tt
+  ready_line x (Copies bio master leg (Links hand)) lists is h =
+      let doing : Doing = Copies bio master leg (Links hand) in
+      let writer = bio.writer in
+      let lt = line_fits scene x doing lists (subst (TaskFits scene) is (i.tasks place)) h in
+      let few = legs_few (tree_at scene.setup bio.dev) bio.range leg in
+      let all : one writer writer * legs_need scene.setup bio leg ≡ legs_need scene.setup bio leg = ap (λ k. k * legs_need scene.setup bio leg) (one-same writer) ∙ omega arith in
+      let left = legs_left scene.setup bio leg in
+      let refers : one writer writer * one master master * left ≡ left = ap (λ k. k * one master master * left) (one-same writer) ∙ (ap (λ k. 1 * k * left) (one-same master) ∙ omega arith) in
+      let stands = is_open x writer master is (omega (arith, refers, lt, line_part (refs scene.setup writer master) place x doing lists h)) in
+      (has_vacant x writer is (in_books writer master stands) (omega (arith, few, lt, all, line_part (room scene.setup writer) place x doing lists h)), stands)
+
+  -- a writer that has still to begin a write
+  begins : (number : ℕ) (todo : Todo) (later : List Todo) (taken : Taken) (line : Line) → s.task place ≡ Writer number (todo ∷ later) taken line → number < scene.books
+      → HasVacant (s.objects.book number)
+  begins number todo later taken line is lt =
+      let all = ap (λ k. k * sum_by (todo_need scene.setup) (todo ∷ later)) (one-same number) in
+      has_vacant (Writer number (todo ∷ later) taken line) number is lt (omega (arith, all, sum_by-cons (todo_need scene.setup) todo later))
+
+  vector_or_not : (b : Bool) (number : ℕ) (todo : Todo) → HasVacant (s.objects.book number) → IsReady s.objects (with_bio number b todo)
+  vector_or_not true number todo vacant = tt
+  vector_or_not false number todo vacant = vacant
+
+  ready_writer : (number : ℕ) (todos : List Todo) (taken : Taken) (doing : Doing) (lists : TaskLists)
+      → s.task place ≡ Writer number todos taken (record { doing = doing; lists = lists }) → number < scene.books
+      → IsReady s.objects (request scene.setup (Writer number todos taken (record { doing = doing; lists = lists })))
+  ready_writer number [] taken Rests lists is lt = tt
+  ready_writer number (todo ∷ later) NoBio Rests lists is lt = tt
+  ready_writer number (todo ∷ later) (HasBio bio) Rests lists is lt = vector_or_not (needs_vector todo.write) number todo (begins number todo later (HasBio bio) _ is lt)
+  ready_writer number (todo ∷ later) (HasBoth bio vector) Rests lists is lt = begins number todo later (HasBoth bio vector) _ is lt
+  ready_writer number todos taken (Drives bio ask) lists is lt = ready_line _ (Drives bio ask) lists is refl
+  ready_writer number todos taken (Copies bio master leg want) lists is lt = ready_line _ (Copies bio master leg want) lists is refl
+  ready_writer number todos taken (Breaks breach kept) lists is lt = tt
+
+  ready_rescuer : (dev : DevId) (doing : Doing) (lists : TaskLists) → s.task place ≡ Rescuer dev (record { doing = doing; lists = lists })
+      → IsReady s.objects (request scene.setup (Rescuer dev (record { doing = doing; lists = lists })))
+  ready_rescuer dev Rests lists is = tt
+  ready_rescuer dev (Drives bio ask) lists is = ready_line _ (Drives bio ask) lists is refl
+  ready_rescuer dev (Copies bio master leg want) lists is = ready_line _ (Copies bio master leg want) lists is refl
+  ready_rescuer dev (Breaks breach kept) lists is = tt
+
+  -- a completer tells an end
+  ready_carried : (disk : DevId) (carried : Carried) → s.task place ≡ Completer disk carried → IsReady s.objects (request scene.setup (Completer disk carried))
+  ready_carried disk Empty is = tt
+  ready_carried disk (Brings bio status) is =
+      let writer = bio.bio.writer in
+      let key = bio.bio.node in
+      let names_it : one writer writer * one key key ≡ 1 = ap (λ k. k * one key key) (one-same writer) ∙ (ap (λ k. 1 * k) (one-same key)) in
+      is_open (Completer disk (Brings bio status)) writer key is (omega (arith, names_it))
+  ready_carried disk (Carries writer closed) is = by_held closed.held.vector closed.held.bio closed.held.slip closed.parent closed.write closed.status is
+    where
+      by_held : (vector : Option VectorItem) (bio : Option (Item Pad)) (slip : Option SlipItem) (parent : Option ℕ) (write : ℕ) (status : Status)
+          → s.task place ≡ Completer disk (Carries writer (record { held = record { bio = bio; vector = vector; slip = slip }; parent = parent; write = write; status = status }))
+          → IsReady s.objects (request scene.setup (Completer disk (Carries writer (record { held = record { bio = bio; vector = vector; slip = slip }; parent = parent; write = write; status = status }))))
+      by_held (Some vector) bio slip parent write status is = tt
+      by_held None (Some bio) slip parent write status is = tt
+      by_held None None (Some slip) parent write status is = tt
+      by_held None None None (Some parent) write status is =
+          let names_it : one writer writer * one parent parent ≡ 1 = ap (λ k. k * one parent parent) (one-same writer) ∙ (ap (λ k. 1 * k) (one-same parent)) in
+          is_open _ writer parent is (omega (arith, names_it))
+      by_held None None None None write status is = tt
+  ready_carried disk (Fails breach kept) is = tt
+
+  ready_keeper : (keeping : Keeping) → IsReady s.objects (request scene.setup (Keeper keeping))
+  ready_keeper (Keeps []) = tt
+  ready_keeper (Keeps (Resizes pool min later ∷ duties)) = tt
+  ready_keeper (Keeps (Starts round later ∷ duties)) = tt
+  ready_keeper (Stops breach) = tt
+
+  ready_task : (x : TaskState) → s.task place ≡ x → TaskFits scene x → IsReady s.objects (request scene.setup x)
+  ready_task (Writer number todo taken line) is fits = ready_writer number todo taken line.doing line.lists is fits.0
+  ready_task (Rescuer dev line) is fits = ready_rescuer dev line.doing line.lists is
+  ready_task (Completer disk carried) is fits = ready_carried disk carried is
+  ready_task (Keeper keeping) is fits = ready_keeper keeping
+
+  pub ready : IsReady s.objects (request scene.setup (s.task place))
+  ready = ready_task (s.task place) refl (i.tasks place)
