@@ -22,10 +22,10 @@ use Rattle.biostack_top.specs.declared.scene.Scene.{Scene}
 use Rattle.biostack_top.specs.Scene.{IsSaid, ReadsScene, Says}
 
 pub accept_refuses : (text : List ℕ) (read : Read) (fault : ReadFault) → ReadsDecl text (Ok read) → Accepts read (Err fault) → ReadsScene text (Err fault)
-accept_refuses text read (Refused first) is refuses = refused_first text read first is.0 is.1 refuses
+accept_refuses text read (Refused first) is refuses = refused_first false text read first is.0 is.1 refuses
 accept_refuses text read Memory is refuses = tt
 
-decides : (text : List ℕ) (read : Read) (accepted : Accepted) → ReadsDecl text (Ok read) → Accepts read (Ok accepted) → RestDecides text read accepted.stack accepted.scripts.items
+decides : (text : List ℕ) (read : Read) (accepted : Accepted) → ReadsDecl text (Ok read) → Accepts read (Ok accepted) → RestDecides false text read accepted.stack accepted.scripts.items
 decides text read accepted is accepts = rest_decides (record { short = is.0; is = is.1; none = accepts.0; means = accepts.1 })
 
 pub rest_begins : (text : List ℕ) (read : Read) (accepted : Accepted) → ReadsDecl text (Ok read) → Accepts read (Ok accepted) → declarations (work_lines text accepted) ≡ []

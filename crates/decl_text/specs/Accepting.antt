@@ -1,5 +1,5 @@
 -- What an accepted declaration means: its stack and the scripts of its pools.
-use Rattle.std.specs.Prelude.{◌≡◌, ◌==◌, not, List, [], ◌∷◌, ℕ, length, map, filter, flat_map, reverse, zip, find, slice_get, unwrap_or, Option, None, Some}
+use Rattle.std.specs.Prelude.{◌≡◌, ◌==◌, not, Bool, true, false, List, [], ◌∷◌, ℕ, length, map, filter, flat_map, reverse, zip, find, slice_get, unwrap_or, Option, None, Some}
 use Rattle.std.specs.List.{range_with_len}
 use Rattle.std.specs.Option.{option_map}
 use native.Mathlib.Nat.{ℕ_set}
@@ -92,6 +92,11 @@ pub record Means (known : Known) (stack : Stack) (pool_scripts : List (PoolId ×
 -- the checks but for the one of rescuers, without which a stack can be shared out and run, but may hang
 abbrev pub loose_checks : List (Check Item)
 loose_checks = filter (λ check. not (number_of_reason check.reason == 10)) item_checks
+
+-- the checks of declarations: all of them, or the loose ones
+abbrev pub checks_for : Bool → List (Check Item)
+checks_for true = loose_checks
+checks_for false = item_checks
 
 -- some lines before all writes and `sync` lines, which have no refusal but perhaps that of rescuers, mean this stack and these scripts
 abbrev pub IsDeclaredSo : Stack → List (PoolId × Answers) → Type 0

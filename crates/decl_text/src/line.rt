@@ -1,5 +1,5 @@
 //! One line of a text: its words, and what it says.
-ghost use Rattle.std.specs.Prelude.{◌≡◌, ◌<◌, ◌∷◌, ◌++◌, [], false, filter, length, position, IfOk, MatchOption};
+ghost use Rattle.std.specs.Prelude.{◌≡◌, ◌<◌, ◌∷◌, ◌++◌, [], false, filter, length, position, slice_get, IfOk, MatchOption, Some};
 ghost use Rattle.std.specs.List.{list_all, slice_split};
 ghost use Rattle.decl_text.specs.Text.{is_blank, is_some_text, is_text, is_text_byte, words, words as words_in};
 ghost use Rattle.decl_text.specs.Forms.{form, is_malformed, is_misnumbered};
@@ -178,6 +178,23 @@ fn cut(line: &[u8]) -> (&[u8], Option<&[u8]>)
             (part, Some(rest))
         }
         None => (line, None),
+    }
+}
+
+/// The first word of a line, if it has one.
+pub fn first_word(line: &[u8]) -> Option<&[u8]>
+    ensures { MatchOption result (words line.now ≡ []) (λ word. slice_get (words line.now) 0 ≡ Some word.now) }
+{
+    let mut left = line;
+    'cutting: loop {
+        let (part, rest) = cut(left);
+        if !part.is_empty() {
+            return Some(part);
+        }
+        match rest {
+            Some(rest) => left = rest,
+            None => return None,
+        }
     }
 }
 

@@ -1,5 +1,5 @@
 //! The lines of a text.
-ghost use Rattle.std.specs.Prelude.{◌≡◌, ◌<◌, ◌≤◌, ◌∷◌, [], ◌==◌, length, drop, MatchOption, position};
+ghost use Rattle.std.specs.Prelude.{◌≡◌, ◌+◌, ◌<◌, ◌≤◌, ◌∷◌, [], ◌==◌, ℕ, length, drop, take, MatchOption, position};
 ghost use Rattle.std.specs.List.{position_or_len, slice_split};
 ghost use Rattle.decl_text.specs.Text.{lines};
 ghost use Rattle.decl_text.specs.Places.{left};
@@ -47,6 +47,9 @@ impl<'a> Lines<'a> {
         ensures text { self.new.text ≡ self.old.text }
         ensures on { MatchOption result (self.new.place ≡ self.old.place) (λ line. self.old.place < self.new.place) }
         ensures within { self.new.place ≤ length self.old.text }
+        // The same line comes where the text ends at any place behind it.
+        ensures cut { MatchOption result (Unit {0}) (λ line. (more : ℕ) → lines (drop self.old.place (take (self.new.place + more) self.old.text))
+            ≡ line.now ∷ lines (drop self.new.place (take (self.new.place + more) self.old.text))) }
     {
         let (_, left) = self.text.split_at(self.place);
         if left.is_empty() {
@@ -71,6 +74,7 @@ fn first_line(text: &[u8]) -> (&[u8], usize)
     ensures line { lines text.now ≡ result.0.now ∷ lines (drop result.1 text.now) }
     ensures some { 1 ≤ result.1 }
     ensures within { result.1 ≤ length text.now }
+    ensures cut { (more : ℕ) → lines (take (result.1 + more) text.now) ≡ result.0.now ∷ lines (take more (drop result.1 text.now)) }
 {
     match end_of(text) {
         Some(end) => {

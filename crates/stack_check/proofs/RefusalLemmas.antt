@@ -1,20 +1,26 @@
 -- The refusal of lines, one after the other.
-use Rattle.std.proofs.Common.{◌≡◌, List, [], ◌∷◌, Option, None, Some, Result, Ok, Err, refl, ap, ◌∙◌, sym, subst}
+use Rattle.std.proofs.Common.{◌≡◌, Bool, true, false, List, [], ◌∷◌, Option, None, Some, Result, Ok, Err, refl, ap, ◌∙◌, sym, subst}
+use Rattle.std.proofs.Math.Logic.{∥∥₁_elim}
 use Rattle.std.specs.Option.{option_map, option_or}
 use Rattle.decl_text.specs.Known.{Known, after, nothing}
-use Rattle.decl_text.specs.Refusals.{Check, first_found, item_checks, refused}
-use Rattle.decl_text.specs.Reading.{refusal_of_items}
+use Rattle.decl_text.specs.Refusals.{Check, first_found, refused}
+use Rattle.decl_text.specs.Reading.{AreOfLines, refusal_of_items}
 use Rattle.decl_text.specs.declared.decl.Numbered.{Numbered}
 use Rattle.decl_text.specs.declared.item.Item.{Item}
 use Rattle.decl_text.specs.declared.reason.Refusal.{Refusal}
 use Rattle.decl_text.specs.declared.reason.ReadFault.{ReadFault}
 use Rattle.decl_text.specs.declared.reason.ReadFault.TheVariants.{Refused, Memory}
 use Rattle.decl_text.specs.declared.accepted.Accepted.{Accepted}
-use Rattle.decl_text.specs.Accepting.{Means}
+use Rattle.decl_text.specs.Accepting.{Means, checks_for}
 use Rattle.decl_text.specs.Read.{Read}
-use Rattle.stack_check.specs.Accept.{Accepts}
+use Rattle.fail_script.specs.Script.{Answers}
+use Rattle.stack_base.specs.declared.ids.PoolId.{PoolId}
+use Rattle.stack_base.specs.declared.stack.Stack.{Stack}
+use Rattle.stack_check.specs.Accept.{AcceptsBy, HasRescuersAsked}
 use Rattle.stack_check.specs.Adding.{AddsLine}
-use Rattle.stack_check.specs.Drafting.{Closes, Drafts}
+use Rattle.stack_check.specs.Drafting.{Closes, Drafts, IsDeclaredBy}
+use Rattle.stack_check.proofs.Lines.{declared_by}
+use Rattle.stack_check.proofs.Rescuers.{HasRescuers-prop, stack_helped}
 use Rattle.stack_check.proofs.LooseLemmas.{map_or_none}
 
 module _ (checks : List (Check Item)) where
@@ -50,22 +56,29 @@ module _ (checks : List (Check Item)) where
 
 -- what a line that is not added makes of all
 pub drafts_fault :
-    (known new : Known) (next : Numbered) (items all : List Numbered) (wrong : ReadFault) → AddsLine known next new (Err wrong)
-    → ((fault : Option Refusal) → refusal_of_items item_checks known (next ∷ items) fault ≡ refusal_of_items item_checks nothing all fault)
-    → Drafts all (Err wrong)
-drafts_fault known new next items all (Refused refusal) wrong same = λ fault. sym (same fault) ∙ refusal_now item_checks known next items fault refusal wrong
-drafts_fault known new next items all Memory wrong same = tt
+    (loose : Bool) (known new : Known) (next : Numbered) (items all : List Numbered) (wrong : ReadFault) → AddsLine loose known next new (Err wrong)
+    → ((fault : Option Refusal) → refusal_of_items (checks_for loose) known (next ∷ items) fault ≡ refusal_of_items (checks_for loose) nothing all fault)
+    → Drafts loose all (Err wrong)
+drafts_fault loose known new next items all (Refused refusal) wrong same = λ fault. sym (same fault) ∙ refusal_now (checks_for loose) known next items fault refusal wrong
+drafts_fault loose known new next items all Memory wrong same = tt
+
+-- where rescuers are asked for, each mirror of two members or more has one
+helped : (loose : Bool) (known : Known) (stack : Stack) (scripts : List (PoolId × Answers)) → ∥ IsDeclaredBy loose known ∥₁ → Means known stack scripts
+    → HasRescuersAsked loose stack
+helped true known stack scripts by means = tt
+helped false known stack scripts by means = ∥∥₁_elim by (HasRescuers-prop stack) (λ b.
+    stack_helped b.0 stack scripts b.2 (subst (λ (k : Known). Means k stack scripts) (sym b.3) means))
 
 -- what closes the draft of all lines is what becomes of the text
 pub accepts_closed :
-    (decl : Read) (known : Known) (result : Result Accepted ReadFault) → Drafts decl.items (Ok known) → Closes known decl.fault decl.rest decl.line result
-    → Accepts decl result
-accepts_closed decl known (Ok accepted) drafted closed = (
-  fault_left item_checks nothing decl.items decl.fault drafted.0 ∙ closed.0,
+    (loose : Bool) (decl : Read) (known : Known) (result : Result Accepted ReadFault) → ∥ AreOfLines decl.items decl.fault ∥₁
+    → Drafts loose decl.items (Ok known) → Closes known decl.fault decl.rest decl.line result → AcceptsBy loose decl result
+accepts_closed loose decl known (Ok accepted) lines drafted closed = (
+  fault_left (checks_for loose) nothing decl.items decl.fault drafted.0 ∙ closed.0,
   subst (λ (k : Known). Means k accepted.stack accepted.scripts.items) (sym drafted.1) closed.1,
+  helped loose known accepted.stack accepted.scripts.items (declared_by loose decl.items decl.fault known lines drafted closed.0) closed.1,
   closed.2,
   closed.3,
-  closed.4,
 )
-accepts_closed decl known (Err (Refused refusal)) drafted closed = fault_left item_checks nothing decl.items decl.fault drafted.0 ∙ closed
-accepts_closed decl known (Err Memory) drafted closed = tt
+accepts_closed loose decl known (Err (Refused refusal)) lines drafted closed = fault_left (checks_for loose) nothing decl.items decl.fault drafted.0 ∙ closed
+accepts_closed loose decl known (Err Memory) lines drafted closed = tt

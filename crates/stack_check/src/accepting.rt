@@ -1,7 +1,7 @@
 //! What becomes of the declarations of a text.
-ghost use Rattle.std.specs.Prelude.{◌≡◌, None};
+ghost use Rattle.std.specs.Prelude.{◌≡◌, true, None};
 ghost use Rattle.decl_text.specs.Read.{AreDeclarations, IsDeclaration};
-ghost use Rattle.stack_check.specs.Accept.{Accepts};
+ghost use Rattle.stack_check.specs.Accept.{Accepts, AcceptsBy, AcceptsLoose};
 ghost use Rattle.stack_check.specs.Adding.{AddsLine};
 ghost use Rattle.stack_check.specs.Drafting.{Closes, Drafts, IsDeclaredBy};
 
@@ -20,13 +20,31 @@ use std::alloc::Global;
 pub fn accept(alloc: Global, decl: Decl<'_>) -> Result<Accepted, ReadFault>
     ensures { Accepts decl.entry result }
 {
+    accept_by(alloc, decl, false)
+}
+
+/// The same of declarations whose mirrors may lack rescuers, so that runs over their stack may hang.
+///
+/// # Errors
+///
+/// The first refusal but for one that asks for a rescuer. Or there is no memory.
+pub fn accept_loose(alloc: Global, decl: Decl<'_>) -> Result<Accepted, ReadFault>
+    ensures { AcceptsLoose decl.entry result }
+{
+    accept_by(alloc, decl, true)
+}
+
+/// What the declarations mean by all checks, or loosely, by all but that of rescuers.
+fn accept_by(alloc: Global, decl: Decl<'_>, loose: bool) -> Result<Accepted, ReadFault>
+    ensures { AcceptsBy loose decl.entry result }
+{
     let DeclParts {
         items,
         fault,
         rest,
         line,
     } = decl.parts();
-    match drafted(alloc, items) {
+    match drafted(alloc, items, loose) {
         Ok(draft) => close(alloc, draft, fault, rest, line),
         Err(fault) => Err(fault),
     }
@@ -40,7 +58,7 @@ fn close(
     rest: u64,
     line: u64,
 ) -> Result<Accepted, ReadFault>
-    requires { fault ≡ None → ∥ IsDeclaredBy draft ∥₁ }
+    requires { fault ≡ None → ∥ IsDeclaredBy true draft ∥₁ }
     ensures { Closes draft.entry fault rest line result }
 {
     if let Some(refusal) = fault {
@@ -51,13 +69,13 @@ fn close(
 }
 
 /// What the items declare, each checked against those before it.
-fn drafted(alloc: Global, items: Vec<Numbered<'_>>) -> Result<Draft<'_>, ReadFault>
+fn drafted(alloc: Global, items: Vec<Numbered<'_>>, loose: bool) -> Result<Draft<'_>, ReadFault>
     requires { AreDeclarations items.items }
-    ensures { Drafts items.entry.items result }
+    ensures { Drafts loose items.entry.items result }
 {
     let mut draft = Draft::new(alloc);
     for next in items {
-        if let Err(fault) = add_line(&mut draft, next) {
+        if let Err(fault) = add_line(&mut draft, next, loose) {
             return Err(fault);
         }
     }
@@ -65,11 +83,11 @@ fn drafted(alloc: Global, items: Vec<Numbered<'_>>) -> Result<Draft<'_>, ReadFau
 }
 
 /// Adds what the line says.
-fn add_line<'a>(draft: &mut Draft<'a>, next: Numbered<'a>) -> Result<(), ReadFault>
+fn add_line<'a>(draft: &mut Draft<'a>, next: Numbered<'a>, loose: bool) -> Result<(), ReadFault>
     requires { IsDeclaration next.item }
-    ensures { AddsLine draft.old next.entry draft.new result }
+    ensures { AddsLine loose draft.old next.entry draft.new result }
 {
-    match draft.add(next.item) {
+    match draft.add(next.item, loose) {
         Ok(()) => Ok(()),
         Err(AddFault::Wrong(reason)) => Err(ReadFault::Refused(reason.at(next.line))),
         Err(AddFault::Memory) => Err(ReadFault::Memory),

@@ -1,5 +1,5 @@
 //! What the lines so far have declared.
-ghost use Rattle.std.specs.Prelude.{◌≡◌, ◌==◌, ◌+◌, nat_lt};
+ghost use Rattle.std.specs.Prelude.{◌≡◌, ◌==◌, ◌+◌, ◌||◌, false, nat_lt};
 ghost use Rattle.decl_text.specs.Known.{nothing};
 ghost use Rattle.decl_text.specs.Read.{IsDeclaration};
 ghost use Rattle.stack_check.specs.Adding.{Adds};
@@ -94,10 +94,10 @@ impl<'a> Draft<'a> {
         }
     }
 
-    /// Adds what a line of the declarations says, if no check finds it wrong.
-    pub(crate) fn add(&mut self, item: Item<'a>) -> Result<(), AddFault>
+    /// Adds what a line of the declarations says, if no check finds it wrong, where a loose one asks for no rescuers.
+    pub(crate) fn add(&mut self, item: Item<'a>, loose: bool) -> Result<(), AddFault>
         requires { IsDeclaration item }
-        ensures { Adds self.old item.entry self.new result }
+        ensures { Adds loose self.old item.entry self.new result }
     {
         match item {
             Item::Device {
@@ -106,7 +106,7 @@ impl<'a> Draft<'a> {
                 members,
                 reserve,
                 rescuer,
-            } => self.add_device(name, what, members.as_slice(), reserve, rescuer),
+            } => self.add_device(name, what, members.as_slice(), reserve, rescuer, loose),
             Item::Bad { disk, range, kind } => self.add_bad(&disk, Bad { range, kind }),
             Item::Fs { bios, vecs } => self.add_fs(bios, vecs),
             Item::Script { pool, script } => self.add_script(&pool, script),
@@ -123,11 +123,13 @@ impl<'a> Draft<'a> {
         names: &[Word<'a>],
         reserve: u64,
         rescuer: bool,
+        loose: bool,
     ) -> Result<(), AddFault>
         requires { IsDeclaration (Item.Device name what names.now reserve rescuer) }
-        ensures { Adds self.old (Item.Device name.entry what names.entry.now reserve rescuer) self.new result }
+        ensures { Adds loose self.old (Item.Device name.entry what names.entry.now reserve rescuer) self.new result }
     {
-        if let Some(reason) = self.devices.reason(&name, what, names, reserve, rescuer) {
+        let helped = is_helped(rescuer, loose);
+        if let Some(reason) = self.devices.reason(&name, what, names, reserve, helped) {
             return Err(AddFault::Wrong(reason));
         }
         let members = self.devices.numbers(names);
@@ -146,7 +148,7 @@ impl<'a> Draft<'a> {
     /// Adds the range of the disk of this name, at which writes fail.
     #[tactic(auto, unfolding(decl_text::specs::Refusals::first_found))]
     fn add_bad(&mut self, disk: &Word<'_>, bad: Bad) -> Result<(), AddFault>
-        ensures { Adds self.old (Item.Bad disk.now bad.range bad.kind) self.new result }
+        ensures { Adds false self.old (Item.Bad disk.now bad.range bad.kind) self.new result }
     {
         let Some(number) = self.devices.number_of(disk) else {
             return Err(AddFault::Wrong(Reason::NoSuchDevice));
@@ -170,7 +172,7 @@ impl<'a> Draft<'a> {
     /// Adds the script of the pool of this name.
     #[tactic(auto, unfolding(decl_text::specs::Refusals::first_found))]
     fn add_script(&mut self, name: &Word<'_>, script: Script) -> Result<(), AddFault>
-        ensures { Adds self.old (Item.Script name.now script) self.new result }
+        ensures { Adds false self.old (Item.Script name.now script) self.new result }
     {
         let pool = self.devices.pool_of(name);
         if self.scripts.has(pool) {
@@ -189,7 +191,7 @@ impl<'a> Draft<'a> {
     /// Adds the reserves of the writers' set.
     #[tactic(auto, unfolding(decl_text::specs::Refusals::first_found))]
     fn add_fs(&mut self, bios: u64, vecs: u64) -> Result<(), AddFault>
-        ensures { Adds self.old (Item.Fs bios vecs) self.new result }
+        ensures { Adds false self.old (Item.Fs bios vecs) self.new result }
     {
         if self.fs.is_some() {
             return Err(AddFault::Wrong(Reason::NameTaken));
@@ -207,7 +209,7 @@ impl<'a> Draft<'a> {
     /// Adds that pools without a script have no ordinary memory.
     #[tactic(auto, unfolding(decl_text::specs::Refusals::first_found))]
     fn add_no_memory(&mut self) -> Result<(), AddFault>
-        ensures { Adds self.old Item.NoMemory self.new result }
+        ensures { Adds false self.old Item.NoMemory self.new result }
     {
         if self.no_memory {
             return Err(AddFault::Wrong(Reason::NameTaken));
@@ -215,6 +217,13 @@ impl<'a> Draft<'a> {
         self.no_memory = true;
         Ok(())
     }
+}
+
+/// Whether a device has a rescuer, or needs none where its line is read loosely.
+fn is_helped(rescuer: bool, loose: bool) -> bool
+    ensures { result ≡ (loose || rescuer) }
+{
+    loose || rescuer
 }
 
 /// Whether the range ends behind a device of this size.

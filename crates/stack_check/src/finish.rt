@@ -1,6 +1,6 @@
 //! The stack and the scripts that a draft means.
-ghost use Rattle.std.specs.Prelude.{◌≡◌, IfOk};
-ghost use Rattle.stack_base.specs.Stack.{HasRescuers, IsStack};
+ghost use Rattle.std.specs.Prelude.{◌≡◌, true, IfOk};
+ghost use Rattle.stack_base.specs.Stack.{IsStack};
 ghost use Rattle.decl_text.specs.Accepting.{Means, reserves_or_two};
 ghost use Rattle.stack_check.specs.Drafting.{IsDeclaredBy};
 
@@ -12,16 +12,15 @@ use fail_script::Script;
 use stack_base::{PoolId, Stack};
 use std::alloc::{AllocError, Global};
 
-/// What the draft means, of lines that no check refuses. The rest of the text begins at this byte and this line.
+/// What the draft means, of lines that no check refuses but perhaps that of rescuers. The rest of the text begins at this byte and this line.
 pub(crate) fn finish(
     alloc: Global,
     draft: Draft<'_>,
     rest: u64,
     line: u64,
 ) -> Result<Accepted, AllocError>
-    requires { ∥ IsDeclaredBy draft ∥₁ }
+    requires { ∥ IsDeclaredBy true draft ∥₁ }
     ensures means { IfOk result (λ accepted. Means draft.entry accepted.stack accepted.scripts.items) }
-    ensures rescuers { IfOk result (λ accepted. HasRescuers accepted.stack) }
     ensures rest { IfOk result (λ accepted. (accepted.rest ≡ rest) × (accepted.line ≡ line)) }
 {
     let (stack, scripts) = meaning(alloc, draft)?;

@@ -15,4 +15,4 @@ mod scripts;
 mod shared;
 mod what;
 
-pub use accepting::accept;
+pub use accepting::{accept, accept_loose};

@@ -1,5 +1,5 @@
 -- What the words of the number 1 make, computed from the generator before the first of them.
-use Rattle.std.proofs.Common.{◌≡◌, List, [], ◌∷◌, refl}
+use Rattle.std.proofs.Common.{◌≡◌, [], ◌∷◌, refl}
 use Rattle.rand_pcg.specs.Lcg.{Lcg}
 use Rattle.work_text.specs.Generated.{behind_all, chunk_in, counts, longest_in, mirror_size, runs}
 

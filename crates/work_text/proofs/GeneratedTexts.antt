@@ -1,11 +1,10 @@
 -- No generated text is refused.
-use Rattle.std.proofs.Common.{◌≡◌, ◌∙◌, ◌+◌, ◌*◌, ◌/◌, ◌%◌, ◌≤◌, ◌<◌, ◌^◌, ◌==◌, ℕ, Bool, true, false, zero, suc, List, [], ◌∷◌, ◌++◌, map, length, min, codes, decimal, refl, sym, ap, ap₂, subst, arith, Option, Some, None, nat_le, nat_lt, append_assoc, length-append}
+use Rattle.std.proofs.Common.{◌≡◌, ◌∙◌, ◌+◌, ◌*◌, ◌/◌, ◌%◌, ◌≤◌, ◌==◌, ℕ, Bool, true, false, zero, suc, List, [], ◌∷◌, ◌++◌, map, length, min, codes, decimal, refl, ap, ap₂, arith, Some, None, nat_le, length-append}
 use Rattle.std.specs.Prelude.{if◌then◌else◌}
 use Rattle.std.proofs.Math.Nat.{le-div_iff_mul-le, mul-div-le, mul-le-mul, mul_assoc}
 use Rattle.std.proofs.lemmas.Bool.{le-ltb, leb-true}
 use Rattle.std.proofs.lemmas.Bool.Decides.{nat_tests}
 use Rattle.std.proofs.lemmas.Fmt.{length-decimal-le}
-use Rattle.std.proofs.lemmas.List.{map-append}
 use Rattle.decl_text.specs.Text.{lines, most_bytes}
 use Rattle.decl_text.specs.Known.{nothing}
 use Rattle.decl_text.specs.Items.{number}
@@ -14,11 +13,10 @@ use Rattle.decl_text.specs.declared.reason.Reason.TheVariants.{TooLong}
 use Rattle.decl_text.specs.declared.item.Item.TheVariants as item
 use Rattle.rand_pcg.specs.Lcg.{Lcg}
 use Rattle.work_text.specs.Work.{all_checks}
-use Rattle.work_text.specs.Whole.{text_refusal}
-use Rattle.work_text.specs.Generated.{NoGeneratedTextIsRefused, Run, behind, behind_all, chunk_in, counts, declarations, disk_words, generated, generated_lines, generator, limit_words, line_of, longest_in, memory_words, mirror_size, runs, stripe_size, stripe_words, text_of, word, write_words, writes, writes_from}
+use Rattle.work_text.specs.Generated.{NoGeneratedTextIsRefused, Run, behind, behind_all, chunk_in, counts, declarations, disk_words, generated, generated_lines, generator, limit_words, line_of, longest_in, memory_words, mirror_size, runs, stripe_size, stripe_words, text_of, write_words, writes, writes_from}
 use Rattle.work_text.proofs.GeneratorLemmas.{text_of-append}
 use Rattle.work_text.proofs.Said.{Each, IsLine, IsWord, Writes, body_of, decimal_writes, text_lines, word_by, word_on}
-use Rattle.work_text.proofs.Generating.{Fine, disk_item, disk0, disk1, disk2, disk3, k1, k2, k3, k4, k5, k6, k7, k8, k9, k10, k11, limit_item, limit0, limit1, limit2, limit3, memory, mirror, mirror_item, one_line, stripe_item, stripe_of, stripe0, stripe1}
+use Rattle.work_text.proofs.Generating.{disk_item, disk0, disk1, disk2, disk3, k1, k2, k3, k4, k5, k6, k7, k8, k9, k10, k11, limit_item, limit0, limit1, limit2, limit3, memory, mirror, mirror_item, one_line, stripe_item, stripe_of, stripe0, stripe1}
 use Rattle.work_text.proofs.GeneratedWrites.{Before, with_writes, words_are, writes_right}
 
 -- ---- numbers

@@ -1,30 +1,29 @@
 -- The writes of a generated text, line by line.
-use Rattle.std.proofs.Common.{◌≡◌, ◌∙◌, ◌+◌, ◌*◌, ◌/◌, ◌%◌, ◌≤◌, ◌<◌, ◌^◌, ◌==◌, ◌&&◌, ◌||◌, ℕ, Bool, cond, true, false, not, zero, suc, List, [], ◌∷◌, ◌++◌, map, length, min, codes, decimal, refl, sym, ap, subst, arith, Option, Some, None, nat_lt, nat_le, true≢false}
-use Rattle.std.specs.Prelude.{if◌then◌else◌, sum_by, slice_index_or}
+use Rattle.std.proofs.Common.{◌≡◌, ◌∙◌, ◌+◌, ◌*◌, ◌/◌, ◌%◌, ◌≤◌, ◌==◌, ◌&&◌, ℕ, Bool, cond, true, false, zero, suc, List, [], ◌∷◌, ◌++◌, map, min, codes, decimal, refl, ap, subst, arith, None, nat_lt, nat_le}
+use Rattle.std.specs.Prelude.{if◌then◌else◌, sum_by}
 use Rattle.std.specs.List.{filter, list_any, zip}
 use Rattle.std.proofs.Math.Dec.{leb, leb-zero}
 use Rattle.std.proofs.lemmas.Bool.{le-leb, le-ltb, leb-true}
 use Rattle.std.proofs.lemmas.List.Sums.{sum_by-append}
-use Rattle.std.proofs.lemmas.Bool.Decides.{leb_tells, nat_tests}
-use Rattle.decl_text.specs.Text.{is_name, number_of}
-use Rattle.decl_text.specs.Items.{malformed, meaning, misnumbered, number, said}
+use Rattle.decl_text.specs.Text.{is_name}
+use Rattle.decl_text.specs.Items.{meaning, number}
 use Rattle.decl_text.specs.Commands.{command_of}
 use Rattle.decl_text.specs.Checks.{shares}
-use Rattle.decl_text.specs.Known.{Declared, Known, Written, after, present, tree_of}
+use Rattle.decl_text.specs.Known.{Declared, Known, Written, tree_of}
 use Rattle.decl_text.specs.Refusals.{first_found, refusal}
 use Rattle.decl_text.specs.declared.item.Item.{Item}
 use Rattle.decl_text.specs.declared.item.Item.TheVariants as item
 use Rattle.stack_base.specs.declared.stack.Kind.{Kind}
-use Rattle.stack_base.specs.Tree.{Copies, Cuts, Leaf, Shape, Tree, member_at, over_shape, size, weight}
+use Rattle.stack_base.specs.Tree.{Copies, Cuts, Leaf, Tree, member_at, over_shape, size, weight}
 use Rattle.stack_base.specs.Mapping.{size_of, smallest}
 use Rattle.layout_model.specs.Bound.{most_elements}
 use Rattle.layout_model.specs.Need.{needed, vectors}
 use Rattle.layout_model.specs.Sound.{Closed}
 use Rattle.layout_model.proofs.AtMost.{needed_le_weight}
 use Rattle.work_text.specs.Work.{all_checks, elements_in}
-use Rattle.work_text.specs.Generated.{Run, counts, runs, text_of, write_words, writes_from}
+use Rattle.work_text.specs.Generated.{runs, write_words, writes_from}
 use Rattle.work_text.proofs.Said.{Each, IsWord, Writes, body_of, decimal_writes, word_by}
-use Rattle.work_text.proofs.Generating.{Fine, k11, le_most, most, one_line, stripe_of}
+use Rattle.work_text.proofs.Generating.{Fine, k11, le_most, one_line, stripe_of}
 
 -- ---- what one write needs
 

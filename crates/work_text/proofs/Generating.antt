@@ -1,23 +1,21 @@
 -- The declarations of a generated text, line by line.
-use Rattle.std.proofs.Common.{◌≡◌, ◌∙◌, ◌+◌, ◌*◌, ◌/◌, ◌≤◌, ◌<◌, ◌^◌, ◌==◌, ℕ, Bool, true, false, not, zero, suc, List, [], ◌∷◌, ◌++◌, map, min, codes, refl, sym, ap, arith, Option, Some, None}
-use Rattle.std.specs.Option.{option_map, option_or}
+use Rattle.std.proofs.Common.{◌≡◌, ◌∙◌, ◌+◌, ◌*◌, ◌/◌, ◌≤◌, ◌<◌, ◌^◌, ◌==◌, ℕ, true, false, List, [], ◌∷◌, ◌++◌, min, codes, refl, ap, arith, Some, None}
 use Rattle.std.proofs.Math.Dec.{leb}
 use Rattle.std.proofs.lemmas.Bool.{le-leb}
 use Rattle.decl_text.specs.Text.{is_name, number_of, words}
 use Rattle.decl_text.specs.Items.{malformed, meaning, misnumbered, number, said}
 use Rattle.decl_text.specs.Commands.{command_of}
-use Rattle.decl_text.specs.Known.{Known, after, after_line, nothing}
+use Rattle.decl_text.specs.Known.{Known, after, nothing}
 use Rattle.decl_text.specs.Stands.{misplaced, stand_of}
-use Rattle.decl_text.specs.Refusals.{first_found, line_checks, line_reason, refusal}
+use Rattle.decl_text.specs.Refusals.{first_found, line_reason, refusal}
 use Rattle.decl_text.specs.declared.item.Item.{Item}
 use Rattle.decl_text.specs.declared.item.Item.TheVariants as item
 use Rattle.decl_text.specs.declared.item.What.TheVariants as what
-use Rattle.decl_text.specs.declared.reason.Refusal.{Refusal}
 use Rattle.stack_base.specs.Tree.{over_shape}
 use Rattle.stack_base.specs.Mapping.{size_of, smallest}
 use Rattle.work_text.specs.Work.{all_checks}
 use Rattle.work_text.specs.Generated.{disk_words}
-use Rattle.work_text.proofs.Said.{Each, IsWord, Writes, body_of, body_text, body_words, word_by, word_on}
+use Rattle.work_text.proofs.Said.{Each, IsWord, Writes, body_of, body_text, body_words}
 
 -- a line of these words is right where so much is known, and says this, which no check finds
 pub record Fine (known : Known) (line : List (List ℕ)) (says : Item) : Type 0 where

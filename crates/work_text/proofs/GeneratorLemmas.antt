@@ -1,11 +1,11 @@
 -- The texts of lines, one behind the other.
-use Rattle.std.proofs.Common.{◌≡◌, ◌∙◌, ◌+◌, ◌≤◌, ◌<◌, ◌%◌, ℕ, suc, List, [], ◌∷◌, ◌++◌, false, refl, sym, ap, ap₂, codes, append_assoc, append-nil, arith}
+use Rattle.std.proofs.Common.{◌≡◌, ◌∙◌, ◌+◌, ◌≤◌, ◌<◌, ℕ, suc, List, [], ◌∷◌, ◌++◌, false, refl, sym, ap, ap₂, codes, append_assoc, append-nil, arith}
 use Rattle.std.specs.Prelude.{if◌then◌else◌}
 use Rattle.std.proofs.lemmas.Bool.{le-leb}
-use Rattle.std.proofs.lemmas.Bool.Decides.{leb_tells, nat_tests}
+use Rattle.std.proofs.lemmas.Bool.Decides.{nat_tests}
 use Rattle.std.proofs.Math.Dec.{leb}
 use Rattle.rand_pcg.specs.Lcg.{Lcg}
-use Rattle.work_text.specs.Generated.{Run, behind, behind_all, chunk_in, counts, declarations, generated, generator, limit_words, line_of, longest_in, memory_words, mirror_size, runs, stripe_words, text_of, word, write_words, writes, writes_from}
+use Rattle.work_text.specs.Generated.{Run, behind, behind_all, chunk_in, counts, declarations, generated, generator, limit_words, line_of, longest_in, memory_words, mirror_size, runs, stripe_words, text_of, write_words, writes, writes_from}
 
 abbrev next_lines : ℕ → List Run → List ℕ
 next_lines number more = text_of (writes_from number more)

@@ -1,16 +1,11 @@
 -- Looking pools up among the devices that a stack shows.
-use Rattle.std.proofs.Common.{◌≡◌, ℕ, ◌++◌, List, Option, None, Some, sym, ap, ◌∙◌}
-use Rattle.std.specs.Prelude.{slice_get}
+use Rattle.std.proofs.Common.{◌≡◌, ℕ, ◌++◌, List, sym}
 use Rattle.std.specs.List.{position}
-use Rattle.std.specs.Option.{option_and_then, option_map}
 use Rattle.std.specs.Str.{bytes_eq}
-use Rattle.std.proofs.lemmas.Option.{slice_get-map}
-use Rattle.stack_base.specs.declared.ids.PoolId.{PoolId}
 use Rattle.stack_base.specs.declared.stack.Device.{Device}
 use Rattle.stack_base.specs.declared.stack.Stack.{Stack}
-use Rattle.decl_text.specs.Accepting.{shown, shown_devices, what_of}
-use Rattle.decl_text.specs.Known.{Declared, device_before, pool_if}
-use Rattle.decl_text.specs.declared.item.What.{What}
+use Rattle.decl_text.specs.Accepting.{shown, shown_devices}
+use Rattle.decl_text.specs.Known.{Declared, device_before}
 use Rattle.work_text.proofs.NameLemmas.{position-map}
 
 pub shown_before : (stack : Stack) (suffix word : List ℕ)

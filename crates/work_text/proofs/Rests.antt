@@ -1,5 +1,5 @@
 -- Refusals of lines from the first write or `sync` line on: of what was declared before, they go by the devices alone.
-use Rattle.std.proofs.Common.{◌≡◌, ℕ, ◌+◌, true, false, List, [], ◌∷◌, ◌++◌, length, Option, None, Some, if◌then◌else◌, refl, sym, ◌∙◌, ap, inl, inr, arith}
+use Rattle.std.proofs.Common.{◌≡◌, ℕ, ◌+◌, Bool, true, false, List, [], ◌∷◌, ◌++◌, length, Option, None, Some, if◌then◌else◌, refl, sym, ◌∙◌, ap, inl, inr, arith}
 use Rattle.std.specs.Option.{option_map, option_or}
 use Rattle.std.proofs.lemmas.Bool.{cases_Bool, ne_eqb}
 use Rattle.std.proofs.lemmas.List.{length_push}
@@ -17,7 +17,7 @@ use Rattle.decl_text.specs.declared.item.Item.TheVariants as item
 use Rattle.decl_text.specs.Steps.{Begins as StartsSo}
 use Rattle.decl_text.proofs.LineLemmas.{same_found, told_parts}
 use Rattle.decl_text.proofs.Unrefused.{map_none, or_none}
-use Rattle.work_text.specs.Work.{all_checks}
+use Rattle.work_text.specs.Work.{all_checks, checks_by}
 use Rattle.work_text.specs.Whole.{work_of}
 use Rattle.work_text.specs.Lines.{CanStand}
 use Rattle.work_text.proofs.Rounds.{of_round, of_round_push}
@@ -178,3 +178,35 @@ rest_known known number (line ∷ lines) paired follow none =
     rest_known k (number + 1) lines s.paired (follows k lines s.behind) parts.1
     ∙ after_with known (known_after (work_of k) lines) o s.works
     ∙ ap (λ seen. with_work known (known_after seen lines)) (after_seen known o s.works)
+
+-- None of these lines declares a device, so none lacks a rescuer.
+reasons_loose : (known : Known) (o : Option Item) → Works o → said_reason (checks_by true) known o ≡ said_reason all_checks known o
+unfolding first_found
+reasons_loose known None is = refl
+reasons_loose known (Some (item.Write task dev range tag)) is = refl
+reasons_loose known (Some item.Sync) is = refl
+reasons_loose known (Some (item.Resize pool min)) is = refl
+reasons_loose known _ is = absurd is
+
+loose_step : (known : Known) (number : ℕ) (lines : List (List ℕ)) (f : Option Reason) (o : Option Item) → (f ≡ None → Step known o)
+    → ((k : Known) → IsPaired k → Follow k lines → refusal (checks_by true) k (number + 1) lines ≡ refusal all_checks k (number + 1) lines)
+    → option_or (option_map (refused number) (option_or f (said_reason (checks_by true) known o))) (refusal (checks_by true) (after_line known o) (number + 1) lines)
+    ≡ option_or (option_map (refused number) (option_or f (said_reason all_checks known o))) (refusal all_checks (after_line known o) (number + 1) lines)
+loose_step known number lines (Some reason) o steps rest = refl
+loose_step known number lines None o steps rest =
+    let s = steps refl in
+    ap (λ r. option_or (option_map (refused number) r) (refusal (checks_by true) (after_line known o) (number + 1) lines)) (reasons_loose known o s.works)
+    ∙ ap (option_or (option_map (refused number) (said_reason all_checks known o))) (rest (after_line known o) s.paired (follows (after_line known o) lines s.behind))
+
+all_refuse : (known : Known) (number : ℕ) (lines : List (List ℕ)) → IsPaired known → Follow known lines
+    → refusal (checks_by true) known number lines ≡ refusal all_checks known number lines
+unfolding refusal
+all_refuse known number [] paired follow = refl
+all_refuse known number (line ∷ lines) paired follow =
+    loose_step known number lines (first_found line_checks known line) (said (words line)) (step known line paired follow) (λ k. all_refuse k (number + 1) lines)
+
+-- so all checks refuse them as the loose ones do
+pub rest_loose : (loose : Bool) (known : Known) (number : ℕ) (lines : List (List ℕ)) → IsPaired known → Follow known lines
+    → refusal (checks_by loose) known number lines ≡ refusal all_checks known number lines
+rest_loose false known number lines paired follow = refl
+rest_loose true known number lines paired follow = all_refuse known number lines paired follow

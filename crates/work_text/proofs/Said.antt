@@ -1,12 +1,11 @@
 -- Lines that are made of words, as they are read.
-use Rattle.std.proofs.Common.{◌≡◌, ◌∙◌, ◌+◌, ◌≤◌, ◌<◌, ◌^◌, ◌==◌, ◌&&◌, ◌||◌, ℕ, Bool, true, false, not, zero, suc, List, [], ◌∷◌, ◌++◌, map, length, decimal, refl, sym, ap, ap₂, append_assoc, arith, rules, Option, Some, None, true≢false}
+use Rattle.std.proofs.Common.{◌≡◌, ◌∙◌, ◌≤◌, ◌<◌, ◌^◌, ◌==◌, ◌&&◌, ℕ, Bool, true, false, not, zero, suc, List, [], ◌∷◌, ◌++◌, map, length, decimal, refl, sym, ap, append_assoc, arith, rules, Some, true≢false}
 use Rattle.std.specs.List.{All, list_all, list_any, slice_split, filter}
-use Rattle.std.specs.Option.{option_map, option_or}
 use Rattle.std.specs.Char.{is_ascii_digit}
 use Rattle.std.specs.Str.Parse.{digits_value}
 use Rattle.std.proofs.lemmas.Bool.Decides.{nat_tests}
 use Rattle.std.proofs.lemmas.Fmt.{decimal_is_IsNumeral, length-decimal-le}
-use Rattle.std.proofs.lemmas.List.Splits.{length-slice_split, slice_split_at, slice_split_none}
+use Rattle.std.proofs.lemmas.List.Splits.{slice_split_at, slice_split_none}
 use Rattle.std.proofs.lemmas.Str.Parse.{IsNumeralModel, IsDigitsTest, numerals_by_value}
 use Rattle.decl_text.specs.Text.{is_blank, is_option, is_some_text, is_text, is_text_byte, lines, number_of, without_empty_end, words}
 use Rattle.work_text.specs.Generated.{line_of, text_of}

@@ -1,5 +1,5 @@
 -- The refusal of a text whose declarations were read: theirs, or else that of its rest.
-use Rattle.std.proofs.Common.{◌≡◌, ℕ, ◌+◌, ◌≤◌, List, [], ◌∷◌, ◌++◌, length, drop, is_some, Option, None, Some, refl, sym, ◌∙◌, ap, subst, arith}
+use Rattle.std.proofs.Common.{◌≡◌, ℕ, Bool, ◌+◌, ◌≤◌, List, [], ◌∷◌, ◌++◌, length, drop, is_some, Option, None, Some, refl, sym, ◌∙◌, ap, subst, arith}
 use Rattle.std.specs.Prelude.{if◌then◌else◌}
 use Rattle.std.specs.Option.{option_or}
 use Rattle.std.proofs.lemmas.Bool.{le-ltb}
@@ -9,21 +9,21 @@ use Rattle.stack_base.specs.declared.stack.Stack.{Stack}
 use Rattle.decl_text.specs.Text.{lines, words, most_bytes}
 use Rattle.decl_text.specs.Items.{said}
 use Rattle.decl_text.specs.Known.{Known, Declared, nothing}
-use Rattle.decl_text.specs.Refusals.{first_found, line_checks, refusal, refused, item_checks, known_after}
+use Rattle.decl_text.specs.Refusals.{first_found, line_checks, refusal, refused, known_after}
 use Rattle.decl_text.specs.Read.{Read}
 use Rattle.decl_text.specs.Reading.{IsRead, Formed, declarations, formed, formed_by, is_work_line, is_wrong, read_lines, refusal_of_items, right_lines, known_of_items}
-use Rattle.decl_text.specs.Accepting.{Means}
+use Rattle.decl_text.specs.Accepting.{Means, checks_for}
 use Rattle.decl_text.specs.declared.reason.Reason.TheVariants.{TooLong}
 use Rattle.decl_text.specs.declared.reason.Reason.{Reason}
 use Rattle.decl_text.specs.declared.reason.Refusal.{Refusal}
 use Rattle.decl_text.specs.declared.item.Item.{Item}
 use Rattle.std.proofs.lemmas.Option.{none-some}
-use Rattle.work_text.specs.Work.{all_checks, known_of}
-use Rattle.work_text.specs.Whole.{text_refusal, known_of_text, work_of, RestDecides}
+use Rattle.work_text.specs.Work.{all_checks, checks_by, known_of}
+use Rattle.work_text.specs.Whole.{text_refusal_by, known_of_text, work_of, RestDecides}
 use Rattle.decl_text.proofs.Cuts.{rest, cut, more, none_pass, begins, none_before}
 use Rattle.decl_text.proofs.Fronts.{IsFront, front_known, front_refused, no_fault, nothing_front}
 use Rattle.work_text.proofs.Fronts.{refusal-append, known-append, front_alike, front_stays}
-use Rattle.work_text.proofs.Rests.{IsPaired, with_work, Follow, rest_refused, rest_known}
+use Rattle.work_text.proofs.Rests.{IsPaired, with_work, Follow, rest_loose, rest_refused, rest_known}
 
 -- the lines from the first write or `sync` line on
 abbrev left : List (List ℕ) → List (List ℕ)
@@ -36,31 +36,31 @@ known_before all = known_after nothing (declarations all)
 joined : (all : List (List ℕ)) → declarations all ++ left all ≡ all
 joined all = cut is_work_line all
 
-not_long : (text : List ℕ) → length text ≤ most_bytes → text_refusal text ≡ refusal all_checks nothing 1 (lines text)
-not_long text short = ap (λ b. if b then Some (refused 0 TooLong) else refusal all_checks nothing 1 (lines text)) (le-ltb most_bytes (length text) short)
+not_long : (loose : Bool) (text : List ℕ) → length text ≤ most_bytes → text_refusal_by loose text ≡ refusal (checks_by loose) nothing 1 (lines text)
+not_long loose text short = ap (λ b. if b then Some (refused 0 TooLong) else refusal (checks_by loose) nothing 1 (lines text)) (le-ltb most_bytes (length text) short)
 
 -- the items and the fault were read of these lines
-items_refused : (text : List ℕ) (read : Read) → IsRead text read
-    → refusal all_checks nothing 1 (declarations (lines text)) ≡ refusal_of_items item_checks nothing read.items read.fault
-items_refused text read is =
-    front_alike nothing 1 (declarations (lines text)) nothing_front (none_pass is_work_line (lines text))
-    ∙ front_refused item_checks nothing 1 (declarations (lines text)) nothing_front (none_pass is_work_line (lines text))
-    ∙ ap (λ f. refusal_of_items item_checks nothing f.items f.fault) (sym is.formed)
+items_refused : (loose : Bool) (text : List ℕ) (read : Read) → IsRead text read
+    → refusal (checks_by loose) nothing 1 (declarations (lines text)) ≡ refusal_of_items (checks_for loose) nothing read.items read.fault
+items_refused loose text read is =
+    front_alike (checks_for loose) nothing 1 (declarations (lines text)) nothing_front (none_pass is_work_line (lines text))
+    ∙ front_refused (checks_for loose) nothing 1 (declarations (lines text)) nothing_front (none_pass is_work_line (lines text))
+    ∙ ap (λ f. refusal_of_items (checks_for loose) nothing f.items f.fault) (sym is.formed)
 
-refused_in_parts : (text : List ℕ) (read : Read) → length text ≤ most_bytes → IsRead text read
-    → text_refusal text ≡ option_or (refusal_of_items item_checks nothing read.items read.fault)
-    (refusal all_checks (known_before (lines text)) (1 + length (declarations (lines text))) (left (lines text)))
-refused_in_parts text read short is =
-    not_long text short
-    ∙ ap (refusal all_checks nothing 1) (sym (joined (lines text)))
-    ∙ refusal-append all_checks nothing 1 (declarations (lines text)) (left (lines text))
-    ∙ ap (λ r. option_or r (refusal all_checks (known_before (lines text)) (1 + length (declarations (lines text))) (left (lines text)))) (items_refused text read is)
+refused_in_parts : (loose : Bool) (text : List ℕ) (read : Read) → length text ≤ most_bytes → IsRead text read
+    → text_refusal_by loose text ≡ option_or (refusal_of_items (checks_for loose) nothing read.items read.fault)
+    (refusal (checks_by loose) (known_before (lines text)) (1 + length (declarations (lines text))) (left (lines text)))
+refused_in_parts loose text read short is =
+    not_long loose text short
+    ∙ ap (refusal (checks_by loose) nothing 1) (sym (joined (lines text)))
+    ∙ refusal-append (checks_by loose) nothing 1 (declarations (lines text)) (left (lines text))
+    ∙ ap (λ r. option_or r (refusal (checks_by loose) (known_before (lines text)) (1 + length (declarations (lines text))) (left (lines text)))) (items_refused loose text read is)
 
-pub refused_first : (text : List ℕ) (read : Read) (first : Refusal) → length text ≤ most_bytes → IsRead text read
-    → refusal_of_items item_checks nothing read.items read.fault ≡ Some first → text_refusal text ≡ Some first
-refused_first text read first short is here =
-    refused_in_parts text read short is
-    ∙ ap (λ r. option_or r (refusal all_checks (known_before (lines text)) (1 + length (declarations (lines text))) (left (lines text)))) here
+pub refused_first : (loose : Bool) (text : List ℕ) (read : Read) (first : Refusal) → length text ≤ most_bytes → IsRead text read
+    → refusal_of_items (checks_for loose) nothing read.items read.fault ≡ Some first → text_refusal_by loose text ≡ Some first
+refused_first loose text read first short is here =
+    refused_in_parts loose text read short is
+    ∙ ap (λ r. option_or r (refusal (checks_by loose) (known_before (lines text)) (1 + length (declarations (lines text))) (left (lines text)))) here
 
 -- accepted declarations, with the stack and the scripts that they mean
 none_by : (f : Option Reason) (number : ℕ) (o : Option Item) (more : Formed) → (formed_by f number o more).fault ≡ None → (f ≡ None) × (more.fault ≡ None)
@@ -76,15 +76,15 @@ none_wrong number (line ∷ all) none =
     let parts = none_by (first_found line_checks nothing line) number (said (words line)) (formed (number + 1) all) none in
     more is_wrong line all (ap is_some parts.0) ∙ ap (λ ys. line ∷ ys) (none_wrong (number + 1) all parts.1)
 
-pub record Accepted (text : List ℕ) (read : Read) (stack : Stack) (scripts : List (PoolId × Answers)) : Type 0 where
+pub record Accepted (loose : Bool) (text : List ℕ) (read : Read) (stack : Stack) (scripts : List (PoolId × Answers)) : Type 0 where
   pub short : length text ≤ most_bytes
   pub is : IsRead text read
-  pub none : refusal_of_items item_checks nothing read.items read.fault ≡ None
+  pub none : refusal_of_items (checks_for loose) nothing read.items read.fault ≡ None
   pub means : Means (known_of_items nothing read.items) stack scripts
 
-module _ {text : List ℕ} {read : Read} {stack : Stack} {scripts : List (PoolId × Answers)} (a : Accepted text read stack scripts) where
+module _ {loose : Bool} {text : List ℕ} {read : Read} {stack : Stack} {scripts : List (PoolId × Answers)} (a : Accepted loose text read stack scripts) where
   sound : read.fault ≡ None
-  sound = no_fault item_checks nothing read.items read.fault a.none
+  sound = no_fault (checks_for loose) nothing read.items read.fault a.none
 
   right : (formed 1 (declarations (lines text))).fault ≡ None
   right = ap (λ f. f.fault) (sym a.is.formed) ∙ sound
@@ -101,14 +101,14 @@ module _ {text : List ℕ} {read : Read} {stack : Stack} {scripts : List (PoolId
       front_known nothing 1 (declarations (lines text)) right
       ∙ ap (λ f. known_of_items nothing f.items) (sym a.is.formed)
 
-  none_before_work : refusal item_checks nothing 1 (declarations (lines text)) ≡ None
+  none_before_work : refusal (checks_for loose) nothing 1 (declarations (lines text)) ≡ None
   none_before_work =
-      front_refused item_checks nothing 1 (declarations (lines text)) nothing_front (none_pass is_work_line (lines text))
-      ∙ ap (λ f. refusal_of_items item_checks nothing f.items f.fault) (sym a.is.formed)
+      front_refused (checks_for loose) nothing 1 (declarations (lines text)) nothing_front (none_pass is_work_line (lines text))
+      ∙ ap (λ f. refusal_of_items (checks_for loose) nothing f.items f.fault) (sym a.is.formed)
       ∙ a.none
 
   front : IsFront (known_before (lines text))
-  front = front_stays nothing 1 (declarations (lines text)) nothing_front (none_pass is_work_line (lines text)) none_before_work
+  front = front_stays (checks_for loose) nothing 1 (declarations (lines text)) nothing_front (none_pass is_work_line (lines text)) none_before_work
 
   paired : IsPaired (known_before (lines text))
   paired = rw (front.rounds, front.writes) refl
@@ -122,20 +122,21 @@ module _ {text : List ℕ} {read : Read} {stack : Stack} {scripts : List (PoolId
   follow : Follow (known_before (lines text)) (left (lines text))
   follow = λ first. begins is_work_line (lines text)
 
-  in_left : text_refusal text ≡ refusal all_checks (known_before (lines text)) read.line (left (lines text))
+  in_left : text_refusal_by loose text ≡ refusal all_checks (known_before (lines text)) read.line (left (lines text))
   in_left =
-      refused_in_parts text read a.short a.is
-      ∙ ap (λ r. option_or r (refusal all_checks (known_before (lines text)) (1 + length (declarations (lines text))) (left (lines text)))) a.none
-      ∙ ap (λ n. refusal all_checks (known_before (lines text)) n (left (lines text))) (omega (arith, a.is.line, ap length all_read))
+      refused_in_parts loose text read a.short a.is
+      ∙ ap (λ r. option_or r (refusal (checks_by loose) (known_before (lines text)) (1 + length (declarations (lines text))) (left (lines text)))) a.none
+      ∙ ap (λ n. refusal (checks_by loose) (known_before (lines text)) n (left (lines text))) (omega (arith, a.is.line, ap length all_read))
+      ∙ rest_loose loose (known_before (lines text)) read.line (left (lines text)) paired follow
 
-  by_stack : text_refusal text ≡ refusal all_checks (known_of stack) read.line (left (lines text))
+  by_stack : text_refusal_by loose text ≡ refusal all_checks (known_of stack) read.line (left (lines text))
   by_stack =
       in_left
       ∙ rest_refused (known_before (lines text)) read.line (left (lines text)) paired follow
       ∙ ap (λ k. refusal all_checks k read.line (left (lines text))) seen_is
 
   -- where the rest is not refused, the text has its work and all else as before
-  with_rest : text_refusal text ≡ None → known_of_text text ≡ with_work (known_before (lines text)) (known_after (known_of stack) (left (lines text)))
+  with_rest : text_refusal_by loose text ≡ None → known_of_text text ≡ with_work (known_before (lines text)) (known_after (known_of stack) (left (lines text)))
   with_rest none =
       ap (known_after nothing) (sym (joined (lines text)))
       ∙ known-append nothing (declarations (lines text)) (left (lines text))
@@ -152,12 +153,12 @@ module _ {text : List ℕ} {read : Read} {stack : Stack} {scripts : List (PoolId
   }
 
   -- the rest has the devices of the stack, and declares nothing
-  same_work : text_refusal text ≡ None → work_of (with_work (known_before (lines text)) (known_after (known_of stack) (left (lines text)))) ≡ known_after (known_of stack) (left (lines text))
+  same_work : text_refusal_by loose text ≡ None → work_of (with_work (known_before (lines text)) (known_after (known_of stack) (left (lines text)))) ≡ known_after (known_of stack) (left (lines text))
   same_work none =
       ap (λ (d : List Declared). work_of (record (known_after (known_of stack) (left (lines text))) { devices = d })) (sym means_before.devices)
       ∙ sym (rest_known (known_of stack) read.line (left (lines text)) refl (λ first. begins is_work_line (lines text)) (sym by_stack ∙ none))
 
-  pub rest_decides : RestDecides text read stack scripts
+  pub rest_decides : RestDecides loose text read stack scripts
   rest_decides = record {
     begins = ap declarations left_is ∙ none_before is_work_line (left (lines text)) (begins is_work_line (lines text));
     refusals = by_stack ∙ ap (refusal all_checks (known_of stack) read.line) (sym left_is);

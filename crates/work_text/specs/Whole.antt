@@ -1,22 +1,25 @@
 -- The first refusal of a whole text, and what an accepted text means.
-use Rattle.std.specs.Prelude.{◌≡◌, ◌≤◌, if◌then◌else◌, nat_lt, ℕ, List, [], drop, length, Option, None, Some, ◌<◌, false, slice_get, slice_index_or}
+use Rattle.std.specs.Prelude.{◌≡◌, ◌≤◌, if◌then◌else◌, nat_lt, ℕ, Bool, List, [], drop, length, Option, None, Some, ◌<◌, false, slice_get, slice_index_or}
 use Rattle.fail_script.specs.Script.{Answers}
 use Rattle.stack_base.specs.declared.ids.PoolId.{PoolId}
 use Rattle.stack_base.specs.declared.stack.Stack.{Stack}
 use Rattle.decl_text.specs.Text.{lines, most_bytes}
 use Rattle.decl_text.specs.Known.{Known, Written, nothing}
 use Rattle.decl_text.specs.Checks.{shares}
-use Rattle.decl_text.specs.Refusals.{refusal, refused, item_checks, known_after}
+use Rattle.decl_text.specs.Refusals.{refusal, refused, known_after}
 use Rattle.decl_text.specs.Read.{Read}
 use Rattle.decl_text.specs.Reading.{IsRead, declarations, refusal_of_items, known_of_items}
-use Rattle.decl_text.specs.Accepting.{Means}
+use Rattle.decl_text.specs.Accepting.{Means, checks_for}
 use Rattle.decl_text.specs.declared.reason.Reason.TheVariants.{TooLong}
 use Rattle.decl_text.specs.declared.reason.Refusal.{Refusal}
-use Rattle.work_text.specs.Work.{all_checks, known_of}
+use Rattle.work_text.specs.Work.{all_checks, checks_by, known_of}
 
--- a text that is too long is refused as a whole, and another by its first line that is refused
+-- a text that is too long is refused as a whole, and another by its first line that is refused, where all checks are made or the loose ones
+abbrev pub text_refusal_by : Bool → List ℕ → Option Refusal
+text_refusal_by loose text = if nat_lt most_bytes (length text) then Some (refused 0 TooLong) else refusal (checks_by loose) nothing 1 (lines text)
+
 abbrev pub text_refusal : List ℕ → Option Refusal
-text_refusal text = if nat_lt most_bytes (length text) then Some (refused 0 TooLong) else refusal all_checks nothing 1 (lines text)
+text_refusal text = text_refusal_by false text
 
 -- what a text declares, and its writes
 abbrev pub known_of_text : List ℕ → Known
@@ -30,23 +33,24 @@ work_of known =
 -- the declarations were read, and are refused so: so is the text
 abbrev pub DeclarationsRefuse : Type 0
 DeclarationsRefuse =
-    (text : List ℕ) (read : Read) (first : Refusal) → length text ≤ most_bytes → IsRead text read
-    → refusal_of_items item_checks nothing read.items read.fault ≡ Some first → text_refusal text ≡ Some first
+    (loose : Bool) (text : List ℕ) (read : Read) (first : Refusal) → length text ≤ most_bytes → IsRead text read
+    → refusal_of_items (checks_for loose) nothing read.items read.fault ≡ Some first → text_refusal_by loose text ≡ Some first
 
--- they are not, and mean this stack and these scripts: the rest of the text decides, by this stack
-pub record RestDecides (text : List ℕ) (read : Read) (stack : Stack) (scripts : List (PoolId × Answers)) : Type 0 where
+-- They are not, and mean this stack and these scripts: the rest of the text decides, by this stack. No line of it declares a device, so none
+-- lacks a rescuer: all checks refuse it so, and the loose ones too.
+pub record RestDecides (loose : Bool) (text : List ℕ) (read : Read) (stack : Stack) (scripts : List (PoolId × Answers)) : Type 0 where
   -- the rest begins with a write or a `sync` line, or has no line
   pub begins : declarations (lines (drop read.rest text)) ≡ []
-  pub refusals : text_refusal text ≡ refusal all_checks (known_of stack) read.line (lines (drop read.rest text))
+  pub refusals : text_refusal_by loose text ≡ refusal all_checks (known_of stack) read.line (lines (drop read.rest text))
   -- where the text is not refused, it means this stack and these scripts, and the work of the rest
-  pub means : text_refusal text ≡ None → Means (known_of_text text) stack scripts
-  pub work : text_refusal text ≡ None → work_of (known_of_text text) ≡ known_after (known_of stack) (lines (drop read.rest text))
+  pub means : text_refusal_by loose text ≡ None → Means (known_of_text text) stack scripts
+  pub work : text_refusal_by loose text ≡ None → work_of (known_of_text text) ≡ known_after (known_of stack) (lines (drop read.rest text))
 
 abbrev pub RestsDecide : Type 0
 RestsDecide =
-    (text : List ℕ) (read : Read) (stack : Stack) (scripts : List (PoolId × Answers)) → length text ≤ most_bytes → IsRead text read
-    → refusal_of_items item_checks nothing read.items read.fault ≡ None → Means (known_of_items nothing read.items) stack scripts
-    → RestDecides text read stack scripts
+    (loose : Bool) (text : List ℕ) (read : Read) (stack : Stack) (scripts : List (PoolId × Answers)) → length text ≤ most_bytes → IsRead text read
+    → refusal_of_items (checks_for loose) nothing read.items read.fault ≡ None → Means (known_of_items nothing read.items) stack scripts
+    → RestDecides loose text read stack scripts
 
 -- two writes of one round to one device have no sector in common, among the writes of lines of which none is refused
 abbrev pub RoundsAreApart : Type 0

@@ -9,8 +9,8 @@ use Rattle.work_text.specs.declared.Work.{Work}
 use Rattle.layout_model.specs.Need.{needed, vectors}
 use Rattle.layout_model.specs.Bound.{IsBound, most_elements}
 use Rattle.decl_text.specs.Known.{Known, Declared, Resized, Written, nothing, number_in, tree_of}
-use Rattle.decl_text.specs.Accepting.{shown_devices}
-use Rattle.decl_text.specs.Refusals.{Check, check, item_checks}
+use Rattle.decl_text.specs.Accepting.{checks_for, shown_devices}
+use Rattle.decl_text.specs.Refusals.{Check, check}
 use Rattle.decl_text.specs.declared.reason.Reason.TheVariants.{TooMuchWork}
 use Rattle.decl_text.specs.declared.item.Item.{Item}
 use Rattle.decl_text.specs.declared.item.Item.TheVariants as item
@@ -42,9 +42,13 @@ last_round rounds = slice_index_or rounds (length rounds - 1) 0
 abbrev pub kept_resizes : ℕ → List Resized → List Resized
 kept_resizes last resizes = filter (λ resize. nat_le resize.round last) resizes
 
--- all checks of what a line says, in their order
+-- the checks of what a line says, in their order: those of declarations, all or the loose ones, and that of work
+abbrev pub checks_by : Bool → List (Check Item)
+checks_by loose = checks_for loose ++ check TooMuchWork too_much_work ∷ []
+
+-- all checks
 abbrev pub all_checks : List (Check Item)
-all_checks = item_checks ++ check TooMuchWork too_much_work ∷ []
+all_checks = checks_by false
 
 -- what an accepted stack tells of the lines before the writes
 abbrev pub known_of : Stack → Known

@@ -3,12 +3,13 @@ ghost use Rattle.work_text.specs.Fit.{WorkIsFit};
 ghost use Rattle.work_text.specs.Generated.{NoGeneratedTextIsRefused};
 ghost use Rattle.work_text.specs.Whole.{DeclarationsRefuse, RestsDecide, RoundsAreApart};
 
-/// A text whose declarations are refused is refused so.
+/// A text whose declarations are refused is refused so, whether all checks are made or the loose ones.
 pub fn declarations_refuse()
     ensures { DeclarationsRefuse }
 {}
 
-/// A text whose declarations are accepted is refused as the rest of it is, by the stack that they mean.
+/// A text whose declarations are accepted is refused as the rest of it is, by the stack that they mean. Where they are read loosely, the rest is
+/// refused by all checks all the same: none of its lines lacks a rescuer.
 pub fn rests_decide()
     ensures { RestsDecide }
 {}

@@ -10,4 +10,4 @@ read_work-requires-clause-work c =
     let read = c.in_ok-decl.ensures in
     let accepted = c.in_ok-accepted.ensures in
     ap (λ n. declarations (lines (drop n c.args.text.now))) accepted.3
-    ∙ (rest_decides (record { short = read.0; is = read.1; none = accepted.0; means = accepted.1 })).begins
+    ∙ (rest_decides {loose = false} (record { short = read.0; is = read.1; none = accepted.0; means = accepted.1 })).begins

@@ -2,7 +2,7 @@ use Rattle.std.proofs.Common.{◌≡◌, Option}
 use Rattle.std.specs.Vec.Iter.{into_iter_items}
 use Rattle.decl_text.specs.Known.{nothing}
 use Rattle.decl_text.specs.Read.{AreDeclarations}
-use Rattle.decl_text.specs.Refusals.{item_checks}
+use Rattle.decl_text.specs.Accepting.{checks_for}
 use Rattle.decl_text.specs.Reading.{known_of_items, refusal_of_items}
 use Rattle.decl_text.specs.declared.reason.Refusal.{Refusal}
 use Rattle.stack_check.proofs.accepting.drafted.Given as goal
@@ -14,6 +14,6 @@ invariant-loop-next l = record {
   declarations : AreDeclarations (into_iter_items l.next-iterator);
   refusal :
       (fault : Option Refusal)
-      → refusal_of_items item_checks l.draft (into_iter_items l.next-iterator) fault ≡ refusal_of_items item_checks nothing l.fn.items.items fault;
+      → refusal_of_items (checks_for l.fn.loose) l.draft (into_iter_items l.next-iterator) fault ≡ refusal_of_items (checks_for l.fn.loose) nothing l.fn.items.items fault;
   known : known_of_items l.draft (into_iter_items l.next-iterator) ≡ known_of_items nothing l.fn.items.items;
 }

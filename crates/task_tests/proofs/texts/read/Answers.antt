@@ -10,7 +10,7 @@ read_work-requires-clause-work c =
     let read = c.in_ok-decl.ensures in
     let accepted = c.in_ok-accepted.ensures in
     ap (λ n. declarations (lines (drop n c.args.text.now))) accepted.3
-    ∙ (rest_decides (record { short = read.0; is = read.1; none = accepted.0; means = accepted.1 })).begins
+    ∙ (rest_decides {loose = false} (record { short = read.0; is = read.1; none = accepted.0; means = accepted.1 })).begins
 
 pub returns : goal.returns
 returns c =
@@ -19,7 +19,7 @@ returns c =
     record {
       text = c.args.text.now;
       begins = ap (λ n. declarations (lines (drop n c.args.text.now))) accepted.3
-          ∙ (rest_decides (record { short = read.0; is = read.1; none = accepted.0; means = accepted.1 })).begins;
+          ∙ (rest_decides {loose = false} (record { short = read.0; is = read.1; none = accepted.0; means = accepted.1 })).begins;
       reads = c.in_ok-work.ensures.read;
       served = c.in_ok-work.ensures.served;
     }

@@ -1,6 +1,6 @@
 -- Line behind line, each with the words that come next.
-use Rattle.std.proofs.Common.{◌≡◌, ◌∙◌, ◌++◌, ap, ap₂, min, codes}
-use Rattle.work_text.specs.Generated.{behind, chunk_in, limit_words, line_of, longest_in, stripe_size, stripe_words}
+use Rattle.std.proofs.Common.{◌∙◌, ap, ap₂, min}
+use Rattle.work_text.specs.Generated.{behind, chunk_in, stripe_size}
 use Rattle.work_text.proofs.GeneratorLemmas.{declared_text}
 use Rattle.work_text.proofs.generator.add_declarations.Goals as goal
 

@@ -1,5 +1,5 @@
 -- A write more, and the end.
-use Rattle.std.proofs.Common.{◌≡◌, ◌∙◌, ◌+◌, ◌-◌, ◌≤◌, ◌++◌, ◌∷◌, ℕ, suc, ap, ap₂, arith}
+use Rattle.std.proofs.Common.{◌≡◌, ◌∙◌, ◌+◌, ◌-◌, ◌++◌, ◌∷◌, suc, ap, ap₂, arith}
 use Rattle.work_text.specs.Generated.{counts, runs, text_of, writes_from}
 use Rattle.work_text.proofs.GeneratorLemmas.{no_write, one_write}
 use Rattle.work_text.proofs.generator.add_writes.Goals as goal

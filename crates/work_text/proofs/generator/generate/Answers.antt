@@ -1,5 +1,5 @@
 -- The declarations, and the writes behind them.
-use Rattle.std.proofs.Common.{◌≡◌, ◌∙◌, ◌++◌, [], ap}
+use Rattle.std.proofs.Common.{◌∙◌, ◌++◌, [], ap}
 use Rattle.work_text.specs.Generated.{behind_all, declarations, mirror_size, text_of}
 use Rattle.work_text.proofs.GeneratorLemmas.{whole_text}
 use Rattle.work_text.proofs.generator.generate.Goals as goal
