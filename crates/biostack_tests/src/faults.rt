@@ -1,243 +1,262 @@
-//! A fault of the source or of a sink at every call that two small runs, a check and a layout make.
-use crate::runs::{
-    BAD_SECTOR, BAD_SECTOR_REPORT, ONE_SECTOR, ONE_SECTOR_REPORT, ROOM, STRIPED, STRIPED_CHECK,
-    STRIPED_LAYOUT, words_of,
+//! A fault of the source or of a sink at every call that small runs, a trace, a check, a layout and generated texts make.
+use crate::calls::{ROOM, make_call, owned, words_of};
+use crate::texts::{
+    BAD_SECTOR, BAD_SECTOR_REPORT, ONE_SECTOR, ONE_SECTOR_REPORT, ONE_SECTOR_TRACE, STRIPED,
+    STRIPED_CHECK, STRIPED_LAYOUT,
 };
 use biostack_top::biostack;
-use outside_io::{FailSink, FailSource, MemSink, MemSource, Sink, Source};
-use std::alloc::{AllocError, Global};
+use outside_io::{FailSink, FailSource, Sink};
 use std::process::Abort;
-use std::test::Fail;
 
 const READ_FAULT: &[u8] = b"biostack: read fault\n";
 
 const WRITE_FAULT: &[u8] = b"biostack: write fault\n";
 
-/// A call of the program: its word, the text, and all that it writes, with the status of a call without a fault.
-#[derive(Clone, Copy, Debug)]
-struct Call {
-    word: &'static str,
-    text: &'static str,
-    output: &'static str,
+/// A call of the program: its words, the text, and what it writes and ends with where nothing fails.
+#[derive(Clone, Copy)]
+struct Call<'a> {
+    words: &'a [&'a str],
+    text: &'a str,
+    output: &'a str,
     status: u8,
 }
 
-const CALLS: [Call; 4] = [
+const CALLS: [Call<'static>; 5] = [
     Call {
-        word: "run",
+        words: &["run"],
         text: ONE_SECTOR,
         output: ONE_SECTOR_REPORT,
         status: 0,
     },
     // Its write fails, and a fault of the source or of the output hides that.
     Call {
-        word: "run",
+        words: &["run"],
         text: BAD_SECTOR,
         output: BAD_SECTOR_REPORT,
         status: 1,
     },
     Call {
-        word: "check",
+        words: &["run", "--trace"],
+        text: ONE_SECTOR,
+        output: ONE_SECTOR_TRACE,
+        status: 0,
+    },
+    Call {
+        words: &["check"],
         text: STRIPED,
         output: STRIPED_CHECK,
         status: 0,
     },
     Call {
-        word: "layout",
+        words: &["layout"],
         text: STRIPED,
         output: STRIPED_LAYOUT,
         status: 0,
     },
 ];
 
-// A source of the call's text.
-fn whole_source(alloc: Global, call: Call) -> Result<MemSource, AllocError> {
-    let bytes = Vec::from_slice(alloc, call.text.as_bytes())?;
-    Ok(MemSource::new(bytes))
+/// The calls at which the source and the sinks fail, counted from 1 (0: none); how many bytes the output has room for, and how many it
+/// takes a call. The others give and take one byte a call.
+#[derive(Clone, Copy, Debug)]
+struct Faults {
+    source: u64,
+    out: u64,
+    errors: u64,
+    room: usize,
+    most: usize,
 }
 
-// Makes the call: its exit status.
-fn make<S: Source, K: Sink, E: Sink>(
-    alloc: Global,
-    call: Call,
-    source: &mut S,
-    out: &mut K,
-    errors: &mut E,
-) -> Result<u8, AllocError> {
-    let words = words_of(alloc, &[call.word])?;
-    Ok(biostack(alloc, &words, source, out, errors).0)
+/// No faults, where the output takes one byte a call.
+const NONE: Faults = Faults {
+    source: 0,
+    out: 0,
+    errors: 0,
+    room: 2 * ROOM,
+    most: 1,
+};
+
+/// The status of a call, and how many bytes the output and errors have, or nothing where they are not the first ones of their texts.
+type Outcome = (u8, Option<usize>, Option<usize>);
+
+// The number of a call, alone.
+fn at(rt: &(impl Abort + AllocGlobal), number: u64) -> Vec<u64> {
+    Vec::from_slice(rt.alloc(), &[number]).expect(rt, "no number")
 }
 
-// A source of the call's text that gives one byte a call, and fails at one call.
-fn failing_source(alloc: Global, call: Call, number: u64) -> Result<FailSource, AllocError> {
-    let bytes = Vec::from_slice(alloc, call.text.as_bytes())?;
-    Ok(FailSource::new(bytes, vec![in alloc; number]?, 1))
+// A sink that takes so many bytes a call, and fails at one call.
+fn sink(rt: &(impl Abort + AllocGlobal), room: usize, number: u64, most: usize) -> FailSink {
+    FailSink::new(rt.alloc(), room, at(rt, number), most.max(1)).expect(rt, "no sink")
 }
 
-// A sink that takes one byte a call, and fails at one call.
-fn failing_sink(alloc: Global, number: u64) -> Result<FailSink, AllocError> {
-    FailSink::new(alloc, ROOM, vec![in alloc; number]?, 1)
+// A source of a text that gives one byte a call, and fails at one call.
+fn source(rt: &(impl Abort + AllocGlobal), text: &str, number: u64) -> FailSource {
+    FailSource::new(owned(rt, text.as_bytes()), at(rt, number), 1)
 }
 
-fn source_fails_at(
+// The line on errors of a status.
+fn line_of(status: u8) -> &'static [u8] {
+    match status {
+        4 => READ_FAULT,
+        5 => WRITE_FAULT,
+        _ => b"",
+    }
+}
+
+// How long the front of a text is that these bytes are, or nothing where they are none.
+fn front_of(text: &[u8], bytes: &[u8]) -> Option<usize> {
+    if text.starts_with(bytes) {
+        Some(bytes.len())
+    } else {
+        None
+    }
+}
+
+// Makes a call with these faults.
+fn outcome(rt: &(impl Abort + AllocGlobal), call: Call<'_>, faults: Faults) -> Outcome {
+    let words = words_of(rt, call.words);
+    let mut source = source(rt, call.text, faults.source);
+    let mut out = sink(rt, faults.room, faults.out, faults.most);
+    let mut errors = sink(rt, ROOM, faults.errors, 1);
+    let status = biostack(rt.alloc(), &words, &mut source, &mut out, &mut errors).0;
+    let output = front_of(call.output.as_bytes(), out.held());
+    let line = front_of(line_of(status), errors.held());
+    (status, output, line)
+}
+
+// A call with these faults has to end with this status, and to write so many bytes to the output and to errors.
+fn ends(
     rt: &(impl Abort + AllocGlobal),
-    call: Call,
-    number: u64,
-) -> Result<u8, AllocError> {
-    let mut source = failing_source(rt.alloc(), call, number)?;
-    let mut out = MemSink::new(rt.alloc(), ROOM)?;
-    let mut errors = MemSink::new(rt.alloc(), ROOM)?;
-    let exit = make(rt.alloc(), call, &mut source, &mut out, &mut errors)?;
-    let failed = exit == 4;
-    let output = if failed { "" } else { call.output };
-    assert_eq!(rt; out.held(), output.as_bytes(), "{call:?} at {number}");
-    let line = if failed { READ_FAULT } else { b"" };
-    assert_eq!(rt; errors.held(), line, "{call:?} at {number}");
-    Ok(exit)
+    call: Call<'_>,
+    faults: Faults,
+    (status, output, line): (u8, usize, usize),
+) {
+    let found = outcome(rt, call, faults);
+    assert_eq!(rt; found, (status, Some(output), Some(line)), "{faults:?}");
+}
+
+// The outcome of a call that meets no fault.
+fn whole(call: Call<'_>) -> (u8, usize, usize) {
+    (call.status, call.output.len(), 0)
 }
 
 #[test]
-fn a_source_that_fails_at_any_call_ends_with_4(rt: HostRuntime) -> Result<(), Fail> {
+fn a_source_that_fails_at_any_call_ends_with_4(rt: HostRuntime) {
     for call in CALLS {
         // One byte a call, and one call that meets the end.
         let calls = call.text.len() as u64 + 1;
-        for number in 1..calls + 1 {
-            assert_eq!(rt;
-                source_fails_at(&rt, call, number)?,
-                4,
-                "{call:?} at {number}"
+        for source in 1..calls + 1 {
+            ends(
+                &rt,
+                call,
+                Faults { source, ..NONE },
+                (4, 0, READ_FAULT.len()),
             );
         }
-        let Call { status, .. } = call;
-        assert_eq!(rt;
-            source_fails_at(&rt, call, calls + 1)?,
-            status,
-            "{call:?} past the last call"
+        let source = calls + 1;
+        ends(&rt, call, Faults { source, ..NONE }, whole(call));
+    }
+}
+
+// An output that fails at any call ends with 5, and holds what it was given before.
+fn output_fails(rt: &(impl Abort + AllocGlobal), call: Call<'_>) {
+    for before in 0..call.output.len() {
+        let out = before as u64 + 1;
+        ends(
+            rt,
+            call,
+            Faults { out, ..NONE },
+            (5, before, WRITE_FAULT.len()),
         );
     }
-    Ok(())
+    let out = call.output.len() as u64 + 1;
+    ends(rt, call, Faults { out, ..NONE }, whole(call))
 }
 
-fn sink_fails_at(
-    rt: &(impl Abort + AllocGlobal),
-    call: Call,
-    number: u64,
-) -> Result<u8, AllocError> {
-    let mut source = whole_source(rt.alloc(), call)?;
-    let mut out = failing_sink(rt.alloc(), number)?;
-    let mut errors = MemSink::new(rt.alloc(), ROOM)?;
-    let exit = make(rt.alloc(), call, &mut source, &mut out, &mut errors)?;
-    assert_eq!(rt; out.held().len() as u64, number.saturating_sub(1));
-    assert!(rt;
-        call.output.as_bytes().starts_with(out.held()),
-        "{call:?} at {number}"
-    );
-    let line = if exit == 5 { WRITE_FAULT } else { b"" };
-    assert_eq!(rt; errors.held(), line, "{call:?} at {number}");
-    Ok(exit)
+// An output that is full at any byte ends with 5, and holds what it had room for.
+fn output_is_full(rt: &(impl Abort + AllocGlobal), call: Call<'_>) {
+    let most = ROOM;
+    for room in 0..call.output.len() {
+        let faults = Faults { room, most, ..NONE };
+        ends(rt, call, faults, (5, room, WRITE_FAULT.len()));
+    }
+    let room = call.output.len();
+    ends(rt, call, Faults { room, most, ..NONE }, whole(call))
 }
 
 #[test]
-fn a_sink_that_fails_at_any_call_ends_with_5(rt: HostRuntime) -> Result<(), Fail> {
+fn an_output_that_fails_or_is_full_ends_with_5(rt: HostRuntime) {
     for call in CALLS {
-        let calls = call.output.len() as u64;
-        for number in 1..calls + 1 {
-            assert_eq!(rt;
-                sink_fails_at(&rt, call, number)?,
-                5,
-                "{call:?} at {number}"
-            );
+        output_fails(&rt, call);
+        output_is_full(&rt, call);
+    }
+}
+
+#[test]
+fn errors_that_fail_change_nothing_else(rt: HostRuntime) {
+    for call in CALLS {
+        for held in 0..READ_FAULT.len() {
+            let faults = Faults {
+                source: 1,
+                errors: held as u64 + 1,
+                ..NONE
+            };
+            ends(&rt, call, faults, (4, 0, held));
         }
-        let Call { status, .. } = call;
-        assert_eq!(rt;
-            sink_fails_at(&rt, call, calls + 1)?,
-            status,
-            "{call:?} past the last call"
+        let faults = Faults {
+            out: 3,
+            errors: 4,
+            ..NONE
+        };
+        ends(&rt, call, faults, (5, 2, 3));
+    }
+}
+
+// `gen` reads nothing, so a source that fails changes nothing.
+fn reads_nothing(rt: &(impl Abort + AllocGlobal), call: Call<'_>) {
+    ends(rt, call, Faults { source: 1, ..NONE }, whole(call))
+}
+
+// The output of a call that meets no fault.
+fn output_of(rt: &(impl Abort + AllocGlobal), words: &[&str]) -> String {
+    let done = make_call(rt, words, b"", 2 * ROOM);
+    String::from_utf8_lossy(rt.alloc(), done.output.held()).expect(rt, "no output")
+}
+
+#[test]
+fn an_output_that_fails_under_a_generated_text_ends_with_5(rt: HostRuntime) {
+    let words: &[&str] = &["gen", "7", "--text"];
+    let output = output_of(&rt, words);
+    let call = Call {
+        words,
+        text: "",
+        output: output.as_str(),
+        status: 0,
+    };
+    reads_nothing(&rt, call);
+    output_fails(&rt, call);
+}
+
+#[test]
+fn an_output_that_fails_under_a_generated_run_ends_with_5(rt: HostRuntime) {
+    let words: &[&str] = &["gen", "7"];
+    let output = output_of(&rt, words);
+    let call = Call {
+        words,
+        text: "",
+        output: output.as_str(),
+        status: 0,
+    };
+    reads_nothing(&rt, call);
+    let all = call.output.len();
+    for held in [0, 1, all.saturating_sub(1)] {
+        let out = (held as u64).saturating_add(1);
+        ends(
+            &rt,
+            call,
+            Faults { out, ..NONE },
+            (5, held, WRITE_FAULT.len()),
         );
     }
-    Ok(())
-}
-
-fn sink_has_room_for(
-    rt: &(impl Abort + AllocGlobal),
-    call: Call,
-    room: usize,
-) -> Result<u8, AllocError> {
-    let mut source = whole_source(rt.alloc(), call)?;
-    let mut out = MemSink::new(rt.alloc(), room)?;
-    let mut errors = MemSink::new(rt.alloc(), ROOM)?;
-    let exit = make(rt.alloc(), call, &mut source, &mut out, &mut errors)?;
-    assert_eq!(rt; out.held().len(), room);
-    assert!(rt;
-        call.output.as_bytes().starts_with(out.held()),
-        "{call:?} with room for {room} bytes"
-    );
-    Ok(exit)
-}
-
-#[test]
-fn a_sink_that_is_full_at_any_byte_ends_with_5(rt: HostRuntime) -> Result<(), Fail> {
-    for call in CALLS {
-        for room in 0..call.output.len() {
-            assert_eq!(rt;
-                sink_has_room_for(&rt, call, room)?,
-                5,
-                "{call:?} with room for {room} bytes"
-            );
-        }
-        let Call { status, .. } = call;
-        assert_eq!(rt;
-            sink_has_room_for(&rt, call, call.output.len())?,
-            status,
-            "{call:?} with room for all"
-        );
-    }
-    Ok(())
-}
-
-fn errors_fail_at(
-    rt: &(impl Abort + AllocGlobal),
-    call: Call,
-    number: u64,
-) -> Result<u8, AllocError> {
-    let mut source = failing_source(rt.alloc(), call, 1)?;
-    let mut out = MemSink::new(rt.alloc(), ROOM)?;
-    let mut errors = failing_sink(rt.alloc(), number)?;
-    let exit = make(rt.alloc(), call, &mut source, &mut out, &mut errors)?;
-    assert!(rt; out.held().is_empty());
-    assert_eq!(rt; errors.held().len() as u64, number.saturating_sub(1));
-    assert!(rt;
-        READ_FAULT.starts_with(errors.held()),
-        "{call:?} at {number}"
-    );
-    Ok(exit)
-}
-
-#[test]
-fn errors_that_fail_change_nothing_else(rt: HostRuntime) -> Result<(), Fail> {
-    for call in CALLS {
-        for number in 1..READ_FAULT.len() as u64 + 1 {
-            assert_eq!(rt;
-                errors_fail_at(&rt, call, number)?,
-                4,
-                "{call:?} at {number}"
-            );
-        }
-    }
-    Ok(())
-}
-
-#[test]
-fn output_and_errors_may_both_fail(rt: HostRuntime) -> Result<(), Fail> {
-    for call in CALLS {
-        let mut source = whole_source(rt.alloc(), call)?;
-        let mut out = failing_sink(rt.alloc(), 3)?;
-        let mut errors = failing_sink(rt.alloc(), 4)?;
-        let exit = make(rt.alloc(), call, &mut source, &mut out, &mut errors)?;
-        assert_eq!(rt; exit, 5);
-        assert_eq!(rt; out.held().len(), 2);
-        assert!(rt; call.output.as_bytes().starts_with(out.held()));
-        assert_eq!(rt; errors.held(), b"bio".as_slice());
-    }
-    Ok(())
+    let out = (all as u64).saturating_add(1);
+    ends(&rt, call, Faults { out, ..NONE }, whole(call));
 }

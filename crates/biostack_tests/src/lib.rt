@@ -4,23 +4,35 @@
 #![tactic(auto)]
 
 #[cfg(test)]
+mod asks;
+#[cfg(test)]
+mod bounds;
+#[cfg(test)]
+mod calls;
+#[cfg(test)]
+mod disks;
+#[cfg(test)]
 mod faults;
 #[cfg(test)]
-mod layouts;
+mod generated;
 #[cfg(test)]
-mod long;
+mod layouts;
 #[cfg(test)]
 mod made;
 #[cfg(test)]
 mod meanings;
 #[cfg(test)]
+mod orders;
+#[cfg(test)]
 mod refusals;
 #[cfg(test)]
 mod rounds;
-#[cfg(test)]
-mod runs;
 #[cfg(test)]
 mod scan;
 #[cfg(test)]
 mod scenes;
 pub mod slow;
+#[cfg(test)]
+mod stacks;
+#[cfg(test)]
+mod texts;

@@ -1,11 +1,11 @@
 //! What accepted texts mean, worked out by hand from the rules.
+use crate::asks::{Case, all_hold};
 use crate::scenes::{Scene, scene_of};
 use fail_script::Script;
 use layout_model::Write;
 use stack_base::{DevId, Device, Kind, PoolId, Stack, Status};
-use std::alloc::{AllocError, Global};
+use std::alloc::AllocError;
 use std::process::Abort;
-use std::test::Fail;
 
 /// What no text says: the writers' set and its scripts as they are without a line of them.
 const NOTHING: &str =
@@ -15,31 +15,33 @@ const NOTHING: &str =
 const DISK_WITHOUT_MEMORY: &str =
     "a disk of 8\nfs 2 bios, 2 vecs\nfs.bios . then -\nfs.vecs +- then +\n0 elements, 0 fragments, 2 entries\n";
 
-/// A text, and what it means, as [`told`] tells it.
-const MEANINGS: &[(&str, &str)] = &[
-    ("", NOTHING),
-    ("# nothing\n\n", NOTHING),
-    ("fs\n", NOTHING),
-    ("fs vecs=0002\n", NOTHING),
-    (
+/// A text, and what it means, as `told` tells it.
+struct Meaning(&'static str, &'static str);
+
+const MEANINGS: &[Meaning] = &[
+    Meaning("", NOTHING),
+    Meaning("# nothing\n\n", NOTHING),
+    Meaning("fs\n", NOTHING),
+    Meaning("fs vecs=0002\n", NOTHING),
+    Meaning(
         "fs vecs=1024 bios=1\nscript fs.vecs . -\nscript fs.bios -+- +\n",
         "fs 1 bios, 1024 vecs\nfs.bios -+- then +\nfs.vecs . then -\n0 elements, 0 fragments, 3 entries\n",
     ),
     // The place of the line has no effect.
-    (
+    Meaning(
         "memory none\ndisk a 8\nscript fs.vecs +- +\n",
         DISK_WITHOUT_MEMORY,
     ),
-    (
+    Meaning(
         "disk a 8\nmemory none\nscript fs.vecs +- +\n",
         DISK_WITHOUT_MEMORY,
     ),
-    (
+    Meaning(
         "script fs.vecs +- +\ndisk a 8\nmemory none",
         DISK_WITHOUT_MEMORY,
     ),
     // What stands where an option is missing.
-    (
+    Meaning(
         "disk a 8\ndisk b 8\ndisk c 8\ndisk d 8\nlinear n a\nstripe s chunk=4 b\nlimit l max=5 c\nmirror m d\n",
         "a disk of 8\nb disk of 8\nc disk of 8\nd disk of 8\n\
          n linear over 0, reserve 2\n\
@@ -51,7 +53,7 @@ const MEANINGS: &[(&str, &str)] = &[
          0 elements, 0 fragments, 0 entries\n",
     ),
     // Each option, and members in their order.
-    (
+    Meaning(
         "disk a 8\ndisk b 8\ndisk c 8\nlinear n b rescuer=yes a reserve=1\nlimit l reserve=1024 max=18446744073709551615 c chunk=7\n\
          mirror m rescuer=yes reserve=3 l records=4 n\n",
         "a disk of 8\nb disk of 8\nc disk of 8\n\
@@ -62,7 +64,7 @@ const MEANINGS: &[(&str, &str)] = &[
          5.records . then +\n5.bios . then +\n4.bios . then +\n3.bios . then +\n\
          0 elements, 0 fragments, 0 entries\n",
     ),
-    (
+    Meaning(
         "disk a 8\nmirror m a rescuer=no\n",
         "a disk of 8\nm mirror of records 2 over 0, reserve 2\n\
          fs 2 bios, 2 vecs\nfs.bios . then +\nfs.vecs . then +\n1.records . then +\n1.bios . then +\n\
@@ -70,7 +72,7 @@ const MEANINGS: &[(&str, &str)] = &[
     ),
     // The first write needs its bio, a record and two bios. The second one needs a bio more for each of three cuts: the stripe cuts its run
     // at sector 24 and the limit below that at 27, and the linear device cuts it at 24.
-    (
+    Meaning(
         "# A mirror of a stripe and a linear device\n\
          disk a 64\ndisk b 100\nbad a 4 2 nospace\ndisk c 24\ndisk d 64\nbad c 0 1 io\nbad a 2 1 medium\n\
          limit l max=3 chunk=8 b\nstripe s a chunk=8 l reserve=7\nlinear n c d\nmirror m records=5 s reserve=3 n\n\
@@ -87,7 +89,7 @@ const MEANINGS: &[(&str, &str)] = &[
          11 elements, 7 fragments, 3 entries\n",
     ),
     // Names, and words that write numbers.
-    (
+    Meaning(
         "disk a-b_c-d_e-f_0-9 0064\r\n\tdisk\tFS\t00000000000000000001\r\nwrite 007 a-b_c-d_e-f_0-9 063 01 0255",
         "a-b_c-d_e-f_0-9 disk of 64\nFS disk of 1\n\
          fs 2 bios, 2 vecs\nfs.bios . then +\nfs.vecs . then +\n\
@@ -96,23 +98,28 @@ const MEANINGS: &[(&str, &str)] = &[
     ),
 ];
 
-/// What a text says, in lines: its devices, the writers' set, the scripts of all pools, the writes, and what these need.
-fn told(alloc: Global, scene: &Scene) -> Result<String, AllocError> {
-    let mut told = String::new(alloc);
-    tell_stack(&mut told, &scene.accepted.stack)?;
+// Appends what a text says, in lines: its devices, the writers' set, the scripts of all pools, the writes, and what these need.
+fn tell(told: &mut String, scene: &Scene) -> Result<(), AllocError> {
+    tell_stack(told, &scene.accepted.stack)?;
     for (pool, script) in scene.accepted.scripts.iter() {
-        tell_script(&mut told, *pool, script)?;
+        tell_script(told, *pool, script)?;
     }
     for write in scene.work.writes.iter() {
-        tell_write(&mut told, write)?;
+        tell_write(told, write)?;
     }
     let bound = &scene.work.bound;
     writeln!(
         told,
         "{} elements, {} fragments, {} entries",
         bound.e, bound.g, bound.z
-    )?;
-    Ok(told)
+    )
+}
+
+// What a text says, in lines.
+fn told(rt: &(impl Abort + AllocGlobal), scene: &Scene) -> String {
+    let mut told = String::new(rt.alloc());
+    tell(&mut told, scene).expect(rt, "no lines");
+    told
 }
 
 fn tell_stack(told: &mut String, stack: &Stack) -> Result<(), AllocError> {
@@ -191,33 +198,36 @@ fn tell_write(told: &mut String, write: &Write) -> Result<(), AllocError> {
     )
 }
 
-#[test]
-fn texts_mean_what_was_worked_out(rt: HostRuntime) -> Result<(), Fail> {
-    for (text, meaning) in MEANINGS {
-        let scene = scene_of(rt.alloc(), *text)?;
-        let told = told(rt.alloc(), &scene)?;
-        assert_eq!(rt; told.as_str(), *meaning, "of {text:?}");
+impl Case for Meaning {
+    fn holds(&self, rt: &(impl Abort + AllocGlobal)) -> bool {
+        let scene = scene_of(rt, self.0);
+        told(rt, &scene).as_str() == self.1
     }
-    Ok(())
 }
 
 /// A text, the byte at which its declarations end, and one more than the number of lines before it.
-const ENDS: &[(&str, u64, u64)] = &[
-    ("", 0, 1),
-    ("disk a 64", 9, 2),
-    ("disk a 64\n", 10, 2),
-    ("\r\n \n", 4, 3),
-    ("disk a 64\nwrite 0 a 0 1 0\nwrite 0 a 1 1 0\n", 10, 2),
-    ("# one\n\ndisk a 64\n# two\nwrite 0 a 0 1 0\n", 23, 5),
-    ("disk a 64\n \twrite 0 a 0 1 0\n", 10, 2),
+struct End(&'static str, u64, u64);
+
+const ENDS: &[End] = &[
+    End("", 0, 1),
+    End("disk a 64", 9, 2),
+    End("disk a 64\n", 10, 2),
+    End("\r\n \n", 4, 3),
+    End("disk a 64\nwrite 0 a 0 1 0\nwrite 0 a 1 1 0\n", 10, 2),
+    End("# one\n\ndisk a 64\n# two\nwrite 0 a 0 1 0\n", 23, 5),
+    End("disk a 64\n \twrite 0 a 0 1 0\n", 10, 2),
 ];
 
-#[test]
-fn declarations_end_at_the_first_write(rt: HostRuntime) -> Result<(), Fail> {
-    for (text, rest, line) in ENDS {
-        let scene = scene_of(rt.alloc(), *text)?;
-        assert_eq!(rt; scene.accepted.rest, *rest, "of {text:?}");
-        assert_eq!(rt; scene.accepted.line, *line, "of {text:?}");
+impl Case for End {
+    // Whether the declarations of a text end at its first write.
+    fn holds(&self, rt: &(impl Abort + AllocGlobal)) -> bool {
+        let accepted = scene_of(rt, self.0).accepted;
+        accepted.rest == self.1 && accepted.line == self.2
     }
-    Ok(())
+}
+
+#[test]
+fn texts_mean_what_was_worked_out(rt: HostRuntime) {
+    all_hold(&rt, MEANINGS);
+    all_hold(&rt, ENDS);
 }

@@ -7,8 +7,8 @@ use decl_text::{Accepted, ReadFault, Refusal, read_decl};
 use layout_model::Write;
 use stack_base::Stack;
 use stack_check::accept;
-use std::alloc::{AllocError, Global};
-use std::test::Fail;
+use std::alloc::Global;
+use std::process::Abort;
 use work_text::{Work, read_work};
 
 /// What a text says.
@@ -22,8 +22,7 @@ pub struct Scene {
 
 /// What a text says, by the three calls that read one.
 pub fn read(alloc: Global, text: &[u8]) -> Result<Scene, ReadFault>
-    ensures stack { IfOk result (λ scene. IsStack scene.accepted.stack) }
-    ensures served { IfOk result (λ scene. (write : _) → Contains scene.work.writes.items write → IsWrite scene.accepted.stack write) }
+    ensures { IfOk result (λ scene. IsStack scene.accepted.stack) }
 {
     let decl = read_decl(alloc, text)?;
     let accepted = accept(alloc, decl)?;
@@ -31,21 +30,19 @@ pub fn read(alloc: Global, text: &[u8]) -> Result<Scene, ReadFault>
     Ok(Scene { accepted, work })
 }
 
-/// What a text says that is to be accepted.
-pub fn scene_of(alloc: Global, text: &str) -> Result<Scene, Fail>
-    ensures stack { IfOk result (λ scene. IsStack scene.accepted.stack) }
-    ensures served { IfOk result (λ scene. (write : _) → Contains scene.work.writes.items write → IsWrite scene.accepted.stack write) }
+/// What a text says that has to be accepted.
+pub fn scene_of(rt: &(impl Abort + AllocGlobal), text: &str) -> Scene
+    ensures { IsStack result.accepted.stack }
 {
-    let scene = read(alloc, text.as_bytes())?;
-    Ok(scene)
+    read(rt.alloc(), text.as_bytes()).expect(rt, "no scene")
 }
 
 /// Why a text is refused, and nothing where it is accepted.
-pub fn refusal_of(alloc: Global, text: &[u8]) -> Result<Option<Refusal>, AllocError> {
-    match read(alloc, text) {
-        Ok(_) => Ok(None),
-        Err(ReadFault::Refused(refusal)) => Ok(Some(refusal)),
-        Err(ReadFault::Memory) => Err(AllocError),
+pub fn refusal_of(rt: &(impl Abort + AllocGlobal), text: &[u8]) -> Option<Refusal> {
+    match read(rt.alloc(), text) {
+        Ok(_) => None,
+        Err(ReadFault::Refused(refusal)) => Some(refusal),
+        Err(ReadFault::Memory) => rt.panic("no memory"),
     }
 }
 

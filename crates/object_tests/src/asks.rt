@@ -1,14 +1,18 @@
-//! What tests ask. A body that asks much by itself is dear to prove, and a call of these functions is not.
+//! What tests ask. An assertion, a `?` and an early return are dear to prove in a body that owns something, and calls of these functions are
+//! not. So what owns something answers a plain value, and a test ends where there is no memory.
 use std::process::Abort;
 
-/// A number has to be this one.
-pub fn is(rt: &impl Abort, found: u64, wanted: u64) {
-    assert_eq!(rt; found, wanted);
+/// A row of a table.
+pub trait Case {
+    /// Whether what the row tells comes true.
+    fn holds(&self, rt: &(impl Abort + AllocGlobal)) -> bool;
 }
 
-/// Numbers have to be these, in this order.
-pub fn are(rt: &impl Abort, found: &[u64], wanted: &[u64]) {
-    assert_eq!(rt; found, wanted);
+/// What each row tells has to come true.
+pub fn all_hold<C: Case>(rt: &(impl Abort + AllocGlobal), cases: &[C]) {
+    for (number, case) in cases.iter().enumerate() {
+        assert!(rt; case.holds(rt), "row {number}");
+    }
 }
 
 /// Something has to be so.

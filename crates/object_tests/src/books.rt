@@ -1,26 +1,33 @@
 //! Books of the parts of writes.
-use crate::asks::{holds, is};
-use crate::bios::{bio_of_write, open_bios, take, write_of};
-use crate::elements::{always, crosses};
+use crate::asks::{Case, all_hold};
+use crate::bios::{bio_of_write, element_of, one, write_of};
 use arrayvec::ArrayVec;
 use bio_books::{Back, Book, ClosedNode, Dropped, Link, Role};
-use bio_records::{BioBody, Pad, Segment, Slip, SlipElement, VecElement, Vector};
-use mempool_core::{Pool, Taken};
+use bio_records::{Segment, VecElement};
 use stack_base::Status;
 use std::process::Abort;
 
-/// A call of a book. Nodes are numbered in the order in which they were opened.
+/// A call of a book of write 7. Nodes are numbered in the order in which they were opened.
 #[derive(Clone, Copy)]
 enum Call {
-    Open,
+    /// A top node, with a vector of so many segments or with none.
+    Open(Option<u32>),
     Chain(usize),
     /// A master for this node, of so many legs.
     Master(usize, u32),
     Leg(usize),
     Drop(usize, Status),
+    /// The last end of this node, which ends well, with the own part or without it.
+    End(usize, bool),
+    /// A master for this node, of two legs, which is not made.
+    Unmade(usize),
+    Show(usize),
 }
 
-/// What a book answers, without elements and places.
+/// What a node holds: the write of its bio, the segments of its vector, and the legs of its record.
+type Held = (Option<u32>, Option<usize>, Option<u32>);
+
+/// What a book answers, without elements and places, or what it hands out, or what a node shows.
 #[derive(Clone, Copy, PartialEq, Eq)]
 enum Answer {
     Made,
@@ -29,50 +36,56 @@ enum Answer {
     Left,
     Up(Status),
     Top(Status),
+    Back(Held),
+    /// The role, the count and the status of a node, the write of its bio, and the legs of its record.
+    Node(Role, u64, Status, Option<u32>, Option<u32>),
 }
 
 /// The places of a book, its calls with their answers, and whether no node is open then.
-type Case = (u32, &'static [(Call, Answer)], bool);
+struct Calls(u32, &'static [(Call, Answer)], bool);
 
-const CASES: &[Case] = &[
-    (
+const CASES: &[Calls] = &[
+    Calls(
         0,
         &[
-            (Call::Open, Answer::NoRoom),
+            (Call::Open(None), Answer::NoRoom),
             (Call::Chain(0), Answer::Stray),
             (Call::Drop(0, Status::Ok), Answer::Stray),
         ],
         true,
     ),
-    (
+    Calls(
         1,
         &[
-            (Call::Open, Answer::Made),
+            (Call::Open(None), Answer::Made),
             (Call::Chain(0), Answer::NoRoom),
             (Call::Drop(0, Status::Io), Answer::Top(Status::Io)),
             (Call::Drop(0, Status::Io), Answer::Stray),
         ],
         true,
     ),
-    (
+    Calls(
         1,
         &[
-            (Call::Open, Answer::Made),
+            (Call::Open(None), Answer::Made),
             (Call::Drop(0, Status::Ok), Answer::Top(Status::Ok)),
-            (Call::Open, Answer::Made),
+            (Call::Open(None), Answer::Made),
             (Call::Drop(1, Status::NoSpace), Answer::Top(Status::NoSpace)),
         ],
         true,
     ),
-    (
+    Calls(
         2,
-        &[(Call::Open, Answer::Made), (Call::Chain(3), Answer::Stray)],
+        &[
+            (Call::Open(None), Answer::Made),
+            (Call::Chain(3), Answer::Stray),
+        ],
         false,
     ),
-    (
+    Calls(
         3,
         &[
-            (Call::Open, Answer::Made),
+            (Call::Open(None), Answer::Made),
             (Call::Chain(0), Answer::Made),
             (Call::Chain(0), Answer::Made),
             (Call::Chain(0), Answer::NoRoom),
@@ -84,10 +97,10 @@ const CASES: &[Case] = &[
         ],
         true,
     ),
-    (
+    Calls(
         3,
         &[
-            (Call::Open, Answer::Made),
+            (Call::Open(None), Answer::Made),
             (Call::Chain(0), Answer::Made),
             (Call::Chain(1), Answer::Made),
             (Call::Drop(1, Status::NoSpace), Answer::Left),
@@ -100,12 +113,12 @@ const CASES: &[Case] = &[
     ),
 ];
 
-const MIRRORS: &[Case] = &[
+const MIRRORS: &[Calls] = &[
     // Two legs, one of which fails, and both of which fail.
-    (
+    Calls(
         4,
         &[
-            (Call::Open, Answer::Made),
+            (Call::Open(None), Answer::Made),
             (Call::Master(0, 2), Answer::Made),
             (Call::Leg(1), Answer::Made),
             (Call::Leg(1), Answer::Made),
@@ -118,10 +131,10 @@ const MIRRORS: &[Case] = &[
         ],
         true,
     ),
-    (
+    Calls(
         4,
         &[
-            (Call::Open, Answer::Made),
+            (Call::Open(None), Answer::Made),
             (Call::Master(0, 2), Answer::Made),
             (Call::Leg(1), Answer::Made),
             (Call::Leg(1), Answer::Made),
@@ -134,10 +147,10 @@ const MIRRORS: &[Case] = &[
         true,
     ),
     // Three legs, of which the first has ended well before the others are opened.
-    (
+    Calls(
         5,
         &[
-            (Call::Open, Answer::Made),
+            (Call::Open(None), Answer::Made),
             (Call::Master(0, 3), Answer::Made),
             (Call::Leg(1), Answer::Made),
             (Call::Drop(2, Status::Ok), Answer::Up(Status::Ok)),
@@ -153,10 +166,10 @@ const MIRRORS: &[Case] = &[
         true,
     ),
     // A mirror for the own part of a node with two children, of which one fails.
-    (
+    Calls(
         5,
         &[
-            (Call::Open, Answer::Made),
+            (Call::Open(None), Answer::Made),
             (Call::Chain(0), Answer::Made),
             (Call::Chain(0), Answer::Made),
             (Call::Master(0, 1), Answer::Made),
@@ -172,10 +185,10 @@ const MIRRORS: &[Case] = &[
         true,
     ),
     // A mirror below a mirror: the leg of the first has a master of its own, and a child.
-    (
+    Calls(
         6,
         &[
-            (Call::Open, Answer::Made),
+            (Call::Open(None), Answer::Made),
             (Call::Master(0, 1), Answer::Made),
             (Call::Leg(1), Answer::Made),
             (Call::Chain(2), Answer::Made),
@@ -191,12 +204,12 @@ const MIRRORS: &[Case] = &[
         ],
         true,
     ),
-    (
+    Calls(
         1,
         &[
             (Call::Master(0, 2), Answer::Stray),
             (Call::Leg(0), Answer::Stray),
-            (Call::Open, Answer::Made),
+            (Call::Open(None), Answer::Made),
             (Call::Master(0, 2), Answer::NoRoom),
             (Call::Leg(0), Answer::NoRoom),
             (Call::Drop(0, Status::Ok), Answer::Top(Status::Ok)),
@@ -207,7 +220,54 @@ const MIRRORS: &[Case] = &[
     ),
 ];
 
-/// The places of the nodes that a case has opened.
+/// What nodes hold and hand out.
+const HELD: &[Calls] = &[
+    Calls(
+        1,
+        &[
+            (Call::Open(Some(5)), Answer::Made),
+            (Call::End(0, true), Answer::Back((Some(7), Some(5), None))),
+        ],
+        true,
+    ),
+    // The master holds the record, and its node the part.
+    Calls(
+        2,
+        &[
+            (Call::Open(Some(5)), Answer::Made),
+            (Call::Master(0, 2), Answer::Made),
+            (
+                Call::Show(0),
+                Answer::Node(Role::Top, 1, Status::Ok, Some(7), None),
+            ),
+            (
+                Call::Show(1),
+                Answer::Node(Role::Master { parent: 0 }, 2, Status::Io, None, Some(2)),
+            ),
+            (Call::Show(2), Answer::Stray),
+            (Call::Drop(1, Status::Ok), Answer::Left),
+            (
+                Call::Show(1),
+                Answer::Node(Role::Master { parent: 0 }, 1, Status::Ok, None, Some(2)),
+            ),
+            (Call::End(1, false), Answer::Back((None, None, Some(2)))),
+            (Call::End(0, false), Answer::Back((Some(7), Some(5), None))),
+        ],
+        true,
+    ),
+    // What no master was made for comes back.
+    Calls(
+        1,
+        &[
+            (Call::Open(None), Answer::Made),
+            (Call::Unmade(0), Answer::Back((Some(7), None, Some(0)))),
+            (Call::Unmade(8), Answer::Back((Some(7), None, Some(0)))),
+        ],
+        false,
+    ),
+];
+
+/// The places of the nodes that were opened.
 type Places = ArrayVec<u32, 8>;
 
 // The place of a node, or one that no book has.
@@ -230,6 +290,14 @@ fn opened(link: Link, places: &mut Places) -> Answer {
     }
 }
 
+// What a call that opens no node hands back.
+fn unmade(link: Link) -> Answer {
+    match link {
+        Link::Made(_) => Answer::Made,
+        Link::NoRoom(back) | Link::Stray(back) => Answer::Back(came_back(back)),
+    }
+}
+
 // What a call that tells a node of an end answers.
 fn told(dropped: Dropped) -> Answer {
     match dropped {
@@ -240,242 +308,148 @@ fn told(dropped: Dropped) -> Answer {
     }
 }
 
-/// What the elements of nodes are taken from.
-#[derive(Drop)]
-struct Pools {
-    bios: Pool<BioBody<Pad>>,
-    slips: Pool<Slip>,
-}
-
-// Pools of which each take may have ordinary memory.
-fn open_pools(rt: &(impl Abort + AllocGlobal)) -> Pools {
-    Pools {
-        bios: open_bios(rt),
-        slips: Pool::open(rt.alloc(), 1, 1, always(rt, true)).expect(rt, "no pool"),
+// What a node hands out that was told of its last end.
+fn ended(dropped: Dropped) -> Answer {
+    match dropped {
+        Dropped::Up(closed) => handed(closed, false),
+        Dropped::Top(closed) => handed(closed, true),
+        Dropped::Left => Answer::Left,
+        Dropped::Stray(_) => Answer::Stray,
     }
 }
 
-// A record of a mirror.
-fn slip(rt: &impl Abort, pool: &mut Pool<Slip>) -> SlipElement {
-    match pool.take() {
-        Taken::Ordinary(element) | Taken::Spare(element) => element,
-        Taken::Miss { .. } => rt.panic("no record"),
+// What a node hands out that is of write 7, ended well, and had a parent but for a top node.
+fn handed(closed: ClosedNode, is_top: bool) -> Answer {
+    if closed.write == 7 && closed.status == Status::Ok && closed.parent.is_none() == is_top {
+        Answer::Back(came_back(closed.held))
+    } else {
+        Answer::Stray
     }
 }
 
-// Opens the master of a mirror of so many legs, and of one at least, for the node at a place.
-fn master(rt: &impl Abort, book: &mut Book, pools: &mut Pools, place: u32, legs: u32) -> Link {
-    let part = take(rt, &mut pools.bios, bio_of_write(7));
-    let slip = slip(rt, &mut pools.slips);
-    book.master(place, part, slip, legs.max(1))
+// What came back.
+fn came_back(back: Back) -> Held {
+    let segments = match &back.vector {
+        Some(element) => Some(element.body.segments.len()),
+        None => None,
+    };
+    let legs = match &back.slip {
+        Some(element) => Some(element.body.legs),
+        None => None,
+    };
+    (write_of(back.bio), segments, legs)
 }
 
-// Carries out a call.
-fn carry_out(
-    rt: &impl Abort,
-    book: &mut Book,
-    pools: &mut Pools,
-    places: &mut Places,
-    call: Call,
-) -> Answer {
-    match call {
-        Call::Open => opened(book.open_write(7, None), places),
-        Call::Chain(node) => opened(book.chain(place_of(places, node)), places),
-        Call::Master(node, legs) => {
-            opened(
-                master(rt, book, pools, place_of(places, node), legs),
-                places,
-            )
-        }
-        Call::Leg(node) => opened(book.leg(place_of(places, node)), places),
-        Call::Drop(node, status) => told(book.drop_one(place_of(places, node), status, None)),
+// The role of a node, where a master of the first node has that node's number for its place.
+fn numbered(places: &Places, role: Role) -> Role {
+    let master = Role::Master {
+        parent: place_of(places, 0),
+    };
+    if role == master {
+        Role::Master { parent: 0 }
+    } else {
+        role
     }
 }
 
-// Whether no node of a book is open. A book may cross threads.
-fn is_done(book: Book) -> bool {
-    match book.close() {
-        Ok(()) => true,
-        Err(book) => {
-            crosses(book);
-            false
-        }
-    }
-}
-
-// A book of so many places, of the writer of this number.
-fn open(rt: &(impl Abort + AllocGlobal), writer: u32, places: u32) -> Book {
-    Book::open(rt.alloc(), writer, places).expect(rt, "no book")
-}
-
-// Carries out the calls of a case, which have to answer as stated there. It answers how many calls those were.
-fn tries(rt: &(impl Abort + AllocGlobal), pools: &mut Pools, case: &Case) -> usize {
-    let (places, calls, done) = case;
-    let mut book = open(rt, 0, *places);
-    let mut nodes = Places::new();
-    for (number, (call, answer)) in calls.iter().enumerate() {
-        let found = carry_out(rt, &mut book, pools, &mut nodes, *call);
-        assert!(rt; found == *answer, "call {number} of a book of {places}");
-    }
-    holds(rt, is_done(book) == *done, "whether a node is open");
-    calls.len()
-}
-
-// In each of the two tests none of the calls of all cases is left out.
-fn tries_all(rt: &(impl Abort + AllocGlobal), cases: &[Case], calls: usize) {
-    let mut pools = open_pools(rt);
-    let mut tried: usize = 0;
-    for case in cases {
-        tried = tried.saturating_add(tries(rt, &mut pools, case));
-    }
-    is(rt, tried as u64, calls as u64);
-}
-
-#[test]
-fn a_node_closes_with_its_last_end_as_the_first_that_failed(rt: HostRuntime) {
-    tries_all(&rt, CASES, 30);
-}
-
-#[test]
-fn a_master_ends_well_where_one_leg_did(rt: HostRuntime) {
-    tries_all(&rt, MIRRORS, 64);
+// What a node shows.
+fn shown(book: &Book, places: &Places, number: usize) -> Answer {
+    let Some(node) = book.node(place_of(places, number)) else {
+        return Answer::Stray;
+    };
+    let write = match &node.held().bio {
+        Some(element) => Some(element.body.bio.write),
+        None => None,
+    };
+    let legs = match &node.held().slip {
+        Some(element) => Some(element.body.legs),
+        None => None,
+    };
+    let role = numbered(places, node.role());
+    Answer::Node(role, node.count(), node.status(), write, legs)
 }
 
 // A vector of so many segments.
 fn vector_of(rt: &(impl Abort + AllocGlobal), segments: u32) -> VecElement {
-    let opened = Pool::open(rt.alloc(), 64, 1, always(rt, true));
-    let mut pool: Pool<Vector> = opened.expect(rt, "no pool");
-    let (Taken::Ordinary(mut element) | Taken::Spare(mut element)) = pool.take() else {
-        rt.panic("no vector")
-    };
+    let mut element: VecElement = one(rt, 64);
     for _ in 0..segments {
         let _full = element.body.segments.try_push(Segment::default());
     }
     element
 }
 
-// The place of the node that a call made.
-fn made(rt: &impl Abort, link: Link) -> u32 {
-    match link {
-        Link::Made(place) => place,
-        Link::NoRoom(_) | Link::Stray(_) => rt.panic("no node"),
+// Opens the top node of write 7.
+fn open_write(rt: &(impl Abort + AllocGlobal), book: &mut Book, segments: Option<u32>) -> Link {
+    let vector = match segments {
+        Some(segments) => Some(vector_of(rt, segments)),
+        None => None,
+    };
+    book.open_write(7, vector)
+}
+
+// Opens the master of a mirror of so many legs, and of one at least, for the node at a place.
+fn master(rt: &(impl Abort + AllocGlobal), book: &mut Book, place: u32, legs: u32) -> Link {
+    let part = element_of(rt, bio_of_write(7));
+    let slip = one(rt, 1);
+    book.master(place, part, slip, legs.max(1))
+}
+
+// Tells the node at a place of a good end, with the own part or without it.
+fn end(rt: &(impl Abort + AllocGlobal), book: &mut Book, place: u32, has_part: bool) -> Dropped {
+    if has_part {
+        let part = element_of(rt, bio_of_write(7));
+        return book.drop_one(place, Status::Ok, Some(part));
+    }
+    book.drop_one(place, Status::Ok, None)
+}
+
+// Carries out a call.
+fn carry_out(
+    rt: &(impl Abort + AllocGlobal),
+    book: &mut Book,
+    places: &mut Places,
+    call: Call,
+) -> Answer {
+    match call {
+        Call::Open(segments) => opened(open_write(rt, book, segments), places),
+        Call::Chain(node) => opened(book.chain(place_of(places, node)), places),
+        Call::Master(node, legs) => {
+            opened(master(rt, book, place_of(places, node), legs), places)
+        }
+        Call::Leg(node) => opened(book.leg(place_of(places, node)), places),
+        Call::Drop(node, status) => told(book.drop_one(place_of(places, node), status, None)),
+        Call::End(node, has_part) => ended(end(rt, book, place_of(places, node), has_part)),
+        Call::Unmade(node) => unmade(master(rt, book, place_of(places, node), 2)),
+        Call::Show(node) => shown(book, places, node),
     }
 }
 
-/// What a node holds: the write of its bio, the segments of its vector, and the legs of its record.
-type Held = (Option<u32>, Option<usize>, Option<u32>);
-
-// This has to have been held.
-fn is_held(rt: &impl Abort, found: Held, wanted: Held) {
-    assert_eq!(rt; found, wanted);
-}
-
-// What came back.
-fn came_back(back: Back) -> Held {
-    let Back { bio, vector, slip } = back;
-    let segments = match vector {
-        Some(element) => Some(element.body.segments.len()),
-        None => None,
-    };
-    let legs = match slip {
-        Some(element) => Some(element.body.legs),
-        None => None,
-    };
-    (write_of(bio), segments, legs)
-}
-
-// What the node at a place hands out at one of its ends, which has to be its last. It has to end well.
-fn last(rt: &impl Abort, book: &mut Book, place: u32) -> Held {
-    match book.drop_one(place, Status::Ok, None) {
-        Dropped::Top(closed) | Dropped::Up(closed) => {
-            let ClosedNode {
-                held,
-                write,
-                status,
-                ..
-            } = closed;
-            holds(rt, write == 7 && status == Status::Ok, "a good end");
-            came_back(held)
+// Whether calls answer as stated there.
+fn do_answer(rt: &(impl Abort + AllocGlobal), book: &mut Book, calls: &[(Call, Answer)]) -> bool {
+    let mut places = Places::new();
+    for (call, answer) in calls {
+        if carry_out(rt, book, &mut places, *call) != *answer {
+            return false;
         }
-        Dropped::Left | Dropped::Stray(_) => rt.panic("no last end"),
+    }
+    true
+}
+
+impl Case for Calls {
+    fn holds(&self, rt: &(impl Abort + AllocGlobal)) -> bool {
+        let mut book = Book::open(rt.alloc(), 3, self.0).expect(rt, "no book");
+        let is_its = book.writer() == 3 && book.places() == self.0;
+        let are_answered = do_answer(rt, &mut book, self.1);
+        let is_done = book.close().is_ok();
+        is_its && are_answered && is_done == self.2
     }
 }
 
 #[test]
-fn a_node_that_closes_hands_out_what_it_held(rt: HostRuntime) {
-    let mut book = open(&rt, 0, 1);
-    let place = made(&rt, book.open_write(7, Some(vector_of(&rt, 5))));
-    let part = take(&rt, &mut open_bios(&rt), bio_of_write(7));
-    match book.drop_one(place, Status::Ok, Some(part)) {
-        Dropped::Top(closed) => {
-            holds(
-                &rt,
-                closed.parent.is_none() && closed.write == 7,
-                "the write",
-            );
-            holds(&rt, closed.status == Status::Ok, "a good end");
-            is_held(&rt, came_back(closed.held), (Some(7), Some(5), None));
-        }
-        Dropped::Left | Dropped::Up(_) | Dropped::Stray(_) => rt.panic("no top node"),
-    }
-}
-
-/// What a node shows: its role, its count and its status, the write of its bio, and the legs of its record.
-type Shown = (Role, u64, Status, Option<u32>, Option<u32>);
-
-// There has to be a node at a place, which shows this.
-fn shows(rt: &impl Abort, book: &Book, place: u32, wanted: Shown) {
-    let found = shown(book, place);
-    assert_eq!(rt; found, Some(wanted));
-}
-
-// What the node at a place shows.
-fn shown(book: &Book, place: u32) -> Option<Shown> {
-    let node = book.node(place)?;
-    let held = node.held();
-    let write = match &held.bio {
-        Some(element) => Some(element.body.bio.write),
-        None => None,
-    };
-    let legs = match &held.slip {
-        Some(element) => Some(element.body.legs),
-        None => None,
-    };
-    Some((node.role(), node.count(), node.status(), write, legs))
-}
-
-#[test]
-fn a_master_holds_the_record_and_its_node_the_part(rt: HostRuntime) {
-    let mut pools = open_pools(&rt);
-    let mut book = open(&rt, 3, 2);
-    is(&rt, u64::from(book.writer()), 3);
-    is(&rt, u64::from(book.places()), 2);
-    let top = made(&rt, book.open_write(7, Some(vector_of(&rt, 5))));
-    let place = made(&rt, master(&rt, &mut book, &mut pools, top, 2));
-    let role = Role::Master { parent: top };
-    shows(&rt, &book, top, (Role::Top, 1, Status::Ok, Some(7), None));
-    shows(&rt, &book, place, (role, 2, Status::Io, None, Some(2)));
-    holds(&rt, book.node(2).is_none(), "no third node");
-    let left = told(book.drop_one(place, Status::Ok, None));
-    holds(&rt, left == Answer::Left, "one more leg");
-    shows(&rt, &book, place, (role, 1, Status::Ok, None, Some(2)));
-    let held = last(&rt, &mut book, place);
-    is_held(&rt, held, (None, None, Some(2)));
-    let held = last(&rt, &mut book, top);
-    is_held(&rt, held, (Some(7), Some(5), None));
-}
-
-#[test]
-fn what_no_master_was_made_for_comes_back(rt: HostRuntime) {
-    let mut pools = open_pools(&rt);
-    let mut book = open(&rt, 0, 1);
-    let top = made(&rt, book.open_write(7, None));
-    for place in [top, 8] {
-        match master(&rt, &mut book, &mut pools, place, 2) {
-            Link::NoRoom(back) | Link::Stray(back) => {
-                is_held(&rt, came_back(back), (Some(7), None, Some(0)));
-            }
-            Link::Made(_) => rt.panic("a master"),
-        }
-    }
+fn books_keep_nodes_until_their_last_ends(rt: HostRuntime) {
+    // A node closes with its last end, as the first of its ends that failed.
+    all_hold(&rt, CASES);
+    // A master ends well where one leg did.
+    all_hold(&rt, MIRRORS);
+    all_hold(&rt, HELD);
 }

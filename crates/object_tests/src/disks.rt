@@ -1,11 +1,12 @@
 //! Disks of the model.
-ghost use Rattle.std.specs.Prelude.{◌≡◌, length};
+ghost use Rattle.std.specs.Prelude.{IsTrue};
+ghost use Rattle.bio_records.specs.Items.{IsAlone};
+ghost use Rattle.model_disks.specs.Disks.{IsBadRange};
 
-use crate::asks::is;
-use crate::bios::{bio_of, open_bios, shown, take};
-use crate::elements::crosses;
-use bio_records::Bio;
-use model_disks::{Disk, Done};
+use crate::asks::{Case, all_hold, holds};
+use crate::bios::{bio_of, element_of, shows};
+use bio_records::{Bio, BioElement};
+use model_disks::Disk;
 use stack_base::{Bad, DevId, Range, Status};
 use std::process::Abort;
 
@@ -28,7 +29,7 @@ fn run_past(disk: &Disk) -> Option<Range> {
 type Runs = (Option<Range>, Option<Range>);
 
 /// A disk, what is pushed to it, and what it answers.
-struct Case {
+struct Row {
     sectors: u64,
     bad: Option<Bad>,
     /// The sectors of the bios of writes 0 and up, and their first words.
@@ -47,6 +48,18 @@ const MEDIUM: Option<Bad> = Some(Bad {
     kind: Status::Medium,
 });
 
+/// The last two sectors of eight.
+const AT_ITS_END: Option<Bad> = Some(Bad {
+    range: Range { start: 6, len: 2 },
+    kind: Status::Io,
+});
+
+/// The first and the last sector of 1,000.
+const ENDS: &[(Range, u64)] = &[
+    (Range { start: 0, len: 1 }, 1),
+    (Range { start: 999, len: 1 }, 5),
+];
+
 /// One sector each: 0, 1 and 3.
 const THREE: &[(Range, u64)] = &[
     (Range { start: 0, len: 1 }, 1),
@@ -54,9 +67,9 @@ const THREE: &[(Range, u64)] = &[
     (Range { start: 3, len: 1 }, 3),
 ];
 
-const CASES: &[Case] = &[
+const CASES: &[Row] = &[
     // The sum of 5 to 132.
-    Case {
+    Row {
         sectors: 8,
         bad: None,
         pushed: &[(Range { start: 3, len: 2 }, 5)],
@@ -65,7 +78,7 @@ const CASES: &[Case] = &[
         runs: (Some(Range { start: 3, len: 2 }), None),
     },
     // A bio of no sectors ends well.
-    Case {
+    Row {
         sectors: 4,
         bad: MEDIUM,
         pushed: &[(Range { start: 2, len: 0 }, 5)],
@@ -74,7 +87,7 @@ const CASES: &[Case] = &[
         runs: (None, None),
     },
     // The last sector. The sum of 5 to 68.
-    Case {
+    Row {
         sectors: 4,
         bad: None,
         pushed: &[(Range { start: 3, len: 1 }, 5)],
@@ -83,7 +96,7 @@ const CASES: &[Case] = &[
         runs: (Some(Range { start: 3, len: 1 }), None),
     },
     // Any order. The sums of 1 to 64, of 2 to 65 and of 3 to 66.
-    Case {
+    Row {
         sectors: 4,
         bad: None,
         pushed: THREE,
@@ -95,7 +108,7 @@ const CASES: &[Case] = &[
         ),
     },
     // One that touches a bad range writes nothing.
-    Case {
+    Row {
         sectors: 4,
         bad: MEDIUM,
         pushed: THREE,
@@ -110,161 +123,176 @@ const CASES: &[Case] = &[
             Some(Range { start: 3, len: 1 }),
         ),
     },
+    // A disk with a bad range that no bio touches. The sum of 5 to 132.
+    Row {
+        sectors: 8,
+        bad: AT_ITS_END,
+        pushed: &[(Range { start: 3, len: 2 }, 5)],
+        done: &[(0, 0, Status::Ok)],
+        sum: 8768,
+        runs: (Some(Range { start: 3, len: 2 }), None),
+    },
+    // Both ends of a disk. The sums of 1 to 64 and of 5 to 68.
+    Row {
+        sectors: 1000,
+        bad: None,
+        pushed: ENDS,
+        done: &[(0, 0, Status::Ok), (0, 1, Status::Ok)],
+        sum: 2080 + 2336,
+        runs: (
+            Some(Range { start: 0, len: 1 }),
+            Some(Range { start: 999, len: 1 }),
+        ),
+    },
 ];
 
-// A disk of so many sectors, which may have a bad range.
-fn open(rt: &(impl Abort + AllocGlobal), dev: u32, sectors: u64, bad: Option<Bad>) -> Disk
-    ensures { length result.image ≡ sectors }
+// Whether a bad range is one of a disk of so many sectors.
+fn is_within(sectors: u64, bad: Bad) -> bool
+    ensures { IsTrue result → IsBadRange sectors bad }
 {
-    let made = match bad {
-        Some(bad) => {
-            let Range { start, len } = bad.range;
-            assert!(rt; len > 0 && start <= sectors && len <= sectors - start);
-            assert!(rt; bad.kind != Status::Ok);
-            Disk::open(rt.alloc(), DevId(dev), sectors, &[bad])
-        }
-        None => Disk::open(rt.alloc(), DevId(dev), sectors, &[]),
-    };
-    made.expect(rt, "no disk")
+    let Range { start, len } = bad.range;
+    len > 0 && start <= sectors && len <= sectors - start && bad.kind != Status::Ok
 }
 
-// Pushes the bios of writes 0 and up to a disk.
-fn push_all(rt: &(impl Abort + AllocGlobal), disk: &mut Disk, pushed: &[(Range, u64)]) {
-    let mut pool = open_bios(rt);
+// Device 2 as a disk of so many sectors, which may have a bad range within it.
+fn open(rt: &(impl Abort + AllocGlobal), sectors: u64, bad: Option<Bad>) -> Disk {
+    let opened = match bad {
+        Some(bad) if is_within(sectors, bad) => Disk::open(rt.alloc(), DevId(2), sectors, &[bad]),
+        _ => Disk::open(rt.alloc(), DevId(2), sectors, &[]),
+    };
+    opened.expect(rt, "no disk")
+}
+
+// Pushes a bio to a disk, where it has its sectors.
+fn push(disk: &mut Disk, element: BioElement)
+    requires { IsAlone element }
+{
+    let Range { start, len } = element.body.bio.range;
+    if len <= disk.sectors() && start <= disk.sectors() - len {
+        disk.push(element);
+    }
+}
+
+// A disk with the bios of writes 0 and up.
+fn open_with(
+    rt: &(impl Abort + AllocGlobal),
+    sectors: u64,
+    bad: Option<Bad>,
+    pushed: &[(Range, u64)],
+) -> Disk {
+    let mut disk = open(rt, sectors, bad);
     let mut write: u32 = 0;
     for (range, word) in pushed {
-        assert!(rt; range.len <= disk.sectors() && range.start <= disk.sectors() - range.len);
-        let bio = bio_of(write, *range, *word);
-        disk.push(take(rt, &mut pool, bio));
+        push(&mut disk, element_of(rt, bio_of(write, *range, *word)));
         write = write.wrapping_add(1);
     }
+    disk
 }
 
-// The bio at a place where one waits is done.
-fn complete(rt: &impl Abort, disk: &mut Disk, index: u64) -> Done {
-    assert!(rt; index < disk.pending());
-    disk.complete(index)
-}
-
-// A bio that is completed has to be that of this write, as it was pushed, and to end so.
-fn completes(
-    rt: &impl Abort,
-    disk: &mut Disk,
-    case: &Case,
-    (index, write, status): (u64, u32, Status),
-) {
-    let pushed = case.pushed.get(write as usize);
-    let (range, word) = *pushed.expect(rt, "no such write");
-    let found = of_done(complete(rt, disk, index));
-    assert!(rt; found == (bio_of(write, range, word), status));
-}
-
-// The bio of what a disk is done with, and how it ended.
-fn of_done(done: Done) -> (Bio, Status) {
-    (done.el.body.bio, done.status)
-}
-
-// So many bios have to wait in a disk, and its sum and its first two runs have to be these.
-fn shows(rt: &impl Abort, disk: &Disk, pending: u64, sum: u64, runs: Runs) {
-    is(rt, disk.pending(), pending);
-    is(rt, disk.sum(), sum);
-    assert_eq!(rt; two_runs(disk), runs);
-    assert!(rt; run_past(disk).is_none());
-}
-
-// A disk has to answer as the case says.
-fn check(rt: &(impl Abort + AllocGlobal), case: &Case) {
-    let mut disk = open(rt, 0, case.sectors, case.bad);
-    push_all(rt, &mut disk, case.pushed);
-    shows(rt, &disk, case.pushed.len() as u64, 0, (None, None));
-    for done in case.done {
-        completes(rt, &mut disk, case, *done);
+// The bio at a place where one waits is done: the bio, and how it ended.
+fn complete(disk: &mut Disk, index: u64) -> Option<(Bio, Status)> {
+    if index >= disk.pending() {
+        return None;
     }
-    shows(rt, &disk, 0, case.sum, case.runs);
+    let done = disk.complete(index);
+    Some((done.el.body.bio, done.status))
+}
+
+// Completes bios, which have to be those of the writes, as they were pushed, and to end so.
+fn complete_all(disk: &mut Disk, row: &Row) -> bool {
+    for (index, write, status) in row.done {
+        let Some((range, word)) = row.pushed.get(*write as usize) else {
+            return false;
+        };
+        if complete(disk, *index) != Some((bio_of(*write, *range, *word), *status)) {
+            return false;
+        }
+    }
+    true
+}
+
+// The word at a place of an image to which these bios were written.
+fn word_at(row: &Row, place: u64) -> u64 {
+    let sector = place / 64;
+    for (_, write, status) in row.done {
+        if let Some((range, word)) = row.pushed.get(*write as usize)
+            && *status == Status::Ok
+            && sector >= range.start
+            && sector - range.start < range.len
+        {
+            return word.wrapping_add(place.wrapping_sub(range.start.wrapping_mul(64)));
+        }
+    }
+    0
+}
+
+// Whether an image has the words of all sectors, of which those of bios that ended well are written.
+fn is_written(image: &[u64], row: &Row) -> bool {
+    let mut place: u64 = 0;
+    for word in image {
+        if *word != word_at(row, place) {
+            return false;
+        }
+        place = place.wrapping_add(1);
+    }
+    place / 64 == row.sectors
+}
+
+// Whether so many bios wait in a disk, and its sum and its first two runs are these.
+fn is_left(disk: &Disk, pending: usize, sum: u64, runs: Runs) -> bool {
+    disk.pending() == pending as u64
+        && disk.sum() == sum
+        && two_runs(disk) == runs
+        && run_past(disk).is_none()
+}
+
+// Whether a disk shows what it was declared with, and keeps no word of a sector.
+fn is_fresh(disk: &Disk, row: &Row) -> bool {
+    disk.dev() == DevId(2)
+        && disk.sectors() == row.sectors
+        && disk.bad().first().copied() == row.bad
+        && disk.front().is_empty()
+        && is_left(disk, row.pushed.len(), 0, (None, None))
+}
+
+impl Case for Row {
+    // Whether a disk holds what was pushed and completed.
+    fn holds(&self, rt: &(impl Abort + AllocGlobal)) -> bool {
+        let mut disk = open_with(rt, self.sectors, self.bad, self.pushed);
+        let is_fresh = is_fresh(&disk, self);
+        let are_its = complete_all(&mut disk, self);
+        let is_left = is_left(&disk, 0, self.sum, self.runs);
+        let is_written = is_written(disk.image(), self);
+        is_fresh && are_its && is_left && is_written
+    }
+}
+
+// Whether a disk shows the bios that wait.
+fn shows_waiting(rt: &(impl Abort + AllocGlobal)) -> bool {
+    let mut disk = open_with(rt, 4, None, THREE);
+    let are_three = shows(disk.waiting(), &[0, 1, 2]);
+    let _second = complete(&mut disk, 1);
+    let are_two = shows(disk.waiting(), &[0, 2]);
+    are_three && are_two
+}
+
+// How many words a disk keeps when its first sector was written, and then its last one of 1,000.
+fn fronts(rt: &(impl Abort + AllocGlobal)) -> [usize; 2] {
+    let mut disk = open_with(rt, 1000, None, ENDS);
+    let _first = complete(&mut disk, 0);
+    let first = disk.front().len();
+    let _last = complete(&mut disk, 0);
+    [first, disk.front().len()]
 }
 
 #[test]
 fn disks_hold_what_was_pushed_and_completed(rt: HostRuntime) {
-    for case in CASES {
-        check(&rt, case);
-    }
-}
-
-#[test]
-fn a_disk_shows_the_bios_that_wait(rt: HostRuntime) {
-    let mut disk = open(&rt, 0, 4, None);
-    shown(&rt, disk.waiting(), &[]);
-    push_all(&rt, &mut disk, THREE);
-    shown(&rt, disk.waiting(), &[0, 1, 2]);
-    drop(complete(&rt, &mut disk, 1));
-    shown(&rt, disk.waiting(), &[0, 2]);
-}
-
-// Device 2 has to have eight sectors of zeros, of which it keeps none, and this bad range.
-fn is_empty(rt: &impl Abort, disk: &mut Disk, bad: Bad) {
-    is(rt, disk.sectors(), 8);
-    is(rt, disk.front().len() as u64, 0);
-    assert!(rt; disk.dev() == DevId(2) && disk.bad() == [bad].as_slice());
-    let image = disk.image();
-    is(rt, image.len() as u64, 512);
-    for word in image {
-        is(rt, *word, 0);
-    }
-}
-
-// The words of sectors 3 and 4 have to be 5 to 132, and all others 0.
-fn has_two_sectors(rt: &impl Abort, image: &[u64]) {
-    for (place, word) in image.iter().enumerate() {
-        let expected = if (192..320).contains(&place) {
-            place - 187
-        } else {
-            0
-        };
-        is(rt, *word, expected as u64);
-    }
-}
-
-#[test]
-fn an_image_is_the_words_of_all_sectors(rt: HostRuntime) {
-    let bad = Bad {
-        range: Range { start: 6, len: 2 },
-        kind: Status::Io,
-    };
-    let mut disk = open(&rt, 2, 8, Some(bad));
-    is_empty(&rt, &mut disk, bad);
-    push_all(&rt, &mut disk, &[(Range { start: 3, len: 2 }, 5)]);
-    drop(complete(&rt, &mut disk, 0));
-    has_two_sectors(&rt, disk.image());
-}
-
-// The words of the first of 1,000 sectors have to be 1 to 64, those of the last 5 to 68, and all others 0.
-fn has_both_ends(rt: &impl Abort, image: &[u64]) {
-    is(rt, image.len() as u64, 64_000);
-    for (place, word) in image.iter().enumerate() {
-        let expected = match place / 64 {
-            0 => place % 64 + 1,
-            999 => place % 64 + 5,
-            _ => 0,
-        };
-        is(rt, *word, expected as u64);
-    }
-}
-
-#[test]
-fn an_image_grows_up_to_what_is_written(rt: HostRuntime) {
-    let first = Range { start: 0, len: 1 };
-    let last = Range { start: 999, len: 1 };
-    let mut disk = open(&rt, 0, 1000, None);
-    push_all(&rt, &mut disk, &[(first, 1), (last, 5)]);
-    drop(complete(&rt, &mut disk, 0));
-    is(&rt, disk.front().len() as u64, 64);
-    drop(complete(&rt, &mut disk, 0));
-    is(&rt, disk.front().len() as u64, 64_000);
-    has_both_ends(&rt, disk.image());
-    shows(&rt, &disk, 0, 2080 + 2336, (Some(first), Some(last)));
-}
-
-#[test]
-fn disks_may_cross_threads(rt: HostRuntime) {
-    crosses(open(&rt, 0, 8, None));
+    all_hold(&rt, CASES);
+    holds(
+        &rt,
+        shows(open(&rt, 4, None).waiting(), &[]),
+        "no bio waits",
+    );
+    holds(&rt, shows_waiting(&rt), "the bios that wait");
+    holds(&rt, fronts(&rt) == [64, 64_000], "up to what is written");
 }

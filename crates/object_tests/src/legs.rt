@@ -1,12 +1,13 @@
 //! Legs of bios on mirrors.
 ghost use Rattle.std.specs.Prelude.{◌≡◌, length};
 
-use crate::asks::is;
+use crate::asks::{Case, all_hold, holds};
 use crate::bios::bio_of;
 use arrayvec::ArrayVec;
 use bio_records::{Bio, Iter, Pad};
 use mirror_map::Mirror;
 use stack_base::{DevId, Range, SetId};
+use std::process::Abort;
 
 // Of 40 sectors, over the devices 4, 0 and 9.
 fn over_three() -> Mirror
@@ -19,33 +20,36 @@ fn over_three() -> Mirror
     Mirror::new(members, 40)
 }
 
+/// The number of a leg, its member, and the node that it is for.
+struct Leg(u32, u32, u32);
+
+const LEGS: &[Leg] = &[Leg(0, 4, 30), Leg(1, 0, 31), Leg(2, 9, 32)];
+
+impl Case for Leg {
+    // Whether the leg of a bio is the bio itself but for its device, its set and its node.
+    fn holds(&self, _rt: &(impl Abort + AllocGlobal)) -> bool {
+        let Leg(leg, member, node) = *self;
+        let set = SetId::Of(DevId(11));
+        let bio = Bio {
+            at: Iter {
+                segment: 2,
+                done: 3,
+            },
+            ..bio_of(7, Range { start: 10, len: 20 }, 5)
+        };
+        let wanted = Bio {
+            node,
+            dev: DevId(member),
+            set,
+            ..bio
+        };
+        leg < 3 && over_three().clone_for(&bio, leg, set, node) == (wanted, Pad { leg })
+    }
+}
+
 #[test]
 fn a_bio_has_a_leg_for_each_member(rt: HostRuntime) {
     let mirror = over_three();
-    is(&rt, u64::from(mirror.legs()), 3);
-    is(&rt, mirror.size(), 40);
-    let run = Range { start: 10, len: 20 };
-    let bio = Bio {
-        at: Iter {
-            segment: 2,
-            done: 3,
-        },
-        ..bio_of(7, run, 5)
-    };
-    let set = SetId::Of(DevId(11));
-    for (leg, member, node) in [(0_u32, 4, 30), (1, 0, 31), (2, 9, 32)] {
-        assert!(rt; leg < 3);
-        let wanted = Bio {
-            write: 7,
-            writer: 0,
-            node,
-            dev: DevId(member),
-            range: run,
-            word: 5,
-            at: bio.at,
-            set,
-        };
-        let found = mirror.clone_for(&bio, leg, set, node);
-        assert!(rt; found == (wanted, Pad { leg }));
-    }
+    holds(&rt, mirror.legs() == 3 && mirror.size() == 40, "a mirror");
+    all_hold(&rt, LEGS);
 }

@@ -8,6 +8,8 @@ mod bios;
 #[cfg(test)]
 mod books;
 #[cfg(test)]
+mod crossing;
+#[cfg(test)]
 mod disks;
 #[cfg(test)]
 mod elements;
@@ -16,12 +18,14 @@ mod lanes;
 #[cfg(test)]
 mod legs;
 #[cfg(test)]
-mod objects;
-#[cfg(test)]
 mod pieces;
+#[cfg(test)]
+mod pools;
 #[cfg(test)]
 mod records;
 #[cfg(test)]
 mod sets;
+#[cfg(test)]
+mod streams;
 #[cfg(test)]
 mod submission;

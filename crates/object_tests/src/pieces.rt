@@ -1,7 +1,7 @@
 //! Pieces of runs on devices that cut.
 ghost use Rattle.std.specs.Prelude.{◌≡◌, ◌+◌, ◌≤◌, length};
 
-use crate::asks::is;
+use crate::asks::holds;
 use arrayvec::ArrayVec;
 use limit_split::Limit;
 use linear_map::Linear;
@@ -35,18 +35,15 @@ fn over_three() -> Linear {
     Linear::new(sizes)
 }
 
-#[test]
-fn a_linear_device_cuts_at_the_ends_of_members(rt: HostRuntime) {
-    let device = over_three();
-    for (start, len, first, member, at) in OVER_THREE {
-        assert!(rt; *len >= 1 && *start <= 14 && *len <= 14 - *start && device.size() == 14);
-        is_piece(&rt, device.piece(*start, *len), *first, *member, *at);
-    }
-}
-
-// A piece has to have this length, and to go to this sector of this member.
-fn is_piece(rt: &impl Abort, found: Piece, len: u64, member: u32, at: u64) {
-    assert_eq!(rt; found, Piece { len, member, at });
+// Whether the first piece of a run that lies within a device is this one.
+fn has_piece<D: MapLaw>(device: &D, (start, len, first, member, at): Case) -> bool {
+    let size = device.size();
+    let wanted = Piece {
+        len: first,
+        member,
+        at,
+    };
+    len >= 1 && start <= size && len <= size - start && device.piece(start, len) == wanted
 }
 
 // How long the pieces of a run are, one after the other. Each is cut off what is left of the run.
@@ -69,25 +66,25 @@ fn lengths<D: MapLaw>(device: &D, start: u64, len: u64) -> ArrayVec<u64, 8> {
     lengths
 }
 
-// The lengths of the pieces are these.
-fn are(found: &ArrayVec<u64, 8>, wanted: &[u64]) -> bool {
-    found.as_slice() == wanted
+// A run on a device has to have pieces of these lengths.
+fn are_long<D: MapLaw>(rt: &impl Abort, device: &D, (start, len): (u64, u64), wanted: &[u64]) {
+    let found = lengths(device, start, len);
+    holds(rt, found.as_slice() == wanted, "the lengths of pieces");
 }
 
 #[test]
 #[tactic(auto, unfolding(stack_base::specs::Mapping::size_of, stack_base::specs::Mapping::smallest))]
-fn a_stripe_cuts_at_the_ends_of_chunks(rt: HostRuntime) {
-    let device = Stripe::new(8, 2, 32);
-    is(&rt, device.size(), 64);
-    assert!(rt; are(&lengths(&device, 5, 20), &[3, 8, 8, 1]));
-}
-
-#[test]
-fn a_limit_cuts_by_length_and_at_the_ends_of_chunks(rt: HostRuntime) {
-    let within_chunks = Limit::new(3, 8, 64);
-    assert!(rt; are(&lengths(&within_chunks, 6, 10), &[2, 3, 3, 2]));
-    let anywhere = Limit::new(3, 0, 64);
-    assert!(rt; are(&lengths(&anywhere, 6, 10), &[3, 3, 3, 1]));
+fn devices_cut_at_members_and_chunks_and_by_length(rt: HostRuntime) {
+    let linear = over_three();
+    holds(&rt, linear.size() == 14, "the size of a linear device");
+    for case in OVER_THREE {
+        holds(&rt, has_piece(&linear, *case), "a piece of a linear device");
+    }
+    let stripe = Stripe::new(8, 2, 32);
+    holds(&rt, stripe.size() == 64, "the size of a stripe");
+    are_long(&rt, &stripe, (5, 20), &[3, 8, 8, 1]);
+    are_long(&rt, &Limit::new(3, 8, 64), (6, 10), &[2, 3, 3, 2]);
+    are_long(&rt, &Limit::new(3, 0, 64), (6, 10), &[3, 3, 3, 1]);
 }
 
 // A zoned device of chunks of 8 sectors over three members of these sizes.
@@ -102,20 +99,26 @@ fn zoned_over(first: u64, second: u64, third: u64) -> Zoned
     Zoned::new(8, sizes)
 }
 
-#[test]
-fn a_zoned_device_goes_on_round_the_members_that_have_more(rt: HostRuntime) {
+// Whether a zoned device goes on round the members that have more.
+fn goes_on() -> bool {
     let device = zoned_over(16, 32, 20);
-    assert!(rt; device.size() == 64);
-    is_piece(&rt, device.piece(40, 16), 8, 2, 8);
-    is_piece(&rt, device.piece(48, 8), 8, 1, 16);
-    assert!(rt; device.sector_of(2, 8) == Some(40));
-    assert!(rt; device.sector_of(2, 16).is_none());
+    device.size() == 64
+        && has_piece(&device, (40, 16, 8, 2, 8))
+        && has_piece(&device, (48, 8, 8, 1, 16))
+        && device.sector_of(2, 8) == Some(40)
+        && device.sector_of(2, 16).is_none()
+}
+
+// Whether the chunks of a zone are counted from its first one.
+fn counts_from_its_zone() -> bool {
+    let device = zoned_over(8, 16, 16);
+    device.size() == 40
+        && has_piece(&device, (24, 16, 8, 1, 8))
+        && has_piece(&device, (32, 8, 8, 2, 8))
 }
 
 #[test]
-fn chunks_of_a_zone_are_counted_from_its_first(rt: HostRuntime) {
-    let device = zoned_over(8, 16, 16);
-    assert!(rt; device.size() == 40);
-    is_piece(&rt, device.piece(24, 16), 8, 1, 8);
-    is_piece(&rt, device.piece(32, 8), 8, 2, 8);
+fn a_zoned_device_goes_on_round_its_members(rt: HostRuntime) {
+    holds(&rt, goes_on(), "members that have more");
+    holds(&rt, counts_from_its_zone(), "chunks of a zone");
 }

@@ -1,23 +1,24 @@
 //! Segments, lists of bios, the list of a rescuer, and the lists of a task.
-use crate::asks::is;
-use crate::bios::{bio_of, holds, is_bio, list_of, open_bios, pops, push, shown};
-use crate::elements::crosses;
+use crate::asks::{Case, all_hold, holds};
+use crate::bios::{bio_of, bio_of_write, element_of, has, list_of, open_bios, shows, write_of};
 use bio_records::{
-    BioList, Iter, RescueList, Segment, TaskLists, Waits, advance, fill, front, segments,
+    BioList, Iter, Pad, RescueList, Segment, TaskLists, Waits, advance, fill, front, segments,
 };
+use bioset_pools::fill_bio;
+use mempool_core::Taken;
 use stack_base::{DevId, Range};
 use std::process::Abort;
 
-#[test]
-fn a_segment_has_eight_sectors(rt: HostRuntime) {
-    for (sectors, count) in [(1, 1), (8, 1), (9, 2), (32, 4), (33, 5), (2048, 256)] {
-        assert!(rt; 1 <= sectors && sectors <= 2048);
-        is(&rt, u64::from(segments(sectors)), count);
-    }
+/// Sectors, and how many segments they are.
+const SEGMENTS: &[(u64, u64)] = &[(1, 1), (8, 1), (9, 2), (32, 4), (33, 5), (2048, 256)];
+
+// Whether sectors are so many segments of eight.
+fn are_segments((sectors, count): (u64, u64)) -> bool {
+    1 <= sectors && sectors <= 2048 && u64::from(segments(sectors)) == count
 }
 
-#[test]
-fn the_last_segment_has_what_is_left(rt: HostRuntime) {
+// Whether the last segment has what is left.
+fn fills() -> bool {
     let mut places = [Segment::default(); 2];
     fill(u64::MAX, 11, &mut places);
     let segments = [
@@ -30,27 +31,22 @@ fn the_last_segment_has_what_is_left(rt: HostRuntime) {
             sectors: 3,
         },
     ];
-    assert_eq!(rt; places, segments);
+    places == segments
 }
 
-#[test]
-fn a_bio_is_cut_into_its_front_and_the_rest(rt: HostRuntime) {
+// Whether a bio is cut into its front and the rest.
+fn cuts() -> bool {
     let range = Range { start: 10, len: 20 };
     let mut bio = bio_of(7, range, 5);
     let first = front(&bio, 11);
     advance(&mut bio, 11);
-    assert_eq!(rt;
-        [(first.range, first.word), (bio.range, bio.word)],
-        [
-            (Range { start: 10, len: 11 }, 5),
-            (Range { start: 21, len: 9 }, 709)
-        ]
-    );
     let at = Iter {
         segment: 1,
         done: 3,
     };
-    assert!(rt; bio.at == at);
+    (first.range, first.word) == (Range { start: 10, len: 11 }, 5)
+        && (bio.range, bio.word) == (Range { start: 21, len: 9 }, 709)
+        && bio.at == at
 }
 
 /// A call of a list of bios, and what it answers. Numbers are those of writes.
@@ -69,11 +65,11 @@ enum Call {
 }
 
 /// Calls of an empty list, and the writes whose bios it has behind them.
-type Case = (&'static [Call], &'static [u32]);
+struct Calls(&'static [Call], &'static [u32]);
 
-const CASES: &[Case] = &[
-    (&[Call::Len(0), Call::Pop(None)], &[]),
-    (
+const CASES: &[Calls] = &[
+    Calls(&[Call::Len(0), Call::Pop(None)], &[]),
+    Calls(
         &[
             Call::Push(3),
             Call::Push(1),
@@ -85,53 +81,53 @@ const CASES: &[Case] = &[
         &[1, 4, 5],
     ),
     // A list that is merged stands behind.
-    (&[Call::Merge(&[]), Call::Merge(&[])], &[]),
-    (&[Call::Merge(&[]), Call::Merge(&[1, 2])], &[1, 2]),
-    (&[Call::Merge(&[1, 2]), Call::Merge(&[])], &[1, 2]),
-    (&[Call::Merge(&[1, 2]), Call::Merge(&[3, 4])], &[1, 2, 3, 4]),
-    (
+    Calls(&[Call::Merge(&[]), Call::Merge(&[])], &[]),
+    Calls(&[Call::Merge(&[]), Call::Merge(&[1, 2])], &[1, 2]),
+    Calls(&[Call::Merge(&[1, 2]), Call::Merge(&[])], &[1, 2]),
+    Calls(&[Call::Merge(&[1, 2]), Call::Merge(&[3, 4])], &[1, 2, 3, 4]),
+    Calls(
         &[Call::Merge(&[1]), Call::Merge(&[2, 3, 4, 5])],
         &[1, 2, 3, 4, 5],
     ),
-    (
+    Calls(
         &[Call::Merge(&[1, 2, 3, 4]), Call::Merge(&[5])],
         &[1, 2, 3, 4, 5],
     ),
-    (&[Call::MergeParted(&[]), Call::MergeParted(&[])], &[]),
-    (
+    Calls(&[Call::MergeParted(&[]), Call::MergeParted(&[])], &[]),
+    Calls(
         &[Call::MergeParted(&[]), Call::MergeParted(&[1, 2])],
         &[1, 2],
     ),
-    (
+    Calls(
         &[Call::MergeParted(&[1, 2]), Call::MergeParted(&[])],
         &[1, 2],
     ),
-    (
+    Calls(
         &[Call::MergeParted(&[1, 2]), Call::MergeParted(&[3, 4])],
         &[1, 2, 3, 4],
     ),
-    (
+    Calls(
         &[Call::MergeParted(&[1]), Call::MergeParted(&[2, 3, 4, 5])],
         &[1, 2, 3, 4, 5],
     ),
-    (
+    Calls(
         &[Call::MergeParted(&[1, 2, 3, 4]), Call::MergeParted(&[5])],
         &[1, 2, 3, 4, 5],
     ),
     // A bio is taken out at any place.
-    (
+    Calls(
         &[Call::MergeParted(&[1, 2, 3, 4, 5]), Call::TakeAt(0, 1)],
         &[2, 3, 4, 5],
     ),
-    (
+    Calls(
         &[Call::MergeParted(&[1, 2, 3, 4, 5]), Call::TakeAt(1, 2)],
         &[1, 3, 4, 5],
     ),
-    (
+    Calls(
         &[Call::MergeParted(&[1, 2, 3, 4, 5]), Call::TakeAt(2, 3)],
         &[1, 2, 4, 5],
     ),
-    (
+    Calls(
         &[Call::MergeParted(&[1, 2, 3, 4, 5]), Call::TakeAt(4, 5)],
         &[1, 2, 3, 4],
     ),
@@ -142,43 +138,45 @@ fn parted(rt: &(impl Abort + AllocGlobal), writes: &[u32]) -> BioList {
     let (behind, before) = writes.split_at(writes.len() / 2);
     let mut list = list_of(rt, &[0]);
     list.merge(list_of(rt, behind));
-    pops(rt, &mut list, Some(0));
+    drop(list.pop());
     list.merge(list_of(rt, before));
     list
 }
 
-// The bio at a place of a list has to be that of this write. It is taken out.
-fn takes(rt: &impl Abort, list: &mut BioList, index: u64, write: u32) {
-    assert!(rt; index < list.len());
-    is_bio(rt, Some(list.take_at(index)), Some(write));
+// Whether the bio at a place of a list is that of this write. It is taken out.
+fn takes(list: &mut BioList, index: u64, write: u32) -> bool {
+    index < list.len() && list.take_at(index).body.bio.write == write
 }
 
-// A list has to have so many bios.
-fn has_len(rt: &impl Abort, list: &BioList, len: u64) {
-    is(rt, list.len(), len);
-    assert!(rt; list.is_empty() == (len == 0));
-}
-
-// Makes a call of a list, which has to answer as it says.
-fn make(rt: &(impl Abort + AllocGlobal), list: &mut BioList, call: Call) {
+// Makes a call of a list: whether it answers as it says.
+fn make(rt: &(impl Abort + AllocGlobal), list: &mut BioList, call: Call) -> bool {
     match call {
-        Call::Push(write) => push(rt, list, &mut open_bios(rt), write),
-        Call::Pop(write) => pops(rt, list, write),
+        Call::Push(write) => list.push(element_of(rt, bio_of_write(write))),
+        Call::Pop(write) => return write_of(list.pop()) == write,
         Call::Merge(writes) => list.merge(list_of(rt, writes)),
         Call::MergeParted(writes) => list.merge(parted(rt, writes)),
-        Call::TakeAt(index, write) => takes(rt, list, index, write),
-        Call::Len(len) => has_len(rt, list, len),
+        Call::TakeAt(index, write) => return takes(list, index, write),
+        Call::Len(len) => return list.len() == len && list.is_empty() == (len == 0),
     }
+    true
 }
 
-#[test]
-fn bios_leave_a_list_in_the_order_in_which_they_came(rt: HostRuntime) {
-    for (calls, left) in CASES {
-        let mut list = BioList::new();
-        for call in *calls {
-            make(&rt, &mut list, *call);
+// Makes calls of a list: whether they answer as they say.
+fn make_all(rt: &(impl Abort + AllocGlobal), list: &mut BioList, calls: &[Call]) -> bool {
+    for call in calls {
+        if !make(rt, list, *call) {
+            return false;
         }
-        holds(&rt, list, left);
+    }
+    true
+}
+
+impl Case for Calls {
+    // Whether bios leave a list in the order in which they came.
+    fn holds(&self, rt: &(impl Abort + AllocGlobal)) -> bool {
+        let mut list = BioList::new();
+        let do_answer = make_all(rt, &mut list, self.0);
+        has(list, self.1) && do_answer
     }
 }
 
@@ -190,29 +188,21 @@ fn many(rt: &(impl Abort + AllocGlobal)) -> BioList {
     let mut pool = open_bios(rt);
     let mut list = BioList::new();
     for write in 0..MANY {
-        push(rt, &mut list, &mut pool, write);
+        if let Taken::Ordinary(mut element) | Taken::Spare(mut element) = pool.take() {
+            fill_bio(&mut element, bio_of_write(write), Pad { leg: 0 });
+            list.push(element);
+        }
     }
-    has_len(rt, &list, u64::from(MANY));
     list
 }
 
-#[test]
-fn a_long_list_is_dropped_as_it_was_pushed(rt: HostRuntime) {
-    drop(many(&rt));
-}
-
-#[test]
-fn a_long_list_is_dropped_turned_round(rt: HostRuntime) {
-    let mut list = many(&rt);
-    for call in [
-        Call::Pop(Some(0)),
-        Call::TakeAt(900_000, 900_001),
-        Call::Pop(Some(1)),
-        Call::Len(999_997),
-    ] {
-        make(&rt, &mut list, call);
-    }
-    drop(list);
+// Takes bios from the front of a long list and out of its midst: whether they are those.
+fn turns_round(list: &mut BioList) -> bool {
+    list.len() == u64::from(MANY)
+        && write_of(list.pop()) == Some(0)
+        && takes(list, 900_000, 900_001)
+        && write_of(list.pop()) == Some(1)
+        && list.len() == 999_997
 }
 
 /// A call of a rescuer's list, by the writes of bios: those that are added, the next one, or all that wait, in their order.
@@ -223,8 +213,11 @@ enum Rescue {
     Waits(&'static [u32]),
 }
 
-const RESCUES: &[&[Rescue]] = &[
-    &[
+/// The calls of a rescuer's list.
+struct Rescues(&'static [Rescue]);
+
+const RESCUES: &[Rescues] = &[
+    Rescues(&[
         Rescue::Pop(None),
         Rescue::Add(&[1, 2]),
         Rescue::Add(&[]),
@@ -235,52 +228,57 @@ const RESCUES: &[&[Rescue]] = &[
         Rescue::Pop(Some(4)),
         Rescue::Pop(Some(5)),
         Rescue::Pop(None),
-    ],
-    &[
+    ]),
+    Rescues(&[
         Rescue::Waits(&[]),
         Rescue::Add(&[1, 2, 3]),
         Rescue::Pop(Some(1)),
         Rescue::Add(&[4, 5]),
         Rescue::Waits(&[2, 3, 4, 5]),
-    ],
+    ]),
 ];
 
-// The bios of these writes have to wait, in this order.
-fn waits(rt: &impl Abort, waiting: &RescueList, writes: &[u32]) {
-    is(rt, waiting.len(), writes.len() as u64);
-    assert!(rt; waiting.dev() == DevId(3) && waiting.is_empty() == writes.is_empty());
-    shown(rt, waiting.walk(), writes);
-}
-
-// Makes a call of a rescuer's list, which has to answer as it says.
-fn answers(rt: &(impl Abort + AllocGlobal), waiting: &mut RescueList, call: Rescue) {
+// Makes a call of a rescuer's list: whether it answers as it says.
+fn answers(rt: &(impl Abort + AllocGlobal), waiting: &mut RescueList, call: Rescue) -> bool {
     match call {
         Rescue::Add(writes) => waiting.add(list_of(rt, writes)),
-        Rescue::Pop(write) => is_bio(rt, waiting.pop(), write),
-        Rescue::Waits(writes) => waits(rt, waiting, writes),
+        Rescue::Pop(write) => return write_of(waiting.pop()) == write,
+        Rescue::Waits(writes) => {
+            return waiting.len() == writes.len() as u64
+                && waiting.is_empty() == writes.is_empty()
+                && shows(waiting.walk(), writes);
+        }
     }
+    true
 }
 
-#[test]
-fn a_rescuers_list_keeps_the_order_and_shows_it(rt: HostRuntime) {
-    for calls in RESCUES {
-        let mut waiting = RescueList::new(DevId(3));
-        for call in *calls {
-            answers(&rt, &mut waiting, *call);
+// Makes calls of a rescuer's list: whether they answer as they say.
+fn answer_all(rt: &(impl Abort + AllocGlobal), waiting: &mut RescueList, calls: &[Rescue]) -> bool {
+    for call in calls {
+        if !answers(rt, waiting, *call) {
+            return false;
         }
+    }
+    waiting.dev() == DevId(3)
+}
+
+impl Case for Rescues {
+    // Whether a rescuer's list keeps the order and shows it.
+    fn holds(&self, rt: &(impl Abort + AllocGlobal)) -> bool {
+        answer_all(rt, &mut RescueList::new(DevId(3)), self.0)
     }
 }
 
 /// The writes of a task's two lists, and whether the task is busy before and after each list was popped once.
-type Busy = (&'static [u32], &'static [u32], bool, bool);
+struct Busy(&'static [u32], &'static [u32], bool, bool);
 
 const BUSY: &[Busy] = &[
-    (&[], &[], false, false),
-    (&[1], &[], true, false),
-    (&[], &[2], true, false),
-    (&[1], &[2], true, false),
-    (&[1, 3], &[2], true, true),
-    (&[1], &[2, 4], true, true),
+    Busy(&[], &[], false, false),
+    Busy(&[1], &[], true, false),
+    Busy(&[], &[2], true, false),
+    Busy(&[1], &[2], true, false),
+    Busy(&[1, 3], &[2], true, true),
+    Busy(&[1], &[2, 4], true, true),
 ];
 
 /// A task's lists, with the bios of these writes.
@@ -291,26 +289,40 @@ pub fn lists_with(rt: &(impl Abort + AllocGlobal), zero: &[u32], one: &[u32]) ->
     }
 }
 
-#[test]
-fn a_task_is_busy_while_one_of_its_lists_has_a_bio(rt: HostRuntime) {
-    for (zero, one, before, after) in BUSY {
-        let found = busy_with(&rt, zero, one);
-        assert!(rt; found == (*before, *after), "{zero:?} {one:?}");
+impl Case for Busy {
+    fn holds(&self, rt: &(impl Abort + AllocGlobal)) -> bool {
+        let mut lists = lists_with(rt, self.0, self.1);
+        let before = lists.busy();
+        drop(lists.list0.pop());
+        drop(lists.list1.pop());
+        (before, lists.busy()) == (self.2, self.3)
     }
 }
 
-// Whether a task is busy with the bios of these writes in its lists, and whether it still is when each list was popped once.
-fn busy_with(rt: &(impl Abort + AllocGlobal), zero: &[u32], one: &[u32]) -> (bool, bool) {
-    let mut lists = lists_with(rt, zero, one);
-    let before = lists.busy();
-    drop(lists.list0.pop());
-    drop(lists.list1.pop());
-    (before, lists.busy())
+#[test]
+fn segments_and_bios_are_cut(rt: HostRuntime) {
+    for row in SEGMENTS {
+        holds(&rt, are_segments(*row), "a segment has eight sectors");
+    }
+    holds(&rt, fills(), "the last segment has what is left");
+    holds(&rt, cuts(), "the front of a bio, and the rest");
 }
 
 #[test]
-fn lists_may_cross_threads(rt: HostRuntime) {
-    crosses(list_of(&rt, &[1, 2]));
-    crosses(RescueList::new(DevId(0)));
-    crosses(TaskLists::new());
+fn lists_keep_the_order_of_their_bios(rt: HostRuntime) {
+    all_hold(&rt, CASES);
+    all_hold(&rt, RESCUES);
+    // A task is busy while one of its lists has a bio.
+    all_hold(&rt, BUSY);
+}
+
+#[test]
+fn a_long_list_is_dropped_as_it_was_pushed(rt: HostRuntime) {
+    drop(many(&rt));
+}
+
+#[test]
+fn a_long_list_is_dropped_turned_round(rt: HostRuntime) {
+    let mut list = many(&rt);
+    holds(&rt, turns_round(&mut list), "a long list");
 }

@@ -1,44 +1,19 @@
 //! Sets of pools, and what their elements hold.
-ghost use Rattle.std.specs.Prelude.{◌≤◌};
+ghost use Rattle.std.specs.Prelude.{◌≡◌, ◌<◌, ◌^◌, None};
+ghost use Rattle.stack_base.specs.PoolId.{pool_number};
+ghost use Rattle.bioset_pools.specs.Sets.{IsPlan, bios_of};
 
-use crate::asks::{are, holds, is};
-use crate::bios::{bio_of, bio_of_write, open_bios, take};
-use crate::elements::{always, crosses};
+use crate::asks::{Case, all_hold, holds};
+use crate::bios::{bio_of, element_of, one};
 use crate::records::lists_with;
-use bio_records::{BioBody, Pad, Slip, Vector};
+use bio_records::SlipElement;
 use bioset_pools::{BioSet, SetParts, SetPlan, clear_bio, first_is_try};
+use fail_script::Script;
 use mempool_core::{Fresh, Pool, Taken};
 use stack_base::{DevId, Range, SetId};
 use std::process::Abort;
 
-// The set of a device, with a reserve of so many bios.
-fn set_of(rt: &(impl Abort + AllocGlobal), dev: u32, bios: u32, rescuer: bool) -> SetParts
-    requires some { 1 ≤ bios }
-    requires device { dev ≤ 31 }
-{
-    let plan = SetPlan {
-        set: SetId::Of(DevId(dev)),
-        bios,
-        vecs: None,
-        rescuer,
-    };
-    let made = BioSet::open(rt.alloc(), plan, always(rt, true), always(rt, true));
-    made.expect(rt, "no set").parts()
-}
-
-// The writers' set, of one bio and three vectors. Bios may have ordinary memory, and vectors may not.
-fn writers_set(rt: &(impl Abort + AllocGlobal)) -> SetParts {
-    let plan = SetPlan {
-        set: SetId::Fs,
-        bios: 1,
-        vecs: Some(3),
-        rescuer: false,
-    };
-    let made = BioSet::open(rt.alloc(), plan, always(rt, true), always(rt, false));
-    made.expect(rt, "no set").parts()
-}
-
-// The reserve of a pool, the number of an element that it lends, and whether that is a spare. It is given back.
+// What a pool shows: its reserve, the number of an element that it lends, and whether that is a spare. It is given back.
 fn lends<P: Fresh + Drop>(pool: &mut Pool<P>) -> [u64; 3] {
     let min = pool.facts().min;
     let (element, spares) = match pool.take() {
@@ -51,104 +26,115 @@ fn lends<P: Fresh + Drop>(pool: &mut Pool<P>) -> [u64; 3] {
     [min, number, spares]
 }
 
-#[test]
-fn the_writers_set_has_bios_and_vectors(rt: HostRuntime) {
+/// What a set has: its bios, as its pool shows them; its vectors, if it has some; and the bios that wait for its rescuer, if it has one.
+type Shown = ([u64; 3], Option<[u64; 3]>, Option<u64>);
+
+/// A device, the reserve of bios of its set, whether that has a rescuer, and what it has.
+struct Set(u32, u32, bool, Shown);
+
+const SETS: &[Set] = &[
+    Set(31, 5, true, ([5, 62, 0], None, Some(0))),
+    Set(0, 2, false, ([2, 0, 0], None, None)),
+];
+
+// Opens a set whose bios may have ordinary memory, and whose vectors may not.
+fn open(rt: &(impl Abort + AllocGlobal), plan: SetPlan) -> SetParts
+    requires plan { IsPlan plan }
+    requires number { pool_number (bios_of plan.set) < 2 ^ 32 }
+{
+    let allowed = Script::new(Vec::new(rt.alloc()), true);
+    let refused = Script::new(Vec::new(rt.alloc()), false);
+    let opened = BioSet::open(rt.alloc(), plan, allowed, refused);
+    opened.expect(rt, "no set").parts()
+}
+
+// The plan of the set of a device.
+fn plan_of(dev: u32, bios: u32, rescuer: bool) -> SetPlan
+    ensures { result ≡ record { set = SetId.Of (record { 0 = dev }); bios = bios; vecs = None; rescuer = rescuer } }
+{
+    SetPlan {
+        set: SetId::Of(DevId(dev)),
+        bios,
+        vecs: None,
+        rescuer,
+    }
+}
+
+/// The writers' set, of one bio and three vectors.
+const WRITERS: SetPlan = SetPlan {
+    set: SetId::Fs,
+    bios: 1,
+    vecs: Some(3),
+    rescuer: false,
+};
+
+// What a set has.
+fn shown(set: SetParts) -> Shown {
     let SetParts {
         mut bios,
         vecs,
         list,
-    } = writers_set(&rt);
-    let mut vecs = vecs.expect(&rt, "no vectors");
-    holds(&rt, list.is_none(), "no list");
-    are(&rt, &lends(&mut bios), &[1, 65, 0]);
-    are(&rt, &lends(&mut vecs), &[3, 64, 1]);
+    } = set;
+    let vecs = match vecs {
+        Some(mut pool) => Some(lends(&mut pool)),
+        None => None,
+    };
+    let waits = match list {
+        Some(list) => Some(list.len()),
+        None => None,
+    };
+    (lends(&mut bios), vecs, waits)
 }
 
-// One more than the bios that wait for the rescuer of a set, and 0 where it has none.
-fn rescuers(set: &SetParts) -> u64 {
-    match &set.list {
-        Some(list) => list.len().saturating_add(1),
-        None => 0,
+impl Case for Set {
+    fn holds(&self, rt: &(impl Abort + AllocGlobal)) -> bool {
+        let Set(dev, bios, rescuer, wanted) = *self;
+        dev < 32 && bios > 0 && shown(open(rt, plan_of(dev, bios, rescuer))) == wanted
     }
-}
-
-#[test]
-fn a_devices_set_may_have_a_rescuer(rt: HostRuntime) {
-    for (dev, bios, rescuer, wanted) in [
-        (31, 5, true, [5, 0, 1, 62, 0]),
-        (0, 2, false, [2, 0, 0, 0, 0]),
-    ] {
-        assert!(rt; bios > 0 && dev < 32);
-        are(&rt, &shown(set_of(&rt, dev, bios, rescuer)), &wanted);
-    }
-}
-
-// The reserve of bios of a set, whether it has vectors, its rescuers as above, the number of a bio, and whether that is a spare.
-fn shown(set: SetParts) -> [u64; 5] {
-    let (vectors, rescuers) = (u64::from(set.vecs.is_some()), rescuers(&set));
-    let mut bios = set.bios;
-    let [min, number, spares] = lends(&mut bios);
-    [min, vectors, rescuers, number, spares]
 }
 
 /// Whether a set has a rescuer, the writes in the two lists of a task, and whether its first attempt does not wait.
-type Try = (bool, &'static [u32], &'static [u32], bool);
+struct Try(bool, &'static [u32], &'static [u32], bool);
 
 const TRIES: &[Try] = &[
-    (false, &[], &[], false),
-    (true, &[], &[], false),
-    (false, &[1], &[1], false),
-    (true, &[1], &[], true),
-    (true, &[], &[1], true),
-    (true, &[1], &[1], true),
+    Try(false, &[], &[], false),
+    Try(true, &[], &[], false),
+    Try(false, &[1], &[1], false),
+    Try(true, &[1], &[], true),
+    Try(true, &[], &[1], true),
+    Try(true, &[1], &[1], true),
 ];
 
-#[test]
-fn the_first_attempt_does_not_wait_where_a_task_is_busy(rt: HostRuntime) {
-    for (rescuer, zero, one, is_try) in TRIES {
-        let plan = SetPlan {
-            set: SetId::Of(DevId(0)),
-            bios: 2,
-            vecs: None,
-            rescuer: *rescuer,
-        };
-        let found = first_is_try(&plan, &lists_with(&rt, zero, one));
-        holds(&rt, found == *is_try, "whether it waits");
+impl Case for Try {
+    // Whether the first attempt does not wait exactly where a task is busy.
+    fn holds(&self, rt: &(impl Abort + AllocGlobal)) -> bool {
+        let plan = plan_of(0, 2, self.0);
+        let lists = lists_with(rt, self.1, self.2);
+        first_is_try(&plan, &lists) == self.3
     }
 }
 
-#[test]
-fn a_bio_that_is_cleared_stays_of_its_pool(rt: HostRuntime) {
-    let mut pool = open_bios(&rt);
+// Whether a bio that is cleared stays of its pool.
+fn clears(rt: &(impl Abort + AllocGlobal)) -> bool {
     let bio = bio_of(7, Range { start: 3, len: 2 }, 5);
-    let mut element = take(&rt, &mut pool, bio);
+    let mut element = element_of(rt, bio);
     let filled = element.body.bio;
     clear_bio(&mut element);
     let cleared = element.body.bio;
-    is(&rt, u64::from(element.no()), 65);
-    assert!(rt; filled == bio && cleared == bio_of(0, Range { start: 0, len: 0 }, 0));
+    filled == bio && cleared == bio_of(0, Range { start: 0, len: 0 }, 0) && element.no() == 65
 }
 
 #[test]
-fn a_mirrors_record_has_no_legs_yet(rt: HostRuntime) {
-    let opened = Pool::open(rt.alloc(), 1, 4, always(&rt, true));
-    let mut pool: Pool<Slip> = opened.expect(&rt, "no pool");
-    match pool.take() {
-        Taken::Ordinary(mut element) => {
-            is(&rt, u64::from(element.body.legs), 0);
-            element.body.legs = 2;
-            pool.give(element);
-        }
-        Taken::Spare(_) | Taken::Miss { .. } => rt.panic("no ordinary record"),
-    }
-}
-
-#[test]
-fn pools_of_bios_and_their_elements_may_cross_threads(rt: HostRuntime) {
-    let mut pool: Pool<BioBody<Pad>> = open_bios(&rt);
-    crosses(take(&rt, &mut pool, bio_of_write(0)));
-    crosses(pool);
-    let opened = Pool::open(rt.alloc(), 64, 1, always(&rt, true));
-    let vectors: Pool<Vector> = opened.expect(&rt, "no pool");
-    crosses(vectors);
+fn sets_have_their_pools(rt: HostRuntime) {
+    let writers = shown(open(&rt, WRITERS));
+    holds(
+        &rt,
+        writers == ([1, 65, 0], Some([3, 64, 1]), None),
+        "the writers' set",
+    );
+    all_hold(&rt, SETS);
+    all_hold(&rt, TRIES);
+    holds(&rt, clears(&rt), "a bio that is cleared");
+    let slip: SlipElement = one(&rt, 1);
+    holds(&rt, slip.body.legs == 0, "a record has no legs yet");
 }

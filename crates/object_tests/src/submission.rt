@@ -1,21 +1,25 @@
 //! The order in which a task serves what its drivers submit, and bios that are split.
 ghost use Rattle.bio_records.specs.Items.{IsAlone};
 
-use crate::bios::{bio_of, bio_of_write, holds, is_bio, open_bios, take};
+use crate::asks::{Case, all_hold, holds};
+use crate::bios::{bio_of, bio_of_write, element_of, has, write_of};
 use bio_lists::{Submission, TaskLists, Waits};
-use bio_records::{Bio, BioBody, BioElement, BioList, Iter, Pad};
+use bio_records::{Bio, BioElement, BioList, Iter};
 use bio_split::split;
-use mempool_core::Pool;
 use stack_base::{DevId, Range, SetId};
 use std::process::Abort;
 
 // The bio of a write of this number, for this device.
-fn bio_for(rt: &impl Abort, pool: &mut Pool<BioBody<Pad>>, write: u32, dev: u32) -> BioElement
+fn bio_for(rt: &(impl Abort + AllocGlobal), write: u32, dev: u32) -> BioElement
     ensures { IsAlone result }
 {
-    let mut element = take(rt, pool, bio_of_write(write));
-    element.body.bio.dev = DevId(dev);
-    element
+    element_of(
+        rt,
+        Bio {
+            dev: DevId(dev),
+            ..bio_of_write(write)
+        },
+    )
 }
 
 /// A step of a task, by writes and devices.
@@ -30,12 +34,12 @@ enum Step {
 }
 
 /// The writes whose bios wait at first, and the steps of the task.
-type Case = (&'static [u32], &'static [Step]);
+struct Steps(&'static [u32], &'static [Step]);
 
-const CASES: &[Case] = &[
+const CASES: &[Steps] = &[
     // Lower devices are served first, and then what was submitted for the same one.
-    (&[], &[Step::Submits(0, &[]), Step::Rests(1)]),
-    (
+    Steps(&[], &[Step::Submits(0, &[]), Step::Rests(1)]),
+    Steps(
         &[],
         &[
             Step::Submits(0, &[0]),
@@ -43,7 +47,7 @@ const CASES: &[Case] = &[
             Step::Rests(1),
         ],
     ),
-    (
+    Steps(
         &[],
         &[
             Step::Submits(0, &[1]),
@@ -51,8 +55,8 @@ const CASES: &[Case] = &[
             Step::Rests(1),
         ],
     ),
-    (&[10, 11], &[Step::Serves(1, &[10, 11]), Step::Rests(1)]),
-    (
+    Steps(&[10, 11], &[Step::Serves(1, &[10, 11]), Step::Rests(1)]),
+    Steps(
         &[],
         &[
             Step::Submits(0, &[1, 0]),
@@ -60,7 +64,7 @@ const CASES: &[Case] = &[
             Step::Rests(1),
         ],
     ),
-    (
+    Steps(
         &[10],
         &[
             Step::Submits(0, &[0, 1]),
@@ -68,7 +72,7 @@ const CASES: &[Case] = &[
             Step::Rests(1),
         ],
     ),
-    (
+    Steps(
         &[10, 11],
         &[
             Step::Submits(0, &[1, 0, 1, 2]),
@@ -76,7 +80,7 @@ const CASES: &[Case] = &[
             Step::Rests(1),
         ],
     ),
-    (
+    Steps(
         &[10],
         &[
             Step::Submits(0, &[0, 0, 0]),
@@ -84,7 +88,7 @@ const CASES: &[Case] = &[
             Step::Rests(1),
         ],
     ),
-    (
+    Steps(
         &[10],
         &[
             Step::Submits(0, &[1, 1, 1]),
@@ -93,7 +97,7 @@ const CASES: &[Case] = &[
         ],
     ),
     // What waits is served in its order, whatever is submitted later.
-    (
+    Steps(
         &[],
         &[
             Step::Submits(0, &[0, 1, 1]),
@@ -105,54 +109,65 @@ const CASES: &[Case] = &[
 ];
 
 // Submits bios for these devices, of the writes from the first one on.
-fn submits(rt: &(impl Abort + AllocGlobal), lists: &mut TaskLists, first: u32, devices: &[u32]) {
-    let mut pool = open_bios(rt);
+fn submit(
+    rt: &(impl Abort + AllocGlobal),
+    lists: &mut TaskLists,
+    first: u32,
+    devices: &[u32],
+) -> () {
     let mut write = first;
     for dev in devices {
-        lists.submit(bio_for(rt, &mut pool, write, *dev));
+        lists.submit(bio_for(rt, write, *dev));
         write = write.wrapping_add(1);
     }
 }
 
-// When the driver of this device has returned, the bio of this write has to be served next, or none.
-fn serves(rt: &impl Abort, lists: &mut TaskLists, served: u32, write: Option<u32>) {
-    is_bio(rt, lists.next(DevId(served)), write);
-}
-
-// Takes a step of a task, which has to go as it says.
-fn goes(rt: &(impl Abort + AllocGlobal), lists: &mut TaskLists, step: Step) {
-    match step {
-        Step::Submits(first, devices) => submits(rt, lists, first, devices),
-        Step::Serves(served, writes) => {
-            for write in writes {
-                serves(rt, lists, served, Some(*write));
-            }
-        }
-        Step::Rests(served) => {
-            serves(rt, lists, served, None);
-            assert!(rt; !lists.busy());
-        }
-    }
-}
-
-#[test]
-fn bios_are_served_in_the_order_of_a_task(rt: HostRuntime) {
-    for (waiting, steps) in CASES {
-        let mut lists = waiting_in(&rt, waiting);
-        for step in *steps {
-            goes(&rt, &mut lists, *step);
-        }
-    }
-}
-
-// The lists of a task in which the bios of these writes wait.
-fn waiting_in(rt: &(impl Abort + AllocGlobal), writes: &[u32]) -> TaskLists {
-    let mut pool = open_bios(rt);
-    let mut lists = TaskLists::new();
+// Whether the bios of these writes are served next, the first one when the driver of this device has returned.
+fn serves(lists: &mut TaskLists, served: u32, writes: &[u32]) -> bool {
     for write in writes {
-        lists.list1.push(bio_for(rt, &mut pool, *write, 3));
+        if write_of(lists.next(DevId(served))) != Some(*write) {
+            return false;
+        }
     }
-    lists
+    true
+}
+
+// Takes a step of a task: whether it goes as it says.
+fn goes(rt: &(impl Abort + AllocGlobal), lists: &mut TaskLists, step: Step) -> bool {
+    match step {
+        Step::Submits(first, devices) => {
+            submit(rt, lists, first, devices);
+            true
+        }
+        Step::Serves(served, writes) => serves(lists, served, writes),
+        Step::Rests(served) => write_of(lists.next(DevId(served))).is_none() && !lists.busy(),
+    }
+}
+
+// Takes the steps of a task: whether they go as they say.
+fn go(rt: &(impl Abort + AllocGlobal), lists: &mut TaskLists, steps: &[Step]) -> bool {
+    for step in steps {
+        if !goes(rt, lists, *step) {
+            return false;
+        }
+    }
+    true
+}
+
+// Has bios of these writes wait for a task.
+fn wait(rt: &(impl Abort + AllocGlobal), lists: &mut TaskLists, writes: &[u32]) {
+    for write in writes {
+        lists.list1.push(bio_for(rt, *write, 3));
+    }
+}
+
+impl Case for Steps {
+    // Whether bios are served in the order of a task.
+    fn holds(&self, rt: &(impl Abort + AllocGlobal)) -> bool {
+        let mut lists = TaskLists::new();
+        wait(rt, &mut lists, self.0);
+        go(rt, &mut lists, self.1)
+    }
 }
 
 // The set of this number: the writers', or that of a device.
@@ -165,13 +180,14 @@ fn set_of(number: u32) -> SetId {
 
 // A list of bios of the sets of these numbers, of writes from the first one on.
 fn list_by_sets(rt: &(impl Abort + AllocGlobal), first: u32, sets: &[u32]) -> BioList {
-    let mut pool = open_bios(rt);
     let mut list = BioList::new();
     let mut write = first;
     for number in sets {
-        let mut bio = bio_of_write(write);
-        bio.set = set_of(*number);
-        list.push(take(rt, &mut pool, bio));
+        let bio = Bio {
+            set: set_of(*number),
+            ..bio_of_write(write)
+        };
+        list.push(element_of(rt, bio));
         write = write.wrapping_add(1);
     }
     list
@@ -239,30 +255,24 @@ const PUNTS: &[Punt] = &[
     },
 ];
 
-// A punt has to move the bios of its set, and to leave the others.
-fn punts(rt: &(impl Abort + AllocGlobal), punt: &Punt) {
-    let mut lists = TaskLists {
-        list0: list_by_sets(rt, 0, punt.zero),
-        list1: list_by_sets(rt, 10, punt.one),
-    };
-    holds(rt, lists.punt(set_of(punt.set)), punt.moved);
-    holds(rt, lists.list0, punt.left0);
-    holds(rt, lists.list1, punt.left1);
-}
-
-#[test]
-fn a_punt_moves_the_bios_of_a_set_alone(rt: HostRuntime) {
-    for punt in PUNTS {
-        punts(&rt, punt);
+impl Case for Punt {
+    // Whether a punt moves the bios of its set, and leaves the others.
+    fn holds(&self, rt: &(impl Abort + AllocGlobal)) -> bool {
+        let mut lists = TaskLists {
+            list0: list_by_sets(rt, 0, self.zero),
+            list1: list_by_sets(rt, 10, self.one),
+        };
+        let are_moved = has(lists.punt(set_of(self.set)), self.moved);
+        let are_left = has(lists.list0, self.left0) & has(lists.list1, self.left1);
+        are_moved && are_left
     }
 }
 
-#[test]
-fn a_bio_is_split(rt: HostRuntime) {
-    let mut pool = open_bios(&rt);
+// Whether a bio is split into its front and the rest.
+fn splits(rt: &(impl Abort + AllocGlobal)) -> bool {
     let whole = bio_of(7, Range { start: 10, len: 20 }, 5);
-    let mut bio = take(&rt, &mut pool, whole);
-    let into = take(&rt, &mut pool, bio_of_write(0));
+    let mut bio = element_of(rt, whole);
+    let into = element_of(rt, bio_of_write(0));
     let first = split(&mut bio, 11, into, SetId::Of(DevId(2)), 6);
     let front = Bio {
         range: Range { start: 10, len: 11 },
@@ -279,6 +289,12 @@ fn a_bio_is_split(rt: HostRuntime) {
         },
         ..whole
     };
-    let found = (first.body.bio, bio.body.bio, first.body.pad.leg);
-    assert!(rt; found == (front, rest, 0));
+    (first.body.bio, bio.body.bio, first.body.pad.leg) == (front, rest, 0)
+}
+
+#[test]
+fn bios_are_served_punted_and_split(rt: HostRuntime) {
+    all_hold(&rt, CASES);
+    all_hold(&rt, PUNTS);
+    holds(&rt, splits(&rt), "a bio is split");
 }

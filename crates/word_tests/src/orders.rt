@@ -1,8 +1,7 @@
 //! Words, and the orders that they give.
 use biostack_words::{Order, WordFault, read_words};
-use std::alloc::{AllocError, AllocGlobal, Global};
+use std::alloc::AllocGlobal;
 use std::process::Abort;
-use std::test::Fail;
 
 /// Words, and their order.
 type Row = (&'static [&'static str], Order);
@@ -230,50 +229,47 @@ const NO_NUMBERS: &[&[&str]] = &[
     &["scrub", "--seed=-1"],
 ];
 
-fn order_of(alloc: Global, row: &[&str]) -> Result<Result<Order, WordFault>, AllocError> {
-    let mut words = Vec::new(alloc);
+// The words of a command line.
+fn words_of(rt: &(impl Abort + AllocGlobal), row: &[&str]) -> Vec<String> {
+    let mut words = Vec::new(rt.alloc());
     for word in row {
-        words.push(String::from_str(alloc, word)?)?;
+        let word = String::from_str(rt.alloc(), word).expect(rt, "no word");
+        words.push(word).expect(rt, "no words");
     }
-    Ok(read_words(alloc, words.as_slice()))
+    words
 }
 
-fn check(
-    rt: &(impl Abort + AllocGlobal),
-    row: &[&str],
-    order: Result<Order, WordFault>,
-) -> Result<(), AllocError> {
-    let found = order_of(rt.alloc(), row)?;
+// Words have to give this order, or to be refused.
+fn give(rt: &(impl Abort + AllocGlobal), row: &[&str], order: Result<Order, WordFault>) {
+    let words = words_of(rt, row);
+    let found = read_words(rt.alloc(), words.as_slice());
     assert_eq!(rt; found, order, "of {row:?}");
-    Ok(())
 }
 
-fn check_orders(rt: &(impl Abort + AllocGlobal), rows: &[Row]) -> Result<(), AllocError> {
+// Words have to give their orders.
+fn give_orders(rt: &(impl Abort + AllocGlobal), rows: &[Row]) {
     for (row, order) in rows {
-        check(rt, *row, Ok(*order))?;
+        give(rt, *row, Ok(*order));
     }
-    Ok(())
 }
 
-fn check_refused(rt: &(impl Abort + AllocGlobal), rows: &[&[&str]]) -> Result<(), AllocError> {
+// Words have to be refused.
+fn are_refused(rt: &(impl Abort + AllocGlobal), rows: &[&[&str]]) {
     for row in rows {
-        check(rt, *row, Err(WordFault::Refused))?;
+        give(rt, *row, Err(WordFault::Refused));
     }
-    Ok(())
 }
 
 #[test]
-fn words_give_their_orders(rt: HostRuntime) -> Result<(), Fail> {
-    check_orders(&rt, RUNS)?;
-    check_orders(&rt, WORKERS)?;
-    check_orders(&rt, OTHERS)?;
-    Ok(())
+fn words_give_their_orders(rt: HostRuntime) {
+    give_orders(&rt, RUNS);
+    give_orders(&rt, WORKERS);
+    give_orders(&rt, OTHERS);
 }
 
 #[test]
-fn other_words_are_refused(rt: HostRuntime) -> Result<(), Fail> {
-    check_refused(&rt, NO_COMMANDS)?;
-    check_refused(&rt, NO_OPTIONS)?;
-    check_refused(&rt, NO_NUMBERS)?;
-    Ok(())
+fn other_words_are_refused(rt: HostRuntime) {
+    are_refused(&rt, NO_COMMANDS);
+    are_refused(&rt, NO_OPTIONS);
+    are_refused(&rt, NO_NUMBERS);
 }
