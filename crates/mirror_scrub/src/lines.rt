@@ -14,7 +14,7 @@ use stack_base::{DevId, Range, Stack};
 
 // `scrub NAME leg K unlike C`
 fn leg_line<K: Sink>(pen: &mut Pen, out: &mut K, name: &[u8], leg: u32, count: u64)
-    ensures { Says (K.held out.old) (K.faults out.old) pen.old (K.held out.new) (K.faults out.new) pen.new
+    ensures { Says K.held K.faults out.old pen.old out.new pen.new
         (leg_line name.now leg count) }
 {
     let mut leg_digits = Buffer::new();
@@ -29,7 +29,7 @@ fn leg_line<K: Sink>(pen: &mut Pen, out: &mut K, name: &[u8], leg: u32, count: u
 
 // `differ NAME K START LEN`
 fn differ_line<K: Sink>(pen: &mut Pen, out: &mut K, name: &[u8], leg: u32, run: Range)
-    ensures { Says (K.held out.old) (K.faults out.old) pen.old (K.held out.new) (K.faults out.new) pen.new
+    ensures { Says K.held K.faults out.old pen.old out.new pen.new
         (differ_line name.now leg run) }
 {
     let mut leg_digits = Buffer::new();
@@ -65,7 +65,7 @@ fn differ_lines<K: Sink>(
     requires disks { AreDisksOf stack.now disks.now }
     requires mirror { mirror.0 < length stack.now.devices.items }
     requires leg { leg < legs (tree stack.now mirror.0) }
-    ensures { Says (K.held out.old) (K.faults out.old) pen.old (K.held out.new) (K.faults out.new) pen.new
+    ensures { Says K.held K.faults out.old pen.old out.new pen.new
         (differ_lines (name_at stack.now mirror.0) leg (stretches_from (held disks.now) (tree stack.now mirror.0) leg 0)) }
 {
     let name = name_of(stack, mirror);
@@ -89,7 +89,7 @@ fn leg_lines<K: Sink>(
     requires disks { AreDisksOf stack.now disks.now }
     requires mirror { mirror.0 < length stack.now.devices.items }
     requires leg { leg < legs (tree stack.now mirror.0) }
-    ensures { Says (K.held out.old) (K.faults out.old) pen.old (K.held out.new) (K.faults out.new) pen.new
+    ensures { Says K.held K.faults out.old pen.old out.new pen.new
         (leg_lines stack.now (held disks.now) mirror.0 leg) }
 {
     let count = unlike(stack, disks, mirror, leg);
@@ -104,7 +104,7 @@ fn mirror_lines<K: Sink>(pen: &mut Pen, out: &mut K, stack: &Stack, disks: &[Dis
     requires stack { IsStack stack.now }
     requires disks { AreDisksOf stack.now disks.now }
     requires mirror { mirror.0 < length stack.now.devices.items }
-    ensures { Says (K.held out.old) (K.faults out.old) pen.old (K.held out.new) (K.faults out.new) pen.new
+    ensures { Says K.held K.faults out.old pen.old out.new pen.new
         (mirror_lines stack.now (held disks.now) mirror.0) }
 {
     'legs: for leg in 1..legs(stack, mirror) {
@@ -117,11 +117,11 @@ fn mirror_lines<K: Sink>(pen: &mut Pen, out: &mut K, stack: &Stack, disks: &[Dis
 ///
 /// # Errors
 ///
-/// `Failed` only where the sink's count of faults rose. The sink took a front of the text then.
+/// `Failed` only where the sink's count of faults rose. The sink took a front of the text then, and nothing behind the fault.
 pub fn scrub<K: Sink>(stack: &Stack, disks: &[Disk], out: &mut K) -> Result<(), Failed>
     requires stack { IsStack stack.now }
     requires disks { AreDisksOf stack.now disks.now }
-    ensures { Writes (K.held out.old) (K.faults out.old) (K.held out.new) (K.faults out.new) result
+    ensures { Writes K.held K.faults out.old out.new result
         (scrub_text stack.now (held disks.now)) }
 {
     let mut pen = Pen::new();

@@ -13,7 +13,7 @@ pub stretches-init : goal.stretches-init
 stretches-init g c = record {
   within = omega arith;
   apart = apart_at_start (unlikes (held c.args.disks.now) (tree c.args.stack.now c.args.mirror.0) c.args.leg);
-  so_far = λ end faults pen said. said;
+  so_far = λ end pen said. said;
 }
 
 pub overflow_add-from : goal.overflow_add-from
@@ -27,7 +27,7 @@ stretches-preserved g c =
     let run = c.in-Some.run' in record {
       within = c.in-Some.ensures.place.1;
       apart = c.in-Some.ensures.apart;
-      so_far = λ end faults pen said. c.stretches.invariant.so_far end faults pen
+      so_far = λ end pen said. c.stretches.invariant.so_far end pen
           (stretches_on c.name_of-name.result.now c.args.leg run (stretches c.stretches.from) (stretches (run.start + run.len)) c.in-Some.ensures.stretches
           c.differ_line.ensures said);
     }
@@ -36,9 +36,8 @@ pub returns : goal.returns
 returns g c =
     let stretches = stretches_from (held c.args.disks.now) (tree c.args.stack.now c.args.mirror.0) c.args.leg in
     subst
-    (λ (name : List ℕ). Says (g.K.Sink.held c.args.out.now) (g.K.Sink.faults c.args.out.now) c.args.pen.now
-    (g.K.Sink.held c.stretches.out) (g.K.Sink.faults c.stretches.out) c.stretches.pen (differ_lines name c.args.leg (stretches 0)))
+    (λ (name : List ℕ). Says g.K.Sink.held g.K.Sink.faults c.args.out.now c.args.pen.now c.stretches.out c.stretches.pen (differ_lines name c.args.leg (stretches 0)))
     c.name_of-name.ensures
-    (c.stretches.invariant.so_far _ _ _
-    (stretches_end (g.K.Sink.held c.stretches.out) (g.K.Sink.faults c.stretches.out) c.stretches.pen c.name_of-name.result.now c.args.leg
+    (c.stretches.invariant.so_far _ _
+    (stretches_end g.K.Sink.held g.K.Sink.faults c.stretches.out c.stretches.pen c.name_of-name.result.now c.args.leg
     (stretches c.stretches.from) c.in_default.ensures.stretches))

@@ -1,4 +1,4 @@
-use Rattle.std.proofs.Common.{ℕ, ◌-◌, ◌≤◌, Option, List}
+use Rattle.std.proofs.Common.{◌-◌, ◌≤◌}
 use Rattle.outside_io.specs.Saying.{PenState, Says}
 use Rattle.stack_base.specs.Tree.{size, tree}
 use Rattle.model_disks.specs.Runs.{IsApart}
@@ -11,10 +11,10 @@ invariant-stretches g l = record {
   within : l.from ≤ size (tree l.stack l.mirror.0);
   apart : IsApart (unlikes (held l.disks) (tree l.stack l.mirror.0) l.leg) l.from;
   -- what says the lines from here on completes all of them
-  so_far : (end : Option (List ℕ)) (faults : ℕ) (pen : PenState)
-      → Says (g.K.Sink.held l.out) (g.K.Sink.faults l.out) l.pen end faults pen
+  so_far : (end : g.row.K.Denot) (pen : PenState)
+      → Says g.K.Sink.held g.K.Sink.faults l.out l.pen end pen
       (differ_lines l.name l.leg (stretches_from (held l.disks) (tree l.stack l.mirror.0) l.leg l.from))
-      → Says (g.K.Sink.held l.fn.out) (g.K.Sink.faults l.fn.out) l.fn.pen end faults pen
+      → Says g.K.Sink.held g.K.Sink.faults l.fn.out l.fn.pen end pen
       (differ_lines l.name l.leg (stretches_from (held l.disks) (tree l.stack l.mirror.0) l.leg 0));
 }
 

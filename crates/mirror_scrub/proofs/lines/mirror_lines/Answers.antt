@@ -8,7 +8,7 @@ use Rattle.mirror_scrub.proofs.lines.mirror_lines.Goals as goal
 
 pub legs-init : goal.legs-init
 unfolding mirror_lines
-legs-init g c = record { some = omega arith; so_far = λ end faults pen said. said }
+legs-init g c = record { some = omega arith; so_far = λ end pen said. said }
 
 pub legs-preserved : goal.legs-preserved
 legs-preserved g c =
@@ -16,7 +16,7 @@ legs-preserved g c =
     let inside : c.legs.leg < legs t = omega (arith, c.legs-test.true, c.legs-leg-end.ensures) in
     record {
       some = omega arith;
-      so_far = λ end faults pen said. c.legs.invariant.so_far end faults pen
+      so_far = λ end pen said. c.legs.invariant.so_far end pen
           (numbers_on (leg_lines c.args.stack.now (held c.args.disks.now) c.args.mirror.0) c.legs.leg (legs t) inside c.leg_lines.ensures said);
     }
 
@@ -24,6 +24,6 @@ pub returns : goal.returns
 returns g c =
     let t = tree c.args.stack.now c.args.mirror.0 in
     let past : legs t ≤ c.legs.leg = omega (arith, c.legs-test.false, c.legs-leg-end.ensures) in
-    c.legs.invariant.so_far _ _ _
-    (numbers_end (g.K.Sink.held c.legs.out) (g.K.Sink.faults c.legs.out) c.legs.pen (leg_lines c.args.stack.now (held c.args.disks.now) c.args.mirror.0)
+    c.legs.invariant.so_far _ _
+    (numbers_end g.K.Sink.held g.K.Sink.faults c.legs.out c.legs.pen (leg_lines c.args.stack.now (held c.args.disks.now) c.args.mirror.0)
     c.legs.leg (legs t) past)

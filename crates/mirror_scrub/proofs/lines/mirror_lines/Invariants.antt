@@ -1,4 +1,4 @@
-use Rattle.std.proofs.Common.{ℕ, ◌-◌, ◌≤◌, Option, List}
+use Rattle.std.proofs.Common.{◌-◌, ◌≤◌}
 use Rattle.std.specs.List.{flat_map, range_with_len}
 use Rattle.outside_io.specs.Saying.{PenState, Says}
 use Rattle.stack_base.specs.Tree.{tree}
@@ -10,8 +10,8 @@ abbrev pub invariant-legs : goal.invariant-legs
 invariant-legs g l = record {
   some : 1 ≤ l.leg;
   -- what says the lines from here on completes all of them
-  so_far : (end : Option (List ℕ)) (faults : ℕ) (pen : PenState)
-      → Says (g.K.Sink.held l.out) (g.K.Sink.faults l.out) l.pen end faults pen
+  so_far : (end : g.row.K.Denot) (pen : PenState)
+      → Says g.K.Sink.held g.K.Sink.faults l.out l.pen end pen
       (flat_map (leg_lines l.stack (held l.disks) l.mirror.0) (range_with_len l.leg (legs (tree l.stack l.mirror.0) - l.leg)))
-      → Says (g.K.Sink.held l.fn.out) (g.K.Sink.faults l.fn.out) l.fn.pen end faults pen (mirror_lines l.stack (held l.disks) l.mirror.0);
+      → Says g.K.Sink.held g.K.Sink.faults l.fn.out l.fn.pen end pen (mirror_lines l.stack (held l.disks) l.mirror.0);
 }

@@ -10,11 +10,11 @@ use Rattle.mirror_scrub.proofs.lines.scrub.Goals as goal
 
 pub devices-init : goal.devices-init
 unfolding scrub_text
-devices-init g c = λ end faults pen said.
+devices-init g c = λ end pen said.
     let n = length c.args.stack.now.devices.items in
     let whole : n - 0 ≡ n = omega arith in
     subst
-    (λ (k : ℕ). Says (g.K.Sink.held c.args.out.now) (g.K.Sink.faults c.args.out.now) c.new-pen.result end faults pen
+    (λ (k : ℕ). Says g.K.Sink.held g.K.Sink.faults c.args.out.now c.new-pen.result end pen
     (flat_map (mirror_lines c.args.stack.now (held c.args.disks.now)) (range_with_len 0 k)))
     whole said
 
@@ -22,15 +22,15 @@ pub devices-preserved : goal.devices-preserved
 devices-preserved g c =
     let n = length c.args.stack.now.devices.items in
     let inside : c.devices.number < n = omega (arith, c.devices-test.true, c.len-number-end.ensures) in
-    λ end faults pen said.
-    c.devices.invariant end faults pen
+    λ end pen said.
+    c.devices.invariant end pen
     (numbers_on (mirror_lines c.args.stack.now (held c.args.disks.now)) c.devices.number n inside c.mirror_lines.ensures said)
 
 pub returns : goal.returns
 returns g c =
     let n = length c.args.stack.now.devices.items in
     let past : n ≤ c.devices.number = omega (arith, c.devices-test.false, c.len-number-end.ensures) in
-    let said = c.devices.invariant _ _ _
-    (numbers_end (g.K.Sink.held c.devices.out) (g.K.Sink.faults c.devices.out) c.devices.pen (mirror_lines c.args.stack.now (held c.args.disks.now))
+    let said = c.devices.invariant _ _
+    (numbers_end g.K.Sink.held g.K.Sink.faults c.devices.out c.devices.pen (mirror_lines c.args.stack.now (held c.args.disks.now))
     c.devices.number n past) in
     finished c.finish.result c.new-pen.ensures said c.finish.ensures.says c.finish.ensures.handed c.finish.ensures.failed

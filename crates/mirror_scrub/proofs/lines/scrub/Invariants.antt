@@ -1,4 +1,4 @@
-use Rattle.std.proofs.Common.{ℕ, ◌-◌, Option, List, length}
+use Rattle.std.proofs.Common.{◌-◌, length}
 use Rattle.std.specs.List.{flat_map, range_with_len}
 use Rattle.outside_io.specs.Saying.{PenState, Says}
 use Rattle.mirror_scrub.specs.Seen.{held}
@@ -7,7 +7,7 @@ use Rattle.mirror_scrub.proofs.lines.scrub.Given as goal
 
 -- what says the lines from here on completes all of them
 abbrev pub invariant-devices : goal.invariant-devices
-invariant-devices g l = (end : Option (List ℕ)) (faults : ℕ) (pen : PenState)
-    → Says (g.K.Sink.held l.out) (g.K.Sink.faults l.out) l.pen end faults pen
+invariant-devices g l = (end : g.row.K.Denot) (pen : PenState)
+    → Says g.K.Sink.held g.K.Sink.faults l.out l.pen end pen
     (flat_map (mirror_lines l.stack (held l.disks)) (range_with_len l.number (length l.stack.devices.items - l.number)))
-    → Says (g.K.Sink.held l.initial.out) (g.K.Sink.faults l.initial.out) l.initial.pen end faults pen (scrub_text l.stack (held l.disks))
+    → Says g.K.Sink.held g.K.Sink.faults l.initial.out l.initial.pen end pen (scrub_text l.stack (held l.disks))
