@@ -1,6 +1,5 @@
 pub mod LayoutLemmas
 pub mod SceneLemmas
-pub mod HomeLemmas
 pub mod RunningLemmas
 pub mod TraceLemmas
 pub mod ToldLemmas

@@ -29,7 +29,6 @@ use Rattle.report_text.specs.Views.{IsOf, told_of}
 use Rattle.report_text.proofs.LeftLemmas.{left_of, told_is}
 use Rattle.biostack_top.specs.Scene.{Says}
 use Rattle.biostack_top.specs.Running.{EveryRunIsAsClaimed, HasRun, IsTold, sectors, stream_of}
-use Rattle.biostack_top.proofs.HomeLemmas.{opened_run}
 
 module _ (text : List ℕ) (accepted : Accepted) (work : Work) (says : Says text accepted work) where
   pub read_behind : IsReadBehind accepted work
@@ -58,16 +57,19 @@ module _ (text : List ℕ) (accepted : Accepted) (work : Work) (says : Says text
         let claimed = every_run has.ledger events has.state has.naming run in
         record {
           ledger = has.ledger;
-          naming = has.naming;
           state = has.state;
           after = has.after;
           follows = has.follows;
-          ends = has.ends;
-          named = has.named;
-          run = run;
-          claimed = claimed.0;
-          bounded = claimed.1;
-          told = told_is has.state.objects has.disks accepted.stack (length events) (most_steps work.bound) ended has.left;
+          ended = record {
+            naming = has.naming;
+            run = run;
+            ends = has.ends;
+            named = has.named;
+            fits = has.fits;
+            claimed = claimed.0;
+            bounded = claimed.1;
+            told = told_is has.state.objects has.disks accepted.stack (length events) (most_steps work.bound) ended has.left;
+          };
         }
 
 -- writes of up to 2,048 sectors, each of which needs an element
@@ -97,8 +99,6 @@ pub has_run : {V : Type 0} (happens : V → Event → V → Type 0) (opened : Op
     → HasRun (scenario_in opened) number ran.events ended
 has_run happens opened number stream before after now ended is same ran =
     let ledger = (stage_of opened.objects).ledger in
-    let run = turns_are_a_run (scene (scenario_in opened) ledger) (start (scenario_in opened)) stream ran.events ran.state after ran.follows in
-    let home = opened_run opened is ran.events ran.state run in
     record {
       ledger = ledger;
       naming = is.one.holds.numbered;
@@ -107,6 +107,7 @@ has_run happens opened number stream before after now ended is same ran =
       follows = subst (λ from. Follows (scene (scenario_in opened) ledger) (start (scenario_in opened)) from ran.events ran.state after) same ran.follows;
       ends = ran.ends;
       left = ran.left;
-      disks = home.0;
-      named = home.1;
+      disks = ran.disks;
+      named = ran.named;
+      fits = ran.fits;
     }

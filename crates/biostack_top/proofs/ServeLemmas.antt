@@ -3,13 +3,14 @@ use Rattle.std.proofs.Common.{◌≡◌, ℕ, List, true, false, true≢false, O
 use Rattle.std.specs.Prelude.{Result, Ok, Err}
 use Rattle.std.specs.Io.KnownBytes.{Appends}
 use Rattle.outside_io.specs.Causes.{Rose}
-use Rattle.outside_io.specs.Saying.{AppendsFront, Writes}
+use Rattle.outside_io.specs.Saying.{AppendsFront, StopsAtFault, Writes}
 use Rattle.biostack_words.specs.declared.order.Order.{Order}
 use Rattle.biostack_words.specs.declared.order.Order.TheVariants.{Run, Workers, Check, Layout, Gen, Replay, Scrub}
 use Rattle.work_text.specs.Whole.{text_refusal}
 use Rattle.work_text.proofs.GeneratedTexts.{never_refused}
 use Rattle.biostack_top.specs.Orders.{is_shown}
-use Rattle.biostack_top.specs.Ending.{IsMade, Tells, made_by}
+use Rattle.biostack_top.specs.Ending.{Tells}
+use Rattle.biostack_top.specs.Input.{IsMade, made_by}
 
 -- a text that a number made is shown whole, and is not refused
 pub shown_is : (order : Order) (text : List ℕ) → is_shown order ≡ true → IsMade (made_by order) text → (text_refusal text ≡ None) × Tells order text text true
@@ -23,12 +24,13 @@ shown_is Replay text is made = absurd (true≢false (sym is))
 shown_is (Scrub number) text is made = absurd (true≢false (sym is))
 
 -- a text that was written, by how that ended
-pub written_whole : {E : Type 0} {a b : Option (List ℕ)} {f g : ℕ} {text : List ℕ} {result : Result Unit E} {done : Unit} → result ≡ Ok done
-    → Writes a f b g result text → (g ≡ f) × Appends a b text
-written_whole {E} {a} {b} {f} {g} {text} {result} {done} is written =
-    let whole = subst (λ (r : Result Unit E). Writes a f b g r text) is written in (whole.cause.quiet, whole.whole)
+pub written_whole : {K E : Type 0} {held : K → Option (List ℕ)} {faults : K → ℕ} {a b : K} {text : List ℕ} {result : Result Unit E} {done : Unit}
+    → result ≡ Ok done → Writes held faults a b result text → (faults b ≡ faults a) × Appends (held a) (held b) text
+written_whole {E = E} {held} {faults} {a} {b} {text} is written =
+    let whole = subst (λ (r : Result Unit E). Writes held faults a b r text) is written in (whole.cause.quiet, whole.whole)
 
-pub written_front : {E : Type 0} {a b : Option (List ℕ)} {f g : ℕ} {text : List ℕ} {result : Result Unit E} {fault : E} → result ≡ Err fault
-    → Writes a f b g result text → Rose f g × AppendsFront a b text
-written_front {E} {a} {b} {f} {g} {text} {result} {fault} is written =
-    let front = subst (λ (r : Result Unit E). Writes a f b g r text) is written in (front.cause.failed, front.front)
+pub written_front : {K E : Type 0} {held : K → Option (List ℕ)} {faults : K → ℕ} {a b : K} {text : List ℕ} {result : Result Unit E} {fault : E}
+    → result ≡ Err fault → Writes held faults a b result text
+    → Rose (faults a) (faults b) × StopsAtFault held faults a b × AppendsFront (held a) (held b) text
+written_front {E = E} {held} {faults} {a} {b} {text} is written =
+    let front = subst (λ (r : Result Unit E). Writes held faults a b r text) is written in (front.cause.failed, front.stops, front.front)

@@ -3,4 +3,7 @@ pub mod Orders
 pub mod Scene
 pub mod Tracing
 pub mod Running
+pub mod Streams
+pub mod Input
 pub mod Ending
+pub mod Laws

@@ -15,15 +15,15 @@ is_served (Gen number shown) = true
 is_served Replay = false
 is_served (Scrub number) = false
 
--- whether an order is to run the text that is read
-abbrev pub is_run : Order → Bool
-is_run (Run number trace) = true
-is_run (Workers n trace) = false
-is_run Check = false
-is_run Layout = false
-is_run (Gen number shown) = false
-is_run Replay = false
-is_run (Scrub number) = false
+-- whether an order may find that not all is well, as one that runs the text that is read
+abbrev pub may_be_unwell : Order → Bool
+may_be_unwell (Run number trace) = true
+may_be_unwell (Workers n trace) = false
+may_be_unwell Check = false
+may_be_unwell Layout = false
+may_be_unwell (Gen number shown) = false
+may_be_unwell Replay = false
+may_be_unwell (Scrub number) = false
 
 -- whether an order is to show the text that its number makes
 abbrev pub is_shown : Order → Bool

@@ -15,7 +15,7 @@ use Rattle.run_machine.specs.Runs.{State, IsRun, HasEnded}
 use Rattle.run_machine.specs.Scenario.{scenario_of}
 use Rattle.block_core.specs.Claim.{IsAsClaimed}
 use Rattle.block_core.specs.Scenarios.{IsNaming}
-use Rattle.run_machine.specs.Named.{IsEventOf}
+use Rattle.run_machine.specs.Named.{Fits, IsEventOf}
 use Rattle.serial_run.specs.Schedule.{Follows}
 use Rattle.report_text.specs.CheckText.{most_steps}
 use Rattle.report_text.specs.Report.{Told}
@@ -34,9 +34,10 @@ pub record HasRun (s : Scenario) (number : ℕ) (events : List Event) (ended : E
   pub follows : Follows (scene s ledger) (start s) (stream_of number) events state after
   pub ends : HasEnded state
   pub left : IsLeft s.stack state.objects (length events) ended
-  -- each disk has its own number, and each event names what the stack has
+  -- each disk has its own number, and each event names what the stack has, by numbers that fit its fields
   pub disks : (number : ℕ) → (state.objects.disk number).dev ≡ at number
   pub named : All (IsEventOf s.stack) events
+  pub fits : All Fits events
 
 -- every run of what the text means is as claimed, whatever comes next in it, and has no more events than the bound that is told of the text
 abbrev pub EveryRunIsAsClaimed : Accepted → Work → Type 0
@@ -44,20 +45,25 @@ EveryRunIsAsClaimed accepted work = (ledger : ℕ → LedgerId) (events : List E
     → (run : IsRun (scene (scenario_of accepted work) ledger) (start (scenario_of accepted work)) events state)
     → IsAsClaimed (scenario_of accepted work) ledger events state run × (length events ≤ most_steps work.bound)
 
--- These events are the run that goes by the words of a number, to its end. It is as claimed, and this is told of the objects that it leaves.
-pub record IsTold (accepted : Accepted) (work : Work) (number : ℕ) (events : List Event) (left : Told) : Type 0 where
-  pub ledger : ℕ → LedgerId
+-- These events are a run of what the text means, to its end. It is as claimed, and this is told of the objects that it leaves.
+pub record EndsAsTold (accepted : Accepted) (work : Work) (ledger : ℕ → LedgerId) (events : List Event) (state : State) (left : Told) : Type 0 where
   pub naming : IsNaming ledger
-  pub state : State
-  pub after : Lcg
-  pub follows : Follows (scene (scenario_of accepted work) ledger) (start (scenario_of accepted work)) (stream_of number) events state after
-  pub ends : HasEnded state
-  -- each of them names what the stack has, so that its line can be read
-  pub named : All (IsEventOf accepted.stack) events
   pub run : IsRun (scene (scenario_of accepted work) ledger) (start (scenario_of accepted work)) events state
+  pub ends : HasEnded state
+  -- each of them names what the stack has, by numbers that fit its fields, so that its line is read back as it
+  pub named : All (IsEventOf accepted.stack) events
+  pub fits : All Fits events
   pub claimed : IsAsClaimed (scenario_of accepted work) ledger events state run
   pub bounded : length events ≤ most_steps work.bound
   pub told : left ≡ told_by accepted.stack state.objects (length events) (most_steps work.bound)
+
+-- they are the one that goes by the words of a number
+pub record IsTold (accepted : Accepted) (work : Work) (number : ℕ) (events : List Event) (left : Told) : Type 0 where
+  pub ledger : ℕ → LedgerId
+  pub state : State
+  pub after : Lcg
+  pub follows : Follows (scene (scenario_of accepted work) ledger) (start (scenario_of accepted work)) (stream_of number) events state after
+  pub ended : EndsAsTold accepted work ledger events state left
 
 -- the sectors of writes together
 abbrev pub sectors : List Write → ℕ

@@ -19,7 +19,7 @@ event_lines stack events = flat_map (event_line stack) events
 pub record WritesLine {K : Type 0} (held : K → Option (List ℕ)) (faults : K → ℕ) (old : Trace K) (event : Event) (new : Trace K) : Type 0 where
   pub same_reference : new.out.ghost_name ≡ old.out.ghost_name
   pub stack : new.stack.now ≡ old.stack.now
-  pub says : Says (held old.out.now) (faults old.out.now) old.pen (held new.out.now) (faults new.out.now) new.pen (event_line old.stack.now event)
+  pub says : Says held faults old.out.now old.pen new.out.now new.pen (event_line old.stack.now event)
 
 -- and only where there is to be a trace
 abbrev pub traced : Bool → Stack → List Event → List ℕ

@@ -1,6 +1,7 @@
 //! The text that an order is about.
 ghost use Rattle.std.specs.Prelude.{◌≡◌, None, Some};
-ghost use Rattle.biostack_top.specs.Ending.{HasInput, made_by};
+ghost use Rattle.biostack_top.specs.Input.{HasInput, made_by};
+ghost use Rattle.biostack_top.specs.Streams.{stream};
 
 use crate::ending::Ending;
 use biostack_words::Order;
@@ -28,12 +29,7 @@ fn made_by(order: Order) -> Option<u64>
 
 // The text of a source.
 fn read<S: Source>(alloc: Global, source: &mut S) -> Result<Vec<u8>, Ending>
-    ensures { HasInput None record {
-      old = S.left source.old;
-      new = S.left source.new;
-      before = S.faults source.old;
-      now = S.faults source.new;
-    } result }
+    ensures { HasInput None (stream S.left S.faults source.old source.new) result }
 {
     match read_up_to(alloc, source, LIMIT) {
         Ok(text) => Ok(text),
@@ -52,12 +48,7 @@ pub(crate) fn input<S: Source>(
     order: Order,
     source: &mut S,
 ) -> Result<Vec<u8>, Ending>
-    ensures { HasInput (made_by order) record {
-      old = S.left source.old;
-      new = S.left source.new;
-      before = S.faults source.old;
-      now = S.faults source.new;
-    } result }
+    ensures { HasInput (made_by order) (stream S.left S.faults source.old source.new) result }
 {
     let Some(number) = made_by(order) else {
         return read(alloc, source);

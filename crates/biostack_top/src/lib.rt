@@ -1,20 +1,21 @@
 //! The top call of `biostack`: all that the program does, over any source and sinks.
 #![tactic(auto)]
 
-ghost use Rattle.std.specs.Prelude.{◌≡◌, ◌⊎◌, List, ℕ, map, is_some, true, None, Some, Result};
+ghost use Rattle.std.specs.Prelude.{◌≡◌, ◌⊎◌, List, ℕ, map, is_some, true, None, Some};
 ghost use Rattle.std.specs.String.{string_bytes};
 ghost use Rattle.outside_io.specs.Causes.{Rose};
 ghost use Rattle.outside_io.specs.Reading.{IsRead};
-ghost use Rattle.outside_io.specs.Saying.{Writes};
-ghost use Rattle.outside_io.specs.declared.source.Failed.{Failed};
+ghost use Rattle.outside_io.specs.Saying.{StopsAtFault};
 ghost use Rattle.biostack_words.specs.declared.order.Order.{Order as Orders};
 ghost use Rattle.biostack_top.specs.declared.ending.Ending.{Ending as Endings};
-ghost use Rattle.biostack_top.specs.Orders.{is_run, is_served, order_of};
-ghost use Rattle.work_text.specs.Whole.{text_refusal};
-ghost use Rattle.biostack_top.specs.Ending.{EndsBy, OrderEndsBy, limit, exit_of, line_of};
+ghost use Rattle.biostack_top.specs.Ending.{EndsBy, IsToldTo, MeetsNoFault, OrderEndsBy, exit_of, refusal_for};
+ghost use Rattle.biostack_top.specs.Input.{limit};
+ghost use Rattle.biostack_top.specs.Orders.{is_served, may_be_unwell, order_of};
+ghost use Rattle.biostack_top.specs.Streams.{stream};
 
 mod ending;
 mod input;
+pub mod laws;
 mod layout;
 mod order;
 mod run;
@@ -30,7 +31,7 @@ use std::alloc::Global;
 // Tells an ending to errors, and answers its status.
 fn end<E: Sink>(ending: Ending, errors: &mut E) -> Exit
     ensures exit { result.0 ≡ exit_of ending }
-    ensures told { (told : Result Unit Failed) × Writes (E.held errors.old) (E.faults errors.old) (E.held errors.new) (E.faults errors.new) told (line_of ending) }
+    ensures told { IsToldTo ending (stream E.held E.faults errors.old errors.new) }
 {
     let _told = ending.tell(errors);
     ending.exit()
@@ -43,8 +44,8 @@ fn end<E: Sink>(ending: Ending, errors: &mut E) -> Exit
 ///
 /// The status is 0 where the whole text was written, 1 where it was but some write that `Run` ran did not end well, 3 where the scenario
 /// is refused, 4 where the source failed, 5 where the output did, and 6 where there was no memory for reading, for the text of a number,
-/// for the fragments of a layout or for opening the scenario. `errors` gets the line of the status. A fault of `errors` changes nothing else:
-/// it has a front of the line then.
+/// for the fragments of a layout or for opening the scenario. With 3, 4 and 6 nothing was written, and behind a fault of the output nothing
+/// more was. `errors` gets the line of the status. A fault of `errors` changes nothing else: it has a front of the line then.
 pub fn serve_alone<S: Source, K: Sink, E: Sink>(
     alloc: Global,
     order: &Order,
@@ -57,10 +58,29 @@ pub fn serve_alone<S: Source, K: Sink, E: Sink>(
     // How it ended is one of the causes, and what the output and the errors hold is what goes with it.
     ensures whole { (ending : Endings) × (result.0 ≡ exit_of ending)
         × OrderEndsBy ending order.now record {
-          source = record { old = S.left source.old; new = S.left source.new; before = S.faults source.old; now = S.faults source.new };
-          out = record { old = K.held out.old; new = K.held out.new; before = K.faults out.old; now = K.faults out.new };
+          source = stream S.left S.faults source.old source.new;
+          out = stream K.held K.faults out.old out.new;
         }
-        × ((told : Result Unit Failed) × Writes (E.held errors.old) (E.faults errors.old) (E.held errors.new) (E.faults errors.new) told (line_of ending)) }
+        × IsToldTo ending (stream E.held E.faults errors.old errors.new) }
+
+    // What each status alone says.
+    ensures not_all_well { result.0 ≡ 1 → may_be_unwell order.now ≡ true }
+    ensures refused { result.0 ≡ 3 → (text : List ℕ) × IsRead limit (S.left source.old) text × (is_some (refusal_for order.now text) ≡ true) }
+    ensures read_fault { result.0 ≡ 4 → Rose (S.faults source.old) (S.faults source.new) }
+    ensures no_read_fault { (result.0 ≡ 4) ⊎ (S.faults source.new ≡ S.faults source.old) }
+    ensures write_fault { result.0 ≡ 5 → Rose (K.faults out.old) (K.faults out.new) }
+    ensures no_write_fault { (result.0 ≡ 5) ⊎ (K.faults out.new ≡ K.faults out.old) }
+
+    // What the output holds by now it held before any fault.
+    ensures stops { StopsAtFault K.held K.faults out.old out.new }
+
+    // Over a text that is not refused the order is carried out where nothing fails, but for want of memory.
+    ensures complete { (text : List ℕ)
+        → MeetsNoFault order.now text record {
+          source = stream S.left S.faults source.old source.new;
+          out = stream K.held K.faults out.old out.new;
+        }
+        → (result.0 ≡ 0) ⊎ (result.0 ≡ 1) ⊎ (result.0 ≡ 6) }
 {
     let ending = serve::serve(alloc, *order, source, out);
     end(ending, errors)
@@ -68,7 +88,8 @@ pub fn serve_alone<S: Source, K: Sink, E: Sink>(
 
 /// Carries out the words after the program's name, as `serve_alone` does with an order.
 ///
-/// The status is as there; 2 where the words give no order that is carried out, and 6 also where there was no memory to read them.
+/// The status is as there; 2 where the words give no order that is carried out, and 6 also where there was no memory to read them. Nothing
+/// is read or written then.
 pub fn biostack<S: Source, K: Sink, E: Sink>(
     alloc: Global,
     words: &[String],
@@ -79,19 +100,32 @@ pub fn biostack<S: Source, K: Sink, E: Sink>(
     // How it ended is one of the causes, and what the output and the errors hold is what goes with it.
     ensures whole { (ending : Endings) × (result.0 ≡ exit_of ending)
         × EndsBy ending (map string_bytes words.now) record {
-          source = record { old = S.left source.old; new = S.left source.new; before = S.faults source.old; now = S.faults source.new };
-          out = record { old = K.held out.old; new = K.held out.new; before = K.faults out.old; now = K.faults out.new };
+          source = stream S.left S.faults source.old source.new;
+          out = stream K.held K.faults out.old out.new;
         }
-        × ((told : Result Unit Failed) × Writes (E.held errors.old) (E.faults errors.old) (E.held errors.new) (E.faults errors.new) told (line_of ending)) }
+        × IsToldTo ending (stream E.held E.faults errors.old errors.new) }
 
     // What each status alone says.
     ensures usage { result.0 ≡ 2 → order_of (map string_bytes words.now) ≡ None }
     ensures no_order { order_of (map string_bytes words.now) ≡ None → (result.0 ≡ 2) ⊎ (result.0 ≡ 6) }
-    ensures not_all_well { result.0 ≡ 1 → (order : Orders) × (order_of (map string_bytes words.now) ≡ Some order) × (is_run order ≡ true) }
+    ensures not_all_well { result.0 ≡ 1 → (order : Orders) × (order_of (map string_bytes words.now) ≡ Some order) × (may_be_unwell order ≡ true) }
     ensures refused { result.0 ≡ 3 → (order : Orders) × (order_of (map string_bytes words.now) ≡ Some order)
-        × ((text : List ℕ) × IsRead limit (S.left source.old) text × (is_some (text_refusal text) ≡ true)) }
+        × ((text : List ℕ) × IsRead limit (S.left source.old) text × (is_some (refusal_for order text) ≡ true)) }
     ensures read_fault { result.0 ≡ 4 → Rose (S.faults source.old) (S.faults source.new) }
+    ensures no_read_fault { (result.0 ≡ 4) ⊎ (S.faults source.new ≡ S.faults source.old) }
     ensures write_fault { result.0 ≡ 5 → Rose (K.faults out.old) (K.faults out.new) }
+    ensures no_write_fault { (result.0 ≡ 5) ⊎ (K.faults out.new ≡ K.faults out.old) }
+
+    // What the output holds by now it held before any fault.
+    ensures stops { StopsAtFault K.held K.faults out.old out.new }
+
+    // An order over a text that is not refused is carried out where nothing fails, but for want of memory.
+    ensures complete { (order : Orders) (text : List ℕ) → order_of (map string_bytes words.now) ≡ Some order
+        → MeetsNoFault order text record {
+          source = stream S.left S.faults source.old source.new;
+          out = stream K.held K.faults out.old out.new;
+        }
+        → (result.0 ≡ 0) ⊎ (result.0 ≡ 1) ⊎ (result.0 ≡ 6) }
 {
     match order::order_of(alloc, words) {
         Ok(order) => serve_alone(alloc, &order, source, out, errors),

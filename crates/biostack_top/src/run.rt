@@ -13,6 +13,7 @@ ghost use Rattle.report_text.specs.Views.{IsOf, told_of};
 ghost use Rattle.biostack_words.specs.declared.order.Order.TheVariants as order;
 ghost use Rattle.biostack_top.specs.Scene.{IsSaid};
 ghost use Rattle.biostack_top.specs.Running.{HasRun, sectors};
+ghost use Rattle.biostack_top.specs.Streams.{stream};
 ghost use Rattle.biostack_top.specs.Tracing.{traced};
 ghost use Rattle.biostack_top.specs.Ending.{TextEndsBy, all_well};
 
@@ -60,7 +61,7 @@ fn run_opened<K: Sink>(
     requires runnable { IsRunnable (scenario_in opened) }
     requires rescuers { HasRescuers (scenario_in opened).stack }
     ensures { (events : List Told) × HasRun (scenario_in opened) number events result.0
-        × Writes (K.held out.old) (K.faults out.old) (K.held out.new) (K.faults out.new) result.1 (traced trace stack.now events) }
+        × Writes K.held K.faults out.old out.new result.1 (traced trace stack.now events) }
 {
     if trace {
         run_traced(opened, number, stack, out)
@@ -78,9 +79,9 @@ fn report_behind<K: Sink>(
 ) -> Result<(), Failed>
     requires ended { IsOf scene.now.accepted.stack ended.now }
     requires bound { most_steps scene.now.work.bound < 2 ^ 64 }
-    ensures ok { OnOk traced (Writes (K.held out.old) (K.faults out.old) (K.held out.new) (K.faults out.new) result
+    ensures ok { OnOk traced (Writes K.held K.faults out.old out.new result
         (report scene.now.accepted.stack (told_of ended.now (most_steps scene.now.work.bound)))) }
-    ensures err { OnErr traced (IsErr result × (K.held out.new ≡ K.held out.old) × (K.faults out.new ≡ K.faults out.old)) }
+    ensures err { OnErr traced (IsErr result × (out.new ≡ out.old)) }
 {
     traced?;
     write_report(ended, &scene.accepted.stack, &scene.work.bound, out)
@@ -109,12 +110,7 @@ pub(crate) fn run<K: Sink>(
     out: &mut K,
 ) -> Ending
     requires { IsSaid scene.now }
-    ensures { TextEndsBy result (order.Run number trace) scene.now.text.now record {
-      old = K.held out.old;
-      new = K.held out.new;
-      before = K.faults out.old;
-      now = K.faults out.new;
-    } }
+    ensures { TextEndsBy result (order.Run number trace) scene.now.text.now (stream K.held K.faults out.old out.new) }
 {
     let Ok(opened) = open(alloc, &scene.accepted, &scene.work) else {
         return Ending::Memory;
@@ -152,12 +148,7 @@ pub(crate) fn run_made<K: Sink>(
     out: &mut K,
 ) -> Ending
     requires { IsSaid scene.now }
-    ensures { TextEndsBy result (order.Gen number false) scene.now.text.now record {
-      old = K.held out.old;
-      new = K.held out.new;
-      before = K.faults out.old;
-      now = K.faults out.new;
-    } }
+    ensures { TextEndsBy result (order.Gen number false) scene.now.text.now (stream K.held K.faults out.old out.new) }
 {
     let Ok(opened) = open(alloc, &scene.accepted, &scene.work) else {
         return Ending::Memory;

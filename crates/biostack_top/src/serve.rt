@@ -4,7 +4,9 @@ ghost use Rattle.outside_io.specs.Saying.{Writes};
 ghost use Rattle.biostack_words.specs.declared.order.Order.TheVariants as order;
 ghost use Rattle.biostack_top.specs.Scene.{IsSaid};
 ghost use Rattle.biostack_top.specs.Orders.{is_served, is_shown};
-ghost use Rattle.biostack_top.specs.Ending.{IsMade, OrderEndsBy, TextEndsBy, made_by};
+ghost use Rattle.biostack_top.specs.Ending.{OrderEndsBy, TextEndsBy};
+ghost use Rattle.biostack_top.specs.Input.{IsMade, made_by};
+ghost use Rattle.biostack_top.specs.Streams.{stream};
 
 use crate::ending::Ending;
 use crate::input::input;
@@ -21,12 +23,7 @@ use std::alloc::Global;
 // Tells the scene's devices, and what its writes need.
 fn check<K: Sink>(scene: &Scene<'_>, out: &mut K) -> Ending
     requires { IsSaid scene.now }
-    ensures { TextEndsBy result order.Check scene.now.text.now record {
-      old = K.held out.old;
-      new = K.held out.new;
-      before = K.faults out.old;
-      now = K.faults out.new;
-    } }
+    ensures { TextEndsBy result order.Check scene.now.text.now (stream K.held K.faults out.old out.new) }
 {
     match write_check(&scene.accepted.stack, &scene.work.bound, out) {
         Ok(()) => Ending::Done,
@@ -37,12 +34,7 @@ fn check<K: Sink>(scene: &Scene<'_>, out: &mut K) -> Ending
 // Tells where the scene's writes go.
 fn layout<K: Sink>(alloc: Global, scene: &Scene<'_>, out: &mut K) -> Ending
     requires { IsSaid scene.now }
-    ensures { TextEndsBy result order.Layout scene.now.text.now record {
-      old = K.held out.old;
-      new = K.held out.new;
-      before = K.faults out.old;
-      now = K.faults out.new;
-    } }
+    ensures { TextEndsBy result order.Layout scene.now.text.now (stream K.held K.faults out.old out.new) }
 {
     let Ok(fragments) = layout_lines(alloc, &scene.accepted.stack, &scene.work.writes) else {
         return Ending::Memory;
@@ -55,7 +47,7 @@ fn layout<K: Sink>(alloc: Global, scene: &Scene<'_>, out: &mut K) -> Ending
 
 // Shows a text that a number made.
 fn show<K: Sink>(text: &[u8], out: &mut K) -> Result<(), Failed>
-    ensures { Writes (K.held out.old) (K.faults out.old) (K.held out.new) (K.faults out.new) result text.now }
+    ensures { Writes K.held K.faults out.old out.new result text.now }
 {
     let mut pen = Pen::new();
     pen.put(out, &[text]);
@@ -66,12 +58,7 @@ fn show<K: Sink>(text: &[u8], out: &mut K) -> Result<(), Failed>
 fn tell_text<K: Sink>(order: Order, text: &[u8], out: &mut K) -> Ending
     requires shown { is_shown order ≡ true }
     requires made { IsMade (made_by order) text.now }
-    ensures { TextEndsBy result order text.now record {
-      old = K.held out.old;
-      new = K.held out.new;
-      before = K.faults out.old;
-      now = K.faults out.new;
-    } }
+    ensures { TextEndsBy result order text.now (stream K.held K.faults out.old out.new) }
 {
     match show(text, out) {
         Ok(()) => Ending::Done,
@@ -83,12 +70,7 @@ fn tell_text<K: Sink>(order: Order, text: &[u8], out: &mut K) -> Ending
 fn serve_text<K: Sink>(alloc: Global, order: Order, text: &[u8], out: &mut K) -> Ending
     requires served { is_served order ≡ true }
     requires made { IsMade (made_by order) text.now }
-    ensures { TextEndsBy result order text.now record {
-      old = K.held out.old;
-      new = K.held out.new;
-      before = K.faults out.old;
-      now = K.faults out.new;
-    } }
+    ensures { TextEndsBy result order text.now (stream K.held K.faults out.old out.new) }
 {
     if is_shown(order) {
         return tell_text(order, text, out);
@@ -111,8 +93,8 @@ fn serve_text<K: Sink>(alloc: Global, order: Order, text: &[u8], out: &mut K) ->
 pub fn serve<S: Source, K: Sink>(alloc: Global, order: Order, source: &mut S, out: &mut K) -> Ending
     requires { is_served order ≡ true }
     ensures { OrderEndsBy result order record {
-      source = record { old = S.left source.old; new = S.left source.new; before = S.faults source.old; now = S.faults source.new };
-      out = record { old = K.held out.old; new = K.held out.new; before = K.faults out.old; now = K.faults out.new };
+      source = stream S.left S.faults source.old source.new;
+      out = stream K.held K.faults out.old out.new;
     } }
 {
     match input(alloc, order, source) {

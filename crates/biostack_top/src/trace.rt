@@ -1,4 +1,4 @@
-//! Writes the line of each event as it happens.
+//! Tells a pen the line of each event as it happens.
 ghost use Rattle.std.specs.Prelude.{◌≡◌, List, [], false, true, MatchResult};
 ghost use Rattle.stack_base.specs.Stack.{HasRescuers};
 ghost use Rattle.outside_io.specs.Saying.{Says, Writes};
@@ -15,17 +15,17 @@ use stack_base::Stack;
 use task_core::{Ended, Event, Opened};
 use trace_text::write_event;
 
-/// A pen that writes the line of each event to a sink. After a fault of the sink it writes nothing more.
+/// A pen that is told the line of each event. Lines go to the sink as the pen's buffer is full, and the rest at the end; after a fault of the
+/// sink nothing does.
 pub(crate) struct Trace<'k, 's, K> {
     out: &'k mut K,
     stack: &'s Stack,
     pen: Pen,
 }
 
-// Writes the line of an event, with the byte 10 that ends it.
+// Tells the line of an event, with the byte 10 that ends it.
 fn write_line<K: Sink>(pen: &mut Pen, out: &mut K, stack: &Stack, event: &Event)
-    ensures { Says (K.held out.old) (K.faults out.old) pen.old (K.held out.new) (K.faults out.new) pen.new
-        (event_line stack.now event.now) }
+    ensures { Says K.held K.faults out.old pen.old out.new pen.new (event_line stack.now event.now) }
 {
     let mut line = ArrayVec::new();
     write_event(event, stack, &mut line);
@@ -58,8 +58,7 @@ impl<'k, 's, K: Sink> Trace<'k, 's, K> {
     // Hands on what waits in the pen. An error says that the sink has failed, now or before.
     fn finish(&mut self) -> Result<(), Failed>
         ensures same_reference { self.new.out.ghost_name ≡ self.old.out.ghost_name }
-        ensures says { Says (K.held self.old.out.now) (K.faults self.old.out.now) self.old.pen
-            (K.held self.new.out.now) (K.faults self.new.out.now) self.new.pen [] }
+        ensures says { Says K.held K.faults self.old.out.now self.old.pen self.new.out.now self.new.pen [] }
         ensures handed { self.new.pen.pending ≡ [] }
         ensures failed { MatchResult result (λ _. self.new.pen.failed ≡ false) (λ _. self.new.pen.failed ≡ true) }
     {
@@ -67,8 +66,8 @@ impl<'k, 's, K: Sink> Trace<'k, 's, K> {
     }
 }
 
-/// Runs what was opened by the schedule of a number, and writes the line of each event as it happens. Answers what the run left, and how
-/// the writing ended.
+/// Runs what was opened by the schedule of a number, and writes the line of each event: a pen is told it as it happens. Answers what the run
+/// left, and how the writing ended.
 pub(crate) fn run_traced<K: Sink>(
     opened: Opened,
     number: u64,
@@ -79,7 +78,7 @@ pub(crate) fn run_traced<K: Sink>(
     requires runnable { IsRunnable (scenario_in opened) }
     requires rescuers { HasRescuers (scenario_in opened).stack }
     ensures { (events : List Told) × HasRun (scenario_in opened) number events result.0
-        × Writes (K.held out.old) (K.faults out.old) (K.held out.new) (K.faults out.new) result.1 (event_lines stack.now events) }
+        × Writes K.held K.faults out.old out.new result.1 (event_lines stack.now events) }
 {
     let mut schedule = Schedule::new(number);
     let mut trace = Trace {

@@ -46,12 +46,13 @@ returns-in-Err g c =
     let all = writes_then lines left c.run_opened-ended.result.1 c.report_behind.result by.2 c.report_behind.ensures.ok c.report_behind.ensures.err in
     let said = written_front c.in-Err.is all in (
       said.0,
+      said.1,
       c.requires.fine,
       (
         lines ++ left,
         all_well ended.statuses.items,
         tells_run scene.text.now scene.accepted scene.work c.requires c.args.number by.0 ended has c.args.trace,
-        said.1,
+        said.2,
       ),
     )
 

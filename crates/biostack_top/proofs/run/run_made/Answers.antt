@@ -60,6 +60,7 @@ returns g c =
     let has = subst (λ (s : Scenario). HasRun s c.args.number by.0 ended) c.in-Ok.ensures.of by.1 in
     let written = c.in-Err.ensures in (
       written.cause.failed,
+      written.stops,
       c.requires.fine,
       (
         gen_text c.args.number c.len.result c.sectors.result scene.accepted.stack (told_of ended (most_steps scene.work.bound)),

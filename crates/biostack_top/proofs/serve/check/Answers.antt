@@ -18,4 +18,4 @@ pub returns-in-Err : goal.returns-in-Err
 returns-in-Err g c =
     let scene = c.args.scene.now in
     let written = c.in-Err.ensures in
-    (written.cause.failed, c.requires.fine, (check_text scene.accepted.stack scene.work.bound, true, (scene.accepted, scene.work, c.requires, refl, refl), written.front))
+    (written.cause.failed, written.stops, c.requires.fine, (check_text scene.accepted.stack scene.work.bound, true, (scene.accepted, scene.work, c.requires, refl, refl), written.front))

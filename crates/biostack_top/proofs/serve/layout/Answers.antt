@@ -33,6 +33,7 @@ returns g c =
     let written = c.in-Err.ensures in
     let laid = subst (λ writes. AreLaid scene.accepted.stack 0 writes c.in-Ok.fragments.items) c.deref.ensures.value c.in-Ok.ensures.laid in (
       written.cause.failed,
+      written.stops,
       c.requires.fine,
       (
         layout_text scene.accepted.stack c.deref-2.result.now,

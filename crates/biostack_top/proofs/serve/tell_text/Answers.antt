@@ -11,4 +11,4 @@ returns-in-Ok g c =
 pub returns-in-Err : goal.returns-in-Err
 returns-in-Err g c =
     let shown = shown_is c.args.order c.args.text.now c.requires.shown c.requires.made in
-    (c.in-Err.ensures.cause.failed, shown.0, (c.args.text.now, true, shown.1, c.in-Err.ensures.front))
+    (c.in-Err.ensures.cause.failed, c.in-Err.ensures.stops, shown.0, (c.args.text.now, true, shown.1, c.in-Err.ensures.front))

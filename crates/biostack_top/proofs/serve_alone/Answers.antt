@@ -1,0 +1,13 @@
+-- A text that an order refuses was read.
+use Rattle.std.proofs.Common.{◌∙◌, sym}
+use Rattle.biostack_top.specs.Streams.{Call, stream}
+use Rattle.biostack_top.proofs.EndingLemmas.{refused_exit}
+use Rattle.biostack_top.proofs.serve_alone.Goals as goal
+
+pub returns-clause-refused : goal.returns-clause-refused
+returns-clause-refused g c = λ is.
+    let call : Call g.row.S.Denot g.row.K.Denot = record {
+      source = stream g.S.Source.left g.S.Source.faults c.args.source.now c.serve-ending.new.source;
+      out = stream g.K.Sink.held g.K.Sink.faults c.args.out.now c.serve-ending.new.out;
+    } in
+    refused_exit c.args.order.now call c.serve-ending.result c.serve-ending.ensures (sym c.end.ensures.exit ∙ is)
