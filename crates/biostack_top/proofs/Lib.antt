@@ -5,3 +5,6 @@ pub mod TraceLemmas
 pub mod ToldLemmas
 pub mod ServeLemmas
 pub mod EndingLemmas
+pub mod LaidLemmas
+pub mod LeftDisks
+pub mod ScrubLemmas

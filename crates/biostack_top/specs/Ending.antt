@@ -14,7 +14,11 @@ use Rattle.decl_text.specs.declared.reason.Refusal.{Refusal}
 use Rattle.run_machine.specs.declared.event.Event.{Event}
 use Rattle.work_text.specs.declared.Work.{Work}
 use Rattle.work_text.specs.Whole.{text_refusal}
-use Rattle.report_text.specs.Report.{Told, gen_text, report}
+use Rattle.report_text.specs.Report.{Told, gen_text, report, steps_line}
+use Rattle.run_machine.specs.Scenario.{scenario_of}
+use Rattle.mirror_scrub.specs.Seen.{images_of}
+use Rattle.mirror_scrub.specs.Text.{all_alike, scrub_text}
+use Rattle.biostack_top.specs.Scrubbed.{AreLaid as AreLaidOn}
 use Rattle.report_text.specs.CheckText.{check_text}
 use Rattle.report_text.specs.LayoutText.{layout_text}
 use Rattle.biostack_words.specs.declared.order.Order.{Order}
@@ -50,7 +54,7 @@ refusal_line refusal = refusal_text refusal (name_of_number refusal.number)
 abbrev pub line_of : Ending → List ℕ
 line_of Done = []
 line_of NotAllWell = []
-line_of Usage = codes "biostack: usage: run [--seed N | --workers N] [--trace] | check | layout | gen N [--text]\n"
+line_of Usage = codes "biostack: usage: run [--seed N | --workers N] [--trace] | check | layout | gen N [--text] | scrub [--seed N]\n"
 line_of (Refused refusal) = refusal_line refusal
 line_of ReadFault = codes "biostack: read fault\n"
 line_of WriteFault = codes "biostack: write fault\n"
@@ -61,7 +65,8 @@ abbrev pub all_well : List Status → Bool
 all_well statuses = list_all (λ end. status_eq end no_error) statuses
 
 -- What is written of a text, and whether all is well: the lines of a run, where there is a trace, and the report of what it left; the devices of
--- the text and what it needs; its fragments; the text itself, where a number made it; or what a run of that left.
+-- the text and what it needs; its fragments; the text itself, where a number made it, or what a run of that left; or where the members of mirrors
+-- differ behind a run, and its steps.
 abbrev pub Tells : Order → List ℕ → List ℕ → Bool → Type 0
 Tells (Run number trace) text told well =
     (accepted : Accepted) × (work : Work) × (events : List Event) × (left : Told)
@@ -79,7 +84,12 @@ Tells (Gen number false) text told well =
     × (told ≡ gen_text number (length work.writes.items) (sectors work.writes.items) accepted.stack left) × (well ≡ true)
 Tells (Workers n trace) text told well = ⊥
 Tells Replay text told well = ⊥
-Tells (Scrub number) text told well = ⊥
+Tells (Scrub number) text told well =
+    (accepted : Accepted) × (work : Work) × (events : List Event) × (left : Told)
+    × Says text accepted work × EveryRunIsAsClaimed accepted work × IsTold accepted work number events left
+    × AreLaid (scenario_of accepted work) (images_of left.disks)
+    × (told ≡ scrub_text accepted.stack (images_of left.disks) ++ steps_line left.steps left.bound)
+    × (well ≡ all_alike accepted.stack (images_of left.disks))
 
 -- what refuses the text of an order, if anything does
 abbrev pub refusal_for : Order → List ℕ → Option Refusal

@@ -5,5 +5,6 @@ pub mod Tracing
 pub mod Running
 pub mod Streams
 pub mod Input
+pub mod Scrubbed
 pub mod Ending
 pub mod Laws

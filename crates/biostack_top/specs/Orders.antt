@@ -5,7 +5,7 @@ use Rattle.biostack_words.specs.Grammar.{meaning}
 use Rattle.biostack_words.specs.declared.order.Order.{Order}
 use Rattle.biostack_words.specs.declared.order.Order.TheVariants.{Run, Workers, Check, Layout, Gen, Replay, Scrub}
 
--- whether an order is carried out: runs in threads, replays and scrubs are not yet
+-- whether an order is carried out: runs in threads and replays are not yet
 abbrev pub is_served : Order → Bool
 is_served (Run number trace) = true
 is_served (Workers n trace) = false
@@ -13,9 +13,10 @@ is_served Check = true
 is_served Layout = true
 is_served (Gen number shown) = true
 is_served Replay = false
-is_served (Scrub number) = false
+is_served (Scrub number) = true
 
--- whether an order may find that not all is well, as one that runs the text that is read
+-- whether an order may find that not all is well: a run of the text that is read, of which a write did not end well, or a scrub with a sector that
+-- is unlike
 abbrev pub may_be_unwell : Order → Bool
 may_be_unwell (Run number trace) = true
 may_be_unwell (Workers n trace) = false
@@ -23,7 +24,7 @@ may_be_unwell Check = false
 may_be_unwell Layout = false
 may_be_unwell (Gen number shown) = false
 may_be_unwell Replay = false
-may_be_unwell (Scrub number) = false
+may_be_unwell (Scrub number) = true
 
 -- whether an order is to show the text that its number makes
 abbrev pub is_shown : Order → Bool

@@ -9,7 +9,7 @@ use outside_io::{Failed, Pen, Sink};
 
 /// The line for words that ask for nothing that the program does.
 const USAGE: &[u8] =
-    b"biostack: usage: run [--seed N | --workers N] [--trace] | check | layout | gen N [--text]\n";
+    b"biostack: usage: run [--seed N | --workers N] [--trace] | check | layout | gen N [--text] | scrub [--seed N]\n";
 
 /// The status that the program ends with.
 #[derive(Clone, Copy, PartialEq, Eq)]
@@ -18,9 +18,9 @@ pub struct Exit(pub u8);
 /// Why a call ended.
 #[derive(Clone, Copy, PartialEq, Eq)]
 pub enum Ending {
-    /// What was asked for was written whole, and each write that was run ended well.
+    /// What was asked for was written whole; of a run each write ended well, and of a scrub no sector is unlike.
     Done,
-    /// What was asked for was written whole, and some write that was run did not end well.
+    /// What was asked for was written whole; some write that was run did not end well, or some sector is unlike.
     NotAllWell,
     /// The words ask for nothing that the program does.
     Usage,

@@ -1,5 +1,6 @@
-//! What holds of the trace of a run, as a function that does nothing.
+//! What holds of what is told of a run, as functions that do nothing.
 ghost use Rattle.biostack_top.specs.Laws.{TracesAreReadBack};
+ghost use Rattle.biostack_top.specs.Scrubbed.{UnlikeWhereLaidDiffers};
 
 /// The line of each event of a run to its end is read back as this event.
 pub fn traces_are_read_back()
@@ -8,3 +9,9 @@ pub fn traces_are_read_back()
     trace_text::laws::accepted_stacks_are_named();
     trace_text::laws::lines_are_read_back();
 }
+
+/// Where each disk holds what the writes lay out on it, as it does when a run has ended, a sector of a mirror is unlike on a member exactly where
+/// what is laid out at two places differs: at the sectors of disks that the member and the first member show there.
+pub fn unlike_where_laid_differs()
+    ensures { UnlikeWhereLaidDiffers }
+{}

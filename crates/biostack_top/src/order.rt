@@ -13,8 +13,10 @@ fn is_served(order: Order) -> bool
     ensures { result ≡ is_served order }
 {
     match order {
-        Order::Run { .. } | Order::Check | Order::Layout | Order::Gen { .. } => true,
-        Order::Workers { .. } | Order::Replay | Order::Scrub { .. } => false,
+        Order::Run { .. } | Order::Check | Order::Layout | Order::Gen { .. } | Order::Scrub { .. } => {
+            true
+        }
+        Order::Workers { .. } | Order::Replay => false,
     }
 }
 

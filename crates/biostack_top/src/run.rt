@@ -38,8 +38,8 @@ impl Events for Silence {
     fn event(&mut self, _event: &Event) {}
 }
 
-// Runs what was opened, and tells nothing of it.
-fn run_quiet(opened: Opened, number: u64) -> Ended
+/// Runs what was opened, and tells nothing of it.
+pub(crate) fn run_quiet(opened: Opened, number: u64) -> Ended
     requires opened { IsOpened opened }
     requires runnable { IsRunnable (scenario_in opened) }
     requires rescuers { HasRescuers (scenario_in opened).stack }

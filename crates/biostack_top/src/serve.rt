@@ -14,6 +14,7 @@ use crate::layout::layout_lines;
 use crate::order::is_shown;
 use crate::run::{run, run_made};
 use crate::scene::{Scene, read_scene};
+use crate::scrub::scrub;
 use biostack_words::Order;
 use decl_text::ReadFault;
 use outside_io::{Failed, Pen, Sink, Source};
@@ -85,7 +86,8 @@ fn serve_text<K: Sink>(alloc: Global, order: Order, text: &[u8], out: &mut K) ->
         Order::Check => check(&scene, out),
         Order::Layout => layout(alloc, &scene, out),
         Order::Gen { number, .. } => run_made(alloc, number, &scene, out),
-        Order::Workers { .. } | Order::Replay | Order::Scrub { .. } => unreachable!(),
+        Order::Scrub { number } => scrub(alloc, number, &scene, out),
+        Order::Workers { .. } | Order::Replay => unreachable!(),
     }
 }
 

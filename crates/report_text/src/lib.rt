@@ -15,5 +15,5 @@ mod summary;
 
 pub use check::write_check;
 pub use layout::write_layout;
-pub use report::write_report;
+pub use report::{write_report, write_steps};
 pub use summary::write_gen;

@@ -56,6 +56,21 @@ pub(crate) fn steps_line<K: Sink>(pen: &mut Pen, out: &mut K, steps: u64, bound:
     pen.put(out, &[b"steps ", steps, b" of ", bound, b"\n"]);
 }
 
+/// Writes how many events a run had, beside the bound on them.
+///
+/// # Errors
+///
+/// `Failed` only where the sink's count of faults rose. The sink took a front of the line then.
+pub fn write_steps<K: Sink>(steps: u64, bound: &Bounds, out: &mut K) -> Result<(), Failed>
+    requires bound { most_steps bound.now < 2 ^ 64 }
+    ensures { Writes (K.held out.old) (K.faults out.old) (K.held out.new) (K.faults out.new) result
+        (steps_line steps (most_steps bound.now)) }
+{
+    let mut pen = Pen::new();
+    steps_line(&mut pen, out, steps, bound.total());
+    pen.finish(out)
+}
+
 /// Writes the report of a run that has ended: the status of each write, what each disk holds, how the takes of each pool were served, and how
 /// many events there were, beside the bound on them.
 ///
