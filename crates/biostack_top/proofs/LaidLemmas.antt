@@ -11,16 +11,16 @@ use Rattle.layout_model.proofs.Stacks.{element}
 use Rattle.layout_model.specs.Shown.{shown}
 use Rattle.model_disks.specs.Runs.{flag}
 use Rattle.run_machine.specs.Opened.{Scenario}
-use Rattle.block_core.specs.Sound.{IsScenario}
-use Rattle.block_core.proofs.LaidOnce.{laid_is_one}
-use Rattle.biostack_top.specs.Scrubbed.{AreLaid, IsLaidAt, UnlikeWhereLaidDiffers}
+use Rattle.block_core.specs.Scenarios.{IsScenario}
+use Rattle.block_core.proofs.images.LaidOnce.{laid_is_one}
+use Rattle.biostack_top.specs.Scrubbed.{AreLaidImages, IsLaidAt, UnlikeWhereLaidDiffers}
 use Rattle.mirror_scrub.specs.Seen.{Images, differing, differs, leg_at, legs, seen, unlikes}
 use Rattle.mirror_scrub.proofs.DiskLemmas.{shown_on_disk}
 use Rattle.mirror_scrub.proofs.LegLemmas.{leg_is}
 use Rattle.mirror_scrub.proofs.SeenLemmas.{seen_shown}
 
 -- a leg shows what is laid out at its place
-leg_shows : (s : Scenario) (images : Images) → IsScenario s → AreLaid s images → (mirror leg x : ℕ) → mirror < length s.stack.devices.items
+leg_shows : (s : Scenario) (images : Images) → IsScenario s → AreLaidImages s images → (mirror leg x : ℕ) → mirror < length s.stack.devices.items
     → leg < legs (tree s.stack mirror) → x < size (tree s.stack mirror)
     → (one : List ℕ) → IsLaidAt s (shown (leg_at (tree s.stack mirror) leg) x) one → seen images (leg_at (tree s.stack mirror) leg) x ≡ one
 leg_shows s images good laid mirror leg x known has inside one at_place =

@@ -25,7 +25,7 @@ use Rattle.biostack_words.specs.declared.order.Order.TheVariants.{Scrub}
 use Rattle.biostack_top.specs.Ending.{Tells}
 use Rattle.biostack_top.specs.Running.{HasRun, stream_of}
 use Rattle.biostack_top.specs.Scene.{Says}
-use Rattle.biostack_top.specs.Scrubbed.{AreLaid}
+use Rattle.biostack_top.specs.Scrubbed.{AreLaidImages}
 use Rattle.biostack_top.proofs.LeftDisks.{left_disk}
 use Rattle.biostack_top.proofs.RunningLemmas.{every_run, is_told}
 
@@ -50,7 +50,7 @@ module _ (text : List ℕ) (accepted : Accepted) (work : Work) (says : Says text
       subst (λ (o : Option DiskState). IsSomeAnd o (λ d. length d.image ≡ size (tree accepted.stack disk))) (sym (disk_is disk known keeps)) (laid_images.sized disk)
 
   -- and holds what is laid out on it
-  pub are_laid : AreLaid (scenario_of accepted work) (held ended.disks.items)
+  pub are_laid : AreLaidImages (scenario_of accepted work) (held ended.disks.items)
   are_laid disk at known keeps within =
       subst (IsLaid accepted.stack work.writes.items work.rounds.items disk at)
       (sym (held_is ended.disks.items disk (has.state.objects.disk disk) (disk_is disk known keeps) at))

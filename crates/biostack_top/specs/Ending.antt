@@ -18,7 +18,7 @@ use Rattle.report_text.specs.Report.{Told, gen_text, report, steps_line}
 use Rattle.run_machine.specs.Scenario.{scenario_of}
 use Rattle.mirror_scrub.specs.Seen.{images_of}
 use Rattle.mirror_scrub.specs.Text.{all_alike, scrub_text}
-use Rattle.biostack_top.specs.Scrubbed.{AreLaid as AreLaidOn}
+use Rattle.biostack_top.specs.Scrubbed.{AreLaidImages}
 use Rattle.report_text.specs.CheckText.{check_text}
 use Rattle.report_text.specs.LayoutText.{layout_text}
 use Rattle.biostack_words.specs.declared.order.Order.{Order}
@@ -87,7 +87,7 @@ Tells Replay text told well = ⊥
 Tells (Scrub number) text told well =
     (accepted : Accepted) × (work : Work) × (events : List Event) × (left : Told)
     × Says text accepted work × EveryRunIsAsClaimed accepted work × IsTold accepted work number events left
-    × AreLaid (scenario_of accepted work) (images_of left.disks)
+    × AreLaidImages (scenario_of accepted work) (images_of left.disks)
     × (told ≡ scrub_text accepted.stack (images_of left.disks) ++ steps_line left.steps left.bound)
     × (well ≡ all_alike accepted.stack (images_of left.disks))
 

@@ -7,12 +7,12 @@ use Rattle.layout_model.specs.Shown.{is_disk, shown}
 use Rattle.layout_model.specs.Way.{Place}
 use Rattle.model_disks.specs.Runs.{flag}
 use Rattle.run_machine.specs.Opened.{Scenario}
-use Rattle.block_core.specs.Sound.{IsScenario}
+use Rattle.block_core.specs.Scenarios.{IsScenario}
 use Rattle.mirror_scrub.specs.Seen.{Images, leg_at, legs, unlikes}
 
 -- each sector of each disk holds what is laid out there
-abbrev pub AreLaid : Scenario → Images → Type 0
-AreLaid s images = (disk at : ℕ) → disk < length s.stack.devices.items → is_disk (tree s.stack disk) ≡ true → at < size (tree s.stack disk)
+abbrev pub AreLaidImages : Scenario → Images → Type 0
+AreLaidImages s images = (disk at : ℕ) → disk < length s.stack.devices.items → is_disk (tree s.stack disk) ≡ true → at < size (tree s.stack disk)
     → IsLaid s.stack s.writes s.rounds disk at (images disk at)
 
 -- what is laid out at a place
@@ -22,7 +22,7 @@ IsLaidAt s place sector = IsLaid s.stack s.writes s.rounds place.disk place.at s
 -- Then a sector of a mirror is unlike on a leg exactly where what is laid out for the leg differs from what is for leg 0: what is laid out at
 -- the two sectors of disks that they show there.
 abbrev pub UnlikeWhereLaidDiffers : Type 0
-UnlikeWhereLaidDiffers = (s : Scenario) (images : Images) → IsScenario s → AreLaid s images
+UnlikeWhereLaidDiffers = (s : Scenario) (images : Images) → IsScenario s → AreLaidImages s images
     → (mirror leg x : ℕ) → mirror < length s.stack.devices.items → leg < legs (tree s.stack mirror) → x < size (tree s.stack mirror)
     → (one other : List ℕ) → IsLaidAt s (shown (leg_at (tree s.stack mirror) leg) x) one → IsLaidAt s (shown (leg_at (tree s.stack mirror) 0) x) other
     → Decides (flag (unlikes images (tree s.stack mirror) leg) x) (one ≢ other)

@@ -63,7 +63,7 @@ pub(crate) fn steps_line<K: Sink>(pen: &mut Pen, out: &mut K, steps: u64, bound:
 /// `Failed` only where the sink's count of faults rose. The sink took a front of the line then.
 pub fn write_steps<K: Sink>(steps: u64, bound: &Bounds, out: &mut K) -> Result<(), Failed>
     requires bound { most_steps bound.now < 2 ^ 64 }
-    ensures { Writes (K.held out.old) (K.faults out.old) (K.held out.new) (K.faults out.new) result
+    ensures { Writes K.held K.faults out.old out.new result
         (steps_line steps (most_steps bound.now)) }
 {
     let mut pen = Pen::new();
