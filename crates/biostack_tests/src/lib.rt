@@ -1,4 +1,4 @@
-//! Tests of what no clause says, of texts and of what is made of them: why texts are refused, what others mean, worked runs and layouts, a
+//! Tests of what no clause says, of texts and of what is made of them: why texts are refused, what others mean, worked runs, scrubs and layouts, a
 //! slow scan of layouts, faults at every call, and texts of as many bytes as there may be. The slow way of a sector is proved to be the way
 //! of the definitions.
 #![tactic(auto)]
@@ -31,6 +31,8 @@ mod rounds;
 mod scan;
 #[cfg(test)]
 mod scenes;
+#[cfg(test)]
+mod scrubs;
 pub mod slow;
 #[cfg(test)]
 mod stacks;
