@@ -103,7 +103,8 @@ const OTHER_WORDS: &[Call] = &[
     Call::Usage(&["gen"]),
     Call::Usage(&["gen", "-7", "--text"]),
     Call::Usage(&["replay"]),
-    Call::Usage(&["scrub", "--seed", "3"]),
+    Call::Usage(&["scrub", "--trace"]),
+    Call::Usage(&["scrub", "--seed", "1", "--seed", "2"]),
     Call::Usage(&["--help"]),
     Call::Usage(&["--", "run"]),
 ];
