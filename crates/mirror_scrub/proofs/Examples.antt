@@ -1,4 +1,5 @@
--- Mirrors of two disks of eight sectors, where the second has data in its first sector, or in three; and a device that is no mirror.
+-- Mirrors of two disks of eight sectors, where the second has data in its first sector, or in three; and a device that
+-- is no mirror.
 use Rattle.std.proofs.Common.{◌≡◌, ◌==◌, ◌&&◌, ◌||◌, [], ◌∷◌, cond, refl}
 use Rattle.stack_base.specs.Tree.{Tree, Leaf, Mirrored}
 use Rattle.stack_base.specs.Mapping.{smallest}

@@ -25,8 +25,8 @@ images_of disks number at =
 abbrev pub held : List DiskState → Images
 held disks = images_of (map (λ (disk : DiskState). (disk.dev, disk.image)) disks)
 
--- What a device shows at sector s: a disk its own sector, a mirror what its first member shows there, and any other device what the member
--- shows that the sector goes to.
+-- What a device shows at sector s: a disk its own sector, a mirror what its first member shows there, and any other
+-- device what the member shows that the sector goes to.
 unfoldable pub seen : Images → Tree → ℕ → List ℕ
 seen images (Leaf number sectors) s = images number s
 seen images (Split number kind sizes members) s = seen images (members (slot kind sizes s).member) (slot kind sizes s).at

@@ -1,4 +1,5 @@
--- What a scrub writes: for each mirror, by the number of its device, and for each of its members but the first, how many sectors are unlike and where.
+-- What a scrub writes: for each mirror, by the number of its device, and for each of its members but the first, how many
+-- sectors are unlike and where.
 use Rattle.std.specs.Prelude.{◌==◌, Bool, List, [], ◌∷◌, ◌++◌, ℕ, length, slice_get, codes, decimal}
 use Rattle.std.specs.List.{flat_map, list_all, range_with_len}
 use Rattle.std.specs.Option.{option_map_or}

@@ -112,8 +112,8 @@ fn mirror_lines<K: Sink>(pen: &mut Pen, out: &mut K, stack: &Stack, disks: &[Dis
     }
 }
 
-/// Writes how many sectors of each mirror are unlike on each member but the first, and where. The mirrors stand in the order of the devices,
-/// and a mirror of one member has no line.
+/// Writes how many sectors of each mirror are unlike on each member but the first, and where. The mirrors stand in the
+/// order of the devices, and a mirror of one member has no line.
 ///
 /// # Errors
 ///

@@ -66,8 +66,9 @@ pub fn unlike(stack: &Stack, disks: &[Disk], mirror: DevId, leg: u32) -> u64
     pair(stack, disks, mirror, leg).count()
 }
 
-/// The first stretch of sectors of a mirror that are unlike on its member at a place, as long as they follow one another, that starts at `from`
-/// or behind it. `from` is not inside a stretch: sector 0, the end of a stretch and what is past the mirror are not.
+/// The first stretch of sectors of a mirror that are unlike on its member at a place, as long as they follow one another,
+/// that starts at `from` or behind it. `from` is not inside a stretch: sector 0, the end of a stretch and what is past the
+/// mirror are not.
 pub fn next_unlike(
     stack: &Stack,
     disks: &[Disk],

@@ -71,7 +71,8 @@ impl<'d> Pair<'d> {
         count
     }
 
-    /// The first sector at or behind `from` that they show with different words, or with the same, or the size where there is none.
+    /// The first sector at or behind `from` that they show with different words, or with the same, or the size where
+    /// there is none.
     pub fn first(&self, from: u64, differing: bool) -> u64
         requires pair { IsPair self.now }
         requires from { from ≤ self.now.size }
