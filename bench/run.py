@@ -55,6 +55,11 @@ def whole(count=128):
     return "disk a 262144\n" + "".join(f"write {k % 8} a {2048 * k} 2048 {131072 * k}\n" for k in range(count))
 
 
+def compared(bad=""):
+    """A mirror of two disks, written whole, perhaps with a member that takes nothing."""
+    return f"disk a 131072\ndisk b 131072\n{bad}mirror m a b\n" + "".join(f"write {k % 8} m {2048 * k} 2048 {131072 * k}\n" for k in range(64))
+
+
 def two_writers(count=512):
     """Two writers on one stripe of two disks, in chunks of 8 sectors."""
     return "disk a 131072\ndisk b 131072\nstripe s chunk=8 a b\n" + "".join(f"write {k % 2} s {512 * k} 512 0\n" for k in range(count))
@@ -82,6 +87,8 @@ CASES = [
     ("150,000 writes over 31 linear devices", ["check"], chain(150000), chain(75000)),
     ("a layout of these", ["layout"], chain(150000), chain(75000)),
     ("1,024 rounds behind the first", ["check"], rounds()),
+    ("a scrub of 131,072 sectors, alike", ["scrub"], compared()),
+    ("the same, with no data on one member", ["scrub"], compared("bad b 0 131072 io\n")),
     ("layout of 2,048 fragments", ["layout"], "disk a 262144\nlimit l max=1 a\nwrite 0 l 0 2048 0\n"),
 ]
 
