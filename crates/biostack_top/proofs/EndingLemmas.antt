@@ -1,14 +1,16 @@
--- A call that ends with status 3 has read a text that is refused.
-use Rattle.std.proofs.Common.{◌≡◌, ◌∙◌, ℕ, List, true, true≢false, Some, is_some, sym, ap, arith}
+-- A call that ends with status 3 has read a text that is refused; and none writes behind a fault.
+use Rattle.std.proofs.Common.{◌≡◌, ◌∙◌, ℕ, List, true, true≢false, Some, is_some, refl, sym, ap, arith}
+use Rattle.std.proofs.KnownBytes.{Keeps-refl}
 use Rattle.outside_io.specs.Reading.{IsRead}
+use Rattle.outside_io.specs.Saying.{StopsAtFault}
 use Rattle.biostack_words.specs.declared.order.Order.{Order}
 use Rattle.biostack_words.specs.declared.order.Order.TheVariants.{Run, Workers, Check, Layout, Gen, Replay, Scrub}
 use Rattle.work_text.proofs.GeneratedTexts.{never_refused}
 use Rattle.biostack_top.specs.declared.ending.Ending.{Ending}
-use Rattle.biostack_top.specs.declared.ending.Ending.TheVariants.{Refused}
-use Rattle.biostack_top.specs.Ending.{OrderEndsBy, exit_of, refusal_for}
+use Rattle.biostack_top.specs.declared.ending.Ending.TheVariants.{Usage, ReadFault, Memory, Refused, WriteFault, Done, NotAllWell}
+use Rattle.biostack_top.specs.Ending.{HadRefusedText, OrderEndsBy, exit_of, refusal_for}
 use Rattle.biostack_top.specs.Input.{IsInput, limit, made_by}
-use Rattle.biostack_top.specs.Streams.{Call, Stream}
+use Rattle.biostack_top.specs.Streams.{Call, Stays, Stream}
 
 -- a text that is refused was read, since no generated text is
 was_read : {S : Type 0} (order : Order) (source : Stream S) (text : List ℕ) → IsInput (made_by order) source text
@@ -23,7 +25,22 @@ was_read Replay source text input refused = input.0
 was_read (Scrub number) source text input refused = input.0
 
 pub refused_exit : {S K : Type 0} (order : Order) (c : Call S K) (ending : Ending) → OrderEndsBy ending order c → exit_of ending ≡ 3
-    → (text : List ℕ) × IsRead limit (c.source.bytes c.source.old) text × (is_some (refusal_for order text) ≡ true)
+    → HadRefusedText order (c.source.bytes c.source.old)
 refused_exit order c (Refused refusal) ends is =
     let refused = ap is_some ends.2.0 in (ends.0, was_read order c.source ends.0 ends.1 refused, refused)
 refused_exit order c _ ends is = absurd (omega arith)
+
+-- what stays is what was held before any fault
+stays_stops : {K : Type 0} (out : Stream K) → Stays out → StopsAtFault out.bytes out.faults out.old out.new
+stays_stops out stays = (out.old, refl, stays.0)
+
+-- however a call ends, what is held by now was held before any fault
+pub stops_at_fault : {S K : Type 0} (order : Order) (c : Call S K) (ending : Ending) → OrderEndsBy ending order c
+    → StopsAtFault c.out.bytes c.out.faults c.out.old c.out.new
+stops_at_fault order c Usage ends = absurd ends
+stops_at_fault order c ReadFault ends = stays_stops c.out ends.1
+stops_at_fault order c Memory ends = stays_stops c.out ends.1
+stops_at_fault order c (Refused refusal) ends = stays_stops c.out ends.2.1
+stops_at_fault order c WriteFault ends = ends.2.1
+stops_at_fault order c Done ends = (c.out.new, ends.2.0, Keeps-refl (c.out.bytes c.out.new))
+stops_at_fault order c NotAllWell ends = (c.out.new, ends.2.0, Keeps-refl (c.out.bytes c.out.new))

@@ -1,5 +1,5 @@
 -- A whole text, by its declarations and the rest of it.
-use Rattle.std.proofs.Common.{◌≡◌, ℕ, List, [], Ok, Err, drop, length, lt-ltb, refl, sym, ap, subst, ◌∙◌, arith}
+use Rattle.std.proofs.Common.{◌≡◌, ℕ, List, [], Ok, Err, drop, length, lt-ltb, refl, sym, ap, subst, ◌∙◌, arith, false}
 use Rattle.std.specs.Prelude.{Contains}
 use Rattle.layout_model.specs.declared.write.Write.{Write}
 use Rattle.layout_model.specs.Writes.{IsWrite}

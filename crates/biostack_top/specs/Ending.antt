@@ -1,5 +1,5 @@
 -- How a call of the program may end, and what stands then.
-use Rattle.std.specs.Prelude.{◌≡◌, ◌⊎◌, Bool, true, false, List, [], ◌∷◌, ◌++◌, ℕ, length, codes, decimal, Option, None, Some, Result, Ok, Err}
+use Rattle.std.specs.Prelude.{◌≡◌, ◌⊎◌, Bool, true, false, List, [], ◌∷◌, ◌++◌, ℕ, length, codes, decimal, Option, None, Some, is_some, Result, Ok, Err}
 use Rattle.std.specs.List.{list_all}
 use Rattle.std.specs.Io.KnownBytes.{Appends}
 use Rattle.stack_base.specs.declared.ids.Status.{Status}
@@ -7,6 +7,7 @@ use Rattle.stack_base.specs.declared.ids.Status.TheVariants.{Ok as no_error}
 use Rattle.stack_base.specs.Fault.{status_eq}
 use Rattle.layout_model.specs.declared.fragment.Fragment.{Fragment}
 use Rattle.outside_io.specs.declared.source.Failed.{Failed}
+use Rattle.outside_io.specs.Reading.{IsRead}
 use Rattle.outside_io.specs.Saying.{AppendsFront, StopsAtFault, Writes, joined_text}
 use Rattle.decl_text.specs.Reasons.{name_of_number}
 use Rattle.decl_text.specs.declared.accepted.Accepted.{Accepted}
@@ -23,7 +24,7 @@ use Rattle.report_text.specs.CheckText.{check_text}
 use Rattle.report_text.specs.LayoutText.{layout_text}
 use Rattle.biostack_words.specs.declared.order.Order.{Order}
 use Rattle.biostack_words.specs.declared.order.Order.TheVariants.{Run, Workers, Check, Layout, Gen, Replay, Scrub}
-use Rattle.biostack_top.specs.Input.{HasNoInput, IsGiven, IsInput, made_by}
+use Rattle.biostack_top.specs.Input.{HasNoInput, IsGiven, IsInput, limit, made_by}
 use Rattle.biostack_top.specs.LayoutText.{AreLaid}
 use Rattle.biostack_top.specs.Orders.{is_served, order_of}
 use Rattle.biostack_top.specs.Running.{EveryRunIsAsClaimed, IsTold, sectors}
@@ -150,6 +151,10 @@ EndsBy ending words c =
 -- errors got the line of an ending, or a front of it where they failed
 abbrev pub IsToldTo : {E : Type 0} → Ending → Stream E → Type 0
 IsToldTo ending errors = (told : Result Unit Failed) × Writes errors.bytes errors.faults errors.old errors.new told (line_of ending)
+
+-- what a source had, to the limit, is refused for an order
+abbrev pub HadRefusedText : Order → Option (List ℕ) → Type 0
+HadRefusedText order left = (text : List ℕ) × IsRead limit left text × (is_some (refusal_for order text) ≡ true)
 
 -- an order is given a text that is not refused, and neither the source nor the output fails
 pub record MeetsNoFault {S K : Type 0} (order : Order) (text : List ℕ) (c : Call S K) : Type 0 where

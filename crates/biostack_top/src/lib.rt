@@ -1,15 +1,13 @@
 //! The top call of `biostack`: all that the program does, over any source and sinks.
 #![tactic(auto)]
 
-ghost use Rattle.std.specs.Prelude.{◌≡◌, ◌⊎◌, List, ℕ, map, is_some, true, None, Some};
+ghost use Rattle.std.specs.Prelude.{◌≡◌, ◌⊎◌, List, ℕ, map, true, None, Some};
 ghost use Rattle.std.specs.String.{string_bytes};
 ghost use Rattle.outside_io.specs.Causes.{Rose};
-ghost use Rattle.outside_io.specs.Reading.{IsRead};
 ghost use Rattle.outside_io.specs.Saying.{StopsAtFault};
 ghost use Rattle.biostack_words.specs.declared.order.Order.{Order as Orders};
 ghost use Rattle.biostack_top.specs.declared.ending.Ending.{Ending as Endings};
-ghost use Rattle.biostack_top.specs.Ending.{EndsBy, IsToldTo, MeetsNoFault, OrderEndsBy, exit_of, refusal_for};
-ghost use Rattle.biostack_top.specs.Input.{limit};
+ghost use Rattle.biostack_top.specs.Ending.{EndsBy, HadRefusedText, IsToldTo, MeetsNoFault, OrderEndsBy, exit_of};
 ghost use Rattle.biostack_top.specs.Orders.{is_served, may_be_unwell, order_of};
 ghost use Rattle.biostack_top.specs.Streams.{stream};
 
@@ -67,7 +65,7 @@ pub fn serve_alone<S: Source, K: Sink, E: Sink>(
 
     // What each status alone says.
     ensures not_all_well { result.0 ≡ 1 → may_be_unwell order.now ≡ true }
-    ensures refused { result.0 ≡ 3 → (text : List ℕ) × IsRead limit (S.left source.old) text × (is_some (refusal_for order.now text) ≡ true) }
+    ensures refused { result.0 ≡ 3 → HadRefusedText order.now (S.left source.old) }
     ensures read_fault { result.0 ≡ 4 → Rose (S.faults source.old) (S.faults source.new) }
     ensures no_read_fault { (result.0 ≡ 4) ⊎ (S.faults source.new ≡ S.faults source.old) }
     ensures write_fault { result.0 ≡ 5 → Rose (K.faults out.old) (K.faults out.new) }
@@ -112,7 +110,7 @@ pub fn biostack<S: Source, K: Sink, E: Sink>(
     ensures no_order { order_of (map string_bytes words.now) ≡ None → (result.0 ≡ 2) ⊎ (result.0 ≡ 6) }
     ensures not_all_well { result.0 ≡ 1 → (order : Orders) × (order_of (map string_bytes words.now) ≡ Some order) × (may_be_unwell order ≡ true) }
     ensures refused { result.0 ≡ 3 → (order : Orders) × (order_of (map string_bytes words.now) ≡ Some order)
-        × ((text : List ℕ) × IsRead limit (S.left source.old) text × (is_some (refusal_for order text) ≡ true)) }
+        × HadRefusedText order (S.left source.old) }
     ensures read_fault { result.0 ≡ 4 → Rose (S.faults source.old) (S.faults source.new) }
     ensures no_read_fault { (result.0 ≡ 4) ⊎ (S.faults source.new ≡ S.faults source.old) }
     ensures write_fault { result.0 ≡ 5 → Rose (K.faults out.old) (K.faults out.new) }

@@ -1,7 +1,7 @@
--- A text that an order refuses was read.
+-- A text that an order refuses was read, and nothing was written behind a fault.
 use Rattle.std.proofs.Common.{◌∙◌, sym}
 use Rattle.biostack_top.specs.Streams.{Call, stream}
-use Rattle.biostack_top.proofs.EndingLemmas.{refused_exit}
+use Rattle.biostack_top.proofs.EndingLemmas.{refused_exit, stops_at_fault}
 use Rattle.biostack_top.proofs.serve_alone.Goals as goal
 
 pub returns-clause-refused : goal.returns-clause-refused
@@ -11,3 +11,11 @@ returns-clause-refused g c = λ is.
       out = stream g.K.Sink.held g.K.Sink.faults c.args.out.now c.serve-ending.new.out;
     } in
     refused_exit c.args.order.now call c.serve-ending.result c.serve-ending.ensures (sym c.end.ensures.exit ∙ is)
+
+pub returns-clause-stops : goal.returns-clause-stops
+returns-clause-stops g c =
+    let call : Call g.row.S.Denot g.row.K.Denot = record {
+      source = stream g.S.Source.left g.S.Source.faults c.args.source.now c.serve-ending.new.source;
+      out = stream g.K.Sink.held g.K.Sink.faults c.args.out.now c.serve-ending.new.out;
+    } in
+    stops_at_fault c.args.order.now call c.serve-ending.result c.serve-ending.ensures
