@@ -1,5 +1,5 @@
 -- One task is tried: what its step over plain objects is in the machine.
-use Rattle.std.proofs.Common.{◌≡◌, ◌⊎◌, ◌%◌, ◌^◌, ◌-◌, ◌<◌, ◌≤◌, min, ℕ, Bool, true, false, true≢false, Option, None, List, All, length, set, get_or, inl, inr, sym, ap, ◌∙◌, subst, arith}
+use Rattle.std.proofs.Common.{◌≡◌, ◌⊎◌, ◌%◌, ◌^◌, ◌-◌, ◌<◌, ◌≤◌, min, ℕ, Bool, true, false, true≢false, None, List, All, length, set, get_or, inl, inr, sym, ap, ◌∙◌, subst, arith}
 use Rattle.std.proofs.lemmas.List.{get_or-map, get_or-set_same, get_or-set_other, map-set, length-map}
 use Rattle.std.proofs.lemmas.List.Elements.{All-get_or, All-set}
 use Rattle.rand_pcg.specs.Lcg.{Lcg}

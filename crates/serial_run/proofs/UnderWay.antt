@@ -28,6 +28,7 @@ use Rattle.block_core.proofs.bound.Bounded.{runs_are_bounded}
 use Rattle.block_core.proofs.stuck.RunsEnd.{runs_end_with_their_writes, started_rounds_are_there}
 use Rattle.block_core.proofs.stuck.NeverStuck.{no_allowed_state_is_stuck}
 use Rattle.block_core.proofs.unrefused.Unbroken.{no_task_breaks}
+use Rattle.block_core.proofs.claim.Runnable.{accepted_texts_are_runnable}
 use Rattle.serial_run.specs.Schedule.{Follows, IsTurn}
 use Rattle.serial_run.specs.Serial.{HandsOn, IsSerialRun}
 use Rattle.serial_run.specs.Turning.{GoesWell, Turned}
@@ -71,7 +72,11 @@ module _ {V : Type 0} (happens : V → Event → V → Type 0) (o : Opened) (ope
     as_many = refl;
   }
 
-  module _ (runnable : IsRunnable s) (rescuers : HasRescuers s.stack) (objects : Plain) (tasks : List TaskOf) (between : Lcg) (now : V) (steps : ℕ)
+  -- what was opened can be run
+  pub runnable : IsRunnable s
+  runnable = (accepted_texts_are_runnable o.accepted.value o.work.value opened.read).0
+
+  module _ (rescuers : HasRescuers s.stack) (objects : Plain) (tasks : List TaskOf) (between : Lcg) (now : V) (steps : ℕ)
       (way : UnderWay objects tasks between now steps) where
     naming : IsNaming ledger
     naming = opened.one.holds.numbered

@@ -79,10 +79,10 @@ pub(crate) fn leave(objects: Plain, tasks: &[Task], room: Ended, steps: u64) -> 
     add(&objects, PoolId::FsBios, &mut pools);
     add(&objects, PoolId::FsVecs, &mut pools);
     add_all(&objects, tasks, &mut pools);
-    let tally = objects.tally;
+    let (statuses, disks) = objects.leaves();
     Ended {
-        statuses: tally.statuses,
-        disks: objects.disks,
+        statuses,
+        disks,
         pools,
         steps,
     }
