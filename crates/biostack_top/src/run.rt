@@ -6,7 +6,6 @@ ghost use Rattle.stack_base.specs.Stack.{HasRescuers};
 ghost use Rattle.outside_io.specs.Saying.{Writes};
 ghost use Rattle.run_machine.specs.declared.event.Event.{Event as Told};
 ghost use Rattle.task_core.specs.opened.OfOne.{IsOpened, scenario_in};
-ghost use Rattle.block_core.specs.Runnable.{IsRunnable};
 ghost use Rattle.report_text.specs.CheckText.{most_steps};
 ghost use Rattle.report_text.specs.Report.{gen_text, report};
 ghost use Rattle.report_text.specs.Views.{IsOf, told_of};
@@ -41,7 +40,6 @@ impl Events for Silence {
 /// Runs what was opened, and tells nothing of it.
 pub(crate) fn run_quiet(opened: Opened, number: u64) -> Ended
     requires opened { IsOpened opened }
-    requires runnable { IsRunnable (scenario_in opened) }
     requires rescuers { HasRescuers (scenario_in opened).stack }
     ensures { (events : List Told) × HasRun (scenario_in opened) number events result }
 {
@@ -58,7 +56,6 @@ fn run_opened<K: Sink>(
     out: &mut K,
 ) -> (Ended, Result<(), Failed>)
     requires opened { IsOpened opened }
-    requires runnable { IsRunnable (scenario_in opened) }
     requires rescuers { HasRescuers (scenario_in opened).stack }
     ensures { (events : List Told) × HasRun (scenario_in opened) number events result.0
         × Writes K.held K.faults out.old out.new result.1 (traced trace stack.now events) }

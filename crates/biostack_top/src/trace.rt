@@ -4,7 +4,6 @@ ghost use Rattle.stack_base.specs.Stack.{HasRescuers};
 ghost use Rattle.outside_io.specs.Saying.{Says, Writes};
 ghost use Rattle.run_machine.specs.declared.event.Event.{Event as Told};
 ghost use Rattle.task_core.specs.opened.OfOne.{IsOpened, scenario_in};
-ghost use Rattle.block_core.specs.Runnable.{IsRunnable};
 ghost use Rattle.biostack_top.specs.Running.{HasRun};
 ghost use Rattle.biostack_top.specs.Tracing.{event_line, event_lines};
 
@@ -75,7 +74,6 @@ pub(crate) fn run_traced<K: Sink>(
     out: &mut K,
 ) -> (Ended, Result<(), Failed>)
     requires opened { IsOpened opened }
-    requires runnable { IsRunnable (scenario_in opened) }
     requires rescuers { HasRescuers (scenario_in opened).stack }
     ensures { (events : List Told) × HasRun (scenario_in opened) number events result.0
         × Writes K.held K.faults out.old out.new result.1 (event_lines stack.now events) }

@@ -2,7 +2,6 @@
 use Rattle.std.proofs.Common.{◌++◌, sym, ap, subst, ◌∙◌}
 use Rattle.stack_base.specs.Stack.{HasRescuers}
 use Rattle.run_machine.specs.Opened.{Scenario}
-use Rattle.block_core.specs.Runnable.{IsRunnable}
 use Rattle.report_text.specs.CheckText.{most_steps}
 use Rattle.report_text.specs.Report.{report}
 use Rattle.report_text.specs.Views.{told_of}
@@ -15,10 +14,6 @@ use Rattle.biostack_top.proofs.ServeLemmas.{written_front, written_whole}
 use Rattle.biostack_top.proofs.ToldLemmas.{tells_run}
 use Rattle.biostack_top.proofs.TraceLemmas.{writes_then}
 use Rattle.biostack_top.proofs.run.run.Goals as goal
-
-pub run_opened-ended-requires-clause-runnable : goal.run_opened-ended-requires-clause-runnable
-run_opened-ended-requires-clause-runnable g c =
-    let scene = c.args.scene.now in subst IsRunnable (sym c.in-Ok.ensures.of) (runnable scene.text.now scene.accepted scene.work c.requires)
 
 pub run_opened-ended-requires-clause-rescuers : goal.run_opened-ended-requires-clause-rescuers
 run_opened-ended-requires-clause-rescuers g c = subst (λ (s : Scenario). HasRescuers s.stack) (sym c.in-Ok.ensures.of) c.requires.rescuers

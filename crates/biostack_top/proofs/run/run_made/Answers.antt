@@ -3,7 +3,6 @@ use Rattle.std.proofs.Common.{◌^◌, ◌<◌, List, length, true, sym, subst, 
 use Rattle.layout_model.specs.declared.write.Write.{Write}
 use Rattle.stack_base.specs.Stack.{HasRescuers}
 use Rattle.run_machine.specs.Opened.{Scenario}
-use Rattle.block_core.specs.Runnable.{IsRunnable}
 use Rattle.report_text.specs.CheckText.{most_steps}
 use Rattle.report_text.specs.Report.{gen_text}
 use Rattle.report_text.specs.Views.{told_of}
@@ -11,10 +10,6 @@ use Rattle.biostack_top.specs.Running.{HasRun, sectors}
 use Rattle.biostack_top.proofs.RunningLemmas.{few_sectors, few_steps, is_of, runnable}
 use Rattle.biostack_top.proofs.ToldLemmas.{tells_made}
 use Rattle.biostack_top.proofs.run.run_made.Goals as goal
-
-pub run_quiet-ended-requires-clause-runnable : goal.run_quiet-ended-requires-clause-runnable
-run_quiet-ended-requires-clause-runnable g c =
-    let scene = c.args.scene.now in subst IsRunnable (sym c.in-Ok.ensures.of) (runnable scene.text.now scene.accepted scene.work c.requires)
 
 pub run_quiet-ended-requires-clause-rescuers : goal.run_quiet-ended-requires-clause-rescuers
 run_quiet-ended-requires-clause-rescuers g c = subst (λ (s : Scenario). HasRescuers s.stack) (sym c.in-Ok.ensures.of) c.requires.rescuers

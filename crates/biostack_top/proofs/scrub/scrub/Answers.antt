@@ -5,7 +5,6 @@ use Rattle.stack_base.specs.Stack.{HasRescuers}
 use Rattle.outside_io.specs.Saying.{AppendsFront}
 use Rattle.model_disks.specs.Disks.{DiskState}
 use Rattle.run_machine.specs.Opened.{Scenario}
-use Rattle.block_core.specs.Runnable.{IsRunnable}
 use Rattle.mirror_scrub.specs.Seen.{AreDisksOf, held}
 use Rattle.mirror_scrub.specs.Text.{all_alike, scrub_text}
 use Rattle.report_text.specs.CheckText.{most_steps}
@@ -18,10 +17,6 @@ use Rattle.biostack_top.proofs.ScrubLemmas.{are_disks, tells_scrub}
 use Rattle.biostack_top.proofs.ServeLemmas.{written_front, written_whole}
 use Rattle.biostack_top.proofs.TraceLemmas.{writes_then}
 use Rattle.biostack_top.proofs.scrub.scrub.Goals as goal
-
-pub run_quiet-ended-requires-clause-runnable : goal.run_quiet-ended-requires-clause-runnable
-run_quiet-ended-requires-clause-runnable g c =
-    let scene = c.args.scene.now in subst IsRunnable (sym c.in-Ok.ensures.of) (runnable scene.text.now scene.accepted scene.work c.requires)
 
 pub run_quiet-ended-requires-clause-rescuers : goal.run_quiet-ended-requires-clause-rescuers
 run_quiet-ended-requires-clause-rescuers g c = subst (λ (s : Scenario). HasRescuers s.stack) (sym c.in-Ok.ensures.of) c.requires.rescuers
