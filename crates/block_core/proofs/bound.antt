@@ -3,3 +3,7 @@ pub mod DeviceCharges
 pub mod EventCharges
 pub mod ChargesAtStart
 pub mod Bounded
+pub mod RoleHoldings
+pub mod StillDue
+pub mod NoMisses
+pub mod ExactSteps

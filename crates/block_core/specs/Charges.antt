@@ -119,6 +119,9 @@ task_duties (Completer disk carried) = 0
 task_duties (Keeper (Keeps duties)) = length duties
 task_duties (Keeper (Stops breach)) = 0
 
+abbrev pub duties_left : Scene → State → ℕ
+duties_left scene s = sum_at (λ place task. task_duties task) scene.tasks s.task
+
 -- the entries of a pool's script that no take has used up
 abbrev pub entries_left : PoolState → ℕ
 entries_left pool = entries_of pool.script - pool.facts.pos
@@ -130,7 +133,7 @@ most_pools = 66
 abbrev pub charged : Scene → State → ℕ
 charged scene s =
     total scene (charge scene.setup) s + sum_at (λ number pool. entries_left pool) most_pools s.objects.pool
-    + sum_at (λ place task. task_duties task) scene.tasks s.task
+    + duties_left scene s
 
 abbrev pub spent : Scene → State → ℕ
 spent scene s = sum_at (λ place task. task_spent task) scene.tasks s.task

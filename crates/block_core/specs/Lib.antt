@@ -11,6 +11,7 @@ pub mod Scenarios
 pub mod Waits
 pub mod OfOneWrite
 pub mod Present
+pub mod Payers
 pub mod Charges
 pub mod Bounded
 pub mod Rooms
@@ -25,5 +26,6 @@ pub mod Values
 pub mod DoneWrites
 pub mod Ending
 pub mod Dones
+pub mod Exact
 pub mod Sound
 pub mod Claim

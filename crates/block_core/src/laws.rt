@@ -6,6 +6,7 @@ ghost use Rattle.block_core.specs.Claim.{AcceptedTextsRunAsClaimed, EveryRunIsAs
 ghost use Rattle.block_core.specs.Dones.{NoneIsLeftUndone, RoundsStartInTurn, TallyHasStatuses, WritesAreDoneInTheirRound, WritesAreUnfinishedUntilDone};
 ghost use Rattle.block_core.specs.DoneWrites.{DoneIsCompleted, EndedStatusesAreGiven, StatusesAreGiven};
 ghost use Rattle.block_core.specs.Ending.{RunsEndWithTheirWrites, StartedRoundsAreThere};
+ghost use Rattle.block_core.specs.Exact.{StepsWithoutMisses};
 ghost use Rattle.block_core.specs.Few.{EndsAreFew, NoCounterIsFull, OutsAreFew};
 ghost use Rattle.block_core.specs.Fragments.{EachIsCompletedOnce, FragmentsAddUp, NoOtherIsCompleted, NoneIsCompletedTwice, NothingComesWhereAllIsHome, NothingComesWhereEnded};
 ghost use Rattle.block_core.specs.Images.{EndedRunsLeaveTheSame, ImagesAreLaidOut, ImagesAreOfCompleted, LaidIsOne, OneFragmentARound, RoundsComeInOrder};
@@ -75,6 +76,13 @@ pub fn runs_are_bounded()
     ensures opened { OpenedRankIsBounded }
     ensures bounded { RunsAreBounded }
     ensures outs { OutsAreBounded }
+{}
+
+/// Where no take of a run misses, the layout alone fixes how many events it has once it has ended: each element is taken and given back, each node
+/// linked, and each fragment pushed and completed; each fragment and each node under another is told to a node, each write is done, and the
+/// keeper does what it has to.
+pub fn steps_without_misses()
+    ensures { StepsWithoutMisses }
 {}
 
 /// After every event of every run of every scenario each book has a place for each node that is open there or that its writer's writes have

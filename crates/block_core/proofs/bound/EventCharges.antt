@@ -155,7 +155,7 @@ pools_used pools number used lt same told =
     omega (arith, sum_at-upd (λ number pool. entries_left pool) 66 pools number (after_move (pools number) (misses used)) lt, pool_used (pools number) used same told)
 
 -- a task goes on
-on_tasks : (g : TaskState → ℕ) (scene : Scene) (s : State) (place : ℕ) (x y : TaskState) → place < scene.tasks → s.task place ≡ x
+pub on_tasks : (g : TaskState → ℕ) (scene : Scene) (s : State) (place : ℕ) (x y : TaskState) → place < scene.tasks → s.task place ≡ x
     → sum_at (λ place task. g task) scene.tasks (upd s.task place y) + g x ≡ sum_at (λ place task. g task) scene.tasks s.task + g y
 on_tasks g scene s place x y lt is =
     let here : g (s.task place) ≡ g x = ap g is in
@@ -167,20 +167,20 @@ line_spends (Rescuer dev line) doing lists h = ap (λ (l : Line). doing_spent l.
 line_spends (Completer disk carried) doing lists h = absurd h
 line_spends (Keeper keeping) doing lists h = absurd h
 
-line_goes : (x : TaskState) (doing : Doing) (lists : TaskLists) (new : Line) → HasLine x doing lists
+pub line_goes : (x : TaskState) (doing : Doing) (lists : TaskLists) (new : Line) → HasLine x doing lists
     → (task_spent (with_line x new) ≡ doing_spent new.doing) × (task_duties (with_line x new) ≡ 0) × (task_duties x ≡ 0)
 line_goes (Writer number todo taken line) doing lists new h = (refl, refl, refl)
 line_goes (Rescuer dev line) doing lists new h = (refl, refl, refl)
 line_goes (Completer disk carried) doing lists new h = absurd h
 line_goes (Keeper keeping) doing lists new h = absurd h
 
-abbrev all_duties : Scene → (ℕ → TaskState) → ℕ
+abbrev pub all_duties : Scene → (ℕ → TaskState) → ℕ
 all_duties scene task = sum_at (λ place task. task_duties task) scene.tasks task
 
-abbrev all_spent : Scene → (ℕ → TaskState) → ℕ
+abbrev pub all_spent : Scene → (ℕ → TaskState) → ℕ
 all_spent scene task = sum_at (λ place task. task_spent task) scene.tasks task
 
-on_line : (scene : Scene) (s : State) (place : ℕ) (x : TaskState) (doing : Doing) (lists : TaskLists) (new : Line) → place < scene.tasks → s.task place ≡ x → HasLine x doing lists
+pub on_line : (scene : Scene) (s : State) (place : ℕ) (x : TaskState) (doing : Doing) (lists : TaskLists) (new : Line) → place < scene.tasks → s.task place ≡ x → HasLine x doing lists
     → (all_spent scene (upd s.task place (with_line x new)) + doing_spent doing ≡ all_spent scene s.task + doing_spent new.doing)
     × (all_duties scene (upd s.task place (with_line x new)) ≡ all_duties scene s.task)
 on_line scene s place x doing lists new lt is h =

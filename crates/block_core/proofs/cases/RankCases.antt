@@ -1,5 +1,5 @@
--- The rank at the start of a write to a mirror of two, and behind each event up to the link of its first leg.
-use Rattle.std.proofs.Common.{◌≡◌, ◌+◌, ◌*◌, ℕ, List, [], ◌∷◌, true, refl}
+-- Charges and counts of events on worked cases: the rank at the start of a write to a mirror of two, and behind each event up to the link of its first leg.
+use Rattle.std.proofs.Common.{◌≡◌, ◌+◌, ◌-◌, ◌*◌, ℕ, List, [], ◌∷◌, length, true, refl}
 use Rattle.elem_ledger.specs.Ledger.{LedgerId}
 use Rattle.run_machine.specs.Maps.{upd}
 use Rattle.run_machine.specs.Scene.{Scene}
@@ -7,10 +7,12 @@ use Rattle.run_machine.specs.Runs.{State}
 use Rattle.run_machine.proofs.Turns.{Turn, behind}
 use Rattle.run_machine.proofs.cases.MirrorRun.{setup, mirror, start, ledger, begun}
 use Rattle.block_core.specs.Weights.{sum_at, one}
+use Rattle.layout_model.specs.Need.{begun as begun_below, needed, ended, fragments_of, vectors}
+use Rattle.block_core.specs.Payers.{WriteBio, WriteVector, Record, PieceBio, Fragment, pays_for}
 use Rattle.block_core.specs.Charges.{begun_charge, run_charge, rank}
 
--- a record and two legs, of a fragment each
-of_a_run : run_charge mirror 0 1 ≡ 4 + 2 * 8 + 2 * 2
+-- a record and two legs, of a fragment each, as the table has it
+of_a_run : run_charge mirror 0 1 ≡ length (pays_for Record) + 2 * length (pays_for PieceBio) + 2 * length (pays_for Fragment)
 unfolding begun_charge run_charge
 of_a_run = refl
 
@@ -27,3 +29,16 @@ module _ (some : LedgerId) where
   of_the_mirror : ranks start (begun some) ≡ 29 ∷ 28 ∷ 27 ∷ 26 ∷ 23 ∷ 22 ∷ 21 ∷ []
   unfolding sum_at one upd begun_charge run_charge
   of_the_mirror = refl
+
+-- a write's own events, as the table has them
+of_a_write : length (pays_for WriteBio) + length (pays_for WriteVector) ≡ 7
+of_a_write = refl
+
+-- Without misses: four elements are taken and given back and linked, two fragments pushed and completed, five ends told, and the write is done.
+without_misses : 4 + 2 * vectors 1 + 4 * needed mirror 0 1 + 3 * fragments_of mirror 0 1 ≡ 4 + 4 + 2 * 2 + (2 + 3) + 4 + 1
+unfolding begun_below needed ended fragments_of
+without_misses = refl
+
+-- 200 writes through stripes, limits and a mirror: 1,874 elements, of which 120 are vectors, and 1,354 fragments
+of_200_writes : 1874 + (1874 - 120) + 2 * 1354 + (1354 + (200 + 400 + 954)) + 1874 + 200 ≡ 11318
+of_200_writes = refl

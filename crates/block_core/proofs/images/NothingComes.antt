@@ -123,7 +123,7 @@ module _ (scene : Scene) (s : State) (i : Kept scene s) (slips : total scene bar
       omega (arith, a, b, c)
 
   -- so no node is open
-  none_open : (writer k : ℕ) (node : Node) → node_at (s.objects.book writer) k ≡ Some node → ⊥
+  pub none_open : (writer k : ℕ) (node : Node) → node_at (s.objects.book writer) k ≡ Some node → ⊥
   none_open writer k node at = elim (below_or writer scene.books) [
     | inl lt ↦
         let owned : own_of (node_at (s.objects.book writer) k) ≡ own_part node.role node.held.bio = ap own_of at in

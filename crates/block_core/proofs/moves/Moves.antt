@@ -105,6 +105,11 @@ abbrev pub vector_of : Todo → Option VectorItem → Option VectorItem
 vector_of todo None = None
 vector_of todo (Some vector) = Some (filled_vector todo vector)
 
+-- a write whose bio gets no vector needs none
+abbrev pub IsBare : Todo → Option VectorItem → Type 0
+IsBare todo None = needs_vector todo.write ≡ false
+IsBare todo (Some vector) = Unit {0}
+
 -- what a completer tells a node: the end of the bio that it brings, or that of a closed child
 abbrev pub Tells : Carried → ℕ → ℕ → Status → Option (Item Pad) → Type 0
 Tells (Brings bio ending) writer key status part =
@@ -175,7 +180,7 @@ Can scene s (Completed place disk index bio status new) =
     × Completes (s.objects.disk disk.0) index bio status new
 Can scene s (Begins place writer todo later item vector key) =
     (place < scene.tasks) × (s.task place ≡ Writer writer (todo ∷ later) (taken_of item vector) rests) × (writer < scene.books)
-    × IsVacant (s.objects.book writer) key
+    × IsVacant (s.objects.book writer) key × IsBare todo vector
 Can scene s (Chained place x bio lists hand number kind sizes members key node) =
     (place < scene.tasks) × (s.task place ≡ x) × HasLine x (Drives bio (ToCut (Links hand))) lists
     × (tree_at scene.setup bio.bio.dev ≡ Split number kind sizes members) × (bio.bio.writer < scene.books)

@@ -385,7 +385,7 @@ module _ (scene : Scene) (s : State) (f : Fair scene) (i : Kept scene s) (place 
   goes_with true number todo later item needs is lt _ told serves goes = absurd serves
   goes_with false number todo later item needs is lt (requests.LinkedTo (Made key)) told serves goes =
       let objects = serves.1 ∙ ap (λ b. record s.objects { book = upd s.objects.book number b }) serves.0.1 in
-      record { move = moves.Begins place number todo later item None key; can = (here, is, lt, serves.0.0); is = state_is new _ _ objects goes; at = refl }
+      record { move = moves.Begins place number todo later item None key; can = (here, is, lt, serves.0.0, needs); is = state_is new _ _ objects goes; at = refl }
   goes_with false number todo later item needs is lt (requests.LinkedTo (NoRoom back)) told serves goes = absurd (nothing_told what told)
   goes_with false number todo later item needs is lt (requests.LinkedTo (Stray back)) told serves goes = absurd (nothing_told what told)
   goes_with false number todo later item needs is lt _ told serves goes = absurd serves
@@ -396,7 +396,7 @@ module _ (scene : Scene) (s : State) (f : Fair scene) (i : Kept scene s) (place 
       → Goes (answered scene.setup (Writer number (todo ∷ later) (HasBoth item vector) rests) reply) → IsMove scene s place new
   begins_both number todo later item vector is lt (requests.LinkedTo (Made key)) told serves goes =
       let objects = serves.1 ∙ ap (λ b. record s.objects { book = upd s.objects.book number b }) serves.0.1 in
-      record { move = moves.Begins place number todo later item (Some vector) key; can = (here, is, lt, serves.0.0); is = state_is new _ _ objects goes; at = refl }
+      record { move = moves.Begins place number todo later item (Some vector) key; can = (here, is, lt, serves.0.0, tt); is = state_is new _ _ objects goes; at = refl }
   begins_both number todo later item vector is lt (requests.LinkedTo (NoRoom back)) told serves goes = absurd (nothing_told what told)
   begins_both number todo later item vector is lt (requests.LinkedTo (Stray back)) told serves goes = absurd (nothing_told what told)
   begins_both number todo later item vector is lt _ told serves goes = absurd serves

@@ -128,7 +128,7 @@ module _ (scene : Scene) (s : State) (f : Fair scene) (i : Kept scene s) where
       omega (arith, b, i.owns w k, delta scene (named w k) s m c, even)
 
   -- a node whose last end is told has its part
-  closing_own : (place : ℕ) (disk : DevId) (carried : Carried) (writer key : ℕ) (status : Status) (part : Option (Item Pad)) (node : Node)
+  pub closing_own : (place : ℕ) (disk : DevId) (carried : Carried) (writer key : ℕ) (status : Status) (part : Option (Item Pad)) (node : Node)
       → Can scene s (moves.Closes place disk carried writer key status part node) → 0 + brought carried ≡ own_of (Some node)
   closing_own place disk carried writer key status part node c =
       let one_ref : count_of (node_at (s.objects.book writer) key) ≡ node.count = ap count_of c.4 in

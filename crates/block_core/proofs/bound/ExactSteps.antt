@@ -1,0 +1,309 @@
+-- A run that has ended and in which no take missed has as many events as were due at its start.
+use Rattle.std.proofs.Common.{◌≡◌, ◌≢◌, ◌+◌, ◌*◌, ◌<◌, ◌≤◌, ℕ, zero, suc, Bool, true, false, List, [], ◌∷◌, length, Option, None, Some, refl, sym, ◌∙◌, ap, subst, arith}
+use Rattle.std.specs.Prelude.{sum_by, All, map, zip}
+use Rattle.std.specs.List.{range_with_len}
+use Rattle.std.proofs.lemmas.List.Elements.{All-head, All-tail}
+use Rattle.std.proofs.lemmas.List.Sums.{sum_by-cons}
+use Rattle.elem_ledger.specs.Ledger.{LedgerId}
+use Rattle.stack_base.specs.Stack.{IsStack}
+use Rattle.stack_base.specs.Tree.{tree}
+use Rattle.layout_model.specs.declared.write.Write.{Write}
+use Rattle.layout_model.specs.declared.fragment.Fragment.{Fragment}
+use Rattle.layout_model.specs.Bound.{all_elements, all_parts}
+use Rattle.layout_model.specs.Need.{needed, vectors, fragments_of}
+use Rattle.layout_model.specs.Needs.{elements as elements_of, nodes, parts}
+use Rattle.layout_model.specs.Plan.{frags, leaves, plan}
+use Rattle.layout_model.specs.Writes.{IsWrite}
+use Rattle.layout_model.proofs.CountFrags.{fragments_of_is_length}
+use Rattle.layout_model.proofs.Planned.{leaves_plan}
+use Rattle.layout_model.proofs.PlanLaws.{trees_are_sound}
+use Rattle.bio_records.specs.declared.bio.Pad.{Pad}
+use Rattle.bio_records.specs.Items.{Item}
+use Rattle.stack_base.specs.declared.ids.DevId.{DevId}
+use Rattle.bio_books.specs.declared.node.Role.{Role}
+use Rattle.bio_books.specs.declared.node.Role.TheVariants as role
+use Rattle.bio_books.specs.Books.{Node, VectorItem, SlipItem, Holding, BookState, node_at}
+use Rattle.bio_books.specs.Drops.{Closed}
+use Rattle.model_disks.specs.Disks.{DiskState}
+use Rattle.run_machine.specs.declared.event.Event.{Event}
+use Rattle.run_machine.specs.Scene.{Scene, tree_at}
+use Rattle.run_machine.specs.Lines.{Line, rests}
+use Rattle.run_machine.specs.Tasks.{TaskState, Writer, Rescuer, Completer, Keeper, Todo, Taken, NoBio, HasBio, HasBoth, Duty, Carried, Empty, Brings, Carries, Fails}
+use Rattle.run_machine.specs.Opened.{Scenario, scene, start, todos, duties, keepers, setup as setup_in, tasks as opened_tasks, writers}
+use Rattle.run_machine.specs.Runs.{State, IsRun, HasEnded}
+use Rattle.block_core.specs.Weights.{Weight, Rescued, Pending, total, one, weigh_option, task_weight, book_weight, taken_weight, elements, holding_elements, refs, under}
+use Rattle.block_core.specs.Charges.{there, task_duties, duties_left}
+use Rattle.block_core.specs.Exact.{is_miss, NoneMissed, all_nodes, all_below, exact_steps, StepsWithoutMisses}
+use Rattle.block_core.specs.Fragments.{todo_fragments, HasNone, NothingComes}
+use Rattle.block_core.specs.Rounds.{round_of, is_of_round, tops_left, unfinished_of}
+use Rattle.block_core.specs.Scenarios.{IsScenario, IsNaming}
+use Rattle.block_core.proofs.sound.Facts.{Fair, Kept}
+use Rattle.block_core.proofs.sound.Orders.{Ground}
+use Rattle.block_core.proofs.start.FactsAtStart.{Begins, IsOpened, total_zero, start_opened, todos_all}
+use Rattle.block_core.proofs.moves.Devices.{ground}
+use Rattle.block_core.proofs.sound.Wholes.{Whole, step_whole, runs_whole, start_whole, run_tallied}
+use Rattle.block_core.proofs.sound.Lasting.{runs_keep}
+use Rattle.block_core.proofs.moves.StepMoves.{step_is_move}
+use Rattle.block_core.proofs.unrefused.BioNeeds.{Worth, worth}
+use Rattle.block_core.proofs.images.FragmentCounts.{Divided, divided}
+use Rattle.block_core.proofs.images.Completed.{opened_total, all_sum, start_counted, over_follows}
+use Rattle.block_core.proofs.moves.Misfits.{misfits, no_misfits}
+use Rattle.block_core.proofs.images.StillToCome.{over}
+use Rattle.block_core.proofs.bound.ChargesAtStart.{placed_sum, opened_sum}
+use Rattle.block_core.proofs.moves.Sums.{one-same}
+use Rattle.block_core.proofs.images.PlannedOnce.{sum_none}
+use Rattle.block_core.proofs.images.EndedRuns.{zero_at, nothing_comes_where_ended}
+use Rattle.block_core.proofs.images.NothingComes.{none_open}
+use Rattle.block_core.proofs.images.Ancestors.{open_at}
+use Rattle.block_core.proofs.moves.Totals.{task_part}
+use Rattle.block_core.proofs.moves.SumsCompared.{under_in_all}
+use Rattle.block_core.proofs.images.MasterRecords.{bare, bare_node}
+use Rattle.block_core.proofs.bound.RoleHoldings.{odd, odd_holding, none_odd}
+use Rattle.block_core.proofs.bound.StillDue.{one_each, todo_run, write_due, due, in_hand, takes_one}
+use Rattle.block_core.proofs.bound.NoMisses.{NonePunts, TaskNoPunt, NoPunt, still_none, had}
+use Rattle.layout_model.proofs.RangeSums.{sum_of_zero}
+
+-- all that a state is known to have
+pub record Exactly (scene : Scene) (s : State) : Type 0 where
+  pub whole : Whole scene s
+  pub counted : total scene (misfits over) s ≡ 0
+  pub held : total scene odd s ≡ 0
+  pub none : NonePunts s
+
+module _ (scene : Scene) (f : Fair scene) (g : Ground scene.setup) (p : Worth scene.setup) (v : Divided scene.setup one_each) where
+  pub runs_take : (s : State) (events : List Event) (new : State) → Exactly scene s → IsRun scene s events new → NoneMissed events
+      → length events + total scene (due scene.setup) new + total scene in_hand s + duties_left scene new
+      ≡ total scene (due scene.setup) s + total scene in_hand new + duties_left scene s
+  runs_take s [] new e run all =
+      omega (arith, ap (total scene (due scene.setup)) run, ap (total scene in_hand) run, ap (duties_left scene) run)
+  runs_take s (event ∷ events) new e (next, (place, steps), run) all =
+      let i = e.whole in
+      let moved = step_is_move scene s f i.kept place event next steps in
+      let no_miss : is_miss event.what ≡ false = All-head (λ (event : Event). is_miss event.what ≡ false) event events all in
+      let h = had scene s e.none place event next steps no_miss moved.move moved.can moved.is moved.at in
+      let one_less = takes_one scene s f g p v i.kept i.placed e.counted e.held moved.move moved.can h in
+      let after_is : Exactly scene next = record {
+        whole = step_whole scene f g s place event next i steps;
+        counted = ap (total scene (misfits over)) moved.is ∙ no_misfits over over_follows scene s i.kept e.counted moved.move moved.can;
+        held = ap (total scene odd) moved.is ∙ none_odd scene s i.kept e.held moved.move moved.can;
+        none = subst NonePunts (sym moved.is) (still_none scene s e.none moved.move moved.can h);
+      } in
+      omega (
+        arith,
+        one_less,
+        ap (total scene (due scene.setup)) moved.is,
+        ap (total scene in_hand) moved.is,
+        ap (duties_left scene) moved.is,
+        runs_take next events new after_is run (All-tail (λ (event : Event). is_miss event.what ≡ false) event events all),
+      )
+
+-- at the start
+begins_none : (scene : Scene) (x : TaskState) → Begins scene x → TaskNoPunt x
+begins_none scene (Writer number todo taken line) h = subst (λ (l : Line). NoPunt l.doing) (sym h.2) tt
+begins_none scene (Rescuer dev line) h = subst (λ (l : Line). NoPunt l.doing) (sym h.1) tt
+begins_none scene (Completer disk carried) h = tt
+begins_none scene (Keeper keeping) h = tt
+
+ones : {X : Type 0} (xs : List X) → sum_by (λ x. 1) xs ≡ length xs
+ones [] = refl
+ones (x ∷ xs) = omega (arith, sum_by-cons (λ x. 1) x xs, ones xs)
+
+module _ (s : Scenario) (good : IsScenario s) (ledger : ℕ → LedgerId) where
+  -- what a write is due, by what it needs
+  abbrev write_parts : Write → ℕ
+  write_parts write = 4 + 2 * vectors write.count + 4 * needed (tree s.stack write.dev.0) write.start write.count + 3 * parts s.stack write
+
+  todo_is : (todo : Todo) → IsWrite s.stack todo.write → write_due (setup_in s) todo ≡ write_parts todo.write
+  todo_is todo is =
+      let t = tree s.stack todo.write.dev.0 in
+      let known = is.known in
+      let some = is.some in
+      let a : sum_by one_each (todo_fragments (setup_in s) todo) ≡ length (frags t todo.number 0 todo.write.start todo.write.count) =
+      ones (todo_fragments (setup_in s) todo) ∙ ap (λ (fs : List Fragment). length fs) (leaves_plan t todo.number 0 todo.write.start todo.write.count) in
+      let b = fragments_of_is_length t todo.number 0 todo.write.start todo.write.count (trees_are_sound s.stack todo.write.dev.0 good.stack known) (omega (arith, some)) in
+      omega (arith, a, b)
+
+  -- over all writes
+  by_writes : (a n : ℕ) (rs : List ℕ) (ws : List Write) → length rs ≡ n → length ws ≡ n
+      → sum_by (λ (todo : Todo). write_parts todo.write) (map (λ x. record { number = x.0; round = x.1.0; write = x.1.1 }) (zip (range_with_len a n) (zip rs ws)))
+      ≡ sum_by write_parts ws
+  by_writes a zero rs [] rl wl = refl
+  by_writes a zero rs (w ∷ ws) rl wl = absurd (omega (arith, wl))
+  by_writes a (suc n) [] ws rl wl = absurd (omega (arith, rl))
+  by_writes a (suc n) (r ∷ rs) [] rl wl = absurd (omega (arith, wl))
+  by_writes a (suc n) (r ∷ rs) (w ∷ ws) rl wl =
+      omega (
+        arith,
+        sum_by-cons write_parts w ws,
+        sum_by-cons (λ (todo : Todo). write_parts todo.write) (record { number = a; round = r; write = w })
+            (map (λ x. record { number = x.0; round = x.1.0; write = x.1.1 }) (zip (range_with_len (a + 1) n) (zip rs ws))),
+        by_writes (a + 1) n rs ws (omega (arith, rl)) (omega (arith, wl)),
+      )
+
+  table : (ws : List Write) → sum_by write_parts ws
+      ≡ all_elements s.stack ws + all_nodes s.stack ws + 2 * all_parts s.stack ws + (all_parts s.stack ws + all_below s.stack ws) + all_elements s.stack ws + length ws
+  table [] = refl
+  table (w ∷ ws) =
+      omega (
+        arith,
+        sum_by-cons write_parts w ws,
+        sum_by-cons (λ write. elements_of s.stack write) w ws,
+        sum_by-cons (λ write. nodes s.stack write) w ws,
+        sum_by-cons (λ write. parts s.stack write) w ws,
+        sum_by-cons (λ (write : Write). needed (tree s.stack write.dev.0) write.start write.count) w ws,
+        table ws,
+      )
+
+  due_at_start : total (scene s ledger) (due (setup_in s)) (start s) ≡ sum_by write_parts s.writes
+  due_at_start =
+      opened_total s good ledger (due (setup_in s)) (write_due (setup_in s)) (λ n ts. later ts) refl
+      ∙ (all_sum (λ (todo : Todo). IsWrite s.stack todo.write) (write_due (setup_in s)) (λ todo. write_parts todo.write) (todos s) todo_is (todos_all s (IsWrite s.stack) good.writes)
+      ∙ by_writes 0 (length s.writes) s.rounds s.writes good.rounds refl)
+    where
+      later : (ts : List Todo) → (due (setup_in s)).todo 0 ts NoBio ≡ sum_by (write_due (setup_in s)) ts
+      later [] = refl
+      later (todo ∷ ts) = sym (sum_by-cons (write_due (setup_in s)) todo ts)
+
+  duties_at_start : duties_left (scene s ledger) (start s) ≡ length (duties s)
+  duties_at_start = omega (arith, placed_sum s good ledger task_duties, opened_sum s good ledger task_duties (λ dev. refl) (λ dev. refl), sum_of_zero (writers s), keeper_duties (duties s))
+    where
+      keeper_duties : (ds : List Duty) → sum_by task_duties (keepers ds) ≡ length ds
+      keeper_duties [] = refl
+      keeper_duties (duty ∷ ds) = omega arith
+
+  start_exactly : IsNaming ledger → Exactly (scene s ledger) (start s)
+  start_exactly naming =
+      let o = start_opened s good ledger in
+      record {
+        whole = start_whole s ledger good naming;
+        counted = start_counted s good ledger;
+        held = total_zero (scene s ledger) (start s) odd (λ n todos. refl) o;
+        none = record { tasks = λ place. begins_none (scene s ledger) ((start s).task place) (o.tasks place); rescued = o.rescued };
+      }
+
+-- where a run has ended, nothing is due
+module _ (scene : Scene) (s : State) (i : Kept scene s) (held : total scene odd s ≡ 0) (out : (p : ℕ) → (s.objects.pool p).facts.out ≡ 0) (comes : NothingComes scene s)
+    (rounds : List ℕ) (left : (r : ℕ) → total scene (unfinished_of (is_of_round rounds r)) s ≡ 0) where
+  bare_none : total scene bare s ≡ 0
+  bare_none =
+      omega (
+        arith,
+        held,
+        under_in_all scene s i bare odd (record {
+          todo = λ writer todos taken part. omega arith;
+          bio = λ spot item part. omega arith;
+          copy = λ bio master leg more part. omega arith;
+          hand = λ item. omega arith;
+          vector = λ vector. omega arith;
+          slip = λ slip. omega arith;
+          node = λ writer place node at part. by_role node.role node.held.bio node.held.slip;
+          closed = λ task writer closed part. omega arith;
+        }),
+      )
+    where
+      by_role : (r : Role) (bio : Option (Item Pad)) (slip : Option SlipItem) → bare_node r slip ≤ odd_holding r bio slip
+      by_role role.Top bio slip = omega arith
+      by_role (role.Chain parent) bio slip = omega arith
+      by_role (role.Master parent) bio slip = omega arith
+      by_role (role.Leg parent) bio slip = omega arith
+
+  no_node : (writer k : ℕ) (node : Node) → node_at (s.objects.book writer) k ≡ Some node → ⊥
+  no_node writer k node at = none_open scene s i bare_none out writer k node at
+
+  home : (p place : ℕ) (x : TaskState) → place < scene.tasks → s.task place ≡ x → task_weight (elements p) place x ≡ 0
+  home p place x lt is = omega (arith, i.outs p, out p, task_part scene (elements p) s place x lt is)
+
+  holds_none : (held : Holding) → ((p : ℕ) → holding_elements p held ≡ 0) → there held.bio + there held.vector + there held.slip ≡ 0
+  holds_none held none = omega (arith, by_bio held.bio (λ p. omega (arith, none p)), by_vector held.vector (λ p. omega (arith, none p)), by_slip held.slip (λ p. omega (arith, none p)))
+    where
+      by_bio : (bio : Option (Item Pad)) → ((p : ℕ) → weigh_option (λ (bio : Item Pad). one bio.share.no p) bio ≡ 0) → there bio ≡ 0
+      by_bio None none = refl
+      by_bio (Some bio) none = absurd (omega (arith, none bio.share.no, one-same bio.share.no))
+
+      by_vector : (vector : Option VectorItem) → ((p : ℕ) → weigh_option (λ (vector : VectorItem). one vector.share.no p) vector ≡ 0) → there vector ≡ 0
+      by_vector None none = refl
+      by_vector (Some vector) none = absurd (omega (arith, none vector.share.no, one-same vector.share.no))
+
+      by_slip : (slip : Option SlipItem) → ((p : ℕ) → weigh_option (λ (slip : SlipItem). one slip.share.no p) slip ≡ 0) → there slip ≡ 0
+      by_slip None none = refl
+      by_slip (Some slip) none = absurd (omega (arith, none slip.share.no, one-same slip.share.no))
+
+  -- no closed node is carried: it would be told to an open one, or its write be unfinished
+  no_closed : (place : ℕ) (disk : DevId) (writer : ℕ) (closed : Closed) → place < scene.tasks → s.task place ≡ Completer disk (Carries writer closed) → (parent : Option ℕ) → closed.parent ≡ parent → ⊥
+  no_closed place disk writer closed lt is (Some parent) found =
+      let refers : under writer parent writer closed.parent ≡ 1 =
+      ap (under writer parent writer) found ∙ (ap (λ n. n * one parent parent) (one-same writer) ∙ ap (λ n. 1 * n) (one-same parent)) in
+      let up = open_at scene s i writer parent (omega (arith, refers, task_part scene (refs scene.setup writer parent) s place (Completer disk (Carries writer closed)) lt is)) in
+      no_node writer parent up.0 up.1
+  no_closed place disk writer closed lt is None found =
+      let r : ℕ = round_of rounds closed.write in
+      let worth_one : tops_left closed.parent * one r r ≡ 1 = ap (λ parent. tops_left parent * one r r) found ∙ omega (arith, one-same r) in
+      omega (arith, worth_one, left r, task_part scene (unfinished_of (is_of_round rounds r)) s place (Completer disk (Carries writer closed)) lt is)
+
+  no_taken : (taken : Taken) → ((p : ℕ) → taken_weight (elements p) taken ≡ 0) → taken_weight in_hand taken ≡ 0
+  no_taken NoBio none = refl
+  no_taken (HasBio bio) none = absurd (omega (arith, none bio.share.no, one-same bio.share.no))
+  no_taken (HasBoth bio vector) none = absurd (omega (arith, none bio.share.no, one-same bio.share.no))
+
+  taken_due : (taken : Taken) → taken_weight (due scene.setup) taken ≡ 0
+  taken_due NoBio = refl
+  taken_due (HasBio bio) = refl
+  taken_due (HasBoth bio vector) = refl
+
+  task_none : (place : ℕ) (x : TaskState) → place < scene.tasks → s.task place ≡ x → HasNone x → (task_weight (due scene.setup) place x ≡ 0) × (task_weight in_hand place x ≡ 0)
+  task_none place (Writer number todo taken line) lt is none =
+      let hands = no_taken taken (λ p. omega (arith, home p place (Writer number todo taken line) lt is)) in
+      (rw (none.0, none.1) (omega (arith, taken_due taken)), rw (none.1) (omega (arith, hands)))
+  task_none place (Rescuer dev line) lt is none = (rw none refl, rw none refl)
+  task_none place (Completer disk Empty) lt is none = (refl, refl)
+  task_none place (Completer disk (Brings bio status)) lt is none = absurd (omega (arith, home bio.share.no place (Completer disk (Brings bio status)) lt is, one-same bio.share.no))
+  task_none place (Completer disk (Carries writer closed)) lt is none = absurd (no_closed place disk writer closed lt is closed.parent refl)
+  task_none place (Completer disk (Fails breach kept)) lt is none = (refl, refl)
+  task_none place (Keeper keeping) lt is none = (refl, refl)
+
+  -- so where no task has anything, the whole is nothing
+  whole_none : (w : Weight) → ((place : ℕ) → place < scene.tasks → task_weight w place (s.task place) ≡ 0) → total scene w s ≡ 0
+  whole_none w tasks =
+      omega (
+        arith,
+        sum_none (task_weight w) scene.tasks s.task tasks,
+        sum_none (λ dev bios. sum_by (w.bio Rescued) bios) scene.setup.count s.objects.rescue (λ dev lt. ap (sum_by (w.bio Rescued)) (comes.rescued dev lt)),
+        sum_none (λ dev (disk : DiskState). sum_by (w.bio Pending) disk.pending) scene.setup.count s.objects.disk (λ dev lt. ap (sum_by (w.bio Pending)) (comes.pending dev lt)),
+        sum_none (book_weight w) scene.books s.objects.book (λ writer lt. sum_none (λ place. weigh_option (w.node writer place)) (length (s.objects.book writer).nodes) (node_at (s.objects.book writer))
+            (λ place below. by_node writer place (node_at (s.objects.book writer) place) refl)),
+      )
+    where
+      by_node : (writer place : ℕ) (found : Option Node) → node_at (s.objects.book writer) place ≡ found → weigh_option (w.node writer place) found ≡ 0
+      by_node writer place None at = refl
+      by_node writer place (Some node) at = absurd (no_node writer place node at)
+
+  pub none_due : (total scene (due scene.setup) s ≡ 0) × (total scene in_hand s ≡ 0)
+  none_due = (
+    whole_none (due scene.setup) (λ place lt. (task_none place (s.task place) lt refl (comes.tasks place lt)).0),
+    whole_none in_hand (λ place lt. (task_none place (s.task place) lt refl (comes.tasks place lt)).1),
+  )
+
+pub steps_without_misses : StepsWithoutMisses
+steps_without_misses s ledger events state good naming run ended all =
+    let sc = scene s ledger in
+    let f : Fair sc = record { named = naming } in
+    let places = (setup_in s).places in
+    let g = ground s.stack good.stack places in
+    let first = start_exactly s good ledger naming in
+    let i = runs_whole sc f g (start s) events state first.whole run in
+    let tally = run_tallied s ledger good naming events state run in
+    let none = none_due sc state i.kept (runs_odd sc f g (start s) events state first.whole first.held run) ended.pools (nothing_comes_where_ended s ledger events state good naming run ended).1 s.rounds
+    (λ r. sym (tally.left r) ∙ zero_at state.objects.tally.left r ended.writes) in
+    omega (
+      arith,
+      runs_take sc f g (worth s.stack good.stack places) (divided s.stack good.stack places one_each) (start s) events state first run all,
+      none.0,
+      none.1,
+      total_zero sc (start s) in_hand (λ n todos. refl) (start_opened s good ledger),
+      due_at_start s good ledger,
+      table s good ledger s.writes,
+      duties_at_start s good ledger,
+    )
+  where
+    runs_odd : (sc : Scene) → Fair sc → Ground sc.setup → (st : State) (events : List Event) (new : State) → Whole sc st → total sc odd st ≡ 0 → IsRun sc st events new → total sc odd new ≡ 0
+    runs_odd sc f g st events new i none run = runs_keep sc f g (λ x. total sc odd x ≡ 0) (λ old m before after can none. none_odd sc old before.kept none m can) st events new i none run

@@ -1,0 +1,406 @@
+-- Where no take misses, each event takes one from what is still to come.
+use Rattle.std.proofs.Common.{◌≡◌, ◌≢◌, ◌+◌, ◌-◌, ◌*◌, ◌<◌, ◌≤◌, ◌==◌, ◌⊎◌, if◌then◌else◌, ℕ, zero, suc, Bool, true, false, List, [], ◌∷◌, length, Option, None, Some, inl, inr, refl, sym, ◌∙◌, ap, subst, arith}
+use Rattle.std.specs.Prelude.{sum_by}
+use Rattle.std.specs.List.{range_with_len}
+use Rattle.std.proofs.lemmas.List.Sums.{sum_by-cons, sum_by_push}
+use Rattle.stack_base.specs.declared.ids.DevId.{DevId}
+use Rattle.stack_base.specs.declared.ids.Status.{Status}
+use Rattle.stack_base.specs.Tree.{Tree, Leaf, Split, Mirrored}
+use Rattle.layout_model.specs.declared.fragment.Fragment.{Fragment}
+use Rattle.layout_model.specs.Need.{needed, vectors}
+use Rattle.layout_model.proofs.Begun.{needed_disk}
+use Rattle.bio_records.specs.declared.bio.Bio.{Bio}
+use Rattle.bio_records.specs.declared.bio.Pad.{Pad}
+use Rattle.bio_records.specs.declared.tasks.TaskLists.{TaskLists}
+use Rattle.bio_records.specs.Items.{Item}
+use Rattle.bio_lists.specs.Submission.{submitted}
+use Rattle.bio_books.specs.declared.node.Role.{Role}
+use Rattle.bio_books.specs.declared.node.Role.TheVariants as role
+use Rattle.bio_books.specs.Books.{Node, VectorItem, SlipItem, told, later_part, nothing_held}
+use Rattle.bio_books.specs.Drops.{closed_of}
+use Rattle.run_machine.specs.Scene.{Setup, Scene, tree_at}
+use Rattle.run_machine.specs.Lines.{Want, Takes, Punts as WantsPunt, Links, ToPush, ToCut, ToRecord, ToMaster, Doing, Drives, Copies, Line, rests, settled, goes_on, copies, first_waits, first_length, legs_of, leg_at}
+use Rattle.run_machine.specs.Tasks.{TaskState, Writer, Rescuer, Completer, Keeper, Keeps, Resizes, Starts, Todo, Taken, NoBio, HasBio, HasBoth, Carried, Empty, Brings, Carries, Fails}
+use Rattle.run_machine.specs.Objects.{clear_bio, clear_vector, clear_slip}
+use Rattle.run_machine.specs.Runs.{State}
+use Rattle.block_core.specs.Weights.{Weight, Spot, Lined, Rescued, Pending, Brought, total, line_weight, task_weight, carried_weight}
+use Rattle.block_core.specs.Charges.{there, task_duties}
+use Rattle.block_core.specs.Fragments.{todo_fragments, legs_come, leg_fragments, fragment_of}
+use Rattle.block_core.specs.Places.{bio_needs, legs_need}
+use Rattle.block_core.proofs.moves.Moves.{Move, IsBare, place_of, Can, after, lost, gained, limit_of, with_line, HasLine, Wants, with_want, taken_of, filled_of, vector_of, cut_lists, Tells, Hands, piece}
+use Rattle.block_core.proofs.moves.Moves as moves
+use Rattle.block_core.proofs.moves.Deltas.{delta}
+use Rattle.block_core.proofs.sound.Facts.{own_part, own_of, away, TaskFits, Fair, Kept}
+use Rattle.block_core.proofs.sound.Orders.{Each, IsPlaced, IsOwn, AskFits, DoingPlaced, TaskPlaced, Placed, Ground}
+use Rattle.block_core.proofs.sound.OrdersKept.{line_placed}
+use Rattle.block_core.proofs.sound.TaskLines.{line_fits}
+use Rattle.block_core.proofs.moves.Listed.{IsBlind, first_weight, goes_weight}
+use Rattle.block_core.proofs.moves.Landings.{AreThere, IsLanding, settled_there, goes_there, copies_there, all_there, none_there, cut_there, leg_there}
+use Rattle.block_core.proofs.sound.Places.{cut_weight, copies_weight, unless, unless_none, is_away}
+use Rattle.block_core.proofs.unrefused.BioNeeds.{Worth}
+use Rattle.block_core.proofs.images.FragmentCounts.{Divided, IsCounted, worth, mirror_worth, legs_next, legs_none}
+use Rattle.block_core.proofs.moves.Misfits.{misfits, cut_fits}
+use Rattle.block_core.proofs.images.StillToCome.{over}
+use Rattle.block_core.proofs.bound.EventCharges.{on_tasks, on_line, hands_charge, all_duties}
+use Rattle.block_core.proofs.images.MasterRecords.{zeros, bare_slip}
+use Rattle.block_core.proofs.sound.Owns.{brought, closing_own}
+use Rattle.block_core.proofs.bound.RoleHoldings.{odd, odd_holding}
+use Rattle.block_core.proofs.stuck.Idle.{node_part}
+
+-- each fragment counts one
+abbrev pub one_each : Fragment → ℕ
+one_each f = 1
+
+-- four events a node that a bio still needs, and three a fragment that it comes to
+abbrev pub run_due : Setup → Bio → ℕ
+run_due setup bio = 4 * bio_needs setup bio + 3 * worth setup one_each bio
+
+abbrev pub bio_due : Setup → Spot → Item Pad → ℕ
+bio_due setup (Lined limit) item = run_due setup item.bio
+bio_due setup Rescued item = run_due setup item.bio
+bio_due setup Pending item = 2
+bio_due setup Brought item = 1
+
+abbrev pub copy_due : Setup → Bio → ℕ → ℕ
+copy_due setup bio leg = 4 * legs_need (tree_at setup bio.dev) bio.range.start bio.range.len leg + 3 * legs_come setup one_each bio leg
+
+abbrev pub todo_run : Setup → Todo → ℕ
+todo_run setup todo = 4 * needed (tree_at setup todo.write.dev) todo.write.start todo.write.count + 3 * sum_by one_each (todo_fragments setup todo)
+
+abbrev pub write_due : Setup → Todo → ℕ
+write_due setup todo = 4 + 2 * vectors todo.write.count + todo_run setup todo
+
+abbrev pub todos_due : Setup → List Todo → Taken → ℕ
+todos_due setup [] taken = 0
+todos_due setup (todo ∷ later) NoBio = write_due setup todo + sum_by (write_due setup) later
+todos_due setup (todo ∷ later) (HasBio bio) = write_due setup todo + sum_by (write_due setup) later
+todos_due setup (todo ∷ later) (HasBoth bio vector) = 6 + todo_run setup todo + sum_by (write_due setup) later
+
+-- An open node gives back its bio, or its record, and its vector, and has an end; what is left of a closed one gives what it holds. What is in hand
+-- was taken already, so it counts apart.
+abbrev pub due : Setup → Weight
+due setup = record {
+  todo = λ writer todos taken. todos_due setup todos taken;
+  bio = bio_due setup;
+  copy = λ bio master leg. copy_due setup bio leg;
+  hand = λ bio. 0;
+  vector = λ vector. 0;
+  slip = λ slip. 0;
+  node = λ writer place node. 2 + there node.held.vector;
+  closed = λ task writer closed. 1 + there closed.held.bio + there closed.held.vector + there closed.held.slip;
+}
+
+abbrev pub in_hand : Weight
+in_hand = record {
+  todo = λ writer todos taken. 0;
+  bio = λ spot bio. 0;
+  copy = λ bio master leg. 0;
+  hand = λ bio. 1;
+  vector = λ vector. 1;
+  slip = λ slip. 1;
+  node = λ writer place node. 0;
+  closed = λ task writer closed. 0;
+}
+
+blind : IsBlind in_hand
+blind limit item t = refl
+
+-- an event that takes, or of no pool and no rescuer
+abbrev pub IsHad : Move → Type 0
+IsHad (moves.MissesOne place x number used) = ⊥
+IsHad (moves.MissesTry place x doing lists dev used) = ⊥
+IsHad (moves.Punts place x doing lists dev) = ⊥
+IsHad (moves.Pops place dev bio bios) = ⊥
+IsHad m = Unit {0}
+
+-- behind the last leg nothing is due
+legs_done : (t : Tree) (start len leg : ℕ) → leg ≡ legs_of t → legs_need t start len leg ≡ 0
+legs_done (Leaf number sectors) start len leg is = refl
+legs_done (Split number kind sizes members) start len leg is = refl
+legs_done (Mirrored number sizes members) start len leg is =
+    let none : length sizes - leg ≡ 0 = omega (arith, is) in
+    ap (λ n. n + sum_by (λ k. needed (members k) start len) (range_with_len leg n)) none
+
+-- a write's vector is what it needs
+bare_none : (todo : Todo) → IsBare todo None → vectors todo.write.count ≡ 0
+bare_none todo bare = ap (λ (b : Bool). if b then 1 else 0) bare
+
+later_due : (setup : Setup) (later : List Todo) → todos_due setup later NoBio ≡ sum_by (write_due setup) later
+later_due setup [] = refl
+later_due setup (todo ∷ later) = sym (sum_by-cons (write_due setup) todo later)
+
+-- what is carried tells one end
+tells_due : (setup : Setup) (place : ℕ) (carried : Carried) (writer key : ℕ) (status : Status) (part : Option (Item Pad)) → Tells carried writer key status part
+    → carried_weight (due setup) place carried ≡ 1
+tells_due setup place (Brings bio ending) writer key status part t = refl
+tells_due setup place (Carries of closed) writer key status part t = rw (t.4) refl
+tells_due setup place Empty writer key status part t = absurd t
+tells_due setup place (Fails breach kept) writer key status part t = absurd t
+
+carried_hand : (place : ℕ) (carried : Carried) → carried_weight in_hand place carried ≡ 0
+carried_hand place Empty = refl
+carried_hand place (Brings bio status) = refl
+carried_hand place (Carries writer closed) = refl
+carried_hand place (Fails breach kept) = refl
+
+-- a node that closes holds its bio, or its record
+there_away : (bio : Option (Item Pad)) → away bio ≡ 0 → there bio ≡ 1
+there_away None h = absurd (omega (arith, h))
+there_away (Some bio) h = refl
+
+there_bare : (slip : Option SlipItem) → bare_slip slip ≡ 0 → there slip ≡ 1
+there_bare None h = absurd (omega (arith, h))
+there_bare (Some slip) h = refl
+
+holds_one : (r : Role) (bio : Option (Item Pad)) (slip : Option SlipItem) → own_part r bio ≡ 0 → odd_holding r bio slip ≡ 0 → there bio + there slip ≡ 1
+holds_one role.Top bio slip own none = omega (arith, there_away bio own, none)
+holds_one (role.Chain parent) bio slip own none = omega (arith, there_away bio own, none)
+holds_one (role.Master parent) bio slip own none = omega (arith, there_bare slip (omega (arith, none)), none)
+holds_one (role.Leg parent) bio slip own none = omega (arith, there_away bio own, none)
+
+-- so does it once it was told of its last end
+closes_one : (carried : Carried) (writer key : ℕ) (status : Status) (part : Option (Item Pad)) (node : Node) → Tells carried writer key status part
+    → ((bio : Item Pad) (ending : Status) → carried ≡ Brings bio ending → (node.held.bio ≡ None) × (own_part node.role None ≡ 1))
+    → 0 + brought carried ≡ own_of (Some node) → odd_holding node.role node.held.bio node.held.slip ≡ 0
+    → there (later_part node.held.bio part) + there node.held.slip ≡ 1
+closes_one (Brings bio ending) writer key status part node t none own odd_none =
+    let slip = by_role node.role node.held.bio node.held.slip (none bio ending refl).1 odd_none in
+    let is : there (later_part node.held.bio part) ≡ 1 = ap (λ p. there (later_part node.held.bio p)) t.3 in
+    omega (arith, is, slip)
+  where
+    by_role : (r : Role) (held : Option (Item Pad)) (slip : Option SlipItem) → own_part r None ≡ 1 → odd_holding r held slip ≡ 0 → there slip ≡ 0
+    by_role role.Top held slip own none = none
+    by_role (role.Chain parent) held slip own none = none
+    by_role (role.Master parent) held slip own none = absurd (omega (arith, own))
+    by_role (role.Leg parent) held slip own none = none
+closes_one (Carries of closed) writer key status part node t none own odd_none =
+    let is : there (later_part node.held.bio part) ≡ there node.held.bio = ap (λ p. there (later_part node.held.bio p)) t.3 in
+    omega (arith, is, holds_one node.role node.held.bio node.held.slip (omega (arith, own)) odd_none)
+closes_one Empty writer key status part node t none own odd_none = absurd t
+closes_one (Fails breach kept) writer key status part node t none own odd_none = absurd t
+
+module _ (setup : Setup) (p : Worth setup) (v : Divided setup one_each) where
+  pub lands : IsLanding setup (due setup)
+  lands limit item is = omega (arith, p.lands item.bio is, v.lands item.bio is)
+
+  copies_due : (limit : ℕ) (lists : TaskLists) (bio : Bio) (master leg : ℕ) → AreThere setup lists.list0 → AreThere setup lists.list1
+      → line_weight (due setup) limit (copies setup lists bio master leg)
+      ≡ copy_due setup bio leg + sum_by (bio_due setup (Lined limit)) lists.list0 + sum_by (bio_due setup (Lined limit)) lists.list1
+  copies_due limit lists bio master leg first second = by_test (leg == legs_of (tree_at setup bio.dev)) refl (copies_there setup (due setup) lands limit lists bio master leg first second)
+    where
+      by_test : {n : ℕ} (b : Bool) → (leg == legs_of (tree_at setup bio.dev)) ≡ b
+          → n ≡ unless b (copy_due setup bio leg) + sum_by (bio_due setup (Lined limit)) lists.list0 + sum_by (bio_due setup (Lined limit)) lists.list1
+          → n ≡ copy_due setup bio leg + sum_by (bio_due setup (Lined limit)) lists.list0 + sum_by (bio_due setup (Lined limit)) lists.list1
+      by_test true is are =
+          let same : leg ≡ legs_of (tree_at setup bio.dev) = search (is, arith) in
+          let none : legs_come setup one_each bio leg ≡ 0 =
+          ap (legs_come setup one_each bio) same ∙ legs_none (λ k. sum_by one_each (leg_fragments (tree_at setup bio.dev) bio k)) (legs_of (tree_at setup bio.dev)) in
+          omega (arith, are, none, legs_done (tree_at setup bio.dev) bio.range.start bio.range.len leg same)
+      by_test false is are = are
+
+module _ (scene : Scene) (s : State) (f : Fair scene) (g : Ground scene.setup) (p : Worth scene.setup) (v : Divided scene.setup one_each) (i : Kept scene s) (a : Placed scene.setup s)
+    (counted : total scene (misfits over) s ≡ 0) (held : total scene odd s ≡ 0) where
+  abbrev w : Weight
+  w = due scene.setup
+
+  has : (place : ℕ) (x : TaskState) (doing : Doing) (lists : TaskLists) → s.task place ≡ x → HasLine x doing lists → DoingPlaced scene.setup (limit_of x) doing lists
+  has place x doing lists is h = line_placed scene.setup x doing lists (subst (TaskPlaced scene.setup) is (a.tasks place)) h
+
+  -- what an event does to the sums
+  abbrev Lowers : Move → Type 0
+  Lowers m =
+      total scene w (after scene s m) + total scene in_hand s + all_duties scene (after scene s m).task + 1
+      ≡ total scene w s + total scene in_hand (after scene s m) + all_duties scene s.task
+
+  pub takes_one : (m : Move) → Can scene s m → IsHad m → Lowers m
+  takes_one (moves.TakesFirst place writer todo later move) c h =
+      let m : Move = moves.TakesFirst place writer todo later move in
+      let x = Writer writer (todo ∷ later) NoBio rests in
+      let y = Writer writer (todo ∷ later) (HasBio (clear_bio (scene.ledger 65))) rests in
+      omega (arith, delta scene w s m c, delta scene in_hand s m c, on_tasks task_duties scene s place x y c.0 c.1)
+  takes_one (moves.TakesVector place writer todo later item move) c h =
+      let m : Move = moves.TakesVector place writer todo later item move in
+      let x = Writer writer (todo ∷ later) (HasBio item) rests in
+      let y = Writer writer (todo ∷ later) (HasBoth item (clear_vector (scene.ledger 64))) rests in
+      let needs : vectors todo.write.count ≡ 1 = ap (λ (b : Bool). if b then 1 else 0) c.4 in
+      omega (arith, needs, delta scene w s m c, delta scene in_hand s m c, on_tasks task_duties scene s place x y c.0 c.1)
+  takes_one (moves.TakesSub place x doing lists dev waits move) c h =
+      let m : Move = moves.TakesSub place x doing lists dev waits move in
+      let new : Line = record { doing = with_want doing (Links (clear_bio (scene.ledger (2 * dev.0)))); lists = lists } in
+      omega (arith, delta scene w s m c, delta scene in_hand s m c, (on_line scene s place x doing lists new c.0 c.1 c.2).1)
+  takes_one (moves.TakesSlip place x bio lists move) c h =
+      let m : Move = moves.TakesSlip place x bio lists move in
+      let new : Line = record { doing = Drives bio (ToMaster (clear_slip (scene.ledger (2 * bio.bio.dev.0 + 1)))); lists = lists } in
+      omega (arith, delta scene w s m c, delta scene in_hand s m c, (on_line scene s place x (Drives bio ToRecord) lists new c.0 c.1 c.2).1)
+  takes_one (moves.MissesOne place x number used) c h = absurd h
+  takes_one (moves.MissesTry place x doing lists dev used) c h = absurd h
+  takes_one (moves.Punts place x doing lists dev) c h = absurd h
+  takes_one (moves.Pops place dev bio bios) c h = absurd h
+  takes_one (moves.Pushes place x bio lists) c h =
+      let m : Move = moves.Pushes place x bio lists in
+      let d = has place x (Drives bio ToPush) lists c.1 c.2 in
+      omega (
+        arith,
+        delta scene w s m c,
+        delta scene in_hand s m c,
+        (on_line scene s place x (Drives bio ToPush) lists (goes_on scene.setup bio.bio.dev lists) c.0 c.1 c.2).1,
+        goes_weight in_hand blind (limit_of x) scene.setup bio.bio.dev lists,
+        zeros lists.list0,
+        zeros lists.list1,
+        goes_there scene.setup w (lands scene.setup p v) (limit_of x) bio.bio.dev lists (none_there scene.setup (limit_of x) lists d.0) (all_there scene.setup (limit_of x) lists.list1 d.1.1),
+        v.disk bio.bio d.1.0.0 d.3,
+        at_disk (tree_at scene.setup bio.bio.dev) d.3,
+      )
+    where
+      at_disk : (t : Tree) → AskFits t bio.bio.range bio.bio.dev.0 ToPush → needed t bio.bio.range.start bio.bio.range.len ≡ 0
+      at_disk (Leaf number sectors) fits = needed_disk number sectors bio.bio.range.start bio.bio.range.len
+      at_disk (Split number kind sizes members) fits = absurd fits
+      at_disk (Mirrored number sizes members) fits = absurd fits
+  takes_one (moves.Completed place disk index bio status new) c h =
+      let m : Move = moves.Completed place disk index bio status new in
+      omega (arith, delta scene w s m c, delta scene in_hand s m c, on_tasks task_duties scene s place (Completer disk Empty) (Completer disk (Brings bio status)) c.0 c.1)
+  takes_one (moves.Begins place writer todo later item None key) c h =
+      let m : Move = moves.Begins place writer todo later item None key in
+      let x = Writer writer (todo ∷ later) (HasBio item) rests in
+      let first : Item Pad = filled_of writer todo item None key in
+      let y = Writer writer later NoBio (settled scene.setup (first ∷ [])) in
+      let t : TaskPlaced scene.setup x = subst (TaskPlaced scene.setup) c.1 (a.tasks place) in
+      omega (
+        arith,
+        delta scene w s m c,
+        delta scene in_hand s m c,
+        on_tasks task_duties scene s place x y c.0 c.1,
+        first_weight in_hand blind 32 scene.setup (first ∷ []),
+        zeros (first ∷ []),
+        settled_there scene.setup w (lands scene.setup p v) 32 (first ∷ []) (t.0.0 key, tt),
+        sum_by-cons (bio_due scene.setup (Lined 32)) first [],
+        bare_none todo c.4,
+        later_due scene.setup later,
+      )
+  takes_one (moves.Begins place writer todo later item (Some vector) key) c h =
+      let m : Move = moves.Begins place writer todo later item (Some vector) key in
+      let x = Writer writer (todo ∷ later) (HasBoth item vector) rests in
+      let first : Item Pad = filled_of writer todo item (Some vector) key in
+      let y = Writer writer later NoBio (settled scene.setup (first ∷ [])) in
+      let t : TaskPlaced scene.setup x = subst (TaskPlaced scene.setup) c.1 (a.tasks place) in
+      omega (
+        arith,
+        delta scene w s m c,
+        delta scene in_hand s m c,
+        on_tasks task_duties scene s place x y c.0 c.1,
+        first_weight in_hand blind 32 scene.setup (first ∷ []),
+        zeros (first ∷ []),
+        settled_there scene.setup w (lands scene.setup p v) 32 (first ∷ []) (t.0.0 key, tt),
+        sum_by-cons (bio_due scene.setup (Lined 32)) first [],
+        later_due scene.setup later,
+      )
+  takes_one (moves.Chained place x bio lists hand number kind sizes members key node) c h =
+      let m : Move = moves.Chained place x bio lists hand number kind sizes members key node in
+      let n = first_length kind sizes bio.bio.range in
+      let cut = cut_lists bio lists hand n key kind sizes members in
+      let d = has place x (Drives bio (ToCut (Links hand))) lists c.1 c.2 in
+      let cuts = cut_there scene.setup (limit_of x) g bio hand lists key number kind sizes members d c.3 in
+      let fits : over bio.bio ≡ 0 = cut_fits over scene s counted place x bio hand lists c.0 c.1 c.2 in
+      let small : IsCounted bio.bio = omega (arith, fits) in
+      omega (
+        arith,
+        delta scene w s m c,
+        delta scene in_hand s m c,
+        (on_line scene s place x (Drives bio (ToCut (Links hand))) lists (goes_on scene.setup bio.bio.dev cut) c.0 c.1 c.2).1,
+        goes_weight in_hand blind (limit_of x) scene.setup bio.bio.dev cut,
+        zeros cut.list0,
+        zeros cut.list1,
+        zeros lists.list0,
+        goes_there scene.setup w (lands scene.setup p v) (limit_of x) bio.bio.dev cut cuts.1 (all_there scene.setup (limit_of x) lists.list1 d.1.1),
+        cut_weight (bio_due scene.setup (Lined (limit_of x))) bio lists hand n key kind sizes members,
+        p.cut bio hand key number kind sizes members d.1.0.0 c.3 cuts.0,
+        v.cut bio hand key number kind sizes members d.1.0.0 small c.3 cuts.0,
+      )
+  takes_one (moves.Mastered place x bio lists slip key node) c h =
+      let m : Move = moves.Mastered place x bio lists slip key node in
+      let d = has place x (Drives bio (ToMaster slip)) lists c.1 c.2 in
+      let legs = legs_of (tree_at scene.setup bio.bio.dev) in
+      omega (
+        arith,
+        delta scene w s m c,
+        delta scene in_hand s m c,
+        (on_line scene s place x (Drives bio (ToMaster slip)) lists (copies scene.setup lists bio.bio key 0) c.0 c.1 c.2).1,
+        copies_weight in_hand blind (limit_of x) scene.setup lists bio.bio key 0,
+        unless_none (0 == legs),
+        zeros lists.list0,
+        zeros lists.list1,
+        copies_due scene.setup p v (limit_of x) lists bio.bio key 0 (none_there scene.setup (limit_of x) lists d.0) (all_there scene.setup (limit_of x) lists.list1 d.1.1),
+        mirror_worth (tree_at scene.setup bio.bio.dev) one_each bio.bio bio.bio.range bio.bio.dev.0 slip d.3,
+        by_tree (tree_at scene.setup bio.bio.dev) refl d.3,
+      )
+    where
+      by_tree : (t : Tree) → tree_at scene.setup bio.bio.dev ≡ t → AskFits t bio.bio.range bio.bio.dev.0 (ToMaster slip)
+          → bio_needs scene.setup bio.bio ≡ 1 + legs_need (tree_at scene.setup bio.bio.dev) bio.bio.range.start bio.bio.range.len 0
+      by_tree (Mirrored number sizes members) is fits = p.master bio.bio (has place x (Drives bio (ToMaster slip)) lists c.1 c.2).1.0.0 number sizes members is
+      by_tree (Leaf number sectors) is fits = absurd fits
+      by_tree (Split number kind sizes members) is fits = absurd fits
+  takes_one (moves.Legged place x bio lists master leg hand key node) c h =
+      let m : Move = moves.Legged place x bio lists master leg hand key node in
+      let d = has place x (Copies bio master leg (Links hand)) lists c.1 c.2 in
+      let lt = line_fits scene x (Copies bio master leg (Links hand)) lists (subst (TaskFits scene) c.1 (i.tasks place)) c.2 in
+      let item = leg_at bio hand leg key (tree_at scene.setup bio.dev) in
+      let more = submitted item lists in
+      let legs = legs_of (tree_at scene.setup bio.dev) in
+      omega (
+        arith,
+        delta scene w s m c,
+        delta scene in_hand s m c,
+        (on_line scene s place x (Copies bio master leg (Links hand)) lists (copies scene.setup more bio master (leg + 1)) c.0 c.1 c.2).1,
+        copies_weight in_hand blind (limit_of x) scene.setup more bio master (leg + 1),
+        unless_none (leg + 1 == legs),
+        zeros more.list0,
+        zeros lists.list0,
+        zeros lists.list1,
+        copies_due scene.setup p v (limit_of x) more bio master (leg + 1) (leg_there scene.setup (limit_of x) g bio hand lists master leg key d lt) (all_there scene.setup (limit_of x) lists.list1 d.3),
+        sum_by_push (bio_due scene.setup (Lined (limit_of x))) lists.list0 item,
+        p.leg bio hand leg key d.0 lt,
+        v.leg bio hand leg key d.0 lt,
+        legs_next (λ k. sum_by one_each (leg_fragments (tree_at scene.setup bio.dev) bio k)) legs leg lt,
+      )
+  takes_one (moves.Told place disk carried writer key status part node) c h =
+      let m : Move = moves.Told place disk carried writer key status part node in
+      omega (
+        arith,
+        delta scene w s m c,
+        delta scene in_hand s m c,
+        on_tasks task_duties scene s place (Completer disk carried) (Completer disk Empty) c.0 c.1,
+        tells_due scene.setup place carried writer key status part c.2,
+        carried_hand place carried,
+      )
+  takes_one (moves.Closes place disk carried writer key status part node) c h =
+      let m : Move = moves.Closes place disk carried writer key status part node in
+      let odd_none : odd_holding node.role node.held.bio node.held.slip ≡ 0 = omega (arith, held, node_part scene s i odd writer key node c.4) in
+      omega (
+        arith,
+        delta scene w s m c,
+        delta scene in_hand s m c,
+        on_tasks task_duties scene s place (Completer disk carried) (Completer disk (Carries writer (closed_of (told node status part)))) c.0 c.1,
+        tells_due scene.setup place carried writer key status part c.2,
+        carried_hand place carried,
+        closes_one carried writer key status part node c.2 (is_away scene s place disk carried writer key status part node i c.0 c.1 c.2 c.4)
+            (closing_own scene s f i place disk carried writer key status part node c) odd_none,
+      )
+  takes_one (moves.Gives place disk writer number closed held) c h =
+      let m : Move = moves.Gives place disk writer number closed held in
+      omega (
+        arith,
+        delta scene w s m c,
+        delta scene in_hand s m c,
+        on_tasks task_duties scene s place (Completer disk (Carries writer closed)) (Completer disk (Carries writer (record closed { held = held }))) c.0 c.1,
+        hands_charge number closed.held held c.2,
+      )
+  takes_one (moves.Ends place disk writer closed) c h =
+      let m : Move = moves.Ends place disk writer closed in
+      let none : there closed.held.bio + there closed.held.vector + there closed.held.slip ≡ 0 = rw (c.2) refl in
+      omega (arith, delta scene w s m c, delta scene in_hand s m c, none, on_tasks task_duties scene s place (Completer disk (Carries writer closed)) (Completer disk Empty) c.0 c.1)
+  takes_one (moves.Resized place pool min later duties) c h =
+      let m : Move = moves.Resized place pool min later duties in
+      omega (arith, delta scene w s m c, delta scene in_hand s m c, on_tasks task_duties scene s place (Keeper (Keeps (Resizes pool min later ∷ duties))) (Keeper (Keeps duties)) c.0 c.1)
+  takes_one (moves.Started place round later duties) c h =
+      let m : Move = moves.Started place round later duties in
+      omega (arith, delta scene w s m c, delta scene in_hand s m c, on_tasks task_duties scene s place (Keeper (Keeps (Starts round later ∷ duties))) (Keeper (Keeps duties)) c.0 c.1)

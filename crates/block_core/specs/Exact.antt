@@ -1,0 +1,49 @@
+-- How many events a run has in which no take missed.
+use Rattle.std.specs.Prelude.{◌≡◌, ◌+◌, ◌*◌, ℕ, Bool, true, false, List, length, sum_by, All}
+use Rattle.elem_ledger.specs.Ledger.{LedgerId}
+use Rattle.stack_base.specs.declared.stack.Stack.{Stack}
+use Rattle.stack_base.specs.Tree.{tree}
+use Rattle.layout_model.specs.declared.write.Write.{Write}
+use Rattle.layout_model.specs.Bound.{all_elements, all_parts}
+use Rattle.layout_model.specs.Need.{needed}
+use Rattle.layout_model.specs.Needs.{nodes}
+use Rattle.run_machine.specs.declared.event.Event.{Event}
+use Rattle.run_machine.specs.declared.event.Got.TheVariants as got
+use Rattle.run_machine.specs.declared.event.What.{What}
+use Rattle.run_machine.specs.declared.event.What.TheVariants as what
+use Rattle.run_machine.specs.Opened.{Scenario, scene, start, duties}
+use Rattle.run_machine.specs.Runs.{State, IsRun, HasEnded}
+use Rattle.block_core.specs.Charges.{duties_left}
+use Rattle.block_core.specs.Scenarios.{IsScenario, IsNaming}
+
+abbrev pub is_miss : What → Bool
+is_miss (what.Take pool got.Missed) = true
+is_miss (what.Try pool got.Missed) = true
+is_miss what = false
+
+abbrev pub NoneMissed : List Event → Type 0
+NoneMissed events = All (λ (event : Event). is_miss event.what ≡ false) events
+
+-- the nodes of all writes: their elements but for the vectors
+abbrev pub all_nodes : Stack → List Write → ℕ
+all_nodes stack writes = sum_by (λ write. nodes stack write) writes
+
+-- those that are under others: of splits, clones and records
+abbrev pub all_below : Stack → List Write → ℕ
+all_below stack writes = sum_by (λ (write : Write). needed (tree stack write.dev.0) write.start write.count) writes
+
+-- Each element is taken and given back, and each of a node linked. Each fragment is pushed and completed, and its end is told to its node. Each
+-- other end is that of a node, and is told to its parent, or of a write, which is done. And the keeper does what it has to.
+abbrev pub exact_steps : Scenario → ℕ
+exact_steps s =
+    let taken = all_elements s.stack s.writes in
+    let linked = all_nodes s.stack s.writes in
+    let fragments = all_parts s.stack s.writes in
+    let told = fragments + all_below s.stack s.writes in
+    taken + linked + 2 * fragments + told + taken + length s.writes + length (duties s)
+
+-- So many events has each run that has ended and in which no take missed, but for what its keeper has still to do.
+abbrev pub StepsWithoutMisses : Type 0
+StepsWithoutMisses = (s : Scenario) (ledger : ℕ → LedgerId) (events : List Event) (state : State) → IsScenario s → IsNaming ledger
+    → IsRun (scene s ledger) (start s) events state → HasEnded state → NoneMissed events
+    → length events + duties_left (scene s ledger) state ≡ exact_steps s
