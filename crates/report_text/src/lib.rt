@@ -15,5 +15,6 @@ mod summary;
 
 pub use check::write_check;
 pub use layout::write_layout;
+pub use names::pool_parts;
 pub use report::{write_report, write_steps};
 pub use summary::write_gen;

@@ -6,7 +6,7 @@ ghost use Rattle.report_text.specs.Pools.{HasPool, falling_from, falling_pools, 
 ghost use Rattle.report_text.specs.Report.{pool_line, pool_lines};
 ghost use Rattle.report_text.specs.Views.{AreOfStack, facts_line, own_of_each};
 
-use crate::names::device_name;
+use crate::names::pool_parts;
 use itoa::Buffer;
 use mempool_core::Facts;
 use outside_io::{Pen, Sink};
@@ -58,16 +58,8 @@ fn pool_line<K: Sink>(pen: &mut Pen, out: &mut K, stack: &Stack, pool: PoolId, f
     ensures { Says K.held K.faults out.old pen.old out.new pen.new
         (pool_line (pool_name stack.now pool) facts.now) }
 {
-    match pool {
-        PoolId::FsBios => named_line(pen, out, b"fs", b".bios", facts),
-        PoolId::FsVecs => named_line(pen, out, b"fs", b".vecs", facts),
-        PoolId::Bios(device) => {
-            named_line(pen, out, device_name(stack, device), b".bios", facts)
-        }
-        PoolId::Records(device) => {
-            named_line(pen, out, device_name(stack, device), b".records", facts)
-        }
-    }
+    let (owner, element) = pool_parts(stack, pool);
+    named_line(pen, out, owner, element, facts);
 }
 
 // A line for each of these pools, in their order.

@@ -1,0 +1,16 @@
+use Rattle.std.proofs.Common.{◌≡◌, ◌+◌, ◌-◌, ◌≤◌, length}
+use Rattle.trace_replay.proofs.PlaceLemmas.{HasPassed}
+use Rattle.trace_replay.proofs.place.events_at.Given as goal
+
+abbrev pub invariant-loop-line : goal.invariant-loop-line
+invariant-loop-line l = record {
+  text : l.lines.text ≡ l.text;
+  place : l.lines.place ≡ l.place;
+  within : l.place ≤ length l.text;
+  -- each line takes a byte or more
+  few : l.number ≤ l.place + 1;
+  passed : HasPassed l.text l.place l.number;
+}
+
+abbrev pub decreases-loop-line : goal.decreases-loop-line
+decreases-loop-line l = length l.text - l.lines.place
