@@ -13,9 +13,11 @@ fn is_served(order: Order) -> bool
     ensures { result ≡ is_served order }
 {
     match order {
-        Order::Run { .. } | Order::Check | Order::Layout | Order::Gen { .. } | Order::Scrub { .. } => {
-            true
-        }
+        Order::Run { .. }
+        | Order::Check
+        | Order::Layout
+        | Order::Gen { .. }
+        | Order::Scrub { .. } => { true }
         Order::Workers { .. } | Order::Replay => false,
     }
 }

@@ -35,12 +35,7 @@ fn steps_behind<K: Sink>(
 }
 
 /// Runs the scene's writes to their end by the schedule of a number, and tells where the members of its mirrors differ in what the run left.
-pub(crate) fn scrub<K: Sink>(
-    alloc: Global,
-    number: u64,
-    scene: &Scene<'_>,
-    out: &mut K,
-) -> Ending
+pub(crate) fn scrub<K: Sink>(alloc: Global, number: u64, scene: &Scene<'_>, out: &mut K) -> Ending
     requires { IsSaid scene.now }
     ensures { TextEndsBy result (order.Scrub number) scene.now.text.now (stream K.held K.faults out.old out.new) }
 {
