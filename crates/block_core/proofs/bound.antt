@@ -4,6 +4,7 @@ pub mod EventCharges
 pub mod ChargesAtStart
 pub mod Bounded
 pub mod RoleHoldings
+pub mod Dues
 pub mod StillDue
 pub mod NoMisses
 pub mod ExactSteps

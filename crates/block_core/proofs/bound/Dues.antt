@@ -1,0 +1,199 @@
+-- What is due of each thing in a state where no take misses: as many events as still come of it.
+use Rattle.std.proofs.Common.{◌≡◌, ◌≢◌, ◌+◌, ◌-◌, ◌*◌, ◌<◌, ◌≤◌, ◌==◌, ◌⊎◌, if◌then◌else◌, ℕ, zero, suc, Bool, true, false, List, [], ◌∷◌, length, Option, None, Some, inl, inr, refl, sym, ◌∙◌, ap, subst, arith}
+use Rattle.std.specs.Prelude.{sum_by}
+use Rattle.std.specs.List.{range_with_len}
+use Rattle.std.proofs.lemmas.List.Sums.{sum_by-cons, sum_by_push}
+use Rattle.stack_base.specs.declared.ids.DevId.{DevId}
+use Rattle.stack_base.specs.declared.ids.Status.{Status}
+use Rattle.stack_base.specs.Tree.{Tree, Leaf, Split, Mirrored}
+use Rattle.layout_model.specs.declared.fragment.Fragment.{Fragment}
+use Rattle.layout_model.specs.Need.{needed, vectors}
+use Rattle.layout_model.proofs.Begun.{needed_disk}
+use Rattle.bio_records.specs.declared.bio.Bio.{Bio}
+use Rattle.bio_records.specs.declared.bio.Pad.{Pad}
+use Rattle.bio_records.specs.declared.tasks.TaskLists.{TaskLists}
+use Rattle.bio_records.specs.Items.{Item}
+use Rattle.bio_lists.specs.Submission.{submitted}
+use Rattle.bio_books.specs.declared.node.Role.{Role}
+use Rattle.bio_books.specs.declared.node.Role.TheVariants as role
+use Rattle.bio_books.specs.Books.{Node, VectorItem, SlipItem, told, later_part, nothing_held}
+use Rattle.bio_books.specs.Drops.{closed_of}
+use Rattle.run_machine.specs.Scene.{Setup, Scene, tree_at}
+use Rattle.run_machine.specs.Lines.{Want, Takes, Punts as WantsPunt, Links, ToPush, ToCut, ToRecord, ToMaster, Doing, Drives, Copies, Line, rests, settled, goes_on, copies, first_waits, first_length, legs_of, leg_at}
+use Rattle.run_machine.specs.Tasks.{TaskState, Writer, Rescuer, Completer, Keeper, Keeps, Resizes, Starts, Todo, Taken, NoBio, HasBio, HasBoth, Carried, Empty, Brings, Carries, Fails}
+use Rattle.run_machine.specs.Objects.{clear_bio, clear_vector, clear_slip}
+use Rattle.run_machine.specs.Runs.{State}
+use Rattle.block_core.specs.Weights.{Weight, Spot, Lined, Rescued, Pending, Brought, total, line_weight, task_weight, carried_weight}
+use Rattle.block_core.specs.Charges.{there, task_duties}
+use Rattle.block_core.specs.Fragments.{todo_fragments, legs_come, leg_fragments, fragment_of}
+use Rattle.block_core.specs.Places.{bio_needs, legs_need}
+use Rattle.block_core.proofs.moves.Moves.{Move, IsBare, place_of, Can, after, lost, gained, limit_of, with_line, HasLine, Wants, with_want, taken_of, filled_of, vector_of, cut_lists, Tells, Hands, piece}
+use Rattle.block_core.proofs.moves.Moves as moves
+use Rattle.block_core.proofs.moves.Deltas.{delta}
+use Rattle.block_core.proofs.sound.Facts.{own_part, own_of, away, TaskFits, Fair, Kept}
+use Rattle.block_core.proofs.sound.Orders.{Each, IsPlaced, IsOwn, AskFits, DoingPlaced, TaskPlaced, Placed, Ground}
+use Rattle.block_core.proofs.sound.OrdersKept.{line_placed}
+use Rattle.block_core.proofs.sound.TaskLines.{line_fits}
+use Rattle.block_core.proofs.moves.Listed.{IsBlind, first_weight, goes_weight}
+use Rattle.block_core.proofs.moves.Landings.{AreThere, IsLanding, settled_there, goes_there, copies_there, all_there, none_there, cut_there, leg_there}
+use Rattle.block_core.proofs.sound.Places.{cut_weight, copies_weight, unless, unless_none, is_away}
+use Rattle.block_core.proofs.unrefused.BioNeeds.{Worth}
+use Rattle.block_core.proofs.images.FragmentCounts.{Divided, IsCounted, worth, mirror_worth, legs_next, legs_none}
+use Rattle.block_core.proofs.moves.Misfits.{misfits, cut_fits}
+use Rattle.block_core.proofs.images.StillToCome.{over}
+use Rattle.block_core.proofs.bound.EventCharges.{on_tasks, on_line, hands_charge, all_duties}
+use Rattle.block_core.proofs.images.MasterRecords.{zeros, bare_slip}
+use Rattle.block_core.proofs.sound.Owns.{brought, closing_own}
+use Rattle.block_core.proofs.bound.RoleHoldings.{odd, odd_holding}
+use Rattle.block_core.proofs.stuck.Idle.{node_part}
+
+-- each fragment counts one
+abbrev pub one_each : Fragment → ℕ
+one_each f = 1
+
+-- four events a node that a bio still needs, and three a fragment that it comes to
+abbrev pub run_due : Setup → Bio → ℕ
+run_due setup bio = 4 * bio_needs setup bio + 3 * worth setup one_each bio
+
+abbrev pub bio_due : Setup → Spot → Item Pad → ℕ
+bio_due setup (Lined limit) item = run_due setup item.bio
+bio_due setup Rescued item = run_due setup item.bio
+bio_due setup Pending item = 2
+bio_due setup Brought item = 1
+
+abbrev pub copy_due : Setup → Bio → ℕ → ℕ
+copy_due setup bio leg = 4 * legs_need (tree_at setup bio.dev) bio.range.start bio.range.len leg + 3 * legs_come setup one_each bio leg
+
+abbrev pub todo_run : Setup → Todo → ℕ
+todo_run setup todo = 4 * needed (tree_at setup todo.write.dev) todo.write.start todo.write.count + 3 * sum_by one_each (todo_fragments setup todo)
+
+abbrev pub write_due : Setup → Todo → ℕ
+write_due setup todo = 4 + 2 * vectors todo.write.count + todo_run setup todo
+
+abbrev pub todos_due : Setup → List Todo → Taken → ℕ
+todos_due setup [] taken = 0
+todos_due setup (todo ∷ later) NoBio = write_due setup todo + sum_by (write_due setup) later
+todos_due setup (todo ∷ later) (HasBio bio) = write_due setup todo + sum_by (write_due setup) later
+todos_due setup (todo ∷ later) (HasBoth bio vector) = 6 + todo_run setup todo + sum_by (write_due setup) later
+
+-- An open node gives back its bio, or its record, and its vector, and has an end; what is left of a closed one gives what it holds. What is in hand
+-- was taken already, so it counts apart.
+abbrev pub due : Setup → Weight
+due setup = record {
+  todo = λ writer todos taken. todos_due setup todos taken;
+  bio = bio_due setup;
+  copy = λ bio master leg. copy_due setup bio leg;
+  hand = λ bio. 0;
+  vector = λ vector. 0;
+  slip = λ slip. 0;
+  node = λ writer place node. 2 + there node.held.vector;
+  closed = λ task writer closed. 1 + there closed.held.bio + there closed.held.vector + there closed.held.slip;
+}
+
+abbrev pub in_hand : Weight
+in_hand = record {
+  todo = λ writer todos taken. 0;
+  bio = λ spot bio. 0;
+  copy = λ bio master leg. 0;
+  hand = λ bio. 1;
+  vector = λ vector. 1;
+  slip = λ slip. 1;
+  node = λ writer place node. 0;
+  closed = λ task writer closed. 0;
+}
+
+pub blind : IsBlind in_hand
+blind limit item t = refl
+
+-- an event that takes, or of no pool and no rescuer
+abbrev pub IsHad : Move → Type 0
+IsHad (moves.MissesOne place x number used) = ⊥
+IsHad (moves.MissesTry place x doing lists dev used) = ⊥
+IsHad (moves.Punts place x doing lists dev) = ⊥
+IsHad (moves.Pops place dev bio bios) = ⊥
+IsHad m = Unit {0}
+
+-- behind the last leg nothing is due
+legs_done : (t : Tree) (start len leg : ℕ) → leg ≡ legs_of t → legs_need t start len leg ≡ 0
+legs_done (Leaf number sectors) start len leg is = refl
+legs_done (Split number kind sizes members) start len leg is = refl
+legs_done (Mirrored number sizes members) start len leg is =
+    let none : length sizes - leg ≡ 0 = omega (arith, is) in
+    ap (λ n. n + sum_by (λ k. needed (members k) start len) (range_with_len leg n)) none
+
+-- a write's vector is what it needs
+pub bare_none : (todo : Todo) → IsBare todo None → vectors todo.write.count ≡ 0
+bare_none todo bare = ap (λ (b : Bool). if b then 1 else 0) bare
+
+pub later_due : (setup : Setup) (later : List Todo) → todos_due setup later NoBio ≡ sum_by (write_due setup) later
+later_due setup [] = refl
+later_due setup (todo ∷ later) = sym (sum_by-cons (write_due setup) todo later)
+
+-- what is carried tells one end
+pub tells_due : (setup : Setup) (place : ℕ) (carried : Carried) (writer key : ℕ) (status : Status) (part : Option (Item Pad)) → Tells carried writer key status part
+    → carried_weight (due setup) place carried ≡ 1
+tells_due setup place (Brings bio ending) writer key status part t = refl
+tells_due setup place (Carries of closed) writer key status part t = rw (t.4) refl
+tells_due setup place Empty writer key status part t = absurd t
+tells_due setup place (Fails breach kept) writer key status part t = absurd t
+
+pub carried_hand : (place : ℕ) (carried : Carried) → carried_weight in_hand place carried ≡ 0
+carried_hand place Empty = refl
+carried_hand place (Brings bio status) = refl
+carried_hand place (Carries writer closed) = refl
+carried_hand place (Fails breach kept) = refl
+
+-- a node that closes holds its bio, or its record
+there_away : (bio : Option (Item Pad)) → away bio ≡ 0 → there bio ≡ 1
+there_away None h = absurd (omega (arith, h))
+there_away (Some bio) h = refl
+
+there_bare : (slip : Option SlipItem) → bare_slip slip ≡ 0 → there slip ≡ 1
+there_bare None h = absurd (omega (arith, h))
+there_bare (Some slip) h = refl
+
+holds_one : (r : Role) (bio : Option (Item Pad)) (slip : Option SlipItem) → own_part r bio ≡ 0 → odd_holding r bio slip ≡ 0 → there bio + there slip ≡ 1
+holds_one role.Top bio slip own none = omega (arith, there_away bio own, none)
+holds_one (role.Chain parent) bio slip own none = omega (arith, there_away bio own, none)
+holds_one (role.Master parent) bio slip own none = omega (arith, there_bare slip (omega (arith, none)), none)
+holds_one (role.Leg parent) bio slip own none = omega (arith, there_away bio own, none)
+
+-- so does it once it was told of its last end
+pub closes_one : (carried : Carried) (writer key : ℕ) (status : Status) (part : Option (Item Pad)) (node : Node) → Tells carried writer key status part
+    → ((bio : Item Pad) (ending : Status) → carried ≡ Brings bio ending → (node.held.bio ≡ None) × (own_part node.role None ≡ 1))
+    → 0 + brought carried ≡ own_of (Some node) → odd_holding node.role node.held.bio node.held.slip ≡ 0
+    → there (later_part node.held.bio part) + there node.held.slip ≡ 1
+closes_one (Brings bio ending) writer key status part node t none own odd_none =
+    let slip = by_role node.role node.held.bio node.held.slip (none bio ending refl).1 odd_none in
+    let is : there (later_part node.held.bio part) ≡ 1 = ap (λ p. there (later_part node.held.bio p)) t.3 in
+    omega (arith, is, slip)
+  where
+    by_role : (r : Role) (held : Option (Item Pad)) (slip : Option SlipItem) → own_part r None ≡ 1 → odd_holding r held slip ≡ 0 → there slip ≡ 0
+    by_role role.Top held slip own none = none
+    by_role (role.Chain parent) held slip own none = none
+    by_role (role.Master parent) held slip own none = absurd (omega (arith, own))
+    by_role (role.Leg parent) held slip own none = none
+closes_one (Carries of closed) writer key status part node t none own odd_none =
+    let is : there (later_part node.held.bio part) ≡ there node.held.bio = ap (λ p. there (later_part node.held.bio p)) t.3 in
+    omega (arith, is, holds_one node.role node.held.bio node.held.slip (omega (arith, own)) odd_none)
+closes_one Empty writer key status part node t none own odd_none = absurd t
+closes_one (Fails breach kept) writer key status part node t none own odd_none = absurd t
+
+module _ (setup : Setup) (p : Worth setup) (v : Divided setup one_each) where
+  pub lands : IsLanding setup (due setup)
+  lands limit item is = omega (arith, p.lands item.bio is, v.lands item.bio is)
+
+  pub copies_due : (limit : ℕ) (lists : TaskLists) (bio : Bio) (master leg : ℕ) → AreThere setup lists.list0 → AreThere setup lists.list1
+      → line_weight (due setup) limit (copies setup lists bio master leg)
+      ≡ copy_due setup bio leg + sum_by (bio_due setup (Lined limit)) lists.list0 + sum_by (bio_due setup (Lined limit)) lists.list1
+  copies_due limit lists bio master leg first second = by_test (leg == legs_of (tree_at setup bio.dev)) refl (copies_there setup (due setup) lands limit lists bio master leg first second)
+    where
+      by_test : {n : ℕ} (b : Bool) → (leg == legs_of (tree_at setup bio.dev)) ≡ b
+          → n ≡ unless b (copy_due setup bio leg) + sum_by (bio_due setup (Lined limit)) lists.list0 + sum_by (bio_due setup (Lined limit)) lists.list1
+          → n ≡ copy_due setup bio leg + sum_by (bio_due setup (Lined limit)) lists.list0 + sum_by (bio_due setup (Lined limit)) lists.list1
+      by_test true is are =
+          let same : leg ≡ legs_of (tree_at setup bio.dev) = search (is, arith) in
+          let none : legs_come setup one_each bio leg ≡ 0 =
+          ap (legs_come setup one_each bio) same ∙ legs_none (λ k. sum_by one_each (leg_fragments (tree_at setup bio.dev) bio k)) (legs_of (tree_at setup bio.dev)) in
+          omega (arith, are, none, legs_done (tree_at setup bio.dev) bio.range.start bio.range.len leg same)
+      by_test false is are = are
