@@ -9,7 +9,7 @@ use std::process::Abort;
 pub const ROOM: usize = 4096;
 
 const USAGE: &str =
-    "biostack: usage: run [--seed N | --workers N] [--trace] | check | layout | gen N [--text] | scrub [--seed N]\n";
+    "biostack: usage: run [--seed N | --workers N] [--trace] | check | layout | gen N [--text] | replay | scrub [--seed N]\n";
 
 /// Bytes of their own.
 pub fn owned(rt: &(impl Abort + AllocGlobal), bytes: &[u8]) -> Vec<u8> {

@@ -55,7 +55,7 @@ refusal_line refusal = refusal_text refusal (name_of_number refusal.number)
 abbrev pub line_of : Ending → List ℕ
 line_of Done = []
 line_of NotAllWell = []
-line_of Usage = codes "biostack: usage: run [--seed N | --workers N] [--trace] | check | layout | gen N [--text] | scrub [--seed N]\n"
+line_of Usage = codes "biostack: usage: run [--seed N | --workers N] [--trace] | check | layout | gen N [--text] | replay | scrub [--seed N]\n"
 line_of (Refused refusal) = refusal_line refusal
 line_of ReadFault = codes "biostack: read fault\n"
 line_of WriteFault = codes "biostack: write fault\n"

@@ -15,8 +15,8 @@ is_served (Gen number shown) = true
 is_served Replay = false
 is_served (Scrub number) = true
 
--- whether an order may find that not all is well: a run of the text that is read, of which a write did not end well, or a scrub with a sector that
--- is unlike
+-- whether an order may find that not all is well: a run of the text that is read, of which a write did not end well, or a
+-- scrub with a sector that is unlike
 abbrev pub may_be_unwell : Order → Bool
 may_be_unwell (Run number trace) = true
 may_be_unwell (Workers n trace) = false

@@ -19,8 +19,8 @@ AreLaidImages s images = (disk at : ℕ) → disk < length s.stack.devices.items
 abbrev pub IsLaidAt : Scenario → Place → List ℕ → Type 0
 IsLaidAt s place sector = IsLaid s.stack s.writes s.rounds place.disk place.at sector
 
--- Then a sector of a mirror is unlike on a leg exactly where what is laid out for the leg differs from what is for leg 0: what is laid out at
--- the two sectors of disks that they show there.
+-- Then a sector of a mirror is unlike on a leg exactly where what is laid out for the leg differs from what is for leg 0:
+-- what is laid out at the two sectors of disks that they show there.
 abbrev pub UnlikeWhereLaidDiffers : Type 0
 UnlikeWhereLaidDiffers = (s : Scenario) (images : Images) → IsScenario s → AreLaidImages s images
     → (mirror leg x : ℕ) → mirror < length s.stack.devices.items → leg < legs (tree s.stack mirror) → x < size (tree s.stack mirror)

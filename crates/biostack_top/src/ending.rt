@@ -9,7 +9,7 @@ use outside_io::{Failed, Pen, Sink};
 
 /// The line for words that ask for nothing that the program does.
 const USAGE: &[u8] =
-    b"biostack: usage: run [--seed N | --workers N] [--trace] | check | layout | gen N [--text] | scrub [--seed N]\n";
+    b"biostack: usage: run [--seed N | --workers N] [--trace] | check | layout | gen N [--text] | replay | scrub [--seed N]\n";
 
 /// The status that the program ends with.
 #[derive(Clone, Copy, PartialEq, Eq)]

@@ -10,8 +10,9 @@ pub fn traces_are_read_back()
     trace_text::laws::lines_are_read_back();
 }
 
-/// Where each disk holds what the writes lay out on it, as it does when a run has ended, a sector of a mirror is unlike on a member exactly where
-/// what is laid out at two places differs: at the sectors of disks that the member and the first member show there.
+/// Where each disk holds what the writes lay out on it, as it does when a run has ended, a sector of a mirror is unlike on
+/// a member exactly where what is laid out at two places differs: at the sectors of disks that the member and the first
+/// member show there.
 pub fn unlike_where_laid_differs()
     ensures { UnlikeWhereLaidDiffers }
 {}

@@ -36,16 +36,17 @@ fn end<E: Sink>(ending: Ending, errors: &mut E) -> Exit
     ending.exit()
 }
 
-/// Carries out an order: reads a scenario from the source and checks it, and then runs it to its end by the schedule of a number and writes
-/// its report, with the line of each event before it where there is to be a trace (`Run`), or writes its devices and what its writes need
-/// (`Check`), or where its writes go (`Layout`), or where the members of its mirrors differ behind such a run (`Scrub`); or makes a scenario of a number, and shows it, or runs it and writes what it had and left
-/// (`Gen`). Orders that are not carried out yet are not handed in.
+/// Carries out an order: reads a scenario from the source and checks it, and then runs it to its end by the schedule of a
+/// number and writes its report, with the line of each event before it where there is to be a trace (`Run`), or where the
+/// members of its mirrors differ in what such a run left (`Scrub`); or writes its devices and what its writes need
+/// (`Check`), or where its writes go (`Layout`); or makes a scenario of a number, and shows it, or runs it and writes what
+/// it had and left (`Gen`). Orders that are not carried out yet are not handed in.
 ///
-/// The status is 0 where the whole text was written, 1 where it was but some write that `Run` ran did not end well or `Scrub` found a sector
-/// that is unlike, 3 where the scenario
-/// is refused, 4 where the source failed, 5 where the output did, and 6 where there was no memory for reading, for the text of a number,
-/// for the fragments of a layout or for opening the scenario. With 3, 4 and 6 nothing was written, and behind a fault of the output nothing
-/// more was. `errors` gets the line of the status. A fault of `errors` changes nothing else: it has a front of the line then.
+/// The status is 0 where the whole text was written, 1 where it was but some write that `Run` ran did not end well or
+/// `Scrub` found a sector that is unlike, 3 where the scenario is refused, 4 where the source failed, 5 where the output
+/// did, and 6 where there was no memory for reading, for the text of a number, for the fragments of a layout or for
+/// opening the scenario. With 3, 4 and 6 nothing was written, and behind a fault of the output nothing more was. `errors`
+/// gets the line of the status. A fault of `errors` changes nothing else: it has a front of the line then.
 pub fn serve_alone<S: Source, K: Sink, E: Sink>(
     alloc: Global,
     order: &Order,
