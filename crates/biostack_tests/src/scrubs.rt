@@ -1,6 +1,7 @@
 //! Scrubs of texts whose answers were worked out by hand from the rules.
 use crate::asks::{Case, all_hold};
 use crate::calls::answers;
+use crate::made::{Part, STORAGE, STORAGE_WRITES, text_of};
 use std::process::Abort;
 
 // A text, the status of its scrub, and what that writes.
@@ -105,8 +106,25 @@ impl Case for Scrub {
     }
 }
 
+// A large text, which is alike on all members, and what its scrub writes.
+struct Large(&'static [Part], &'static str);
+
+impl Case for Large {
+    fn holds(&self, rt: &(impl Abort + AllocGlobal)) -> bool {
+        let text = text_of(rt, self.0);
+        answers(rt, &["scrub"], text.as_bytes(), 0, &[self.1], "")
+    }
+}
+
+// Two stripes over limits under a mirror, with 200 writes.
+const STORED: &[Large] = &[Large(
+    &[STORAGE, STORAGE_WRITES],
+    "scrub m leg 1 unlike 0\nsteps 11318 of 17700\n",
+)];
+
 #[test]
 fn a_scrub_tells_where_members_differ(rt: HostRuntime) {
     all_hold(&rt, SCRUBS);
     all_hold(&rt, SEEDED);
+    all_hold(&rt, STORED);
 }
