@@ -1,9 +1,0 @@
-pub mod LineLemmas
-pub mod PlaceLemmas
-pub mod NameLemmas
-pub mod WalkLemmas
-pub mod AnswerLemmas
-pub mod Exact
-pub mod NoneStuck
-mod Examples
-mod NameExamples
