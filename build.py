@@ -61,7 +61,9 @@ def memory():
     """Returns the free memory in bytes, under the limit of its group too."""
     found = 1024 * (number_in("/proc/meminfo", r"MemAvailable:\s+(\d+)") or 4 << 20)
     limit, held = (number_in(f"/sys/fs/cgroup/memory.{it}", r"^(\d+)") for it in ("max", "current"))
-    return min(found, limit - held) if limit and held else found
+    # (what files have in memory is given back when something else needs it)
+    files = number_in("/sys/fs/cgroup/memory.stat", r"(?m)^inactive_file (\d+)") or 0
+    return min(found, limit - held + files) if limit and held else found
 
 
 def read_crates():

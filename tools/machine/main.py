@@ -69,7 +69,7 @@ def text_of(lines, tops, left_out):
 
 def main(words, out):
     folder, with_rescuers = read_words(words)
-    plan = plan_of(saved(folder) if folder else live(), with_rescuers)
+    plan = plan_of(live() if folder is None else saved(folder), with_rescuers)
     lines, names, left_out = build(plan, plan.tops())
     if not names:
         whys = [f"{plan.blocks[key].name}, of type {plan.blocks[key].type}: {why}" for key, why in plan.left_out.items()]
