@@ -1,0 +1,4 @@
+mod Pooled
+mod Pops
+mod Rising
+mod Looking

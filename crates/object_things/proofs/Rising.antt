@@ -1,0 +1,62 @@
+-- Tickets rise along a history, and the calls that drew one are a run.
+use Rattle.std.proofs.Common.{◌≡◌, ℕ, inl, inr, true, false, cond, List, [], ◌∷◌, Option, Some, None, refl, sym, ◌∙◌, ap, subst}
+use Rattle.std.specs.Option.{is_some}
+use Rattle.seat_lock.specs.History.{Leads}
+use Rattle.run_machine.specs.Events.{what_of}
+use Rattle.run_machine.specs.Requests.{Request, Reply}
+use Rattle.object_things.specs.Stamps.{ThingState, StepOf, Answers}
+use Rattle.object_things.specs.Histories.{Call, IsNext, or_last, TicketsRise, drawn_in, IsQuiet, LeadDrawn, DrawnRun, KeepsHistory}
+
+module _ {O : Type 0} (serves : O → Request → Reply → O → Type 0) (looks : ThingState O → Request → Reply → ThingState O → Type 0)
+    (quiet : (old new : ThingState O) (asked : Request) (reply : Reply) → looks old asked reply new → IsQuiet old (what_of asked reply) new) where
+  next_of : (old new : ThingState O) (asked : Request) (reply : Reply) (ticket : Option ℕ) → StepOf serves looks old asked reply ticket new
+      → IsNext old.note ticket × (new.note ≡ or_last old.note ticket)
+  next_of old new asked reply None s = (tt, s.1)
+  next_of old new asked reply (Some n) s = (s.2, s.3)
+
+  rises : (old new : ThingState O) (history : List Call) → Leads (Answers serves looks) old history new → TicketsRise old.note history new.note
+  rises old new [] l = ap (λ (k : ThingState O). k.note) l
+  rises old new (c ∷ cs) l =
+      let here = next_of old l.0 c.asked c.told.reply c.told.ticket l.1.step in
+      (here.0, subst (λ n. TicketsRise n cs new.note) here.1 (rises l.0 new cs l.2))
+
+  none_left : (old new : ThingState O) (asked : Request) (reply : Reply) (ticket : Option ℕ) → StepOf serves looks old asked reply ticket new → old.spent ≡ true
+      → (is_some ticket ≡ false) × (new.spent ≡ true)
+  none_left old new asked reply None s h = (refl, (quiet old new asked reply s.0).spent h)
+  none_left old new asked reply (Some n) s h = absurd (cc (s.1, h))
+
+  -- where a draw found no ticket, no call draws one later
+  none_drawn : (old new : ThingState O) (history : List Call) → old.spent ≡ true → Leads (Answers serves looks) old history new
+      → (drawn_in history ≡ []) × (new.spent ≡ true)
+  none_drawn old new [] h l = (refl, sym (ap (λ (k : ThingState O). k.spent) l) ∙ h)
+  none_drawn old new (c ∷ cs) h l =
+      let here = none_left old l.0 c.asked c.told.reply c.told.ticket l.1.step h in
+      let rest = none_drawn l.0 new cs here.1 l.2 in
+      (ap (λ b. cond b (c ∷ drawn_in cs) (drawn_in cs)) here.0 ∙ rest.0, rest.1)
+
+  one_more : (old mid new : ThingState O) (c : Call) (cs : List Call) (ticket : Option ℕ) → c.told.ticket ≡ ticket
+      → StepOf serves looks old c.asked c.told.reply ticket mid → Leads (Answers serves looks) mid cs new → DrawnRun serves mid new cs → DrawnRun serves old new (c ∷ cs)
+  one_more old mid new c cs (Some n) t s l r = record {
+    last = r.last;
+    run = subst (λ x. LeadDrawn serves old.object (cond (is_some x) (c ∷ drawn_in cs) (drawn_in cs)) r.last) (sym t) (mid.object, s.0, r.run);
+    ends = r.ends;
+  }
+  one_more old mid new c cs None t s l r = elim ((quiet old mid c.asked c.told.reply s.0).keeps) [
+    | inl same ↦ record {
+      last = r.last;
+      run = subst (λ x. LeadDrawn serves old.object (cond (is_some x) (c ∷ drawn_in cs) (drawn_in cs)) r.last) (sym t) (subst (λ x. LeadDrawn serves x (drawn_in cs) r.last) same r.run);
+      ends = r.ends;
+    }
+    | inr spent ↦ (let none = none_drawn mid new cs spent l in record {
+      last = old.object;
+      run = subst (λ x. LeadDrawn serves old.object (cond (is_some x) (c ∷ drawn_in cs) (drawn_in cs)) old.object) (sym t) (subst (λ x. LeadDrawn serves old.object x old.object) (sym none.0) refl);
+      ends = λ h. absurd (cc (none.1, h));
+    })
+  ]
+
+  runs : (old new : ThingState O) (history : List Call) → Leads (Answers serves looks) old history new → DrawnRun serves old new history
+  runs old new [] l = record { last = old.object; run = refl; ends = λ h. ap (λ (k : ThingState O). k.object) l }
+  runs old new (c ∷ cs) l = one_more old l.0 new c cs c.told.ticket refl l.1.step l.2 (runs l.0 new cs l.2)
+
+  pub keeps_history : KeepsHistory serves looks
+  keeps_history = record { rises = rises; runs = runs; quiet = quiet }

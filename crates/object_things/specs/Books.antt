@@ -1,0 +1,70 @@
+-- A book as a thing.
+use Rattle.std.specs.Prelude.{◌≡◌, ℕ, IfErr}
+use Rattle.bio_books.specs.Books.{BookState}
+use Rattle.bio_books.specs.Drops.{Drops}
+use Rattle.bio_books.specs.Views.{bio_of, IsAlonePart}
+use Rattle.task_steps.specs.declared.objects.Unmade.TheVariants as unmade
+use Rattle.run_machine.specs.Requests.{Request, Reply, Link, Drop, LinkedTo, DroppedTo, Spent}
+use Rattle.run_machine.specs.Objects.{Opened}
+use Rattle.run_machine.specs.Laws.{OfBook, object_of}
+use Rattle.task_steps.specs.Stage.{Fits, Owes}
+use Rattle.task_steps.specs.Views.{opening_of, linked, dropped, unmade_part, IsAskAlone, LinkedAlone, DroppedAlone}
+use Rattle.object_things.specs.declared.stamp.Asking.{Asking}
+use Rattle.object_things.specs.declared.stamp.Replied.{Replied}
+use Rattle.object_things.specs.declared.book.BookAsk.{BookAsk}
+use Rattle.object_things.specs.declared.book.BookAsk.TheVariants as ask
+use Rattle.object_things.specs.declared.book.BookSaid.{BookSaid}
+use Rattle.object_things.specs.declared.book.BookSaid.TheVariants as said
+use Rattle.object_things.specs.Stamps.{Held, MarkState, mark_of, Told, ThingState, Answers, PassBy, FindsNone, stage_in, is_spent}
+
+abbrev pub book_asked : BookAsk → Request
+book_asked (ask.Link writer asked) = Link writer (opening_of asked)
+book_asked (ask.Drop writer node status part) = Drop writer node status (bio_of part)
+
+abbrev pub book_replied : BookSaid → Reply
+book_replied (said.Linked result) = linked result
+book_replied (said.Dropped result) = dropped result
+
+abbrev pub book_told : Replied BookSaid → Told
+book_told replied = record { reply = book_replied replied.said; note = replied.note; drew = replied.drew; ticket = replied.ticket }
+
+-- what is served by the book of a writer
+abbrev pub BookServes : BookState → Request → Reply → BookState → Type 0
+BookServes old (Link writer opening) (LinkedTo answer) new = (writer ≡ old.writer) × Opened old opening answer new
+BookServes old (Drop writer node status part) (DroppedTo ended) new = (writer ≡ old.writer) × Drops old node status part ended new
+BookServes old request reply new = ⊥
+
+abbrev pub BookLooks : ThingState BookState → Request → Reply → ThingState BookState → Type 0
+BookLooks old (Link writer opening) Spent new = FindsNone old new
+BookLooks old (Drop writer node status part) Spent new = FindsNone old new
+BookLooks old request reply new = ⊥
+
+abbrev pub BookAnswers : ThingState BookState → Request → Told → ThingState BookState → Type 0
+BookAnswers = Answers BookServes BookLooks
+
+-- each bio that is handed over is in no list
+abbrev pub BookAskAlone : BookAsk → Type 0
+BookAskAlone (ask.Link writer asked) = IsAskAlone asked
+BookAskAlone (ask.Drop writer node status part) = IsAlonePart part
+
+abbrev pub BookFits : MarkState → Asking BookAsk → Type 0
+BookFits mark asking = (asking.pass.clock ≡ mark.common.clock) × (object_of (book_asked asking.ask) ≡ mark.name) × Fits (stage_in mark.common) (book_asked asking.ask) × BookAskAlone asking.ask
+
+-- beside what is owed by the stage, bios that come back are in no list, and where there was no ticket all that was handed over comes back
+abbrev pub BookSays : BookAsk → BookSaid → Type 0
+BookSays (ask.Link writer asked) (said.Linked result) = LinkedAlone result × IfErr result (λ back. back ≡ unmade.Ask asked)
+BookSays (ask.Drop writer node status part) (said.Dropped result) = DroppedAlone result × IfErr result (λ back. back ≡ unmade_part part)
+BookSays asked reply = ⊥
+
+pub record BookOwes (mark : MarkState) (asking : Asking BookAsk) (replied : Replied BookSaid) : Type 0 where
+  pub pass : PassBy asking.pass replied.note (is_spent (book_replied replied.said)) replied.drew replied.ticket replied.pass
+  pub owed : Owes (stage_in mark.common) (book_asked asking.ask) (book_replied replied.said)
+  pub says : BookSays asking.ask replied.said
+
+abbrev pub book_mark : Held BookState → MarkState
+book_mark held = mark_of (OfBook held.object.writer) held
+
+-- the writer whose book is asked
+abbrev pub book_writer : BookAsk → ℕ
+book_writer (ask.Link writer asked) = writer
+book_writer (ask.Drop writer node status part) = writer

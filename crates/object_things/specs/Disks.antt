@@ -1,0 +1,82 @@
+-- A disk as a thing.
+use Rattle.std.specs.Prelude.{◌≡◌, ◌≤◌, ◌-◌, ◌^◌, ℕ, length, min, Option, None, Some, IfErr, Result, Ok, Err}
+use Rattle.bio_records.specs.Items.{item_of, IsAlone}
+use Rattle.model_disks.specs.Disks.{DiskState}
+use Rattle.model_disks.specs.Moves.{pushed, Completes}
+use Rattle.model_disks.specs.declared.disk.Done.{Done as DoneBio}
+use Rattle.task_steps.specs.declared.objects.Unmade.{Unmade}
+use Rattle.task_steps.specs.declared.objects.Unmade.TheVariants as unmade
+use Rattle.run_machine.specs.Requests.{Request, Reply, Push, Complete, Did, Completed, LeftOver, Nothing, Spent}
+use Rattle.run_machine.specs.Laws.{OfDisk, object_of}
+use Rattle.task_steps.specs.Stage.{Stage, Fits, Owes}
+use Rattle.task_steps.specs.Views.{did, completed, CompletedAlone}
+use Rattle.object_things.specs.declared.stamp.Asking.{Asking}
+use Rattle.object_things.specs.declared.stamp.Replied.{Replied}
+use Rattle.object_things.specs.declared.disk.DiskAsk.{DiskAsk}
+use Rattle.object_things.specs.declared.disk.DiskAsk.TheVariants as ask
+use Rattle.object_things.specs.declared.disk.DiskSaid.{DiskSaid}
+use Rattle.object_things.specs.declared.disk.DiskSaid.TheVariants as said
+use Rattle.object_things.specs.Stamps.{Held, MarkState, mark_of, Told, ThingState, Answers, PassBy, FindsNone, OnlyLooks, stage_in, is_spent}
+
+-- a look at a disk asks to complete, too: it is told how many bios wait, and nothing is completed
+abbrev pub disk_asked : DiskAsk → Request
+disk_asked (ask.Push el) = Push (item_of el)
+disk_asked (ask.Look disk) = Complete disk
+disk_asked (ask.Complete disk index) = Complete disk
+
+abbrev pub disk_replied : DiskSaid → Reply
+disk_replied (said.Pushed result) = did result
+disk_replied (said.Waiting count) = LeftOver count
+disk_replied (said.Completed result) = completed result
+
+abbrev pub disk_told : Replied DiskSaid → Told
+disk_told replied = record { reply = disk_replied replied.said; note = replied.note; drew = replied.drew; ticket = replied.ticket }
+
+abbrev pub DiskServes : DiskState → Request → Reply → DiskState → Type 0
+DiskServes old (Push bio) Did new = (bio.bio.dev.0 ≡ old.dev.0) × (new ≡ pushed bio old)
+DiskServes old (Complete disk) (Completed index bio status) new = (disk.0 ≡ old.dev.0) × Completes old index bio status new
+DiskServes old request reply new = ⊥
+
+abbrev pub DiskLooks : ThingState DiskState → Request → Reply → ThingState DiskState → Type 0
+DiskLooks old (Complete disk) (LeftOver count) new = (count ≡ min (length old.object.pending) (2 ^ 64 - 1)) × OnlyLooks old new
+DiskLooks old (Complete disk) Nothing new = (min (length old.object.pending) (2 ^ 64 - 1) ≡ 0) × OnlyLooks old new
+DiskLooks old (Push bio) Spent new = FindsNone old new
+DiskLooks old (Complete disk) Spent new = FindsNone old new
+DiskLooks old request reply new = ⊥
+
+abbrev pub DiskAnswers : ThingState DiskState → Request → Told → ThingState DiskState → Type 0
+DiskAnswers = Answers DiskServes DiskLooks
+
+abbrev pub DiskAskAlone : DiskAsk → Type 0
+DiskAskAlone (ask.Push el) = IsAlone el
+DiskAskAlone (ask.Look disk) = Unit {0}
+DiskAskAlone (ask.Complete disk index) = Unit {0}
+
+abbrev pub DiskFits : MarkState → Asking DiskAsk → Type 0
+DiskFits mark asking = (asking.pass.clock ≡ mark.common.clock) × (object_of (disk_asked asking.ask) ≡ mark.name) × Fits (stage_in mark.common) (disk_asked asking.ask) × DiskAskAlone asking.ask
+
+-- the index is the one that was asked for, or the last one where fewer waited
+abbrev pub IsUpTo : ℕ → Result (Option (ℕ × DoneBio)) Unmade → Type 0
+IsUpTo index (Ok None) = Unit {0}
+IsUpTo index (Ok (Some done)) = done.0 ≤ index
+IsUpTo index (Err back) = Unit {0}
+
+abbrev pub DiskSays : Stage → DiskAsk → DiskSaid → Type 0
+DiskSays stage (ask.Push el) (said.Pushed result) = IfErr result (λ back. back ≡ unmade.Bio el) × Owes stage (Push (item_of el)) (did result)
+DiskSays stage (ask.Look disk) (said.Waiting count) = Unit {0}
+DiskSays stage (ask.Complete disk index) (said.Completed result) =
+    CompletedAlone result × IfErr result (λ back. back ≡ unmade.Nothing) × IsUpTo index result × Owes stage (Complete disk) (completed result)
+DiskSays stage asked reply = ⊥
+
+pub record DiskOwes (mark : MarkState) (asking : Asking DiskAsk) (replied : Replied DiskSaid) : Type 0 where
+  pub pass : PassBy asking.pass replied.note (is_spent (disk_replied replied.said)) replied.drew replied.ticket replied.pass
+  pub says : DiskSays (stage_in mark.common) asking.ask replied.said
+
+abbrev pub disk_mark : Held DiskState → MarkState
+disk_mark held = mark_of (OfDisk held.object.dev.0) held
+
+-- the device of the disk that is asked
+abbrev pub disk_dev : DiskAsk → ℕ
+disk_dev (ask.Push el) = (item_of el).bio.dev.0
+disk_dev (ask.Look disk) = disk.0
+disk_dev (ask.Complete disk index) = disk.0

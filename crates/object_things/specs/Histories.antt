@@ -1,0 +1,57 @@
+-- What histories of things show.
+use Rattle.std.specs.Prelude.{◌≡◌, ◌⊎◌, ◌<◌, ℕ, true, false, List, [], ◌∷◌, Option, Some, None, filter}
+use Rattle.std.specs.Option.{is_some}
+use Rattle.seat_lock.specs.declared.view.Entry.{Entry}
+use Rattle.seat_lock.specs.History.{Leads}
+use Rattle.run_machine.specs.declared.event.What.{What}
+use Rattle.run_machine.specs.Events.{what_of}
+use Rattle.run_machine.specs.Requests.{Request, Reply}
+use Rattle.object_things.specs.Stamps.{ThingState, Told, Answers}
+
+-- a call as a history keeps it
+abbrev pub Call : Type 0
+Call = Entry Request Told
+
+-- a ticket, where there is one, is above the last one
+abbrev pub IsNext : ℕ → Option ℕ → Type 0
+IsNext last None = Unit {0}
+IsNext last (Some n) = last < n
+
+abbrev pub or_last : ℕ → Option ℕ → ℕ
+or_last last None = last
+or_last last (Some n) = n
+
+-- tickets of calls rise from one number to another
+abbrev pub TicketsRise : ℕ → List Call → ℕ → Type 0
+TicketsRise last [] end = last ≡ end
+TicketsRise last (c ∷ cs) end = IsNext last c.told.ticket × TicketsRise (or_last last c.told.ticket) cs end
+
+-- the calls that drew a ticket
+abbrev pub drawn_in : List Call → List Call
+drawn_in history = filter (λ (c : Call). is_some c.told.ticket) history
+
+module _ {O : Type 0} where
+  -- What a call that drew no ticket leaves: the object is as before, or no ticket was left. Once none was, none is later. It tells of no event.
+  pub record IsQuiet (old : ThingState O) (what : Option What) (new : ThingState O) : Type 0 where
+    pub keeps : (new.object ≡ old.object) ⊎ (new.spent ≡ true)
+    pub spent : old.spent ≡ true → new.spent ≡ true
+    pub told : what ≡ None
+
+module _ {O : Type 0} (serves : O → Request → Reply → O → Type 0) where
+  -- these calls lead from one state of an object to another
+  abbrev pub LeadDrawn : O → List Call → O → Type 0
+  LeadDrawn old [] last = old ≡ last
+  LeadDrawn old (c ∷ cs) last = (next : O) × serves old c.asked c.told.reply next × LeadDrawn next cs last
+
+  -- those of a history that drew a ticket are a run of the object's machine, which leaves the object as it is while no draw failed
+  pub record DrawnRun (old new : ThingState O) (history : List Call) : Type 0 where
+    pub last : O
+    pub run : LeadDrawn old.object (drawn_in history) last
+    pub ends : new.spent ≡ false → last ≡ new.object
+
+module _ {O : Type 0} (serves : O → Request → Reply → O → Type 0) (looks : ThingState O → Request → Reply → ThingState O → Type 0) where
+  -- what each history of a thing shows
+  pub record KeepsHistory : Type 0 where
+    pub rises : (old new : ThingState O) (history : List Call) → Leads (Answers serves looks) old history new → TicketsRise old.note history new.note
+    pub runs : (old new : ThingState O) (history : List Call) → Leads (Answers serves looks) old history new → DrawnRun serves old new history
+    pub quiet : (old new : ThingState O) (asked : Request) (reply : Reply) → looks old asked reply new → IsQuiet old (what_of asked reply) new

@@ -1,0 +1,56 @@
+-- The list of a rescuer as a thing.
+use Rattle.std.specs.Prelude.{◌≡◌, ◌++◌, [], ◌∷◌, IfErr}
+use Rattle.bio_records.specs.Rescue.{Rescue}
+use Rattle.task_steps.specs.declared.objects.Unmade.TheVariants as unmade
+use Rattle.run_machine.specs.Requests.{Request, Reply, Punt, Pop, Did, Popped, Nothing, Spent}
+use Rattle.run_machine.specs.Laws.{OfRescuer, object_of}
+use Rattle.task_steps.specs.Stage.{Fits, Owes}
+use Rattle.task_steps.specs.Views.{did, popped, PoppedAlone}
+use Rattle.object_things.specs.declared.stamp.Asking.{Asking}
+use Rattle.object_things.specs.declared.stamp.Replied.{Replied}
+use Rattle.object_things.specs.declared.list.ListAsk.{ListAsk}
+use Rattle.object_things.specs.declared.list.ListAsk.TheVariants as ask
+use Rattle.object_things.specs.declared.list.ListSaid.{ListSaid}
+use Rattle.object_things.specs.declared.list.ListSaid.TheVariants as said
+use Rattle.object_things.specs.Stamps.{Held, MarkState, mark_of, Told, ThingState, Answers, PassBy, FindsNone, OnlyLooks, stage_in, is_spent}
+
+abbrev pub list_asked : ListAsk → Request
+list_asked (ask.Punt dev moved) = Punt dev moved
+list_asked (ask.Pop dev) = Pop dev
+
+abbrev pub list_replied : ListSaid → Reply
+list_replied (said.Punted result) = did result
+list_replied (said.Popped result) = popped result
+
+abbrev pub list_told : Replied ListSaid → Told
+list_told replied = record { reply = list_replied replied.said; note = replied.note; drew = replied.drew; ticket = replied.ticket }
+
+abbrev pub ListServes : Rescue → Request → Reply → Rescue → Type 0
+ListServes old (Punt dev moved) Did new = (dev.0 ≡ old.dev.0) × (new ≡ record old { bios = old.bios ++ moved })
+ListServes old (Pop dev) (Popped bio) new = (dev.0 ≡ old.dev.0) × (old.bios ≡ bio ∷ new.bios) × (new.dev ≡ old.dev)
+ListServes old request reply new = ⊥
+
+abbrev pub ListLooks : ThingState Rescue → Request → Reply → ThingState Rescue → Type 0
+ListLooks old (Pop dev) Nothing new = (old.object.bios ≡ []) × OnlyLooks old new
+ListLooks old (Punt dev moved) Spent new = FindsNone old new
+ListLooks old (Pop dev) Spent new = FindsNone old new
+ListLooks old request reply new = ⊥
+
+abbrev pub ListAnswers : ThingState Rescue → Request → Told → ThingState Rescue → Type 0
+ListAnswers = Answers ListServes ListLooks
+
+abbrev pub ListFits : MarkState → Asking ListAsk → Type 0
+ListFits mark asking = (asking.pass.clock ≡ mark.common.clock) × (object_of (list_asked asking.ask) ≡ mark.name) × Fits (stage_in mark.common) (list_asked asking.ask)
+
+abbrev pub ListSays : ListAsk → ListSaid → Type 0
+ListSays (ask.Punt dev moved) (said.Punted result) = IfErr result (λ back. back ≡ unmade.List moved)
+ListSays (ask.Pop dev) (said.Popped result) = PoppedAlone result × IfErr result (λ back. back ≡ unmade.Nothing)
+ListSays asked reply = ⊥
+
+pub record ListOwes (mark : MarkState) (asking : Asking ListAsk) (replied : Replied ListSaid) : Type 0 where
+  pub pass : PassBy asking.pass replied.note (is_spent (list_replied replied.said)) replied.drew replied.ticket replied.pass
+  pub owed : Owes (stage_in mark.common) (list_asked asking.ask) (list_replied replied.said)
+  pub says : ListSays asking.ask replied.said
+
+abbrev pub list_mark : Held Rescue → MarkState
+list_mark held = mark_of (OfRescuer held.object.dev.0) held

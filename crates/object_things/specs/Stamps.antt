@@ -1,0 +1,89 @@
+-- What every thing has beside its object, and what its history says.
+use Rattle.std.specs.Prelude.{◌≡◌, ◌⊎◌, ◌<◌, ◌≤◌, max, not, ℕ, Bool, true, false, Option, None, Some}
+use Rattle.atomic_table.specs.Seated.{TableId}
+use Rattle.tick_clock.specs.Tickets.{PassState, IsEnd, drawn_with}
+use Rattle.run_machine.specs.Requests.{Request, Reply, Spent}
+use Rattle.run_machine.specs.Objects.{TallyState}
+use Rattle.run_machine.specs.Laws.{Object}
+use Rattle.task_steps.specs.Stage.{Stage}
+use Rattle.task_core.specs.declared.plain.Plain.{Plain}
+use Rattle.task_core.specs.Plains.{stage_of, tally_of}
+
+-- what is the same for all things that were shared together: the clock that they draw from, and the objects as they were opened
+pub record CommonState : Type 0 where
+  pub clock : TableId
+  pub opened : Plain
+
+abbrev pub stage_in : CommonState → Stage
+stage_in common = stage_of common.opened
+
+abbrev pub tally_in : CommonState → TallyState
+tally_in common = tally_of common.opened.tally
+
+-- which object a thing holds, and what it has in common with others
+pub record MarkState : Type 0 where
+  pub common : CommonState
+  pub name : Object
+
+-- the note of an object, whether a draw at it found no ticket, and what it has in common with others
+pub record StampState : Type 0 where
+  pub note : ℕ
+  pub spent : Bool
+  pub common : CommonState
+
+-- an object with its stamp
+pub record Held (O : Type 0) : Type 0 where
+  pub object : O
+  pub stamp : StampState
+
+abbrev pub mark_of : {O : Type 0} → Object → Held O → MarkState
+mark_of name held = record { common = held.stamp.common; name = name }
+
+-- the last ticket of the clock was drawn, or what the pass and the note had seen was as great
+abbrev pub IsOver : PassState → ℕ → PassState → Type 0
+IsOver pass note after = IsEnd after.known ⊎ IsEnd (max pass.seen note)
+
+abbrev pub is_spent : Reply → Bool
+is_spent Spent = true
+is_spent reply = false
+
+-- what becomes of a pass in a call: it draws a ticket, meets the note, or finds no ticket
+abbrev pub PassBy : PassState → ℕ → Bool → Bool → Option ℕ → PassState → Type 0
+PassBy pass note spent drew (Some n) after = (max pass.seen note < n) × (pass.known < n) × (after ≡ drawn_with pass (max pass.seen note) n)
+PassBy pass note true drew None after = (after ≡ record pass { known = after.known }) × (pass.known ≤ after.known) × (drew ≡ true → IsOver pass note after)
+PassBy pass note false drew None after = after ≡ record pass { seen = max pass.seen note }
+
+-- what the history keeps of a reply: the reply, what the note had seen, whether no draw had failed before, and the ticket that was drawn
+pub record Told : Type 0 where
+  pub reply : Reply
+  pub note : ℕ
+  pub drew : Bool
+  pub ticket : Option ℕ
+
+-- what the machine sees of a thing
+pub record ThingState (O : Type 0) : Type 0 where
+  pub object : O
+  pub note : ℕ
+  pub spent : Bool
+
+abbrev pub thing_state : {O : Type 0} → O → StampState → ThingState O
+thing_state object stamp = record { object = object; note = stamp.note; spent = stamp.spent }
+
+module _ {O : Type 0} (serves : O → Request → Reply → O → Type 0) (looks : ThingState O → Request → Reply → ThingState O → Type 0) where
+  abbrev pub StepOf : ThingState O → Request → Reply → Option ℕ → ThingState O → Type 0
+  StepOf old asked reply (Some n) new = serves old.object asked reply new.object × (old.spent ≡ false) × (old.note < n) × (new.note ≡ n) × (new.spent ≡ false)
+  StepOf old asked reply None new = looks old asked reply new × (new.note ≡ old.note)
+
+  -- the machine of a thing: what is served draws a ticket above all that the note had seen, and anything else is a look
+  pub record Answers (old : ThingState O) (asked : Request) (told : Told) (new : ThingState O) : Type 0 where
+    pub note : told.note ≡ old.note
+    pub drew : told.drew ≡ not old.spent
+    pub step : StepOf old asked told.reply told.ticket new
+
+-- there was no ticket for the call, and the object is as before
+abbrev pub FindsNone : {O : Type 0} → ThingState O → ThingState O → Type 0
+FindsNone old new = (new.object ≡ old.object) × (new.spent ≡ true)
+
+-- the call only looked
+abbrev pub OnlyLooks : {O : Type 0} → ThingState O → ThingState O → Type 0
+OnlyLooks old new = (new.object ≡ old.object) × (new.spent ≡ old.spent)

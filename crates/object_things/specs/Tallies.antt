@@ -1,0 +1,69 @@
+-- The tally as a thing.
+use Rattle.std.specs.Prelude.{◌≡◌, ◌<◌, ℕ, length, sum, slice_index_or, IfErr}
+use Rattle.task_steps.specs.declared.objects.Unmade.TheVariants as unmade
+use Rattle.run_machine.specs.Requests.{Request, Reply, Done, NextRound, LookRound, LookLeft, Did, Present, LeftOver, Spent}
+use Rattle.run_machine.specs.Objects.{TallyState, done_one}
+use Rattle.task_core.specs.Plains.{Advances}
+use Rattle.run_machine.specs.Laws.{OfTally, object_of}
+use Rattle.task_steps.specs.Stage.{Fits, Owes}
+use Rattle.task_steps.specs.Views.{did}
+use Rattle.object_things.specs.declared.stamp.Asking.{Asking}
+use Rattle.object_things.specs.declared.stamp.Replied.{Replied}
+use Rattle.object_things.specs.declared.tally.TallyAsk.{TallyAsk}
+use Rattle.object_things.specs.declared.tally.TallyAsk.TheVariants as ask
+use Rattle.object_things.specs.declared.tally.TallySaid.{TallySaid}
+use Rattle.object_things.specs.declared.tally.TallySaid.TheVariants as said
+use Rattle.object_things.specs.Stamps.{Held, MarkState, mark_of, Told, ThingState, Answers, PassBy, FindsNone, stage_in, OnlyLooks, is_spent}
+
+-- the numbers of the rounds behind the present one are as they were opened
+pub record IsLater (opened tally : TallyState) : Type 0 where
+  pub rounds : length tally.left ≡ length opened.left
+  pub later : (round : ℕ) → tally.round < round → slice_index_or tally.left round 0 ≡ slice_index_or opened.left round 0
+
+-- a round that is started has no number in the history
+abbrev pub tally_asked : TallyAsk → Request
+tally_asked (ask.Done write status) = Done write status
+tally_asked ask.Next = NextRound 0
+tally_asked ask.Round = LookRound
+tally_asked ask.Left = LookLeft
+
+abbrev pub tally_replied : TallySaid → Reply
+tally_replied (said.Did result) = did result
+tally_replied (said.Round round) = Present round
+tally_replied (said.Left count) = LeftOver count
+
+abbrev pub tally_told : Replied TallySaid → Told
+tally_told replied = record { reply = tally_replied replied.said; note = replied.note; drew = replied.drew; ticket = replied.ticket }
+
+abbrev pub TallyServes : TallyState → Request → Reply → TallyState → Type 0
+TallyServes old (Done write status) Did new = new ≡ done_one write status old
+TallyServes old (NextRound round) Did new = Advances old new
+TallyServes old request reply new = ⊥
+
+abbrev pub TallyLooks : ThingState TallyState → Request → Reply → ThingState TallyState → Type 0
+TallyLooks old LookRound (Present round) new = (round ≡ old.object.round) × OnlyLooks old new
+TallyLooks old LookLeft (LeftOver count) new = (count ≡ sum old.object.left) × OnlyLooks old new
+TallyLooks old (Done write status) Spent new = FindsNone old new
+TallyLooks old (NextRound round) Spent new = FindsNone old new
+TallyLooks old request reply new = ⊥
+
+abbrev pub TallyAnswers : ThingState TallyState → Request → Told → ThingState TallyState → Type 0
+TallyAnswers = Answers TallyServes TallyLooks
+
+abbrev pub TallyFits : MarkState → Asking TallyAsk → Type 0
+TallyFits mark asking = (asking.pass.clock ≡ mark.common.clock) × (object_of (tally_asked asking.ask) ≡ mark.name) × Fits (stage_in mark.common) (tally_asked asking.ask)
+
+abbrev pub TallySays : TallyAsk → TallySaid → Type 0
+TallySays (ask.Done write status) (said.Did result) = IfErr result (λ back. back ≡ unmade.Nothing)
+TallySays ask.Next (said.Did result) = IfErr result (λ back. back ≡ unmade.Nothing)
+TallySays ask.Round (said.Round round) = Unit {0}
+TallySays ask.Left (said.Left count) = Unit {0}
+TallySays asked reply = ⊥
+
+pub record TallyOwes (mark : MarkState) (asking : Asking TallyAsk) (replied : Replied TallySaid) : Type 0 where
+  pub pass : PassBy asking.pass replied.note (is_spent (tally_replied replied.said)) replied.drew replied.ticket replied.pass
+  pub owed : Owes (stage_in mark.common) (tally_asked asking.ask) (tally_replied replied.said)
+  pub says : TallySays asking.ask replied.said
+
+abbrev pub tally_mark : Held TallyState → MarkState
+tally_mark held = mark_of OfTally held

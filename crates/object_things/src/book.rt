@@ -1,0 +1,246 @@
+//! A book as a thing.
+ghost use Rattle.std.specs.Prelude.{◌≡◌};
+ghost use Rattle.task_steps.specs.declared.objects.Unmade.TheVariants as unmade;
+ghost use Rattle.bio_books.specs.Views.{bio_of, IsAlonePart};
+ghost use Rattle.task_core.specs.ObjectsOf.{IsBookOf};
+ghost use Rattle.run_machine.specs.Requests.{Link as LinkOf, Drop as DropOf};
+ghost use Rattle.task_steps.specs.Stage.{Fits, Owes};
+ghost use Rattle.task_steps.specs.Views.{opening_of, unmade_part, IsAskAlone};
+ghost use Rattle.object_things.specs.declared.book.BookAsk.TheVariants as ask;
+ghost use Rattle.object_things.specs.Stamps.{PassBy, thing_state, is_spent, stage_in};
+ghost use Rattle.object_things.specs.Books.{BookAnswers, BookSays, book_told, book_replied};
+
+use crate::stamp::{Asked, Asking, Mark, Replied, Stamp, Told};
+use bio_books::{Book, Dropped, Link};
+use bio_records::BioElement;
+use seat_lock::Thing;
+use stack_base::Status;
+use std::marker::Model;
+use task_core::link_in;
+use task_steps::{Ask, Unmade};
+use tick_clock::{Note, Pass};
+
+/// What is asked of a book, with the number of its writer.
+pub enum BookAsk {
+    Link {
+        writer: u32,
+        ask: Ask,
+    },
+    Drop {
+        writer: u32,
+        node: u32,
+        status: Status,
+        part: Option<BioElement>,
+    },
+}
+
+/// What a book says.
+#[derive(Drop)]
+pub enum BookSaid {
+    Linked(Result<Link, Unmade>),
+    Dropped(Result<Dropped, Unmade>),
+}
+
+/// What the machine sees of a book with its note. No value of it is ever made.
+pub struct BookData {
+    book: Book,
+}
+
+impl Model for BookData {
+    ghost use Rattle.std.specs.Prelude.{false};
+    ghost use Rattle.bio_books.specs.Books.{BookState};
+    ghost use Rattle.object_things.specs.Stamps.{ThingState};
+
+    ghost Value = { ThingState BookState };
+
+    ghost view = { λ k. record { object = k.book; note = 0; spent = false } };
+}
+
+/// A book with its note.
+#[derive(Drop)]
+pub struct BookThing {
+    book: Book,
+    stamp: Stamp,
+}
+
+impl Model for BookThing {
+    ghost use Rattle.object_things.specs.Stamps.{Held};
+    ghost use Rattle.bio_books.specs.Books.{BookState};
+    ghost use Rattle.task_core.specs.ObjectsOf.{IsBookOf};
+    ghost use Rattle.object_things.specs.Stamps.{stage_in};
+
+    ghost Value = { Held BookState };
+
+    ghost view = { λ t. record { object = t.book; stamp = t.stamp } };
+
+    ghost invariant = { λ t. IsBookOf (stage_in t.stamp.common) t.book.writer t.book };
+}
+
+impl BookThing {
+    /// A book with this stamp.
+    pub fn new(book: Book, stamp: Stamp) -> BookThing
+        requires { IsBookOf (stage_in stamp.common) book.writer book }
+        ensures { result ≡ record { object = book; stamp = stamp } }
+    {
+        BookThing { book, stamp }
+    }
+
+    /// A book and its note.
+    pub fn parts(self) -> (Book, Note)
+        ensures { (result.0 ≡ self.object) × (result.1 ≡ self.stamp.note) }
+    {
+        let BookThing { book, stamp } = self;
+        (book, stamp.into_note())
+    }
+}
+
+impl Thing for BookThing {
+    ghost use Rattle.run_machine.specs.Laws.{OfBook};
+    ghost use Rattle.object_things.specs.Stamps.{thing_state};
+    ghost use Rattle.object_things.specs.Books.{BookAnswers, BookFits, BookOwes, book_asked, book_mark, book_told};
+
+    type Request = Asking<BookAsk>;
+
+    type Reply = Replied<BookSaid>;
+
+    type Data = BookData;
+
+    type Asked = Asked;
+
+    type Told = Told;
+
+    type Mark = Mark;
+
+    ghost plain = { λ thing. thing_state thing.object thing.stamp };
+
+    ghost mark = { book_mark };
+
+    ghost asked = { λ asking. book_asked asking.ask };
+
+    ghost told = { book_told };
+
+    ghost fits = { BookFits };
+
+    ghost owes = { BookOwes };
+
+    ghost answers = { BookAnswers };
+
+    fn serve(&mut self, asking: Asking<BookAsk>) -> Replied<BookSaid> {
+        let Asking { pass, ask } = asking;
+        match ask {
+            BookAsk::Link { writer, ask } => link(
+                &mut self.book,
+                &mut self.stamp,
+                pass,
+                writer,
+                ask,
+            ),
+            BookAsk::Drop {
+                writer,
+                node,
+                status,
+                part,
+            } => drop_one(
+                &mut self.book,
+                &mut self.stamp,
+                pass,
+                writer,
+                node,
+                status,
+                part,
+            ),
+        }
+    }
+}
+
+// Opens a node, with a ticket.
+fn link(
+    book: &mut Book,
+    stamp: &mut Stamp,
+    mut pass: Pass,
+    writer: u32,
+    what: Ask,
+) -> Replied<BookSaid>
+    requires clock { pass.clock ≡ stamp.old.common.clock }
+    requires own { writer ≡ book.old.writer }
+    requires alone { IsAskAlone what }
+    requires fits { Fits (stage_in stamp.old.common) (LinkOf writer (opening_of what)) }
+    requires of { IsBookOf (stage_in stamp.old.common) book.old.writer book.old }
+    ensures answers { BookAnswers (thing_state book.old stamp.old) (LinkOf writer (opening_of what)) (book_told result) (thing_state book.new stamp.new) }
+    ensures pass { PassBy pass result.note (is_spent (book_replied result.said)) result.drew result.ticket result.pass }
+    ensures owed { Owes (stage_in stamp.old.common) (LinkOf writer (opening_of what)) (book_replied result.said) }
+    ensures says { BookSays (ask.Link writer what) result.said }
+    ensures same { (stamp.new.common ≡ stamp.old.common) × (book.new.writer ≡ book.old.writer) }
+    ensures of { IsBookOf (stage_in stamp.old.common) book.old.writer book.new }
+{
+    let note = stamp.seen();
+    let drew = stamp.can_draw();
+    match stamp.draw(&mut pass) {
+        Some(ticket) => Replied {
+            pass,
+            said: BookSaid::Linked(Ok(link_in(book, what))),
+            note,
+            drew,
+            ticket: Some(ticket),
+        },
+        None => Replied {
+            pass,
+            said: BookSaid::Linked(Err(Unmade::Ask(what))),
+            note,
+            drew,
+            ticket: None,
+        },
+    }
+}
+
+// Tells a node of an end, with a ticket.
+fn drop_one(
+    book: &mut Book,
+    stamp: &mut Stamp,
+    mut pass: Pass,
+    writer: u32,
+    node: u32,
+    status: Status,
+    part: Option<BioElement>,
+) -> Replied<BookSaid>
+    requires clock { pass.clock ≡ stamp.old.common.clock }
+    requires own { writer ≡ book.old.writer }
+    requires alone { IsAlonePart part }
+    requires fits { Fits (stage_in stamp.old.common) (DropOf writer node status (bio_of part)) }
+    requires of { IsBookOf (stage_in stamp.old.common) book.old.writer book.old }
+    ensures answers { BookAnswers (thing_state book.old stamp.old) (DropOf writer node status (bio_of part)) (book_told result) (thing_state book.new stamp.new) }
+    ensures pass { PassBy pass result.note (is_spent (book_replied result.said)) result.drew result.ticket result.pass }
+    ensures owed { Owes (stage_in stamp.old.common) (DropOf writer node status (bio_of part)) (book_replied result.said) }
+    ensures says { BookSays (ask.Drop writer node status part) result.said }
+    ensures same { (stamp.new.common ≡ stamp.old.common) × (book.new.writer ≡ book.old.writer) }
+    ensures of { IsBookOf (stage_in stamp.old.common) book.old.writer book.new }
+{
+    let note = stamp.seen();
+    let drew = stamp.can_draw();
+    match stamp.draw(&mut pass) {
+        Some(ticket) => Replied {
+            pass,
+            said: BookSaid::Dropped(Ok(book.drop_one(node, status, part))),
+            note,
+            drew,
+            ticket: Some(ticket),
+        },
+        None => Replied {
+            pass,
+            said: BookSaid::Dropped(Err(unmade_part(part))),
+            note,
+            drew,
+            ticket: None,
+        },
+    }
+}
+
+// What comes back of a part.
+fn unmade_part(part: Option<BioElement>) -> Unmade
+    ensures { result ≡ unmade_part part }
+{
+    match part {
+        None => Unmade::Nothing,
+        Some(el) => Unmade::Bio(el),
+    }
+}

@@ -1,0 +1,236 @@
+//! A disk as a thing.
+ghost use Rattle.std.specs.Prelude.{◌≡◌};
+ghost use Rattle.bio_records.specs.Items.{item_of, IsAlone};
+ghost use Rattle.task_core.specs.ObjectsOf.{IsDiskOf};
+ghost use Rattle.run_machine.specs.Requests.{Push, Complete as CompleteOf};
+ghost use Rattle.task_steps.specs.Stage.{Fits};
+ghost use Rattle.object_things.specs.declared.disk.DiskAsk.TheVariants as ask;
+ghost use Rattle.object_things.specs.Stamps.{PassBy, thing_state, is_spent, stage_in};
+ghost use Rattle.object_things.specs.Disks.{DiskAnswers, DiskSays, disk_told, disk_replied};
+
+use crate::stamp::{Asked, Asking, Mark, Replied, Stamp, Told};
+use bio_records::BioElement;
+use model_disks::{Disk, Done};
+use seat_lock::Thing;
+use stack_base::DevId;
+use std::marker::Model;
+use task_steps::Unmade;
+use tick_clock::{Note, Pass};
+
+/// What is asked of a disk.
+pub enum DiskAsk {
+    Push { el: BioElement },
+    /// How many bios wait.
+    Look { disk: DevId },
+    Complete { disk: DevId, index: u64 },
+}
+
+/// What a disk says.
+#[derive(Drop)]
+pub enum DiskSaid {
+    Pushed(Result<(), Unmade>),
+    Waiting(u64),
+    Completed(Result<Option<(u64, Done)>, Unmade>),
+}
+
+/// What the machine sees of a disk with its note. No value of it is ever made.
+pub struct DiskData {
+    disk: Disk,
+}
+
+impl Model for DiskData {
+    ghost use Rattle.std.specs.Prelude.{false};
+    ghost use Rattle.model_disks.specs.Disks.{DiskState};
+    ghost use Rattle.object_things.specs.Stamps.{ThingState};
+
+    ghost Value = { ThingState DiskState };
+
+    ghost view = { λ k. record { object = k.disk; note = 0; spent = false } };
+}
+
+/// A disk with its note.
+#[derive(Drop)]
+pub struct DiskThing {
+    disk: Disk,
+    stamp: Stamp,
+}
+
+impl Model for DiskThing {
+    ghost use Rattle.object_things.specs.Stamps.{Held};
+    ghost use Rattle.model_disks.specs.Disks.{DiskState};
+    ghost use Rattle.object_things.specs.Stamps.{stage_in};
+    ghost use Rattle.task_core.specs.ObjectsOf.{IsDiskOf};
+
+    ghost Value = { Held DiskState };
+
+    ghost view = { λ t. record { object = t.disk; stamp = t.stamp } };
+
+    ghost invariant = { λ t. IsDiskOf (stage_in t.stamp.common) t.disk.dev.0 t.disk };
+}
+
+impl DiskThing {
+    /// A disk with this stamp.
+    pub fn new(disk: Disk, stamp: Stamp) -> DiskThing
+        requires { IsDiskOf (stage_in stamp.common) disk.dev.0 disk }
+        ensures { result ≡ record { object = disk; stamp = stamp } }
+    {
+        DiskThing { disk, stamp }
+    }
+
+    /// A disk and its note.
+    pub fn parts(self) -> (Disk, Note)
+        ensures { (result.0 ≡ self.object) × (result.1 ≡ self.stamp.note) }
+    {
+        let DiskThing { disk, stamp } = self;
+        (disk, stamp.into_note())
+    }
+}
+
+impl Thing for DiskThing {
+    ghost use Rattle.object_things.specs.Stamps.{thing_state};
+    ghost use Rattle.object_things.specs.Disks.{DiskAnswers, DiskFits, DiskOwes, disk_asked, disk_mark, disk_told};
+
+    type Request = Asking<DiskAsk>;
+
+    type Reply = Replied<DiskSaid>;
+
+    type Data = DiskData;
+
+    type Asked = Asked;
+
+    type Told = Told;
+
+    type Mark = Mark;
+
+    ghost plain = { λ thing. thing_state thing.object thing.stamp };
+
+    ghost mark = { disk_mark };
+
+    ghost asked = { λ asking. disk_asked asking.ask };
+
+    ghost told = { disk_told };
+
+    ghost fits = { DiskFits };
+
+    ghost owes = { DiskOwes };
+
+    ghost answers = { DiskAnswers };
+
+    fn serve(&mut self, asking: Asking<DiskAsk>) -> Replied<DiskSaid> {
+        let Asking { pass, ask } = asking;
+        match ask {
+            DiskAsk::Push { el } => push(&mut self.disk, &mut self.stamp, pass, el),
+            DiskAsk::Look { disk } => look(&self.disk, &self.stamp, pass, disk),
+            DiskAsk::Complete { disk, index } => complete(
+                &mut self.disk,
+                &mut self.stamp,
+                pass,
+                disk,
+                index,
+            ),
+        }
+    }
+}
+
+// How many bios wait.
+fn look(disk: &Disk, stamp: &Stamp, mut pass: Pass, dev: DevId) -> Replied<DiskSaid>
+    ensures answers { DiskAnswers (thing_state disk.now stamp.now) (CompleteOf dev) (disk_told result) (thing_state disk.now stamp.now) }
+    ensures pass { PassBy pass result.note (is_spent (disk_replied result.said)) result.drew result.ticket result.pass }
+    ensures says { DiskSays (stage_in stamp.now.common) (ask.Look dev) result.said }
+{
+    let note = stamp.meet(&mut pass);
+    let drew = stamp.can_draw();
+    Replied {
+        pass,
+        said: DiskSaid::Waiting(disk.pending()),
+        note,
+        drew,
+        ticket: None,
+    }
+}
+
+// A bio comes to the disk.
+fn push(disk: &mut Disk, stamp: &mut Stamp, mut pass: Pass, el: BioElement) -> Replied<DiskSaid>
+    requires clock { pass.clock ≡ stamp.old.common.clock }
+    requires own { (item_of el).bio.dev.0 ≡ disk.old.dev.0 }
+    requires alone { IsAlone el }
+    requires fits { Fits (stage_in stamp.old.common) (Push (item_of el)) }
+    requires of { IsDiskOf (stage_in stamp.old.common) disk.old.dev.0 disk.old }
+    ensures answers { DiskAnswers (thing_state disk.old stamp.old) (Push (item_of el)) (disk_told result) (thing_state disk.new stamp.new) }
+    ensures pass { PassBy pass result.note (is_spent (disk_replied result.said)) result.drew result.ticket result.pass }
+    ensures says { DiskSays (stage_in stamp.old.common) (ask.Push el) result.said }
+    ensures same { (stamp.new.common ≡ stamp.old.common) × (disk.new.dev ≡ disk.old.dev) }
+    ensures of { IsDiskOf (stage_in stamp.old.common) disk.old.dev.0 disk.new }
+{
+    let note = stamp.seen();
+    let drew = stamp.can_draw();
+    match stamp.draw(&mut pass) {
+        Some(ticket) => {
+            disk.push(el);
+            Replied {
+                pass,
+                said: DiskSaid::Pushed(Ok(())),
+                note,
+                drew,
+                ticket: Some(ticket),
+            }
+        }
+        None => Replied {
+            pass,
+            said: DiskSaid::Pushed(Err(Unmade::Bio(el))),
+            note,
+            drew,
+            ticket: None,
+        },
+    }
+}
+
+// A bio is done, if one waits.
+fn complete(
+    disk: &mut Disk,
+    stamp: &mut Stamp,
+    mut pass: Pass,
+    dev: DevId,
+    index: u64,
+) -> Replied<DiskSaid>
+    requires clock { pass.clock ≡ stamp.old.common.clock }
+    requires own { dev.0 ≡ disk.old.dev.0 }
+    requires of { IsDiskOf (stage_in stamp.old.common) disk.old.dev.0 disk.old }
+    ensures answers { DiskAnswers (thing_state disk.old stamp.old) (CompleteOf dev) (disk_told result) (thing_state disk.new stamp.new) }
+    ensures pass { PassBy pass result.note (is_spent (disk_replied result.said)) result.drew result.ticket result.pass }
+    ensures says { DiskSays (stage_in stamp.old.common) (ask.Complete dev index) result.said }
+    ensures same { (stamp.new.common ≡ stamp.old.common) × (disk.new.dev ≡ disk.old.dev) }
+    ensures of { IsDiskOf (stage_in stamp.old.common) disk.old.dev.0 disk.new }
+{
+    let pending = disk.pending();
+    let drew = stamp.can_draw();
+    if pending == 0 {
+        let note = stamp.meet(&mut pass);
+        return Replied {
+            pass,
+            said: DiskSaid::Completed(Ok(None)),
+            note,
+            drew,
+            ticket: None,
+        };
+    }
+    let note = stamp.seen();
+    let Some(ticket) = stamp.draw(&mut pass) else {
+        return Replied {
+            pass,
+            said: DiskSaid::Completed(Err(Unmade::Nothing)),
+            note,
+            drew,
+            ticket: None,
+        };
+    };
+    let at = index.min(pending - 1);
+    let done = disk.complete(at);
+    Replied {
+        pass,
+        said: DiskSaid::Completed(Ok(Some((at, done)))),
+        note,
+        drew,
+        ticket: Some(ticket),
+    }
+}

@@ -1,0 +1,307 @@
+//! A pool as a thing.
+ghost use Rattle.std.specs.Prelude.{◌≡◌, ◌⊎◌, ◌≤◌, max, not, None, false, Ok};
+ghost use Rattle.mempool_core.specs.declared.Taken.TheVariants.{Miss};
+ghost use Rattle.mempool_core.specs.Move.{gives};
+ghost use Rattle.mempool_core.specs.Pool.{PoolMoves};
+ghost use Rattle.run_machine.specs.Requests.{Resize};
+ghost use Rattle.object_things.specs.declared.pool.PoolAsk.TheVariants as ask;
+ghost use Rattle.object_things.specs.declared.pool.PoolSaid.TheVariants as said;
+ghost use Rattle.object_things.specs.Stamps.{PassBy, thing_state, is_spent, stage_in};
+ghost use Rattle.object_things.specs.Pools.{IsPoolOf, PoolAnswers, PoolSays, WaitsAt, TakenOf, is_look, take_of, give_of, pool_told, pool_replied};
+
+use crate::stamp::{Asked, Asking, Mark, Replied, Stamp, Told};
+use elem_ledger::{Element, Fresh};
+use mempool_core::{Pool, Taken};
+use seat_lock::Thing;
+use stack_base::PoolId;
+use std::marker::Model;
+use task_core::resize_home;
+use task_steps::Unmade;
+use tick_clock::{Note, Pass};
+
+/// What is asked of a pool, with its name.
+pub enum PoolAsk<P> {
+    Take { pool: PoolId, waits: bool },
+    Give { pool: PoolId, el: Element<P> },
+    Resize { pool: PoolId, min: u32 },
+}
+
+/// What a pool says.
+#[derive(Drop)]
+pub enum PoolSaid<P> {
+    Took {
+        pool: PoolId,
+        result: Result<Taken<P>, Unmade>,
+    },
+    Gave(Result<(), Element<P>>),
+    Resized(Result<u64, Unmade>),
+}
+
+/// What the machine sees of a pool with its note. No value of it is ever made.
+pub struct PoolData<P: Fresh + Drop> {
+    pool: Pool<P>,
+}
+
+impl<P: Fresh + Drop> Model for PoolData<P> {
+    ghost use Rattle.std.specs.Prelude.{false};
+    ghost use Rattle.mempool_core.specs.Pool.{LedgerPool};
+    ghost use Rattle.object_things.specs.Stamps.{ThingState};
+
+    ghost Value = { ThingState LedgerPool };
+
+    ghost view = { λ k. record { object = k.pool; note = 0; spent = false } };
+}
+
+/// A pool with its note.
+#[derive(Drop)]
+pub struct PoolThing<P: Fresh + Drop> {
+    pool: Pool<P>,
+    stamp: Stamp,
+}
+
+impl<P: Fresh + Drop> Model for PoolThing<P> {
+    ghost use Rattle.object_things.specs.Stamps.{Held};
+    ghost use Rattle.mempool_core.specs.Pool.{LedgerPool};
+    ghost use Rattle.object_things.specs.Pools.{IsPoolOf};
+    ghost use Rattle.object_things.specs.Stamps.{stage_in};
+
+    ghost Value = { Held LedgerPool };
+
+    ghost view = { λ t. record { object = t.pool; stamp = t.stamp } };
+
+    ghost invariant = { λ t. IsPoolOf (stage_in t.stamp.common) t.pool };
+}
+
+impl<P: Fresh + Drop> PoolThing<P> {
+    /// A pool with this stamp.
+    pub fn new(pool: Pool<P>, stamp: Stamp) -> PoolThing<P>
+        requires { IsPoolOf (stage_in stamp.common) pool }
+        ensures { result ≡ record { object = pool; stamp = stamp } }
+    {
+        PoolThing { pool, stamp }
+    }
+
+    /// A pool and its note.
+    pub fn parts(self) -> (Pool<P>, Note)
+        ensures { (result.0 ≡ self.object) × (result.1 ≡ self.stamp.note) }
+    {
+        let PoolThing { pool, stamp } = self;
+        (pool, stamp.into_note())
+    }
+}
+
+impl<P: Fresh + Drop> Thing for PoolThing<P> {
+    ghost use Rattle.object_things.specs.Stamps.{thing_state};
+    ghost use Rattle.object_things.specs.Pools.{PoolAnswers, PoolFits, PoolOwes, pool_asked, pool_mark, pool_told};
+
+    type Request = Asking<PoolAsk<P>>;
+
+    type Reply = Replied<PoolSaid<P>>;
+
+    type Data = PoolData<P>;
+
+    type Asked = Asked;
+
+    type Told = Told;
+
+    type Mark = Mark;
+
+    ghost plain = { λ thing. thing_state thing.object thing.stamp };
+
+    ghost mark = { pool_mark };
+
+    ghost asked = { λ asking. pool_asked asking.ask };
+
+    ghost told = { pool_told };
+
+    ghost fits = { PoolFits };
+
+    ghost owes = { PoolOwes P.is_clear };
+
+    ghost answers = { PoolAnswers };
+
+    fn serve(&mut self, asking: Asking<PoolAsk<P>>) -> Replied<PoolSaid<P>> {
+        let Asking { pass, ask } = asking;
+        match ask {
+            PoolAsk::Take { pool, waits } => take(
+                &mut self.pool,
+                &mut self.stamp,
+                pass,
+                pool,
+                waits,
+            ),
+            PoolAsk::Give { pool, el } => give(&mut self.pool, &mut self.stamp, pass, pool, el),
+            PoolAsk::Resize { pool, min } => resize(
+                &mut self.pool,
+                &mut self.stamp,
+                pass,
+                pool,
+                min,
+            ),
+        }
+    }
+}
+
+// Puts back what a take has had that gets no ticket.
+fn undo<P: Fresh + Drop>(pool: &mut Pool<P>, taken: Taken<P>)
+    requires { TakenOf taken pool.old.ledger }
+    ensures { (pool.new ≡ pool.old) ⊎ PoolMoves pool.old gives pool.new }
+{
+    match taken {
+        Taken::Ordinary(el) | Taken::Spare(el) => pool.give(el),
+        Taken::Miss { used: _ } => {}
+    }
+}
+
+// Whether a take is told as nothing.
+fn is_look<P: Fresh + Drop>(taken: &Taken<P>, waits: bool) -> bool
+    ensures { result ≡ is_look waits taken.now }
+{
+    match taken {
+        Taken::Miss { used } => waits && !*used,
+        Taken::Ordinary(_) | Taken::Spare(_) => false,
+    }
+}
+
+// A look: nothing has changed, and the pass meets the note.
+fn looked<P: Fresh + Drop>(stamp: &Stamp, mut pass: Pass, name: PoolId) -> Replied<PoolSaid<P>>
+    ensures { result ≡ record { pass = record pass { seen = max pass.seen stamp.now.note }; said = said.Took name (Ok (Miss false)); note = stamp.now.note; drew = not stamp.now.spent; ticket = None } }
+{
+    let note = stamp.meet(&mut pass);
+    Replied {
+        pass,
+        said: PoolSaid::Took {
+            pool: name,
+            result: Ok(Taken::Miss { used: false }),
+        },
+        note,
+        drew: stamp.can_draw(),
+        ticket: None,
+    }
+}
+
+// A take, with its ticket.
+#[tactic(auto, using(crate::proofs::Pooled::took_served, crate::proofs::Pooled::miss_looks, crate::proofs::Pooled::take_spent, crate::proofs::Pooled::undone, crate::proofs::Pooled::took_from, crate::proofs::Pooled::take_stays))]
+fn take<P: Fresh + Drop>(
+    pool: &mut Pool<P>,
+    stamp: &mut Stamp,
+    mut pass: Pass,
+    name: PoolId,
+    waits: bool,
+) -> Replied<PoolSaid<P>>
+    requires clock { pass.clock ≡ stamp.old.common.clock }
+    requires waits { WaitsAt name waits }
+    ensures answers { PoolAnswers (thing_state pool.old stamp.old) (take_of name waits) (pool_told result) (thing_state pool.new stamp.new) }
+    ensures pass { PassBy pass result.note (is_spent (pool_replied result.said)) result.drew result.ticket result.pass }
+    ensures says { PoolSays P.is_clear pool.old.ledger (ask.Take name waits) result.said }
+    ensures pool { (pool.new.ledger ≡ pool.old.ledger) × (pool.new.most ≡ pool.old.most) }
+    ensures same { stamp.new.common ≡ stamp.old.common }
+{
+    let note = stamp.seen();
+    let drew = stamp.can_draw();
+    let taken = pool.take();
+    if is_look(&taken, waits) {
+        return looked(stamp, pass, name);
+    }
+    match stamp.draw(&mut pass) {
+        Some(ticket) => Replied {
+            pass,
+            said: PoolSaid::Took {
+                pool: name,
+                result: Ok(taken),
+            },
+            note,
+            drew,
+            ticket: Some(ticket),
+        },
+        None => {
+            undo(pool, taken);
+            Replied {
+                pass,
+                said: PoolSaid::Took {
+                    pool: name,
+                    result: Err(Unmade::Nothing),
+                },
+                note,
+                drew,
+                ticket: None,
+            }
+        }
+    }
+}
+
+// A give, with its ticket.
+#[tactic(auto, using(crate::proofs::Pooled::give_served, crate::proofs::Pooled::give_spent))]
+fn give<P: Fresh + Drop>(
+    pool: &mut Pool<P>,
+    stamp: &mut Stamp,
+    mut pass: Pass,
+    name: PoolId,
+    el: Element<P>,
+) -> Replied<PoolSaid<P>>
+    requires clock { pass.clock ≡ stamp.old.common.clock }
+    requires own { el.share ≡ pool.old.ledger }
+    ensures answers { PoolAnswers (thing_state pool.old stamp.old) (give_of name el.share) (pool_told result) (thing_state pool.new stamp.new) }
+    ensures pass { PassBy pass result.note (is_spent (pool_replied result.said)) result.drew result.ticket result.pass }
+    ensures says { PoolSays P.is_clear pool.old.ledger (ask.Give name el) result.said }
+    ensures pool { (pool.new.ledger ≡ pool.old.ledger) × (pool.new.most ≡ pool.old.most) }
+    ensures same { stamp.new.common ≡ stamp.old.common }
+{
+    let note = stamp.seen();
+    let drew = stamp.can_draw();
+    match stamp.draw(&mut pass) {
+        Some(ticket) => {
+            pool.give(el);
+            Replied {
+                pass,
+                said: PoolSaid::Gave(Ok(())),
+                note,
+                drew,
+                ticket: Some(ticket),
+            }
+        }
+        None => Replied {
+            pass,
+            said: PoolSaid::Gave(Err(el)),
+            note,
+            drew,
+            ticket: None,
+        },
+    }
+}
+
+// A change of the reserve, with its ticket.
+fn resize<P: Fresh + Drop>(
+    pool: &mut Pool<P>,
+    stamp: &mut Stamp,
+    mut pass: Pass,
+    name: PoolId,
+    min: u32,
+) -> Replied<PoolSaid<P>>
+    requires clock { pass.clock ≡ stamp.old.common.clock }
+    requires fits { (1 ≤ min) × (min ≤ pool.old.most) }
+    ensures answers { PoolAnswers (thing_state pool.old stamp.old) (Resize name min) (pool_told result) (thing_state pool.new stamp.new) }
+    ensures pass { PassBy pass result.note (is_spent (pool_replied result.said)) result.drew result.ticket result.pass }
+    ensures says { PoolSays P.is_clear pool.old.ledger (ask.Resize name min) result.said }
+    ensures pool { (pool.new.ledger ≡ pool.old.ledger) × (pool.new.most ≡ pool.old.most) }
+    ensures same { stamp.new.common ≡ stamp.old.common }
+{
+    let note = stamp.seen();
+    let drew = stamp.can_draw();
+    match stamp.draw(&mut pass) {
+        Some(ticket) => Replied {
+            pass,
+            said: PoolSaid::Resized(Ok(resize_home(pool, min))),
+            note,
+            drew,
+            ticket: Some(ticket),
+        },
+        None => Replied {
+            pass,
+            said: PoolSaid::Resized(Err(Unmade::Nothing)),
+            note,
+            drew,
+            ticket: None,
+        },
+    }
+}

@@ -1,0 +1,177 @@
+//! What each thing has beside its object.
+ghost use Rattle.std.specs.Prelude.{◌≡◌, ◌<◌, ◌≤◌, max, not, None, true, false, IfSome};
+ghost use Rattle.tick_clock.specs.Tickets.{drawn_with};
+ghost use Rattle.object_things.specs.Stamps.{IsOver};
+
+use std::alloc::Global;
+use std::marker::Model;
+use std::snapshot::Snapshot;
+use std::sync::Arc;
+use task_core::Plain;
+use tick_clock::{Clock, Note, Pass};
+
+/// What is the same for all things that were shared together.
+#[derive(Drop)]
+pub struct Common {
+    clock: Clock,
+    // The objects as they were opened. It has no bytes.
+    opened: Snapshot<Plain>,
+}
+
+impl Model for Common {
+    ghost use Rattle.object_things.specs.Stamps.{CommonState};
+
+    ghost Value = { CommonState };
+
+    ghost view = { λ c. record { clock = c.clock; opened = c.opened.value } };
+}
+
+/// What a thing has beside its object: the note, whether a draw found no ticket, and what it has in common with others.
+#[derive(Drop)]
+pub struct Stamp {
+    note: Note,
+    common: Arc<Common, Global>,
+    spent: bool,
+}
+
+impl Model for Stamp {
+    ghost use Rattle.object_things.specs.Stamps.{StampState};
+
+    ghost Value = { StampState };
+
+    ghost view = { λ s. record { note = s.note; spent = s.spent; common = s.common.value } };
+}
+
+/// The mark of a thing: which object it holds, and what it has in common with others. No value of it is ever made, nor of the next two.
+pub struct Mark {
+    common: Common,
+}
+
+impl Model for Mark {
+    ghost use Rattle.object_things.specs.Stamps.{MarkState};
+    ghost use Rattle.run_machine.specs.Laws.{OfNone};
+
+    ghost Value = { MarkState };
+
+    ghost view = { λ m. record { common = m.common; name = OfNone } };
+}
+
+/// What the history keeps of what is asked.
+pub struct Asked;
+
+impl Model for Asked {
+    ghost use Rattle.run_machine.specs.Requests.{Request, Rest};
+
+    ghost Value = { Request };
+
+    ghost view = { λ _. Rest };
+}
+
+/// What the history keeps of a reply.
+pub struct Told;
+
+impl Model for Told {
+    ghost use Rattle.std.specs.Prelude.{false, None};
+    ghost use Rattle.object_things.specs.Stamps.{Told as State};
+    ghost use Rattle.run_machine.specs.Requests.{Spent};
+
+    ghost Value = { State };
+
+    ghost view = { λ _. record { reply = Spent; note = 0; drew = false; ticket = None } };
+}
+
+/// What is asked of a thing, with the pass of the task that asks.
+pub struct Asking<Q> {
+    pub pass: Pass,
+    pub ask: Q,
+}
+
+/// What a thing replies.
+pub struct Replied<S> {
+    pub pass: Pass,
+    pub said: S,
+    /// What the object's note had seen before.
+    pub note: u64,
+    /// Whether no draw had failed at the object before.
+    pub drew: bool,
+    /// The ticket that was drawn.
+    pub ticket: Option<u64>,
+}
+
+impl Common {
+    /// The clock of these things, and the objects as they were opened.
+    pub fn new(clock: Clock, opened: Snapshot<Plain>) -> Common
+        ensures { result ≡ record { clock = clock; opened = opened.value } }
+    {
+        Common { clock, opened }
+    }
+
+    /// The clock that they draw from.
+    pub fn clock(&self) -> &Clock
+        ensures { result.now ≡ self.now.clock }
+    {
+        &self.clock
+    }
+}
+
+impl Stamp {
+    /// The stamp of an object that nothing was asked of.
+    pub fn new(common: Arc<Common, Global>) -> Stamp
+        ensures { result ≡ record { note = 0; spent = false; common = common.value } }
+    {
+        Stamp {
+            note: Note::new(),
+            common,
+            spent: false,
+        }
+    }
+
+    /// The note.
+    pub(crate) fn into_note(self) -> Note
+        ensures { result ≡ self.note }
+    {
+        self.note
+    }
+
+    /// What the note has seen.
+    pub(crate) fn seen(&self) -> u64
+        ensures { result ≡ self.now.note }
+    {
+        self.note.seen()
+    }
+
+    /// Whether no draw has failed.
+    pub(crate) fn can_draw(&self) -> bool
+        ensures { result ≡ not self.now.spent }
+    {
+        !self.spent
+    }
+
+    /// The pass meets the note. Answers what the note has seen.
+    pub(crate) fn meet(&self, pass: &mut Pass) -> u64
+        ensures pass { pass.new ≡ record pass.old { seen = max pass.old.seen self.now.note } }
+        ensures note { result ≡ self.now.note }
+    {
+        pass.meet(&self.note);
+        self.note.seen()
+    }
+
+    /// Draws a ticket, if there is one.
+    pub(crate) fn draw(&mut self, pass: &mut Pass) -> Option<u64>
+        requires { pass.old.clock ≡ self.old.common.clock }
+        ensures ready { IfSome result (λ _. self.old.spent ≡ false) }
+        ensures above { IfSome result (λ n. (max pass.old.seen self.old.note < n) × (pass.old.known < n)) }
+        ensures drawn { IfSome result (λ n. pass.new ≡ drawn_with pass.old (max pass.old.seen self.old.note) n) }
+        ensures noted { IfSome result (λ n. self.new ≡ record self.old { note = n }) }
+        ensures none { result ≡ None → (pass.new ≡ record pass.old { known = pass.new.known }) × (self.new ≡ record self.old { spent = true }) }
+        ensures over { result ≡ None → self.old.spent ≡ false → IsOver pass.old self.old.note pass.new }
+        ensures found { pass.old.known ≤ pass.new.known }
+    {
+        if self.spent {
+            return None;
+        }
+        let drawn = self.common.clock.draw(pass, &mut self.note);
+        self.spent = drawn.is_none();
+        drawn
+    }
+}

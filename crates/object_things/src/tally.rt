@@ -1,0 +1,227 @@
+//! The tally as a thing.
+ghost use Rattle.std.specs.Prelude.{◌≡◌, ◌<◌, max, not, None};
+ghost use Rattle.task_core.specs.ObjectsOf.{IsTallyOf};
+ghost use Rattle.task_core.specs.Plains.{tally_of};
+ghost use Rattle.run_machine.specs.Requests.{Done as DoneOf, NextRound};
+ghost use Rattle.task_steps.specs.Stage.{Owes};
+ghost use Rattle.object_things.specs.declared.tally.TallyAsk.TheVariants as ask;
+ghost use Rattle.object_things.specs.Stamps.{PassBy, thing_state, is_spent, stage_in, tally_in};
+ghost use Rattle.object_things.specs.Tallies.{TallyAnswers, TallySays, IsLater, tally_told, tally_replied, tally_asked};
+
+use crate::stamp::{Asked, Asking, Mark, Replied, Stamp, Told};
+use seat_lock::Thing;
+use stack_base::Status;
+use std::marker::Model;
+use task_core::Tally;
+use task_steps::Unmade;
+use tick_clock::{Note, Pass};
+
+/// What is asked of the tally.
+pub enum TallyAsk {
+    Done { write: u32, status: Status },
+    Next,
+    Round,
+    Left,
+}
+
+/// What the tally says.
+#[derive(Drop)]
+pub enum TallySaid {
+    Did(Result<(), Unmade>),
+    Round(u32),
+    Left(u32),
+}
+
+/// What the machine sees of the tally with its note. No value of it is ever made.
+pub struct TallyData {
+    tally: Tally,
+}
+
+impl Model for TallyData {
+    ghost use Rattle.std.specs.Prelude.{false};
+    ghost use Rattle.run_machine.specs.Objects.{TallyState};
+    ghost use Rattle.task_core.specs.Plains.{tally_of};
+    ghost use Rattle.object_things.specs.Stamps.{ThingState};
+
+    ghost Value = { ThingState TallyState };
+
+    ghost view = { λ k. record { object = tally_of k.tally; note = 0; spent = false } };
+}
+
+/// The tally with its note.
+#[derive(Drop)]
+pub struct TallyThing {
+    tally: Tally,
+    stamp: Stamp,
+}
+
+impl Model for TallyThing {
+    ghost use Rattle.object_things.specs.Stamps.{Held};
+    ghost use Rattle.run_machine.specs.Objects.{TallyState};
+    ghost use Rattle.object_things.specs.Tallies.{IsLater};
+    ghost use Rattle.task_core.specs.ObjectsOf.{IsTallyOf};
+    ghost use Rattle.object_things.specs.Stamps.{stage_in, tally_in};
+    ghost use Rattle.task_core.specs.Plains.{tally_of};
+
+    ghost Value = { Held TallyState };
+
+    ghost view = { λ t. record { object = tally_of t.tally; stamp = t.stamp } };
+
+    ghost invariant = { λ t. IsTallyOf (stage_in t.stamp.common) (tally_of t.tally) × IsLater (tally_in t.stamp.common) (tally_of t.tally) };
+}
+
+impl TallyThing {
+    /// The tally with this stamp.
+    pub fn new(tally: Tally, stamp: Stamp) -> TallyThing
+        requires { IsTallyOf (stage_in stamp.common) (tally_of tally) × IsLater (tally_in stamp.common) (tally_of tally) }
+        ensures { result ≡ record { object = tally_of tally; stamp = stamp } }
+    {
+        TallyThing { tally, stamp }
+    }
+
+    /// The tally and its note.
+    pub fn parts(self) -> (Tally, Note)
+        ensures { (tally_of result.0 ≡ self.object) × (result.1 ≡ self.stamp.note) }
+    {
+        let TallyThing { tally, stamp } = self;
+        (tally, stamp.into_note())
+    }
+}
+
+impl Thing for TallyThing {
+    ghost use Rattle.run_machine.specs.Laws.{OfTally};
+    ghost use Rattle.object_things.specs.Stamps.{thing_state};
+    ghost use Rattle.object_things.specs.Tallies.{TallyAnswers, TallyFits, TallyOwes, tally_asked, tally_mark, tally_told};
+
+    type Request = Asking<TallyAsk>;
+
+    type Reply = Replied<TallySaid>;
+
+    type Data = TallyData;
+
+    type Asked = Asked;
+
+    type Told = Told;
+
+    type Mark = Mark;
+
+    ghost plain = { λ thing. thing_state thing.object thing.stamp };
+
+    ghost mark = { tally_mark };
+
+    ghost asked = { λ asking. tally_asked asking.ask };
+
+    ghost told = { tally_told };
+
+    ghost fits = { TallyFits };
+
+    ghost owes = { TallyOwes };
+
+    ghost answers = { TallyAnswers };
+
+    fn serve(&mut self, asking: Asking<TallyAsk>) -> Replied<TallySaid> {
+        let Asking { pass, ask } = asking;
+        match ask {
+            TallyAsk::Done { write, status } => done(
+                &mut self.tally,
+                &mut self.stamp,
+                pass,
+                write,
+                status,
+            ),
+            TallyAsk::Next => next(&mut self.tally, &mut self.stamp, pass),
+            TallyAsk::Round => looked(&self.stamp, pass, TallySaid::Round(self.tally.round)),
+            TallyAsk::Left => looked(&self.stamp, pass, TallySaid::Left(self.tally.left())),
+        }
+    }
+}
+
+// A look: the pass meets the note.
+fn looked(stamp: &Stamp, mut pass: Pass, said: TallySaid) -> Replied<TallySaid>
+    ensures { result ≡ record { pass = record pass { seen = max pass.seen stamp.now.note }; said = said; note = stamp.now.note; drew = not stamp.now.spent; ticket = None } }
+{
+    let note = stamp.meet(&mut pass);
+    let drew = stamp.can_draw();
+    Replied {
+        pass,
+        said,
+        note,
+        drew,
+        ticket: None,
+    }
+}
+
+// A write is done.
+fn done(
+    tally: &mut Tally,
+    stamp: &mut Stamp,
+    mut pass: Pass,
+    write: u32,
+    status: Status,
+) -> Replied<TallySaid>
+    requires clock { pass.clock ≡ stamp.old.common.clock }
+    requires fits { write < (stage_in stamp.old.common).writes }
+    requires of { IsTallyOf (stage_in stamp.old.common) (tally_of tally.old) × IsLater (tally_in stamp.old.common) (tally_of tally.old) }
+    ensures answers { TallyAnswers (thing_state (tally_of tally.old) stamp.old) (DoneOf write status) (tally_told result) (thing_state (tally_of tally.new) stamp.new) }
+    ensures pass { PassBy pass result.note (is_spent (tally_replied result.said)) result.drew result.ticket result.pass }
+    ensures owed { Owes (stage_in stamp.old.common) (DoneOf write status) (tally_replied result.said) }
+    ensures says { TallySays (ask.Done write status) result.said }
+    ensures same { stamp.new.common ≡ stamp.old.common }
+    ensures of { IsTallyOf (stage_in stamp.old.common) (tally_of tally.new) × IsLater (tally_in stamp.old.common) (tally_of tally.new) }
+{
+    let note = stamp.seen();
+    let drew = stamp.can_draw();
+    match stamp.draw(&mut pass) {
+        Some(ticket) => {
+            tally.done(write, status);
+            Replied {
+                pass,
+                said: TallySaid::Did(Ok(())),
+                note,
+                drew,
+                ticket: Some(ticket),
+            }
+        }
+        None => Replied {
+            pass,
+            said: TallySaid::Did(Err(Unmade::Nothing)),
+            note,
+            drew,
+            ticket: None,
+        },
+    }
+}
+
+// The next round.
+fn next(tally: &mut Tally, stamp: &mut Stamp, mut pass: Pass) -> Replied<TallySaid>
+    requires clock { pass.clock ≡ stamp.old.common.clock }
+    requires of { IsTallyOf (stage_in stamp.old.common) (tally_of tally.old) × IsLater (tally_in stamp.old.common) (tally_of tally.old) }
+    ensures answers { TallyAnswers (thing_state (tally_of tally.old) stamp.old) (NextRound 0) (tally_told result) (thing_state (tally_of tally.new) stamp.new) }
+    ensures pass { PassBy pass result.note (is_spent (tally_replied result.said)) result.drew result.ticket result.pass }
+    ensures owed { Owes (stage_in stamp.old.common) (NextRound 0) (tally_replied result.said) }
+    ensures says { TallySays ask.Next result.said }
+    ensures same { stamp.new.common ≡ stamp.old.common }
+    ensures of { IsTallyOf (stage_in stamp.old.common) (tally_of tally.new) × IsLater (tally_in stamp.old.common) (tally_of tally.new) }
+{
+    let note = stamp.seen();
+    let drew = stamp.can_draw();
+    match stamp.draw(&mut pass) {
+        Some(ticket) => {
+            tally.next_round();
+            Replied {
+                pass,
+                said: TallySaid::Did(Ok(())),
+                note,
+                drew,
+                ticket: Some(ticket),
+            }
+        }
+        None => Replied {
+            pass,
+            said: TallySaid::Did(Err(Unmade::Nothing)),
+            note,
+            drew,
+            ticket: None,
+        },
+    }
+}
