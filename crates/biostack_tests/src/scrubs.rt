@@ -102,7 +102,7 @@ impl Case for Asked {
 
 impl Case for Scrub {
     fn holds(&self, rt: &(impl Abort + AllocGlobal)) -> bool {
-        Asked(&["scrub"], self.0, self.1, self.2).holds(rt)
+        answers(rt, &["scrub"], self.0.as_bytes(), self.1, &[self.2], "")
     }
 }
 
