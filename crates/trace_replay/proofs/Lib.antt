@@ -1,0 +1,8 @@
+pub mod LineLemmas
+pub mod NameLemmas
+pub mod WalkLemmas
+pub mod AnswerLemmas
+pub mod Exact
+pub mod NoneStuck
+mod Examples
+mod NameExamples

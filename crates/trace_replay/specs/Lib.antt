@@ -1,0 +1,7 @@
+pub mod Lines
+pub mod Names
+pub mod Named
+pub mod Replay
+pub mod Walks
+pub mod Exact
+pub mod Answer

@@ -1,0 +1,24 @@
+-- The names of a trace, as they are kept.
+use Rattle.std.specs.Prelude.{ℕ, List, Option}
+use Rattle.std.specs.Ordering.{ordering_then, nat_cmp}
+use Rattle.std.specs.declared.cmp.Ordering.{Ordering}
+use Rattle.std.specs.BTreeMap.{is_at}
+use Rattle.std.specs.Option.{unwrap_or}
+use Rattle.std.specs.Map.{lookup}
+use Rattle.trace_replay.specs.Names as named
+use Rattle.trace_replay.specs.declared.names.Name.{Name}
+use Rattle.trace_replay.specs.declared.names.Names.{Names}
+
+-- by the writer, and then by the number
+abbrev pub name_cmp : Name → Name → Ordering
+name_cmp one other = ordering_then (nat_cmp one.writer other.writer) (nat_cmp one.node other.node)
+
+-- what is found in entries, if anything is
+abbrev pub count_in : List (ℕ × ℕ) → ℕ → ℕ
+count_in entries writer = unwrap_or (lookup (is_at (nat_cmp writer)) entries) 0
+
+abbrev pub place_in : List (Name × ℕ) → ℕ → ℕ → Option ℕ
+place_in entries writer node = lookup (is_at (name_cmp (record { writer = writer; node = node }))) entries
+
+abbrev pub names_of : Names → named.Names
+names_of names = record { opened = count_in names.opened.entries; place = place_in names.places.entries }
