@@ -47,15 +47,16 @@ behind scene stack names last old new [] rest [] lines named apart said run on =
 behind scene stack names last old new [] rest (event ∷ events) lines named apart said run on = absurd said
 behind scene stack names last old new (line ∷ front) rest [] lines named apart said run on = absurd said
 behind scene stack names last old new (line ∷ front) rest (event ∷ events) lines named apart (next, tells, said) (middle, happens, run) on =
-    by on.events on.said on.run
+    by (behind scene stack next last middle new front rest events lines named (events_lead_to_one_state.apart scene old middle event apart happens) said run) on.events on.said on.run
   where
-    by : (all : List Event) → AreLinesOf stack names (line ∷ front ++ rest) all on.last → IsRun scene old all on.final → GoesOn scene stack last new rest
-    by [] whole again = absurd whole
-    by (other ∷ others) (following, tells_too, whole) (between, happens_too, again) =
+    by : (GoesOn scene stack next middle (front ++ rest) → GoesOn scene stack last new rest) → (all : List Event) → AreLinesOf stack names (line ∷ front ++ rest) all on.last
+        → IsRun scene old all on.final → GoesOn scene stack last new rest
+    by go [] whole again = absurd whole
+    by go (other ∷ others) (following, tells_too, whole) (between, happens_too, again) =
         let same = one_told stack names line.1 event other next following lines named tells tells_too in
         let here : between ≡ middle =
         events_lead_to_one_state.one scene old between middle event apart (subst (λ (e : Event). Happens scene old e between) same.0 happens_too) happens in
-        behind scene stack next last middle new front rest events lines named (events_lead_to_one_state.apart scene old middle event apart happens) said run (record {
+        go (record {
           events = others;
           last = on.last;
           said = subst (λ (n : Names). AreLinesOf stack n (front ++ rest) others on.last) same.1 whole;

@@ -18,7 +18,7 @@ use Rattle.run_machine.specs.Runs.{State, Happens, IsRun, IsEnabled}
 use Rattle.plain_core.specs.Cores.{CoreState, scene_of, state_of}
 use Rattle.trace_text.specs.Laws.{EventsAreApart, IsLineOf}
 use Rattle.trace_text.specs.Names.{IsNamed}
-use Rattle.report_text.specs.Pools.{rising_from, told_pools}
+use Rattle.report_text.specs.Pools.{pools_at, rising_from, told_pools}
 use Rattle.trace_replay.specs.declared.extents.Extent.{Extent}
 use Rattle.trace_replay.specs.Replay.{AreLinesOf, IsFinish, IsReplay, Tells, extent_over, later, out_in, spares_in, wider}
 use Rattle.trace_replay.specs.Names.{Names, no_names, event_placed}
@@ -241,5 +241,8 @@ own_pools : (states : List State) (pools : List PoolId) → map (λ (e : Extent)
 own_pools states [] = refl
 own_pools states (pool ∷ pools) = ap (λ ps. pool ∷ ps) (own_pools states pools)
 
-pub pools_are : (stack : Stack) (states : List State) (extents : List Extent) → extents ≡ extents_over stack states → map (λ (e : Extent). e.pool) extents ≡ told_pools stack
-pools_are stack states extents is = ap (map (λ (e : Extent). e.pool)) is ∙ own_pools states (told_pools stack)
+pub pools_are : (stack : Stack) (told : List (ℕ × List ℕ)) (old new : CoreState) (extents : List Extent) (count : ℕ) (bad : Option ℕ) → Follows stack told old new extents count bad
+    → map (λ (e : Extent). e.pool) extents ≡ told_pools stack
+pools_are stack told old new extents count bad is =
+    let states = state_of old ∷ later (scene_of old) (state_of old) is.come.events (state_of new) is.come.run in
+    ap (map (λ (e : Extent). e.pool)) is.come.extents_are ∙ own_pools states (told_pools stack)

@@ -1,5 +1,5 @@
 -- The line of one more pool is said behind those of the pools before it.
-use Rattle.outside_io.proofs.SaysLemmas.{says_more}
+use Rattle.outside_io.proofs.SaysLemmas.{says_more, says_silence}
 use Rattle.report_text.specs.Pools.{HasPool}
 use Rattle.report_text.proofs.PoolLemmas.{each_of}
 use Rattle.trace_replay.specs.Answer.{extent_line}
@@ -9,6 +9,9 @@ use Rattle.trace_replay.proofs.answer.put_extents.Goals as goal
 pub put_extent-requires : goal.put_extent-requires
 put_extent-requires g c =
     each_of (HasPool c.args.stack.now) (λ (e : Extent). e.pool) c.args.extents.now c.pools.extent-index _ c.requires c.pools-test.true
+
+pub pools-init : goal.pools-init
+pools-init g c = says_silence g.K.Sink.held g.K.Sink.faults c.args.out.now c.args.pen.now
 
 pub pools-preserved : goal.pools-preserved
 pools-preserved g c = says_more (extent_line c.args.stack.now) c.args.extents.now c.pools.extent-index _ c.pools-test.true c.pools.invariant c.put_extent.ensures

@@ -9,4 +9,5 @@ returns-clause-replay c =
     c.in_ok-events.ensures c.finish_of.ensures
 
 pub returns-clause-pools : goal.returns-clause-pools
-returns-clause-pools c = pools_are c.args.stack.now _ c.follow.new.extents.items c.in_ok-events.ensures.come.extents_are
+returns-clause-pools c =
+    pools_are c.args.stack.now (told_in c.args.first c.args.lines.now) c.args.core c.follow.new.core c.follow.new.extents.items c.in_ok-events.events c.in_ok-events.bad c.in_ok-events.ensures
