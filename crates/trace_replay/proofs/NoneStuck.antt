@@ -6,7 +6,6 @@ use Rattle.plain_core.specs.Ledgers.{ledger_of}
 use Rattle.trace_replay.specs.Exact.{NoneIsStuck}
 use Rattle.trace_replay.specs.Replay.{IsFinish}
 use Rattle.trace_replay.specs.declared.walk.Finish.{Finish}
-use Rattle.trace_replay.specs.declared.walk.Finish.TheVariants.{Stuck}
 
 pub none_is_stuck : NoneIsStuck
 none_is_stuck s told replayed can rescuers is stuck =
