@@ -27,7 +27,7 @@ closed : all_placed no_names (Link 0 how.Write 7 ∷ Drop 0 7 Ok end.Top ∷ Dro
 unfolding all_placed upd
 closed = refl
 
--- the nodes of row R18.1, each of which the trace names by a place that was free
+-- the nodes of a write to a mirror of two, each of which the trace names by a place that was free
 mirrored : all_placed no_names (Link 0 how.Write 0 ∷ Link 0 how.Master 1 ∷ Link 0 how.Leg 2 ∷ Drop 0 2 Ok end.Up ∷ Drop 0 1 Ok end.Left ∷ Link 0 how.Leg 2 ∷ Drop 0 2 Ok end.Up ∷ Drop 0 1 Ok end.Up ∷ Drop 0 0 Ok end.Top ∷ [])
     ≡ Some (Link 0 how.Write 0) ∷ Some (Link 0 how.Master 1) ∷ Some (Link 0 how.Leg 2) ∷ Some (Drop 0 2 Ok end.Up) ∷ Some (Drop 0 1 Ok end.Left) ∷ Some (Link 0 how.Leg 3) ∷ Some (Drop 0 3 Ok end.Up) ∷ Some (Drop 0 1 Ok end.Up) ∷ Some (Drop 0 0 Ok end.Top) ∷ []
 unfolding all_placed upd
