@@ -8,7 +8,7 @@ use std::test::Fail;
 const FIRST: u8 = 6;
 
 /// Which line of the run is another one, counted from 0, what stands in its place, and how many lines stand before the bad one.
-type Wrong = (usize, &'static str, u64);
+type Wrong = (usize, &'static str, u8);
 
 const WRONG: &[Wrong] = &[
     // One is left out.
@@ -83,8 +83,8 @@ fn stops(alloc: Global, wrong: &Wrong) -> Result<bool, Fail> {
             lines: &text,
         },
     )?;
-    let bad = Some(u64::from(FIRST) + events);
-    Ok(came.replayed.events == events && came.replayed.bad == bad)
+    let bad = u64::from(FIRST) + u64::from(events);
+    Ok(came.replayed.events == u64::from(events) && came.replayed.bad == Some(bad))
 }
 
 #[test]
