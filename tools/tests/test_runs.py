@@ -83,7 +83,7 @@ FAULTS = [
 TEXT_FAULTS = [
     ("disk a\n", "text: line 1: a disk line has 3 words, and this one 2"),
     ("disk a x\n", "text: line 1: x is no number"),
-    ("# a comment\n\ndisc a 8\n", "text: line 3: disc is no word that a line begins with"),
+    ("# a comment\n\ndisc a 8\n", "text: line 3: `disc` is no word that a line begins with"),
     ("disk a 8\nmirror m a b\n", "text: line 2: there is no device b"),
     ("disk a 8\nwrite 0 a 8 1 0\n", "text: line 2: the write has no sector, or passes the end of a"),
     ("script x.bios + +\n", "text: there is no pool x.bios"),

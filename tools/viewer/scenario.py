@@ -178,7 +178,7 @@ class Reader:
             if not words or words[0].startswith("#"):
                 continue
             if words[0] not in kinds:
-                self.fail(f"{words[0]} is no word that a line begins with")
+                self.fail(f"`{words[0]}` is no word that a line begins with")
             kinds[words[0]](words)
         self.open_pools()
         return self.scenario

@@ -118,7 +118,7 @@ class Stack {
     add(this.poolRow(x, row, "bios", `${device.name}.bios`));
     if (device.rescuer) {
       const { count } = this.recording.bios(Recording.at(this.recording.lists[device.name], this.step));
-      add(this.text(x, row, `rescuer: ${count === 0 ? "idle" : count === 1 ? "1 bio waits" : `${count} bios wait`}`));
+      add(this.text(x, row, `rescuer: ${count === 0 ? "no bio waits" : count === 1 ? "1 bio waits" : `${count} bios wait`}`));
     }
     return parts.join("");
   }
