@@ -9,6 +9,7 @@ mod book;
 pub mod laws;
 mod node;
 mod places;
+mod statuses;
 
 pub use book::{Book, Dropped, Link};
 pub use node::{Back, ClosedNode, Node, Role};

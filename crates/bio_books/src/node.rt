@@ -1,11 +1,12 @@
 //! The nodes of a book.
 ghost use Rattle.std.specs.Prelude.{◌≡◌, ◌+◌, ◌-◌, ◌^◌, ◌<◌, ◌≤◌};
 ghost use Rattle.bio_records.specs.Items.{item_of, IsAlone};
-ghost use Rattle.bio_books.specs.Books.{any_well, by_mark, child_node, closing, first_failing, keeping, kept_with, leg_node, lowered, master_node, nothing_held, parent_of, raised, told, top_node, unmastered};
+ghost use Rattle.bio_books.specs.Books.{child_node, closing, keeping, kept_with, leg_node, lowered, master_node, nothing_held, parent_of, raised, told, top_node, unmastered};
 ghost use Rattle.bio_books.specs.Views.{bio_of, closed_node_of, holding_of, slip_item, vector_of, IsAlonePart};
 ghost use Rattle.bio_books.specs.Drops.{closed_of};
 
 use crate::places::Change;
+use crate::statuses::{closing, kept_with};
 use bio_records::{BioElement, SlipElement, VecElement};
 use stack_base::Status;
 use std::marker::Model;
@@ -64,54 +65,6 @@ impl Model for Node {
     ghost view = { λ n. record { role = n.role; write = n.write; count = n.count; status = n.status; held = holding_of n.held } };
 
     ghost invariant = { λ n. IsOpen n.count n.held.bio };
-}
-
-// Of two ends, the first that failed.
-fn first_failing(old: Status, new: Status) -> Status
-    ensures { result ≡ first_failing old new }
-{
-    match old {
-        Status::Ok => new,
-        _ => old,
-    }
-}
-
-// Of two ends, one that was well, if one was.
-fn any_well(old: Status, new: Status) -> Status
-    ensures { result ≡ any_well old new }
-{
-    if matches!(new, Status::Ok) { new } else { old }
-}
-
-// Well where the mark of a master is set.
-fn by_mark(mark: Status) -> Status
-    ensures { result ≡ by_mark mark }
-{
-    if matches!(mark, Status::Ok) {
-        mark
-    } else {
-        Status::Io
-    }
-}
-
-// The status that a node of a role keeps, with one more end.
-fn kept_with(role: Role, old: Status, new: Status) -> Status
-    ensures { result ≡ kept_with role old new }
-{
-    match role {
-        Role::Top | Role::Chain { .. } | Role::Leg { .. } => first_failing(old, new),
-        Role::Master { .. } => any_well(old, new),
-    }
-}
-
-// How a node of a role ends as it closes.
-fn closing(role: Role, status: Status) -> Status
-    ensures { result ≡ closing role status }
-{
-    match role {
-        Role::Top | Role::Chain { .. } | Role::Leg { .. } => status,
-        Role::Master { .. } => by_mark(status),
-    }
 }
 
 // The place of the node that a node of a role is a child of, if it is one.

@@ -12,7 +12,7 @@ pub enum What {
     Linear,
     /// Chunks of `chunk` sectors go round its members.
     Stripe { chunk: u64 },
-    /// `zoned`, with the sectors of a chunk. No line says it yet.
+    /// Zones of `chunk` sectors, each written from its start in rising order.
     Zoned { chunk: u64 },
     /// Pieces have at most `max` sectors and do not cross a multiple of `chunk`, where that is not 0.
     Limit { max: u64, chunk: u64 },

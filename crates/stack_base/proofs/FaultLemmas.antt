@@ -187,10 +187,6 @@ pub deciding_is : (bads : List Bad) (range : Range)
 unfolding IsTold
 deciding_is bads range = told range bads
 
--- one more bad range at the end, as at a step of a loop
-pub deciding_push : (bads : List Bad) (bad : Bad) (range : Range) → deciding range (bads ++ bad ∷ []) ≡ better range (deciding range bads) bad
-deciding_push bads bad range = fold_push (better range) None bads bad
-
 fault_found : (bads : List Bad) (range : Range) (found : Option Bad) → deciding range bads ≡ found
     → fault bads range ≡ option_map_or (λ (bad : Bad). bad.kind) found status.Ok
 fault_found bads range found is = ap (λ (o : Option Bad). option_map_or (λ (bad : Bad). bad.kind) o status.Ok) is

@@ -54,10 +54,5 @@ pub is_written_zero_sector : is_written zero_sector ≡ false
 unfolding is_written zero_sector
 is_written_zero_sector = refl
 
--- 64 words that count up from the first are its sector
-pub is_sector_from : (words : List ℕ) (first : ℕ) → length words ≡ 64 → ((i : ℕ) → i < 64 → get_or words i 0 ≡ (first + i) % 2 ^ 64) → words ≡ sector_from first
-unfolding sector_from
-is_sector_from words first long counts = fill_by_all (λ i. (first + i) % 2 ^ 64) words 64 0 long counts
-
 -- the equations above, for a function's attribute
 pub ruleset sector_rules = (length_sector_from, length_zero_sector, word_of_sector, sector_from_mod, sector_from_add_mod, is_written_sector_from, is_written_zero_sector)

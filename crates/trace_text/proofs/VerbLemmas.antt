@@ -82,21 +82,6 @@ behind_takes stack verb.Round words rest one named e =
     made_takes short what.Round words one rest (IsBehind stack verb.Round words rest)
     (λ of is said. ((tt, is), ap (λ w. codes "round" ∷ w) said)) e
 
--- the verb of what a task did, and the words behind it
-abbrev pub verb_for : What → Verb
-verb_for (what.Take pool got) = verb.Take
-verb_for (what.Try pool got) = verb.Try
-verb_for (what.Give pool) = verb.Give
-verb_for (what.Punt dev moved) = verb.Punt
-verb_for (what.Pop dev) = verb.Pop
-verb_for (what.Push disk at len leg) = verb.Push
-verb_for (what.Complete disk index status) = verb.Complete
-verb_for (what.Link writer how node) = verb.Link
-verb_for (what.Drop writer node status end) = verb.Drop
-verb_for (what.Done write status) = verb.Done
-verb_for (what.Resize pool min) = verb.Resize
-verb_for (what.Round round) = verb.Round
-
 verb_first : (one : Verb) (words : List (List ℕ)) → field verb_of (verb_word one ∷ words) ≡ Some (one, words)
 verb_first one words = (of_word verb_is).again one words tt
 

@@ -7,9 +7,6 @@ use Rattle.std.proofs.Math.Dec.{leb}
 use Rattle.rand_pcg.specs.Lcg.{Lcg}
 use Rattle.work_text.specs.Generated.{Run, behind, behind_all, chunk_in, counts, declarations, generated, generator, limit_words, line_of, longest_in, memory_words, mirror_size, runs, stripe_words, text_of, write_words, writes, writes_from}
 
-abbrev next_lines : ℕ → List Run → List ℕ
-next_lines number more = text_of (writes_from number more)
-
 pub one_write : (text now whole : List ℕ) (sectors number start count left : ℕ) (words : Lcg) → start + count ≤ sectors
     → now ≡ text ++ line_of (write_words number (record { start = start; count = count }))
     → text ++ text_of (writes_from number (runs sectors start (count ∷ counts (suc left) words))) ≡ whole

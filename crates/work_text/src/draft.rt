@@ -1,24 +1,22 @@
 //! The work of a text so far.
-ghost use Rattle.std.specs.Prelude.{◌≡◌, ◌+◌, ◌^◌, ◌<◌, ◌≤◌, ◌==◌, ◌&&◌, [], ◌∷◌, ◌++◌, All, filter, length, map, nat_le, nat_lt, IfOk, IfSome, OnOk};
-ghost use Rattle.std.specs.List.{list_any};
-ghost use Rattle.stack_base.specs.PoolId.{pool_number};
+ghost use Rattle.std.specs.Prelude.{◌≡◌, ◌+◌, ◌^◌, ◌<◌, ◌≤◌, [], ◌∷◌, ◌++◌, All, length, nat_lt, IfOk, OnOk};
 ghost use Rattle.stack_base.specs.Stack.{IsStack};
 ghost use Rattle.stack_base.specs.Tree.{size, tree};
-ghost use Rattle.decl_text.specs.Checks.{has_resize};
 ghost use Rattle.decl_text.specs.Stands.{stand_of};
 ghost use Rattle.decl_text.specs.declared.item.Item.TheVariants as item;
 ghost use Rattle.work_text.specs.Draft.{ChecksWrite, IsDraft, IsLeftOf, known_so_far};
 ghost use Rattle.work_text.specs.Lines.{Adds, CanStand, HasSectors, ReadsLine, item_of};
-ghost use Rattle.work_text.specs.Work.{known_of, last_round, resized};
+ghost use Rattle.work_text.specs.Work.{known_of, last_round};
 
 use crate::marks::{Marks, no_marks};
 use crate::names::{device_of, is_member};
 use crate::pools::pool_of;
+use crate::resizes;
 use crate::told::{Told, told_by};
 use crate::{Resize, Work};
 use decl_text::{LineFault, Reason, Stand, Word};
 use layout_model::{Bounds, Needs, Write, need};
-use stack_base::{DevId, PoolId, Range, Stack};
+use stack_base::{Range, Stack};
 use std::alloc::{AllocError, Global};
 
 /// A write may have so many sectors: 256 segments of eight.
@@ -87,8 +85,8 @@ impl Draft {
             resizes,
             mut bound,
         } = self.work;
-        let last = last_round(&rounds);
-        let resizes = lines_up_to(alloc, &resizes, last)?;
+        let last = resizes::last_round(&rounds);
+        let resizes = resizes::lines_up_to(alloc, &resizes, last)?;
         bound.z += u64::from(last) + resizes.len() as u64;
         Ok(Work {
             writes,
@@ -179,7 +177,7 @@ impl Draft {
         ensures added { Adds (known_so_far stack.now self.old) (item.Resize name.now min) (known_so_far stack.now self.new) result }
     {
         let pool = pool_of(stack, name);
-        if has_resize(&self.work.resizes, self.syncs, pool) {
+        if resizes::has_resize(&self.work.resizes, self.syncs, pool) {
             return Err(LineFault::Wrong(Reason::NameTaken));
         }
         if self.work.resizes.len() >= MOST_RESIZES || min > MOST_RESERVE {
@@ -196,7 +194,7 @@ impl Draft {
             pool,
             min: min as u32,
         };
-        keep_resize(&mut self.work.resizes, resize)?;
+        resizes::keep(&mut self.work.resizes, resize)?;
         Ok(())
     }
 
@@ -286,52 +284,6 @@ fn keep(
     writes.push(write)?;
     rounds.push(round)?;
     Ok(())
-}
-
-// Puts a `resize` line behind the others.
-fn keep_resize(resizes: &mut Vec<Resize>, resize: Resize) -> Result<(), AllocError>
-    ensures { OnOk result (resizes.new.items ≡ resizes.old.items ++ resize ∷ []) }
-{
-    resizes.push(resize)?;
-    Ok(())
-}
-
-// Whether one of these lines is of the pool, if there is one, and of this round.
-fn has_resize(resizes: &[Resize], round: u32, pool: Option<PoolId>) -> bool
-    requires small { IfSome pool (λ p. pool_number p ≤ 65) }
-    requires pools { All (λ resize. pool_number resize.pool ≤ 65) resizes.now }
-    ensures { result ≡ has_resize (map resized resizes.now) round pool }
-{
-    match pool {
-        Some(pool) => has_one(resizes, round, pool.no()),
-        None => false,
-    }
-}
-
-// Whether one of these lines is of the pool of this number and of this round.
-fn has_one(resizes: &[Resize], round: u32, number: u32) -> bool
-    requires { All (λ resize. pool_number resize.pool ≤ 65) resizes.now }
-    ensures { result ≡ list_any (λ resize. (resize.round == round) && (pool_number resize.pool == number)) resizes.now }
-{
-    resizes.iter().any(|resize| resize.round == round && resize.pool.no() == number)
-}
-
-// The lines of the rounds up to this one.
-fn lines_up_to(alloc: Global, resizes: &[Resize], last: u32) -> Result<Vec<Resize>, AllocError>
-    ensures { IfOk result (λ kept. kept.items ≡ filter (λ resize. nat_le resize.round last) resizes.now) }
-{
-    resizes
-        .iter()
-        .copied()
-        .filter(|resize| resize.round <= last)
-        .collect(alloc)
-}
-
-// The round of the last write, and 0 where there is none.
-fn last_round(rounds: &[u32]) -> u32
-    ensures { result ≡ last_round rounds.now }
-{
-    rounds.last().copied().unwrap_or(0)
 }
 
 // Whether the write ends behind its device.

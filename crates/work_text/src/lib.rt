@@ -15,6 +15,7 @@ pub mod laws;
 mod marks;
 mod names;
 mod pools;
+mod resizes;
 mod told;
 
 use crate::draft::Draft;

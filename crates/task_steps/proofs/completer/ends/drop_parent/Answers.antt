@@ -5,7 +5,6 @@ use Rattle.run_machine.specs.Tasks.{Completer}
 use Rattle.task_steps.specs.Routed.{setup}
 use Rattle.task_steps.proofs.completer.ends.drop_parent.Goals as goal
 
--- src/carried.rt
 pub returns-in-Ok-clause-turns : goal.returns-in-Ok-clause-turns
 returns-in-Ok-clause-turns g c = record {
   reply = DroppedTo (ended_of c.in-Ok.dropped);

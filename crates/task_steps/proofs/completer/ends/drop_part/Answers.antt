@@ -11,7 +11,6 @@ use Rattle.task_steps.specs.Stage.{Owes}
 use Rattle.task_steps.specs.Turns.{step_of}
 use Rattle.task_steps.proofs.completer.ends.drop_part.Goals as goal
 
--- src/carried.rt
 pub returns-in-Ok-clause-turns : goal.returns-in-Ok-clause-turns
 returns-in-Ok-clause-turns g c =
     let stage = g.O.Objects.stage c.args.objects.now in

@@ -5,7 +5,7 @@ use Rattle.decl_text.specs.Checks.{has_resize, is_resize_of}
 use Rattle.work_text.specs.Work.{resized}
 use Rattle.work_text.specs.declared.Resize.{Resize}
 use Rattle.work_text.proofs.NameLemmas.{list_any-map}
-use Rattle.work_text.proofs.draft.has_resize.Goals as goal
+use Rattle.work_text.proofs.resizes.has_resize.Goals as goal
 
 pub returns-in-Some : goal.returns-in-Some
 returns-in-Some c =
