@@ -6,7 +6,7 @@ ghost use Rattle.decl_text.specs.Stands.{stand_of};
 ghost use Rattle.decl_text.specs.declared.item.Item.TheVariants as item;
 ghost use Rattle.work_text.specs.Draft.{ChecksWrite, IsDraft, IsLeftOf, known_so_far};
 ghost use Rattle.work_text.specs.Lines.{Adds, CanStand, HasSectors, ReadsLine, item_of};
-ghost use Rattle.work_text.specs.Work.{known_of, last_round};
+ghost use Rattle.work_text.specs.Work.{known_of};
 
 use crate::marks::{Marks, no_marks};
 use crate::names::{device_of, is_member};
