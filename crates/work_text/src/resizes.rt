@@ -38,7 +38,11 @@ fn has_one(resizes: &[Resize], round: u32, number: u32) -> bool
 }
 
 // The lines of the rounds up to this one.
-pub(crate) fn lines_up_to(alloc: Global, resizes: &[Resize], last: u32) -> Result<Vec<Resize>, AllocError>
+pub(crate) fn lines_up_to(
+    alloc: Global,
+    resizes: &[Resize],
+    last: u32,
+) -> Result<Vec<Resize>, AllocError>
     ensures { IfOk result (λ kept. kept.items ≡ filter (λ resize. nat_le resize.round last) resizes.now) }
 {
     resizes
