@@ -361,6 +361,7 @@ module _ (plain : Plain) (good : IsStack plain.stage.value.stack) (scripts : Lis
       objects = subst (AreObjectsOf stage) (sym objects_are) new_objects;
     };
     routing_is = refl;
+    rows = record { bios = bios; records = records; lists = lists; disks = disks; books = books };
     most = λ number has. (each_pool number).most has;
   }
 

@@ -36,7 +36,7 @@ use Rattle.task_core.specs.opened.OfOne.{states, AreOfOne, IsOpened, scenario_in
 use Rattle.run_machine.specs.ReadBehind.{IsReadBehind}
 use Rattle.run_machine.specs.Opened.{Change, Scenario, at, is_by, todos, todos_of, writers, places_of, reserve_of, script_at, keepers, duties, duties_of, writes_from, round_count, tasks}
 use Rattle.run_machine.specs.Opened as opened
-use Rattle.task_core.specs.opened.Openings.{widest, AreOpened}
+use Rattle.task_core.specs.opened.Openings.{widest, AreOpened, AreRows}
 use Rattle.task_core.specs.Plains.{objects_of, stage_of}
 use Rattle.task_steps.specs.Routed.{Routing, places_at, setup}
 use Rattle.run_machine.specs.Scenario.{change_of}
@@ -296,6 +296,7 @@ module _ (o : Opened) (kinds : List Kind) (routing : Routing) (read : IsReadBehi
     writes = many;
     objects = objects_are;
     tasks = states_are;
+    rows = subst (λ (r : Routing). AreRows r o.accepted.value.scripts.items (reserves_in o.work.value.resizes.items) o.objects) (sym objects.routing_is) objects.rows;
     room = room;
   }
 

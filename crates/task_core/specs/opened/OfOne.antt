@@ -4,6 +4,8 @@ use Rattle.task_core.specs.declared.opening.Opened.{Opened}
 use Rattle.task_core.specs.declared.plain.Plain.{Plain}
 use Rattle.task_steps.specs.Homes.{IsTaskOf}
 use Rattle.task_core.specs.Leaving.{HasRoom}
+use Rattle.task_core.specs.opened.NewTasks.{reserves_in}
+use Rattle.task_core.specs.opened.Openings.{AreRows}
 use Rattle.run_machine.specs.Opened.{Scenario, objects, tasks, no_task}
 use Rattle.run_machine.specs.Opened as opened
 use Rattle.task_core.specs.Plains.{objects_of, stage_of, Holds}
@@ -45,4 +47,5 @@ pub record IsOpened (o : Opened) : Type 0 where
   pub writes : (stage_of o.objects).writes ≡ length (scenario_in o).writes
   pub objects : objects_of o.objects ≡ objects (scenario_in o)
   pub tasks : states o.tasks.items ≡ tasks (scenario_in o)
+  pub rows : AreRows (stage_of o.objects).routing o.accepted.value.scripts.items (reserves_in o.work.value.resizes.items) o.objects
   pub room : HasRoom (scenario_in o).stack (length (scenario_in o).writes) o.room

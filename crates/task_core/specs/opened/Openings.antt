@@ -1,5 +1,5 @@
 -- The objects of a stack as they are opened, kind by kind, the first of each up to a bound.
-use Rattle.std.specs.Prelude.{◌≡◌, ◌==◌, ◌&&◌, ◌||◌, ◌/◌, ◌%◌, if◌then◌else◌, ℕ, zero, suc, Bool, true, nat_lt, List, [], ◌∷◌, max, replicate, None}
+use Rattle.std.specs.Prelude.{◌≡◌, ◌==◌, ◌&&◌, ◌||◌, ◌/◌, ◌%◌, if◌then◌else◌, ℕ, zero, suc, Bool, true, nat_lt, List, [], ◌∷◌, length, max, replicate, None}
 use Rattle.fail_script.specs.Script.{Answers}
 use Rattle.stack_base.specs.declared.ids.DevId.{DevId}
 use Rattle.stack_base.specs.declared.ids.PoolId.{PoolId}
@@ -136,11 +136,20 @@ opened_objects routing scripts tally = record {
   tally = tally;
 }
 
+-- Each kind has an entry for each of its objects that there is, in their order and made as it should be, and no other entry.
+pub record AreRows (routing : Routing) (scripts : List (PoolId × Answers)) (reserves : List (PoolId × ℕ)) (plain : Plain) : Type 0 where
+  pub bios : AreSets routing scripts reserves (suc (length routing.stack.devices.items)) plain.bios.items plain.index.bios
+  pub records : AreRecords routing scripts reserves (length routing.stack.devices.items) plain.records.items plain.index.records
+  pub lists : AreLists routing (length routing.stack.devices.items) plain.lists.items plain.index.lists
+  pub disks : AreDisks routing (length routing.stack.devices.items) plain.disks.items plain.index.disks
+  pub books : AreBooks routing 8 plain.books.items plain.index.books
+
 -- These are the objects, which hold together, and each pool is as wide as the largest reserve that it gets.
 pub record AreOpened (routing : Routing) (scripts : List (PoolId × Answers)) (reserves : List (PoolId × ℕ)) (tally : TallyState) (plain : Plain)
     : Type 0 where
   pub objects : objects_of plain ≡ opened_objects routing scripts tally
   pub holds : Holds plain
   pub routing_is : (stage_of plain).routing ≡ routing
+  pub rows : AreRows routing scripts reserves plain
   pub most : (number : ℕ) → has_pool routing number ≡ true
       → (stage_of plain).most number ≡ widest reserves number (reserve_of routing.stack (pool_of number))
