@@ -1,13 +1,16 @@
--- What tasks have in hand: elements of just the pools that they asked.
+-- What tasks have in hand: elements of just the pools that they asked, and bios of just the disks that completed them.
 use Rattle.std.specs.Prelude.{◌≡◌, ◌<◌, ℕ}
 use Rattle.stack_base.specs.declared.ids.DevId.{DevId}
 use Rattle.stack_base.specs.declared.ids.PoolId.TheVariants.{FsBios, FsVecs, Bios, Records}
+use Rattle.stack_base.specs.declared.ids.Status.{Status}
 use Rattle.stack_base.specs.PoolId.{pool_number}
 use Rattle.stack_base.specs.Tree.{Tree, Leaf, Split, Mirrored}
+use Rattle.layout_model.specs.declared.fragment.Fragment.{Fragment}
 use Rattle.run_machine.specs.Scene.{Setup, Scene, tree_at}
 use Rattle.run_machine.specs.Lines.{Want, Takes, Punts, Links, Ask, ToPush, ToCut, ToRecord, ToMaster, Doing, Rests, Drives, Copies, Breaks, Line, rests, legs_of}
-use Rattle.run_machine.specs.Tasks.{Taken, NoBio, HasBio, HasBoth, TaskState, Writer, Rescuer, Completer, Keeper}
+use Rattle.run_machine.specs.Tasks.{Taken, NoBio, HasBio, HasBoth, Carried, Empty, Brings, Carries, Fails, TaskState, Writer, Rescuer, Completer, Keeper}
 use Rattle.run_machine.specs.Runs.{State}
+use Rattle.block_core.specs.Fragments.{fragment_of}
 
 -- a writer that has something in hand for its next write has it of the writers' pools, and submits nothing
 abbrev pub TakenIsRight : Taken → Line → Type 0
@@ -36,11 +39,20 @@ DoingIsRight setup (Drives bio ask) = AskIsRight (tree_at setup bio.bio.dev) bio
 DoingIsRight setup (Copies bio master leg want) = (leg < legs_of (tree_at setup bio.dev)) × WantIsRight bio.dev want
 DoingIsRight setup (Breaks breach kept) = ⊥
 
-abbrev pub HandIsRight : Setup → TaskState → Type 0
-HandIsRight setup (Writer number todo taken line) = TakenIsRight taken line × DoingIsRight setup line.doing
-HandIsRight setup (Rescuer dev line) = DoingIsRight setup line.doing
-HandIsRight setup (Completer disk carried) = Unit {0}
-HandIsRight setup (Keeper keeping) = Unit {0}
+-- A completer brings a bio that is at its own disk, with the end of the fragment that the bio is. What it carries of a closed node is what the node
+-- held, and comes back element by element. It never fails.
+abbrev pub CarriedIsRight : (Fragment → Status) → DevId → Carried → Type 0
+CarriedIsRight ends disk Empty = Unit {0}
+CarriedIsRight ends disk (Brings bio status) = (bio.bio.dev.0 ≡ disk.0) × (status ≡ ends (fragment_of bio.bio))
+CarriedIsRight ends disk (Carries writer closed) = Unit {0}
+CarriedIsRight ends disk (Fails breach kept) = ⊥
 
-abbrev pub HandsAreRight : Scene → State → Type 0
-HandsAreRight scene state = (place : ℕ) → HandIsRight scene.setup (state.task place)
+abbrev pub HandIsRight : Setup → (Fragment → Status) → TaskState → Type 0
+HandIsRight setup ends (Writer number todo taken line) = TakenIsRight taken line × DoingIsRight setup line.doing
+HandIsRight setup ends (Rescuer dev line) = DoingIsRight setup line.doing
+HandIsRight setup ends (Completer disk carried) = CarriedIsRight ends disk carried
+HandIsRight setup ends (Keeper keeping) = Unit {0}
+
+-- so it is with each task, where fragments end so
+abbrev pub HandsAreRight : Scene → (Fragment → Status) → State → Type 0
+HandsAreRight scene ends state = (place : ℕ) → HandIsRight scene.setup ends (state.task place)

@@ -60,8 +60,8 @@ pub record IsSound (s : Scenario) (ledger : ℕ → LedgerId) (events : List Eve
   pub tally : IsTallied s.rounds (scene s ledger) state
   -- a book has a place for each node that its writer's writes still open
   pub places : HasPlaces (scene s ledger) state
-  -- what tasks have in hand is of the pools that they asked
-  pub hands : HandsAreRight (scene s ledger) state
+  -- what tasks have in hand is of the pools that they asked, and a bio that a completer brings has ended as the bad ranges of its disk say
+  pub hands : HandsAreRight (scene s ledger) (fault_of s.stack) state
 
 -- after every event of every run of every scenario
 abbrev pub EveryRunIsSound : Type 0

@@ -103,7 +103,7 @@ module _ (s : Scenario) where
       }
 
   -- a completed bio was one of its disk's,
-  completed_waits : (number : ℕ) (old : DiskState) (index : ℕ) (bio : Item Pad) (ending : Status) (new : DiskState) → IsOwn number old → Completes old index bio ending new
+  pub completed_waits : (number : ℕ) (old : DiskState) (index : ℕ) (bio : Item Pad) (ending : Status) (new : DiskState) → IsOwn number old → Completes old index bio ending new
       → IsWaiting number bio
   completed_waits number old index bio ending new own c =
       subst (IsWaiting number) (get_or_from_slice_get old.pending index bio bio c.taken)

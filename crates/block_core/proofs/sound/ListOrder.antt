@@ -5,8 +5,10 @@ use Rattle.std.proofs.lemmas.List.Elements.{All-nil, All-cons}
 use Rattle.stack_base.specs.declared.ids.DevId.{DevId}
 use Rattle.stack_base.specs.declared.ids.SetId.{SetId}
 use Rattle.stack_base.specs.declared.ids.SetId.TheVariants.{Fs, Of}
+use Rattle.stack_base.specs.declared.ids.Status.{Status}
 use Rattle.stack_base.specs.PoolId.{pool_number}
 use Rattle.stack_base.specs.Tree.{Tree, Leaf, Split, Mirrored}
+use Rattle.layout_model.specs.declared.fragment.Fragment.{Fragment}
 use Rattle.bio_records.specs.declared.bio.Pad.{Pad}
 use Rattle.bio_records.specs.declared.tasks.TaskLists.{TaskLists}
 use Rattle.bio_records.specs.Items.{Item}
@@ -20,6 +22,7 @@ use Rattle.block_core.specs.Hands.{TakenIsRight, WantIsRight, AskIsRight, DoingI
 use Rattle.block_core.proofs.sound.Facts.{HandFits, DoingFits, TaskFits, Kept}
 use Rattle.block_core.proofs.sound.Orders.{Each, Above, Ordered, IsPlaced, IsOwn, WantFits, AskFits, DoingPlaced, HandHome, TaskPlaced, Placed}
 use Rattle.block_core.proofs.sound.LegLists.{HasLegs, TaskHasLegs, Legged}
+use Rattle.block_core.proofs.status.ValuesKept.{HasEnding}
 
 all_of : {X : Type 0} (P Q : X → Type 0) → ((x : X) → P x → Q x) → (xs : List X) → Each P xs → All Q xs
 all_of P Q more [] each = All-nil Q
@@ -125,14 +128,14 @@ module _ (setup : Setup) where
   taken_right (HasBoth item vector) line fits home = (home.0, home.1, fits)
 
 module _ (scene : Scene) (s : State) (i : Kept scene s) (p : Placed scene.setup s) where
-  pub hands_right : HandsAreRight scene s
-  hands_right place = by_task (s.task place) (i.tasks place) (p.tasks place)
+  pub hands_right : (ends : Fragment → Status) → ((place : ℕ) → HasEnding ends (s.task place)) → HandsAreRight scene ends s
+  hands_right ends endings place = by_task (s.task place) (i.tasks place) (p.tasks place) (endings place)
     where
-      by_task : (x : TaskState) → TaskFits scene x → TaskPlaced scene.setup x → HandIsRight scene.setup x
-      by_task (Writer number todo taken line) fits t = (taken_right scene.setup taken line fits.2 t.2, doing_right scene.setup 32 line.doing line.lists fits.1 t.1)
-      by_task (Rescuer dev line) fits t = doing_right scene.setup dev.0 line.doing line.lists fits.1 t
-      by_task (Completer disk carried) fits t = tt
-      by_task (Keeper keeping) fits t = tt
+      by_task : (x : TaskState) → TaskFits scene x → TaskPlaced scene.setup x → HasEnding ends x → HandIsRight scene.setup ends x
+      by_task (Writer number todo taken line) fits t e = (taken_right scene.setup taken line fits.2 t.2, doing_right scene.setup 32 line.doing line.lists fits.1 t.1)
+      by_task (Rescuer dev line) fits t e = doing_right scene.setup dev.0 line.doing line.lists fits.1 t
+      by_task (Completer disk carried) fits t e = e
+      by_task (Keeper keeping) fits t e = tt
 
   pub in_list_order : Legged scene s → AreInListOrder scene s
   in_list_order l = record {

@@ -1,6 +1,7 @@
 -- Every run of every scenario is sound.
 use Rattle.std.proofs.Common.{◌≡◌, ◌+◌, ◌-◌, ℕ, Bool, false, refl, sym, ◌∙◌, ap, subst, arith}
 use Rattle.std.specs.Prelude.{min}
+use Rattle.layout_model.specs.May.{fault_of}
 use Rattle.bio_records.specs.declared.bio.Pad.{Pad}
 use Rattle.bio_records.specs.Items.{Item}
 use Rattle.bio_books.specs.Books.{VectorItem, SlipItem, Holding, node_at, parent_of}
@@ -37,7 +38,7 @@ use Rattle.block_core.proofs.images.PlannedOnce.{planned_is, is_planned}
 use Rattle.block_core.proofs.moves.Misfits.{misfits, no_misfits}
 use Rattle.block_core.proofs.images.BioData.{unfit, tied, unfit_follows}
 use Rattle.block_core.proofs.images.ImageData.{start_fits, images_are_of_completed}
-use Rattle.block_core.proofs.status.Statuses.{nodes_are_valued}
+use Rattle.block_core.proofs.status.Statuses.{completers_are_right, nodes_are_valued}
 use Rattle.block_core.specs.Roles.{masters}
 
 -- the levels that all is on, as facts
@@ -120,5 +121,5 @@ every_run_is_sound s ledger events state good naming run =
       images = λ disk at lt. images_are_of_completed s ledger events state good naming run disk at lt;
       tally = run_tallied s ledger good naming events state run;
       places = runs_roomy sc f g (worth s.stack good.stack (setup_in s).places) (start s) events state first (start_roomy s good ledger) run;
-      hands = hands_right sc state i.kept i.placed;
+      hands = hands_right sc state i.kept i.placed (fault_of s.stack) (completers_are_right s ledger events state good naming run);
     }

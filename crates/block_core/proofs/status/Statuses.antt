@@ -53,7 +53,7 @@ use Rattle.block_core.proofs.images.StillToCome.{over}
 use Rattle.block_core.proofs.images.Completed.{over_follows, opened_total, all_sum, start_counted}
 use Rattle.block_core.proofs.images.PlannedOnce.{begins_sum}
 use Rattle.block_core.proofs.images.BioData.{own_writes}
-use Rattle.block_core.proofs.images.ImageData.{IsOwn, own_stays, completed_ends, start_own}
+use Rattle.block_core.proofs.images.ImageData.{IsOwn, own_stays, completed_waits, completed_ends, start_own}
 use Rattle.block_core.proofs.status.RunEndings.{Given, given}
 use Rattle.block_core.proofs.status.NodeValues.{is_itself}
 use Rattle.block_core.proofs.status.ValuesKept.{HasEnding, stays_valued}
@@ -81,7 +81,10 @@ module _ (s : Scenario) (ledger : ℕ → LedgerId) (st : State) (own : (number 
   endings_stay (moves.Pops place dev bio bios) c = goes place _ tt
   endings_stay (moves.Pushes place x bio lists) c = goes place _ (line_ending s x _ lists _ c.2)
   endings_stay (moves.Completed place disk index bio ending new) c =
-      goes place (Completer disk (Brings bio ending)) (completed_ends s disk.0 (st.objects.disk disk.0) index bio ending new (own disk.0) c.3)
+      goes place (Completer disk (Brings bio ending)) (
+        (completed_waits s disk.0 (st.objects.disk disk.0) index bio ending new (own disk.0) c.3).1,
+        completed_ends s disk.0 (st.objects.disk disk.0) index bio ending new (own disk.0) c.3,
+      )
   endings_stay (moves.Begins place writer todo later item vector key) c = goes place _ tt
   endings_stay (moves.Chained place x bio lists hand number kind sizes members key node) c = goes place _ (line_ending s x _ lists _ c.2)
   endings_stay (moves.Mastered place x bio lists slip key node) c = goes place _ (line_ending s x _ lists _ c.2)
@@ -373,6 +376,11 @@ statuses_are_given s ledger events state good naming run = happens_given s ledge
 
 pub ended_statuses_are_given : EndedStatusesAreGiven
 ended_statuses_are_given s ledger events state good naming run = ended_given s ledger events state good naming run
+
+-- what each completer brings
+pub completers_are_right : (s : Scenario) (ledger : ℕ → LedgerId) (events : List Event) (state : State) → IsScenario s → IsNaming ledger
+    → IsRun (scene s ledger) (start s) events state → (place : ℕ) → HasEnding (fault_of s.stack) (state.task place)
+completers_are_right s ledger events state good naming run = (told s ledger events state good naming run).endings
 
 pub nodes_are_valued : NodesAreValued
 nodes_are_valued s ledger events state good naming run = (told s ledger events state good naming run).valued

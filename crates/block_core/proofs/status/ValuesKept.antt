@@ -24,10 +24,11 @@ use Rattle.bio_books.specs.Drops.{Closed, closed_of}
 use Rattle.run_machine.specs.Maps.{upd}
 use Rattle.run_machine.specs.Scene.{Setup, Scene, tree_at}
 use Rattle.run_machine.specs.Lines.{Links, ToPush, ToCut, ToMaster, Doing, Drives, Copies, rests, first_length, landed, legs_of, leg_at, punted}
-use Rattle.run_machine.specs.Tasks.{TaskState, Writer, Completer, HasBio, HasBoth, Carried, Empty, Brings, Carries, Fails}
+use Rattle.run_machine.specs.Tasks.{TaskState, Writer, Rescuer, Completer, Keeper, HasBio, HasBoth, Carried, Empty, Brings, Carries, Fails}
 use Rattle.run_machine.specs.Runs.{State}
 use Rattle.block_core.specs.Weights.{Weight, Lined, Rescued, total, one, carried_weight, refs, names, under, legs_left, count_of}
 use Rattle.block_core.specs.Fragments.{fragment_of}
+use Rattle.block_core.specs.Hands.{CarriedIsRight}
 use Rattle.block_core.specs.Values.{is, bio_may, leg_may, todo_may, Mark, IsMark, allowed, allowed_by, decides, lack, mismatch, above, unallowed, deciding, IsValued}
 use Rattle.block_core.proofs.moves.Moves.{Move, Can, after, lost, gained, limit_of, with_line, HasLine, Wants, with_want, taken_of, filled_of, vector_of, cut_lists, Tells, Hands, piece}
 use Rattle.block_core.proofs.moves.Moves as moves
@@ -54,8 +55,10 @@ use Rattle.block_core.proofs.status.NodeValues.{is_itself, few_is, is_given, own
 
 -- what a completer brings has ended as its fragment ends
 abbrev pub HasEnding : (Fragment → Status) → TaskState → Type 0
-HasEnding ends (Completer disk (Brings bio status)) = status ≡ ends (fragment_of bio.bio)
-HasEnding ends task = Unit {0}
+HasEnding ends (Writer number todo taken line) = Unit {0}
+HasEnding ends (Rescuer dev line) = Unit {0}
+HasEnding ends (Completer disk carried) = CarriedIsRight ends disk carried
+HasEnding ends (Keeper keeping) = Unit {0}
 
 -- a node that a bio names is no master
 not_master : (r : Role) (master : Bool) → own_part r None ≡ 1 → mismatch r master ≡ 0 → master ≡ false
@@ -259,7 +262,7 @@ module _ (scene : Scene) (ends : Fragment → Status) (written : ℕ → Status 
     told_may : (place : ℕ) (disk : DevId) (carried : Carried) (writer key : ℕ) (status : Status) (part : Option (Item Pad)) → place < scene.tasks → s.task place ≡ Completer disk carried
         → Tells carried writer key status part → 1 ≤ allowed (mark writer key) status
     told_may place disk (Brings bio ending) writer key status part here at t =
-        let e = subst (HasEnding ends) at (endings place) in
+        let e = (subst (HasEnding ends) at (endings place)).1 in
         let own : is ending (ends (fragment_of bio.bio)) ≡ 1 = ap (is ending) (sym e) ∙ is_itself ending in
         let may_come : 1 ≤ allowed (mark bio.bio.writer bio.bio.node) ending = omega (arith, own, teller_off ending place disk (Brings bio ending) here at) in
         let P : ℕ → ℕ → Status → Type 0 = λ w k end. 1 ≤ allowed (mark w k) end in
@@ -277,7 +280,7 @@ module _ (scene : Scene) (ends : Fragment → Status) (written : ℕ → Status 
         → s.task place ≡ Completer disk carried → Tells carried writer key status part
         → carried_weight (deciding setup ends mark master w k) place carried ≡ one writer w * one key k * decides master (is Ok status)
     told_weight master w k place disk (Brings bio ending) writer key status part here at t =
-        let e = subst (HasEnding ends) at (endings place) in
+        let e = (subst (HasEnding ends) at (endings place)).1 in
         let like : bio_may setup ends bio.bio Ok ≡ is Ok (ends (fragment_of bio.bio)) = omega (arith, teller_off Ok place disk (Brings bio ending) here at) in
         let same : bio_may setup ends bio.bio Ok ≡ is Ok status = like ∙ ap (is Ok) (sym e ∙ sym t.2) in
         ap (λ n. names w k bio * decides master n) same ∙ ap (λ n. one n w * one bio.bio.node k * decides master (is Ok status)) (sym t.0)
