@@ -7,4 +7,5 @@ pub mod RoleHoldings
 pub mod Dues
 pub mod StillDue
 pub mod NoMisses
+pub mod KeeperEnds
 pub mod ExactSteps

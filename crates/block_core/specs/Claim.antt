@@ -16,6 +16,7 @@ use Rattle.block_core.specs.Bounded.{most_steps}
 use Rattle.block_core.specs.Breaks.{GoesUnrefused}
 use Rattle.block_core.specs.DoneWrites.{IsCompleted, IsGiven, HasGivenStatuses}
 use Rattle.block_core.specs.Dones.{DoneOrUnfinished, StatusesAreTold, AllAreDone}
+use Rattle.block_core.specs.Exact.{NoneMissed, exact_steps}
 use Rattle.block_core.specs.Fragments.{completed}
 use Rattle.block_core.specs.Images.{HasLaidImages}
 use Rattle.block_core.specs.Runnable.{IsRunnable}
@@ -48,6 +49,8 @@ pub record IsAsClaimed (s : Scenario) (ledger : ℕ → LedgerId) (events : List
   -- where the run has ended, each write has such a status, and the images are the laid-out ones
   pub statuses : HasEnded state → HasGivenStatuses s state.objects.tally.statuses
   pub images : HasEnded state → HasLaidImages s state
+  -- and where no take missed besides, there are as many events as the layout fixes
+  pub exact : HasEnded state → NoneMissed events → length events ≡ exact_steps s
   -- while a write is unfinished, an event can come next that needs no ordinary memory
   pub free : 1 ≤ unfinished state → HasFree (scene s ledger) state
   -- and there are no more events than eight an element, two a fragment, and one an entry, a round behind the first and a change of a reserve

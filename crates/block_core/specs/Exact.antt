@@ -13,7 +13,6 @@ use Rattle.run_machine.specs.declared.event.What.{What}
 use Rattle.run_machine.specs.declared.event.What.TheVariants as what
 use Rattle.run_machine.specs.Opened.{Scenario, scene, start, duties}
 use Rattle.run_machine.specs.Runs.{State, IsRun, HasEnded}
-use Rattle.block_core.specs.Charges.{duties_left}
 use Rattle.block_core.specs.Scenarios.{IsScenario, IsNaming}
 
 abbrev pub is_miss : What → Bool
@@ -42,8 +41,8 @@ exact_steps s =
     let told = fragments + all_below s.stack s.writes in
     taken + linked + 2 * fragments + told + taken + length s.writes + length (duties s)
 
--- So many events has each run that has ended and in which no take missed, but for what its keeper has still to do.
+-- So many events has each run that has ended and in which no take missed: its keeper has done all, since the last round has a write.
 abbrev pub StepsWithoutMisses : Type 0
 StepsWithoutMisses = (s : Scenario) (ledger : ℕ → LedgerId) (events : List Event) (state : State) → IsScenario s → IsNaming ledger
     → IsRun (scene s ledger) (start s) events state → HasEnded state → NoneMissed events
-    → length events + duties_left (scene s ledger) state ≡ exact_steps s
+    → length events ≡ exact_steps s

@@ -62,6 +62,7 @@ use Rattle.block_core.proofs.bound.RoleHoldings.{odd, odd_holding, none_odd}
 use Rattle.block_core.proofs.bound.Dues.{one_each, write_due, due, in_hand}
 use Rattle.block_core.proofs.bound.StillDue.{takes_one}
 use Rattle.block_core.proofs.bound.NoMisses.{NonePunts, TaskNoPunt, NoPunt, still_none, had}
+use Rattle.block_core.proofs.bound.KeeperEnds.{no_duties_left}
 use Rattle.layout_model.proofs.RangeSums.{sum_of_zero}
 
 -- all that a state is known to have
@@ -304,6 +305,7 @@ steps_without_misses s ledger events state good naming run ended all =
       due_at_start s good ledger,
       table s good ledger s.writes,
       duties_at_start s good ledger,
+      no_duties_left s good ledger naming events state run ended.writes,
     )
   where
     runs_odd : (sc : Scene) → Fair sc → Ground sc.setup → (st : State) (events : List Event) (new : State) → Whole sc st → total sc odd st ≡ 0 → IsRun sc st events new → total sc odd new ≡ 0

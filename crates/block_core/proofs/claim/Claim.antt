@@ -3,6 +3,7 @@ use Rattle.std.proofs.Common.{arith}
 use Rattle.run_machine.specs.Scenario.{scenario_of}
 use Rattle.block_core.specs.Claim.{EveryRunIsAsClaimed, AcceptedTextsRunAsClaimed}
 use Rattle.block_core.proofs.bound.Bounded.{runs_are_bounded}
+use Rattle.block_core.proofs.bound.ExactSteps.{steps_without_misses}
 use Rattle.block_core.proofs.images.DoneWrites.{done_is_completed}
 use Rattle.block_core.proofs.sound.Dones.{unfinished_until_done, tally_has_statuses, none_left_undone}
 use Rattle.block_core.proofs.stuck.RunsEnd.{runs_end_with_their_writes}
@@ -34,6 +35,7 @@ every_run_is_as_claimed s ledger events state runnable rescuers naming run =
       given = statuses_are_given s ledger events state good naming run;
       statuses = ended_statuses_are_given s ledger events state good naming run;
       images = λ ended. images_are_laid_out s ledger events state good runnable.apart naming run ended;
+      exact = λ ended all. steps_without_misses s ledger events state good naming run ended all;
       free = λ some. no_allowed_state_is_stuck s ledger events state good runnable.allowed rescuers runnable.reserves runnable.ordered naming run some;
       bounded = few;
       tickets = omega (arith, few, most);
