@@ -1,3 +1,4 @@
 pub mod RankCases
 pub mod FragmentCases
 pub mod ValueCases
+pub mod HandCases

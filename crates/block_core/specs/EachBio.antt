@@ -1,5 +1,6 @@
 -- A fact of each bio at work.
 use Rattle.std.specs.Prelude.{◌<◌, ℕ, All}
+use Rattle.bio_records.specs.declared.bio.Bio.{Bio}
 use Rattle.bio_records.specs.declared.bio.Pad.{Pad}
 use Rattle.bio_records.specs.Items.{Item}
 use Rattle.run_machine.specs.Scene.{Scene}
@@ -33,3 +34,19 @@ pub record EachBio (P : Item Pad → Type 0) (scene : Scene) (state : State) : T
   pub tasks : (place : ℕ) → place < scene.tasks → TaskHas P (state.task place)
   pub rescued : (dev : ℕ) → dev < scene.setup.count → All P (state.objects.rescue dev)
   pub pending : (dev : ℕ) → dev < scene.setup.count → All P (state.objects.disk dev).pending
+
+-- and a fact of the bio that a mirror copies, which waits in the node that it names while its legs are made
+abbrev pub DoingCopies : (Bio → Type 0) → Doing → Type 0
+DoingCopies P Rests = Unit {0}
+DoingCopies P (Drives bio ask) = Unit {0}
+DoingCopies P (Copies bio master leg want) = P bio
+DoingCopies P (Breaks breach kept) = Unit {0}
+
+abbrev pub TaskCopies : (Bio → Type 0) → TaskState → Type 0
+TaskCopies P (Writer number todo taken line) = DoingCopies P line.doing
+TaskCopies P (Rescuer dev line) = DoingCopies P line.doing
+TaskCopies P (Completer disk carried) = Unit {0}
+TaskCopies P (Keeper keeping) = Unit {0}
+
+abbrev pub EachCopied : (Bio → Type 0) → Scene → State → Type 0
+EachCopied P scene state = (place : ℕ) → place < scene.tasks → TaskCopies P (state.task place)

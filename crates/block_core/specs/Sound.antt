@@ -14,7 +14,7 @@ use Rattle.run_machine.specs.Opened.{Scenario, scene, start, setup}
 use Rattle.run_machine.specs.Runs.{State, IsRun}
 use Rattle.block_core.specs.Scenarios.{IsScenario, IsNaming}
 use Rattle.block_core.specs.Weights.{total, elements, refs, count_of}
-use Rattle.block_core.specs.EachBio.{EachBio}
+use Rattle.block_core.specs.EachBio.{EachBio, EachCopied}
 use Rattle.block_core.specs.Fragments.{completed, to_come, is_it, times, IsOfScenario}
 use Rattle.block_core.specs.Hands.{HandsAreRight}
 use Rattle.block_core.specs.Images.{HasItsWord, held_after}
@@ -47,12 +47,13 @@ pub record IsSound (s : Scenario) (ledger : ℕ → LedgerId) (events : List Eve
   -- bios are in their order in lists, and no task waits for a bio of a set of which it has one in its lists
   pub lists : AreInListOrder (scene s ledger) state
   pub waits : HasRescuers s.stack → NoneWaitsForItself (scene s ledger) state
-  -- each fragment of each write was completed or is still to come, once, and no other; and each bio has the data of its place
+  -- each fragment of each write was completed or is still to come, once, and no other; and each bio has the data of its place, one that a mirror copies too
   pub fragments : (f : Fragment) → IsOfScenario s f
       → times f (completed (scene s ledger) (start s) events state run) + total (scene s ledger) (to_come (setup s) (is_it f)) state ≡ 1
   pub others : (f : Fragment) → 0 < times f (completed (scene s ledger) (start s) events state run) + total (scene s ledger) (to_come (setup s) (is_it f)) state
       → IsOfScenario s f
   pub words : EachBio (λ item. HasItsWord s item.bio) (scene s ledger) state
+  pub copied : EachCopied (HasItsWord s) (scene s ledger) state
   -- each sector of each disk holds the data of the last fragment without a fault there that was completed, and zeros where there is none
   pub images : (disk at : ℕ) → at < size (tree s.stack disk)
       → slice_index_or (state.objects.disk disk).image at [] ≡ held_after s disk at (completed (scene s ledger) (start s) events state run) zero_sector

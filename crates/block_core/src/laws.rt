@@ -26,9 +26,9 @@ ghost use Rattle.block_core.specs.Values.{NodesAreValued};
 /// elements out as there are in hands, lists and nodes. Each node waits for just its children or legs and for its own part, which was dropped or is in
 /// one place, and keeps what the run told it of how these ended. What nodes hold is of pools whose numbers rise from each node to its parent, and
 /// bios stand in lists in the order of their sets and devices. Each fragment was completed or is still to come, once; bios have the data of their
-/// places, and disks that of the completed fragments. The tally has the number of unfinished writes of each round, none of an earlier round is
-/// unfinished, and nothing is begun of a later one. Each book has a place for every node that its writer's writes still open, and what tasks
-/// have in hand is of the pools that they asked.
+/// places, those that mirrors copy too, and disks that of the completed fragments. The tally has the number of unfinished writes of each round,
+/// none of an earlier round is unfinished, and nothing is begun of a later one. Each book has a place for every node that its writer's writes still
+/// open. What tasks have in hand is of the pools that they asked, and a bio that a completer brings is of its disk and has the end of its fragment.
 pub fn every_run_is_sound()
     ensures { EveryRunIsSound }
 {}
@@ -80,7 +80,7 @@ pub fn runs_are_bounded()
 
 /// Where no take of a run misses, the layout alone fixes how many events it has once it has ended: each element is taken and given back, each node
 /// linked, and each fragment pushed and completed; each fragment and each node under another is told to a node, each write is done, and the
-/// keeper does what it has to.
+/// keeper has done all that it has to.
 pub fn steps_without_misses()
     ensures { StepsWithoutMisses }
 {}

@@ -3,6 +3,7 @@ use Rattle.std.proofs.Common.{◌≡◌, ℕ, List, [], ◌∷◌, arith}
 use Rattle.std.specs.Prelude.{sum_by, All}
 use Rattle.std.proofs.lemmas.List.Elements.{All-nil, All-cons}
 use Rattle.std.proofs.lemmas.List.Sums.{sum_by-cons}
+use Rattle.bio_records.specs.declared.bio.Bio.{Bio}
 use Rattle.bio_records.specs.declared.bio.Pad.{Pad}
 use Rattle.bio_records.specs.Items.{Item}
 use Rattle.model_disks.specs.Disks.{DiskState}
@@ -11,7 +12,7 @@ use Rattle.run_machine.specs.Lines.{Doing, Rests, Drives, Copies, Breaks, Line}
 use Rattle.run_machine.specs.Tasks.{Carried, Empty, Brings, Carries, Fails, TaskState, Writer, Rescuer, Completer, Keeper}
 use Rattle.run_machine.specs.Runs.{State}
 use Rattle.block_core.specs.Weights.{Weight, Spot, Lined, Rescued, Pending, Brought, total, doing_weight, line_weight, task_weight, carried_weight}
-use Rattle.block_core.specs.EachBio.{DoingHas, LineHas, CarriedHas, TaskHas, EachBio}
+use Rattle.block_core.specs.EachBio.{DoingHas, LineHas, CarriedHas, TaskHas, EachBio, DoingCopies, TaskCopies, EachCopied}
 use Rattle.block_core.proofs.moves.Totals.{part_of}
 
 module _ (P : Item Pad → Type 0) (w : Weight) (is : (spot : Spot) (item : Item Pad) → w.bio spot item ≡ 0 → P item) where
@@ -53,3 +54,20 @@ module _ (P : Item Pad → Type 0) (w : Weight) (is : (spot : Spot) (item : Item
         of_list Pending (s.objects.disk dev).pending
         (omega (arith, none, part_of (λ dev (disk : DiskState). sum_by (w.bio Pending) disk.pending) scene.setup.count s.objects.disk dev lt));
   }
+
+-- and so it is with a bio that a mirror copies
+module _ (P : Bio → Type 0) (w : Weight) (is : (bio : Bio) (master leg : ℕ) → w.copy bio master leg ≡ 0 → P bio) where
+  of_copying : (limit : ℕ) (doing : Doing) → doing_weight w limit doing ≡ 0 → DoingCopies P doing
+  of_copying limit Rests none = tt
+  of_copying limit (Drives bio ask) none = tt
+  of_copying limit (Copies bio master leg want) none = is bio master leg (omega (arith, none))
+  of_copying limit (Breaks breach kept) none = tt
+
+  of_copier : (place : ℕ) (x : TaskState) → task_weight w place x ≡ 0 → TaskCopies P x
+  of_copier place (Writer number todo taken line) none = of_copying 32 line.doing (omega (arith, none))
+  of_copier place (Rescuer dev line) none = of_copying dev.0 line.doing (omega (arith, none))
+  of_copier place (Completer disk carried) none = tt
+  of_copier place (Keeper keeping) none = tt
+
+  pub each_copied : (scene : Scene) (s : State) → total scene w s ≡ 0 → EachCopied P scene s
+  each_copied scene s none place lt = of_copier place (s.task place) (omega (arith, none, part_of (task_weight w) scene.tasks s.task place lt))

@@ -22,7 +22,7 @@ use Rattle.block_core.proofs.start.FactsAtStart.{Begins, IsOpened, total_zero, s
 use Rattle.block_core.proofs.moves.Devices.{ground}
 use Rattle.block_core.proofs.sound.Wholes.{runs_whole, run_tallied, runs_leveled, runs_roomy, start_whole, start_leveled, none_waits_for_itself}
 use Rattle.block_core.proofs.sound.Lasting.{runs_keep}
-use Rattle.block_core.proofs.sound.EachBio.{each_bio}
+use Rattle.block_core.proofs.sound.EachBio.{each_bio, each_copied}
 use Rattle.block_core.proofs.stuck.Idle.{node_part}
 use Rattle.block_core.proofs.sound.Misplaced.{misplaced}
 use Rattle.block_core.proofs.sound.Roles.{Stands, stays_standing, has_roles}
@@ -118,6 +118,7 @@ every_run_is_sound s ledger events state good naming run =
       fragments = λ fragment is. all (is_it fragment) ∙ is_planned s good ledger fragment is;
       others = λ fragment some. planned_is s good ledger fragment (omega (arith, some, all (is_it fragment)));
       words = each_bio (λ item. HasItsWord s item.bio) (misfits (unfit s)) (λ spot item none. tied s item.bio (omega (arith, none))) sc state fits;
+      copied = each_copied (HasItsWord s) (misfits (unfit s)) (λ bio master leg none. tied s bio (omega (arith, none))) sc state fits;
       images = λ disk at lt. images_are_of_completed s ledger events state good naming run disk at lt;
       tally = run_tallied s ledger good naming events state run;
       places = runs_roomy sc f g (worth s.stack good.stack (setup_in s).places) (start s) events state first (start_roomy s good ledger) run;
