@@ -7,7 +7,7 @@ use Rattle.run_machine.specs.declared.event.Event.{Event}
 use Rattle.run_machine.specs.declared.event.What.{What}
 use Rattle.run_machine.specs.declared.event.What.TheVariants as what
 use Rattle.run_machine.specs.Runs.{State}
-use Rattle.block_core.specs.Roles.{is_master}
+use Rattle.block_core.specs.Touches.{is_master}
 
 -- the ends that the node at place k of writer w's book was told of, since it was opened there last, once this event has come
 abbrev pub ends_after : (w k : ℕ) → What → List Status → List Status

@@ -1,4 +1,5 @@
 pub mod Weights
+pub mod Touches
 pub mod Roles
 pub mod KeptEnds
 pub mod Hands

@@ -10,13 +10,8 @@ use Rattle.bio_books.specs.Drops.{Closed}
 use Rattle.run_machine.specs.Scene.{Setup, Scene}
 use Rattle.run_machine.specs.Tasks.{Completer, Carries}
 use Rattle.run_machine.specs.Runs.{State}
+use Rattle.block_core.specs.Touches.{is_master}
 use Rattle.block_core.specs.Weights.{Weight, total, one, names, under, legs_left}
-
-abbrev pub is_master : Role → Bool
-is_master role.Top = false
-is_master (role.Chain parent) = false
-is_master (role.Master parent) = true
-is_master (role.Leg parent) = false
 
 abbrev pub is_leg : Role → Bool
 is_leg role.Top = false
@@ -38,7 +33,7 @@ named w k = record {
 }
 
 -- The masters that stand for its own part, open ones and closed ones that are carried. What is left of a closed node does not tell whether it was
--- a master; the place of the task that carries it does.
+-- a master; the place of the task that carries it does, by the event that closed the node.
 abbrev pub masters : (ℕ → Bool) → ℕ → ℕ → Weight
 masters was_master w k = record {
   todo = λ writer todos taken. 0;
@@ -92,9 +87,8 @@ WaitsForParts false part count bios masters children legs = IsInOnePlace part bi
 abbrev pub IsUnderOpen : State → (writer parent : ℕ) → (leg : Bool) → Type 0
 IsUnderOpen state writer parent leg = (above : Node) × (node_at (state.objects.book writer) parent ≡ Some above) × (is_master above.role ≡ leg)
 
-pub record HasRoles (scene : Scene) (state : State) : Type 0 where
-  -- by the places of tasks, whether what is left of a node that a task carries was a master
-  pub was_master : ℕ → Bool
+-- where what is left of a node that a task carries was a master as this says, by the places of tasks
+pub record HasRoles (scene : Scene) (was_master : ℕ → Bool) (state : State) : Type 0 where
   -- each open node waits for just its parts, and its own part is in one place or was dropped
   pub waits : (writer place : ℕ) (node : Node) → node_at (state.objects.book writer) place ≡ Some node
       → WaitsForParts (is_master node.role) node.held.bio node.count (total scene (named writer place) state) (total scene (masters was_master writer place) state)

@@ -23,6 +23,7 @@ use Rattle.block_core.specs.Levels.{HasLevels}
 use Rattle.block_core.specs.Orders.{AreInListOrder}
 use Rattle.block_core.specs.Places.{HasPlaces}
 use Rattle.block_core.specs.Roles.{HasRoles}
+use Rattle.block_core.specs.Touches.{were_masters, none_was}
 use Rattle.block_core.specs.Rounds.{IsTallied}
 use Rattle.block_core.specs.Values.{IsValued, write_may}
 use Rattle.block_core.specs.Waits.{NoneWaitsForItself}
@@ -37,8 +38,9 @@ pub record IsSound (s : Scenario) (ledger : ℕ → LedgerId) (events : List Eve
   pub counts : (writer place : ℕ) → count_of (node_at (state.objects.book writer) place) ≡ total (scene s ledger) (refs (setup s) writer place) state
   -- an open node waits for at least one end, so the last of them closes it
   pub alive : (writer place : ℕ) (node : Node) → node_at (state.objects.book writer) place ≡ Some node → 1 ≤ node.count
-  -- these are by its role its children or legs, the legs that are still to be made, and its own part, which was dropped or is in one place
-  pub roles : HasRoles (scene s ledger) state
+  -- these are by its role its children or legs, the legs that are still to be made, and its own part, which was dropped or is in one place; and what
+  -- tasks carry of closed nodes is left of masters exactly where the events that closed them closed masters
+  pub roles : HasRoles (scene s ledger) (were_masters (scene s ledger) (start s) events state run none_was) state
   -- a node keeps what the run told it since it was opened, and nothing that its run cannot end with
   pub kept : EndsAreKept events state
   pub valued : IsValued (scene s ledger) (fault_of s.stack) (write_may s) state

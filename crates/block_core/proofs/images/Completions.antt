@@ -161,7 +161,7 @@ module _ (scene : Scene) (s : State) where
   move_brings (moves.Resized place pool min later duties) c = here place _ _ c.1
   move_brings (moves.Started place round later duties) c = here place _ _ c.1
 
-  pub step_completes : (place : ℕ) (event : Event) (new : State) (steps : Steps scene s place event new) (moved : IsMove scene s place new)
+  pub step_completes : (place : ℕ) (event : Event) (new : State) (steps : Steps scene s place event new) (moved : IsMove scene s place event.what new)
       → completed_by steps.reply ≡ ended moved.move
   step_completes place event new steps moved =
       let x = s.task place in
@@ -173,6 +173,6 @@ module _ (scene : Scene) (s : State) where
       let P : ℕ → Type 0 = λ k. brought (s.task k) ((after scene s moved.move).task k) ≡ ended moved.move in
       a ∙ ap (brought x) (sym b ∙ c) ∙ subst P moved.at d
 
-pub step_sum : (scene : Scene) (s : State) (value : Fragment → ℕ) (place : ℕ) (event : Event) (new : State) (steps : Steps scene s place event new) (moved : IsMove scene s place new)
+pub step_sum : (scene : Scene) (s : State) (value : Fragment → ℕ) (place : ℕ) (event : Event) (new : State) (steps : Steps scene s place event new) (moved : IsMove scene s place event.what new)
     → sum_by value (completed_by steps.reply) ≡ done value moved.move
 step_sum scene s value place event new steps moved = ap (sum_by value) (step_completes scene s place event new steps moved)

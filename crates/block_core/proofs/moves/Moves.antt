@@ -29,6 +29,7 @@ use Rattle.run_machine.specs.Objects.{Objects, clear_bio, clear_vector, clear_sl
 use Rattle.run_machine.specs.Requests.{Request, TakeBio, TakeVec, TakeSlip}
 use Rattle.run_machine.specs.Tasks.{request, needs_vector}
 use Rattle.run_machine.specs.Runs.{State}
+use Rattle.block_core.specs.Touches.{Touch, Opens, Shuts, Passes}
 use Rattle.block_core.specs.Weights.{Weight, Lined, Rescued, Pending, Brought, line_weight, task_weight, carried_weight}
 
 -- a task with a submission goes on with another one
@@ -373,3 +374,12 @@ place_of (Gives place disk writer number closed held) = place
 place_of (Ends place disk writer closed) = place
 place_of (Resized place pool min later duties) = place
 place_of (Started place round later duties) = place
+
+-- what it does to a node
+abbrev pub touch_by : Move → Touch
+touch_by (Begins place writer todo later item vector key) = Opens writer key
+touch_by (Chained place x bio lists hand number kind sizes members key node) = Opens bio.bio.writer key
+touch_by (Mastered place x bio lists slip key node) = Opens bio.bio.writer key
+touch_by (Legged place x bio lists master leg hand key node) = Opens bio.writer key
+touch_by (Closes place disk carried writer key status part node) = Shuts writer key
+touch_by move = Passes

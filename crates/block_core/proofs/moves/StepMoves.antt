@@ -23,7 +23,8 @@ use Rattle.run_machine.specs.Lines.{Want, Takes, Punts as WantsPunt, Links, ToPu
 use Rattle.run_machine.specs.Tasks.{TaskState, Writer, Rescuer, Completer, Keeper, Keeping, Keeps, Stops, Duty, Resizes, Starts, Todo, Taken, NoBio, HasBio, HasBoth, Carried, Empty, Brings, Carries, Fails}
 use Rattle.run_machine.specs.Objects.{Objects}
 use Rattle.run_machine.specs.Runs.{State}
-use Rattle.block_core.proofs.moves.Moves.{Move, IsTaking, place_of, Can, after, lost, gained, limit_of, with_line, HasLine, Wants, with_want, taken_of, filled_of, vector_of, cut_lists, IsTake, Tells, Hands, piece, with_pool, with_book}
+use Rattle.block_core.specs.Touches.{Touch, Passes, touch_of}
+use Rattle.block_core.proofs.moves.Moves.{Move, IsTaking, place_of, touch_by, Can, after, lost, gained, limit_of, with_line, HasLine, Wants, with_want, taken_of, filled_of, vector_of, cut_lists, IsTake, Tells, Hands, piece, with_pool, with_book}
 use Rattle.block_core.proofs.moves.Moves as moves
 use Rattle.block_core.proofs.sound.Facts.{Suits, TaskFits, DoingIsIn, IsIn, Fair, Kept}
 use Rattle.bio_books.specs.Links.{Made, NoRoom, Stray, ChainsAt, MastersAt, LegsAt}
@@ -33,7 +34,7 @@ use Rattle.run_machine.specs.declared.event.Event.{Event}
 use Rattle.run_machine.specs.declared.event.Got.{Got}
 use Rattle.run_machine.specs.declared.event.Got.TheVariants as got
 use Rattle.run_machine.specs.declared.event.What.{What}
-use Rattle.run_machine.specs.Events.{what_of, miss_of, resize_of}
+use Rattle.run_machine.specs.Events.{what_of, take_of, miss_of, resize_of}
 use Rattle.run_machine.specs.Lines.{line_request, line_answered, after_miss, cut_at}
 use Rattle.run_machine.specs.Requests as requests
 use Rattle.run_machine.specs.Requests.{Request, Reply}
@@ -42,11 +43,26 @@ use Rattle.run_machine.specs.Objects.{Serves}
 use Rattle.run_machine.specs.Runs.{IsLet, Steps}
 use Rattle.block_core.proofs.sound.TaskLines.{line_fits, IsBusy, wants_busy}
 
-pub record IsMove (scene : Scene) (s : State) (place : ℕ) (new : State) : Type 0 where
+pub record IsMove (scene : Scene) (s : State) (place : ℕ) (what : What) (new : State) : Type 0 where
   pub move : Move
   pub can : Can scene s move
   pub is : new ≡ after scene s move
   pub at : place_of move ≡ place
+  pub touches : touch_of what ≡ touch_by move
+
+-- what is told of a take touches no node
+abbrev touch_in : Option What → Touch
+touch_in None = Passes
+touch_in (Some what) = touch_of what
+
+take_passes : (waits : Bool) (pool : PoolId) (from : Got) → touch_of (take_of waits pool from) ≡ Passes
+take_passes true pool from = refl
+take_passes false pool from = refl
+
+miss_passes : (waits used : Bool) (pool : PoolId) → touch_in (miss_of waits used pool) ≡ Passes
+miss_passes true true pool = refl
+miss_passes true false pool = refl
+miss_passes false used pool = refl
 
 state_is : (new : State) (o : Objects) (t : ℕ → TaskState) → new.objects ≡ o → new.task ≡ t → new ≡ record { objects = o; task = t }
 state_is new o t a b = λ j. record { objects = a j; task = b j }
@@ -161,13 +177,13 @@ module _ (scene : Scene) (s : State) (f : Fair scene) (i : Kept scene s) (place 
       → with_want doing (Takes waits) ≡ doing → (reply : Reply) → what_of (requests.TakeBio (Of dev) waits) reply ≡ Some what
       → Serves scene.ledger s.objects (requests.TakeBio (Of dev) waits) reply new.objects
       → ((from : Got) (hand : Item Pad) → reply ≡ requests.HadBio from hand → Goes (with_line x (record { doing = with_want doing (Links hand); lists = lists })))
-      → ((used : Bool) → reply ≡ requests.Missed used → Goes (with_line x (record { doing = with_want doing (after_miss waits); lists = lists }))) → IsMove scene s place new
+      → ((used : Bool) → reply ≡ requests.Missed used → Goes (with_line x (record { doing = with_want doing (after_miss waits); lists = lists }))) → IsMove scene s place what new
   takes_sub x doing lists dev waits is h wants own (requests.HadBio got.Ordinary hand) told serves had missed =
       let goes2 = had got.Ordinary hand refl ∙ ap (λ item. upd s.task place (with_line x (record { doing = with_want doing (Links item); lists = lists }))) serves.1 in
-      record { move = moves.TakesSub place x doing lists dev waits takes_ordinary; can = (here, is, h, wants, tt, serves.0.0); is = state_is new _ _ serves.0.1 goes2; at = refl }
+      record { move = moves.TakesSub place x doing lists dev waits takes_ordinary; can = (here, is, h, wants, tt, serves.0.0); is = state_is new _ _ serves.0.1 goes2; at = refl; touches = sym (ap touch_in told) ∙ take_passes waits (Bios dev) got.Ordinary }
   takes_sub x doing lists dev waits is h wants own (requests.HadBio got.Spare hand) told serves had missed =
       let goes2 = had got.Spare hand refl ∙ ap (λ item. upd s.task place (with_line x (record { doing = with_want doing (Links item); lists = lists }))) serves.1 in
-      record { move = moves.TakesSub place x doing lists dev waits takes_spare; can = (here, is, h, wants, tt, serves.0.0); is = state_is new _ _ serves.0.1 goes2; at = refl }
+      record { move = moves.TakesSub place x doing lists dev waits takes_spare; can = (here, is, h, wants, tt, serves.0.0); is = state_is new _ _ serves.0.1 goes2; at = refl; touches = sym (ap touch_in told) ∙ take_passes waits (Bios dev) got.Spare }
   takes_sub x doing lists dev waits is h wants own (requests.HadBio got.Missed hand) told serves had missed = absurd serves.0
   takes_sub x doing lists dev true is h wants own (requests.Missed used) told serves had missed =
       let stays = ap (λ d. with_line x (record { doing = d; lists = lists })) own ∙ same_line x doing lists h in
@@ -182,35 +198,35 @@ module _ (scene : Scene) (s : State) (f : Fair scene) (i : Kept scene s) (place 
           inl (let low = wants_in scene.setup doing dev (Takes true) wants (there x doing lists is h) in omega arith),
         );
         is = state_is new _ _ serves.1 (missed used refl ∙ ap (upd s.task place) stays);
-        at = refl;
+        at = refl; touches = sym (ap touch_in told) ∙ miss_passes true used (Bios dev);
       }
   takes_sub x doing lists dev false is h wants own (requests.Missed used) told serves had missed =
-      record { move = moves.MissesTry place x doing lists dev used; can = (here, is, h, wants, serves.0); is = state_is new _ _ serves.1 (missed used refl); at = refl }
+      record { move = moves.MissesTry place x doing lists dev used; can = (here, is, h, wants, serves.0); is = state_is new _ _ serves.1 (missed used refl); at = refl; touches = sym (ap touch_in told) ∙ miss_passes false used (Bios dev) }
   takes_sub x doing lists dev waits is h wants own _ told serves had missed = absurd serves
 
   punts : (x : TaskState) (doing : Doing) (lists : TaskLists) (dev : DevId) → s.task place ≡ x → HasLine x doing lists → Wants doing dev WantsPunt → dev.0 < scene.setup.count → (reply : Reply)
-      → Serves scene.ledger s.objects (requests.Punt dev (punted dev lists)) reply new.objects
-      → (reply ≡ requests.Did → Goes (with_line x (record { doing = with_want doing (Takes true); lists = not_punted dev lists }))) → IsMove scene s place new
-  punts x doing lists dev is h wants there requests.Did serves goes =
-      record { move = moves.Punts place x doing lists dev; can = (here, is, h, wants, there); is = state_is new _ _ serves (goes refl); at = refl }
-  punts x doing lists dev is h wants there _ serves goes = absurd serves
+      → what_of (requests.Punt dev (punted dev lists)) reply ≡ Some what → Serves scene.ledger s.objects (requests.Punt dev (punted dev lists)) reply new.objects
+      → (reply ≡ requests.Did → Goes (with_line x (record { doing = with_want doing (Takes true); lists = not_punted dev lists }))) → IsMove scene s place what new
+  punts x doing lists dev is h wants there requests.Did told serves goes =
+      record { move = moves.Punts place x doing lists dev; can = (here, is, h, wants, there); is = state_is new _ _ serves (goes refl); at = refl; touches = sym (ap touch_in told) }
+  punts x doing lists dev is h wants there _ told serves goes = absurd serves
 
   pushes : (x : TaskState) (bio : Item Pad) (lists : TaskLists) → s.task place ≡ x → HasLine x (Drives bio ToPush) lists → (reply : Reply)
-      → Serves scene.ledger s.objects (requests.Push bio) reply new.objects
-      → Goes (with_line x (line_answered scene.setup (Drives bio ToPush) lists reply)) → IsMove scene s place new
-  pushes x bio lists is h requests.Did serves goes =
-      record { move = moves.Pushes place x bio lists; can = (here, is, h, there x (Drives bio ToPush) lists is h); is = state_is new _ _ serves goes; at = refl }
-  pushes x bio lists is h _ serves goes = absurd serves
+      → what_of (requests.Push bio) reply ≡ Some what → Serves scene.ledger s.objects (requests.Push bio) reply new.objects
+      → Goes (with_line x (line_answered scene.setup (Drives bio ToPush) lists reply)) → IsMove scene s place what new
+  pushes x bio lists is h requests.Did told serves goes =
+      record { move = moves.Pushes place x bio lists; can = (here, is, h, there x (Drives bio ToPush) lists is h); is = state_is new _ _ serves goes; at = refl; touches = sym (ap touch_in told) }
+  pushes x bio lists is h _ told serves goes = absurd serves
 
   takes_slip : (x : TaskState) (bio : Item Pad) (lists : TaskLists) → s.task place ≡ x → HasLine x (Drives bio ToRecord) lists → (reply : Reply)
       → Serves scene.ledger s.objects (requests.TakeSlip bio.bio.dev) reply new.objects
-      → Goes (with_line x (line_answered scene.setup (Drives bio ToRecord) lists reply)) → what_of (requests.TakeSlip bio.bio.dev) reply ≡ Some what → IsMove scene s place new
+      → Goes (with_line x (line_answered scene.setup (Drives bio ToRecord) lists reply)) → what_of (requests.TakeSlip bio.bio.dev) reply ≡ Some what → IsMove scene s place what new
   takes_slip x bio lists is h (requests.HadSlip got.Ordinary slip) serves goes told =
       let goes2 = goes ∙ ap (λ r. upd s.task place (with_line x (record { doing = Drives bio (ToMaster r); lists = lists }))) serves.1 in
-      record { move = moves.TakesSlip place x bio lists takes_ordinary; can = (here, is, h, tt, serves.0.0); is = state_is new _ _ serves.0.1 goes2; at = refl }
+      record { move = moves.TakesSlip place x bio lists takes_ordinary; can = (here, is, h, tt, serves.0.0); is = state_is new _ _ serves.0.1 goes2; at = refl; touches = sym (ap touch_in told) }
   takes_slip x bio lists is h (requests.HadSlip got.Spare slip) serves goes told =
       let goes2 = goes ∙ ap (λ r. upd s.task place (with_line x (record { doing = Drives bio (ToMaster r); lists = lists }))) serves.1 in
-      record { move = moves.TakesSlip place x bio lists takes_spare; can = (here, is, h, tt, serves.0.0); is = state_is new _ _ serves.0.1 goes2; at = refl }
+      record { move = moves.TakesSlip place x bio lists takes_spare; can = (here, is, h, tt, serves.0.0); is = state_is new _ _ serves.0.1 goes2; at = refl; touches = sym (ap touch_in told) }
   takes_slip x bio lists is h (requests.HadSlip got.Missed slip) serves goes told = absurd serves.0
   takes_slip x bio lists is h (requests.Missed used) serves goes told =
       record {
@@ -224,14 +240,14 @@ module _ (scene : Scene) (s : State) (f : Fair scene) (i : Kept scene s) (place 
           inl (let low = there x (Drives bio ToRecord) lists is h in omega arith),
         );
         is = state_is new _ _ serves.1 (goes ∙ ap (upd s.task place) (same_line x (Drives bio ToRecord) lists h));
-        at = refl;
+        at = refl; touches = sym (ap touch_in told) ∙ miss_passes true used (Records bio.bio.dev);
       }
   takes_slip x bio lists is h _ serves goes told = absurd serves
 
   chains : (x : TaskState) (bio : Item Pad) (lists : TaskLists) (hand : Item Pad) → s.task place ≡ x → HasLine x (Drives bio (ToCut (Links hand))) lists → TaskFits scene x → (reply : Reply)
       → what_of (requests.Link bio.bio.writer (requests.Chain bio.bio.node)) reply ≡ Some what
       → Serves scene.ledger s.objects (requests.Link bio.bio.writer (requests.Chain bio.bio.node)) reply new.objects
-      → Goes (with_line x (line_answered scene.setup (Drives bio (ToCut (Links hand))) lists reply)) → IsMove scene s place new
+      → Goes (with_line x (line_answered scene.setup (Drives bio (ToCut (Links hand))) lists reply)) → IsMove scene s place what new
   chains x bio lists hand is h fits (requests.LinkedTo (Made key)) told serves goes =
       at_node (node_at (s.objects.book bio.bio.writer) bio.bio.node) refl serves.0
     where
@@ -239,7 +255,7 @@ module _ (scene : Scene) (s : State) (f : Fair scene) (i : Kept scene s) (place 
       split = is_split (tree_at scene.setup bio.bio.dev) (Links hand) (line_fits scene x (Drives bio (ToCut (Links hand))) lists fits h)
 
       at_node : (found : Option Node) → node_at (s.objects.book bio.bio.writer) bio.bio.node ≡ found
-          → ChainsAt (s.objects.book bio.bio.writer) bio.bio.node found (Made key) (new.objects.book bio.bio.writer) → IsMove scene s place new
+          → ChainsAt (s.objects.book bio.bio.writer) bio.bio.node found (Made key) (new.objects.book bio.bio.writer) → IsMove scene s place what new
       at_node None at c = absurd c
       at_node (Some node) at c =
           let objects = serves.1 ∙ ap (λ b. record s.objects { book = upd s.objects.book bio.bio.writer b }) c.2 in
@@ -248,7 +264,7 @@ module _ (scene : Scene) (s : State) (f : Fair scene) (i : Kept scene s) (place 
             move = moves.Chained place x bio lists hand split.number split.kind split.sizes split.members key node;
             can = (here, is, h, split.is, in_books bio.bio.writer bio.bio.node node at, at, c.1);
             is = state_is new _ _ objects goes2;
-            at = refl;
+            at = refl; touches = sym (ap touch_in told);
           }
   chains x bio lists hand is h fits (requests.LinkedTo (NoRoom back)) told serves goes = absurd (nothing_told what told)
   chains x bio lists hand is h fits (requests.LinkedTo (Stray back)) told serves goes = absurd (nothing_told what told)
@@ -257,19 +273,19 @@ module _ (scene : Scene) (s : State) (f : Fair scene) (i : Kept scene s) (place 
   masters : (x : TaskState) (bio : Item Pad) (lists : TaskLists) (slip : SlipItem) → s.task place ≡ x → HasLine x (Drives bio (ToMaster slip)) lists → (reply : Reply)
       → what_of (line_request scene.setup (Drives bio (ToMaster slip)) lists) reply ≡ Some what
       → Serves scene.ledger s.objects (line_request scene.setup (Drives bio (ToMaster slip)) lists) reply new.objects
-      → Goes (with_line x (line_answered scene.setup (Drives bio (ToMaster slip)) lists reply)) → IsMove scene s place new
+      → Goes (with_line x (line_answered scene.setup (Drives bio (ToMaster slip)) lists reply)) → IsMove scene s place what new
   masters x bio lists slip is h (requests.LinkedTo (Made key)) told serves goes =
       at_node (node_at (s.objects.book bio.bio.writer) bio.bio.node) refl serves.0
     where
       at_node : (found : Option Node) → node_at (s.objects.book bio.bio.writer) bio.bio.node ≡ found
-          → MastersAt (s.objects.book bio.bio.writer) bio.bio.node found bio slip (legs_of (tree_at scene.setup bio.bio.dev)) (Made key) (new.objects.book bio.bio.writer) → IsMove scene s place new
+          → MastersAt (s.objects.book bio.bio.writer) bio.bio.node found bio slip (legs_of (tree_at scene.setup bio.bio.dev)) (Made key) (new.objects.book bio.bio.writer) → IsMove scene s place what new
       at_node None at c = absurd c
       at_node (Some node) at c =
           record {
             move = moves.Mastered place x bio lists slip key node;
             can = (here, is, h, in_books bio.bio.writer bio.bio.node node at, at, c.0);
             is = state_is new _ _ (serves.1 ∙ ap (λ b. record s.objects { book = upd s.objects.book bio.bio.writer b }) c.1) goes;
-            at = refl;
+            at = refl; touches = sym (ap touch_in told);
           }
   masters x bio lists slip is h (requests.LinkedTo (NoRoom back)) told serves goes = absurd (nothing_told what told)
   masters x bio lists slip is h (requests.LinkedTo (Stray back)) told serves goes = absurd (nothing_told what told)
@@ -278,19 +294,19 @@ module _ (scene : Scene) (s : State) (f : Fair scene) (i : Kept scene s) (place 
   legs : (x : TaskState) (bio : Bio) (master leg : ℕ) (lists : TaskLists) (hand : Item Pad) → s.task place ≡ x → HasLine x (Copies bio master leg (Links hand)) lists → (reply : Reply)
       → what_of (requests.Link bio.writer (requests.Leg master)) reply ≡ Some what
       → Serves scene.ledger s.objects (requests.Link bio.writer (requests.Leg master)) reply new.objects
-      → Goes (with_line x (line_answered scene.setup (Copies bio master leg (Links hand)) lists reply)) → IsMove scene s place new
+      → Goes (with_line x (line_answered scene.setup (Copies bio master leg (Links hand)) lists reply)) → IsMove scene s place what new
   legs x bio master leg lists hand is h (requests.LinkedTo (Made key)) told serves goes =
       at_node (node_at (s.objects.book bio.writer) master) refl serves.0
     where
       at_node : (found : Option Node) → node_at (s.objects.book bio.writer) master ≡ found
-          → LegsAt (s.objects.book bio.writer) master found (Made key) (new.objects.book bio.writer) → IsMove scene s place new
+          → LegsAt (s.objects.book bio.writer) master found (Made key) (new.objects.book bio.writer) → IsMove scene s place what new
       at_node None at c = absurd c
       at_node (Some node) at c =
           record {
             move = moves.Legged place x bio lists master leg hand key node;
             can = (here, is, h, in_books bio.writer master node at, at, c.0);
             is = state_is new _ _ (serves.1 ∙ ap (λ b. record s.objects { book = upd s.objects.book bio.writer b }) c.1) goes;
-            at = refl;
+            at = refl; touches = sym (ap touch_in told);
           }
   legs x bio master leg lists hand is h (requests.LinkedTo (NoRoom back)) told serves goes = absurd (nothing_told what told)
   legs x bio master leg lists hand is h (requests.LinkedTo (Stray back)) told serves goes = absurd (nothing_told what told)
@@ -300,12 +316,12 @@ module _ (scene : Scene) (s : State) (f : Fair scene) (i : Kept scene s) (place 
   abbrev Submits : TaskState → Doing → TaskLists → Reply → Type 0
   Submits x doing lists reply =
       what_of (line_request scene.setup doing lists) reply ≡ Some what → Serves scene.ledger s.objects (line_request scene.setup doing lists) reply new.objects
-      → Goes (with_line x (line_answered scene.setup doing lists reply)) → IsMove scene s place new
+      → Goes (with_line x (line_answered scene.setup doing lists reply)) → IsMove scene s place what new
 
   submits : (x : TaskState) (doing : Doing) (lists : TaskLists) → s.task place ≡ x → HasLine x doing lists → TaskFits scene x → (reply : Reply) → Submits x doing lists reply
   submits x Rests lists is h fits reply told serves goes = absurd serves
   submits x (Breaks breach kept) lists is h fits reply told serves goes = absurd serves
-  submits x (Drives bio ToPush) lists is h fits reply told serves goes = pushes x bio lists is h reply serves goes
+  submits x (Drives bio ToPush) lists is h fits reply told serves goes = pushes x bio lists is h reply told serves goes
   submits x (Drives bio (ToCut (Takes waits))) lists is h fits reply told serves goes =
       takes_sub x (Drives bio (ToCut (Takes waits))) lists bio.bio.dev waits is h (refl, refl) refl reply told serves (had_line reply goes) (missed_line reply goes)
     where
@@ -317,7 +333,7 @@ module _ (scene : Scene) (s : State) (f : Fair scene) (i : Kept scene s) (place 
           → Goes (with_line x (record { doing = Drives bio (ToCut (after_miss waits)); lists = lists }))
       missed_line reply goes used same = goes ∙ ap (λ r. upd s.task place (with_line x (line_answered scene.setup (Drives bio (ToCut (Takes waits))) lists r))) same
   submits x (Drives bio (ToCut WantsPunt)) lists is h fits reply told serves goes =
-      punts x (Drives bio (ToCut WantsPunt)) lists bio.bio.dev is h (refl, refl) (there x (Drives bio (ToCut WantsPunt)) lists is h) reply serves
+      punts x (Drives bio (ToCut WantsPunt)) lists bio.bio.dev is h (refl, refl) (there x (Drives bio (ToCut WantsPunt)) lists is h) reply told serves
       (λ same. goes ∙ ap (λ r. upd s.task place (with_line x (line_answered scene.setup (Drives bio (ToCut WantsPunt)) lists r))) same)
   submits x (Drives bio (ToCut (Links hand))) lists is h fits reply told serves goes = chains x bio lists hand is h fits reply told serves goes
   submits x (Drives bio ToRecord) lists is h fits reply told serves goes = takes_slip x bio lists is h reply serves goes told
@@ -333,59 +349,59 @@ module _ (scene : Scene) (s : State) (f : Fair scene) (i : Kept scene s) (place 
           → Goes (with_line x (record { doing = Copies bio master leg (after_miss waits); lists = lists }))
       missed_line reply goes used same = goes ∙ ap (λ r. upd s.task place (with_line x (line_answered scene.setup (Copies bio master leg (Takes waits)) lists r))) same
   submits x (Copies bio master leg WantsPunt) lists is h fits reply told serves goes =
-      punts x (Copies bio master leg WantsPunt) lists bio.dev is h (refl, refl) (there x (Copies bio master leg WantsPunt) lists is h) reply serves
+      punts x (Copies bio master leg WantsPunt) lists bio.dev is h (refl, refl) (there x (Copies bio master leg WantsPunt) lists is h) reply told serves
       (λ same. goes ∙ ap (λ r. upd s.task place (with_line x (line_answered scene.setup (Copies bio master leg WantsPunt) lists r))) same)
   submits x (Copies bio master leg (Links hand)) lists is h fits reply told serves goes = legs x bio master leg lists hand is h reply told serves goes
 
   -- a writer at rest takes its bio
   takes_first : (number : ℕ) (todo : Todo) (later : List Todo) → s.task place ≡ Writer number (todo ∷ later) NoBio rests → todo.round ≤ s.objects.tally.round → (reply : Reply)
       → what_of (requests.TakeBio Fs true) reply ≡ Some what → Serves scene.ledger s.objects (requests.TakeBio Fs true) reply new.objects
-      → Goes (answered scene.setup (Writer number (todo ∷ later) NoBio rests) reply) → IsMove scene s place new
+      → Goes (answered scene.setup (Writer number (todo ∷ later) NoBio rests) reply) → IsMove scene s place what new
   takes_first number todo later is now (requests.HadBio got.Ordinary hand) told serves goes =
       record {
         move = moves.TakesFirst place number todo later takes_ordinary;
         can = (here, is, tt, now, serves.0.0);
         is = state_is new _ _ serves.0.1 (goes ∙ ap (λ item. upd s.task place (Writer number (todo ∷ later) (HasBio item) rests)) serves.1);
-        at = refl;
+        at = refl; touches = sym (ap touch_in told);
       }
   takes_first number todo later is now (requests.HadBio got.Spare hand) told serves goes =
       record {
         move = moves.TakesFirst place number todo later takes_spare;
         can = (here, is, tt, now, serves.0.0);
         is = state_is new _ _ serves.0.1 (goes ∙ ap (λ item. upd s.task place (Writer number (todo ∷ later) (HasBio item) rests)) serves.1);
-        at = refl;
+        at = refl; touches = sym (ap touch_in told);
       }
   takes_first number todo later is now (requests.HadBio got.Missed hand) told serves goes = absurd serves.0
   takes_first number todo later is now (requests.Missed used) told serves goes =
-      record { move = moves.MissesOne place (Writer number (todo ∷ later) NoBio rests) 65 used; can = (here, is, serves.0, tt, used_told used FsBios what told, inr (omega arith)); is = state_is new _ _ serves.1 goes; at = refl }
+      record { move = moves.MissesOne place (Writer number (todo ∷ later) NoBio rests) 65 used; can = (here, is, serves.0, tt, used_told used FsBios what told, inr (omega arith)); is = state_is new _ _ serves.1 goes; at = refl; touches = sym (ap touch_in told) ∙ miss_passes true used FsBios }
   takes_first number todo later is now _ told serves goes = absurd serves
 
   -- its vector, or the write's node
   goes_with : (b : Bool) (number : ℕ) (todo : Todo) (later : List Todo) (item : Item Pad) → needs_vector todo.write ≡ b → s.task place ≡ Writer number (todo ∷ later) (HasBio item) rests → number < scene.books → (reply : Reply)
       → what_of (with_bio number b todo) reply ≡ Some what
       → Serves scene.ledger s.objects (with_bio number b todo) reply new.objects
-      → Goes (answered scene.setup (Writer number (todo ∷ later) (HasBio item) rests) reply) → IsMove scene s place new
+      → Goes (answered scene.setup (Writer number (todo ∷ later) (HasBio item) rests) reply) → IsMove scene s place what new
   goes_with true number todo later item needs is lt (requests.HadVec got.Ordinary vector) told serves goes =
       record {
         move = moves.TakesVector place number todo later item takes_ordinary;
         can = (here, is, tt, serves.0.0, needs);
         is = state_is new _ _ serves.0.1 (goes ∙ ap (λ v. upd s.task place (Writer number (todo ∷ later) (HasBoth item v) rests)) serves.1);
-        at = refl;
+        at = refl; touches = sym (ap touch_in told);
       }
   goes_with true number todo later item needs is lt (requests.HadVec got.Spare vector) told serves goes =
       record {
         move = moves.TakesVector place number todo later item takes_spare;
         can = (here, is, tt, serves.0.0, needs);
         is = state_is new _ _ serves.0.1 (goes ∙ ap (λ v. upd s.task place (Writer number (todo ∷ later) (HasBoth item v) rests)) serves.1);
-        at = refl;
+        at = refl; touches = sym (ap touch_in told);
       }
   goes_with true number todo later item needs is lt (requests.HadVec got.Missed vector) told serves goes = absurd serves.0
   goes_with true number todo later item needs is lt (requests.Missed used) told serves goes =
-      record { move = moves.MissesOne place (Writer number (todo ∷ later) (HasBio item) rests) 64 used; can = (here, is, serves.0, subst (λ b. IsTaking (with_bio number b todo)) (sym needs) tt, used_told used FsVecs what told, inr (omega arith)); is = state_is new _ _ serves.1 goes; at = refl }
+      record { move = moves.MissesOne place (Writer number (todo ∷ later) (HasBio item) rests) 64 used; can = (here, is, serves.0, subst (λ b. IsTaking (with_bio number b todo)) (sym needs) tt, used_told used FsVecs what told, inr (omega arith)); is = state_is new _ _ serves.1 goes; at = refl; touches = sym (ap touch_in told) ∙ miss_passes true used FsVecs }
   goes_with true number todo later item needs is lt _ told serves goes = absurd serves
   goes_with false number todo later item needs is lt (requests.LinkedTo (Made key)) told serves goes =
       let objects = serves.1 ∙ ap (λ b. record s.objects { book = upd s.objects.book number b }) serves.0.1 in
-      record { move = moves.Begins place number todo later item None key; can = (here, is, lt, serves.0.0, needs); is = state_is new _ _ objects goes; at = refl }
+      record { move = moves.Begins place number todo later item None key; can = (here, is, lt, serves.0.0, needs); is = state_is new _ _ objects goes; at = refl; touches = sym (ap touch_in told) }
   goes_with false number todo later item needs is lt (requests.LinkedTo (NoRoom back)) told serves goes = absurd (nothing_told what told)
   goes_with false number todo later item needs is lt (requests.LinkedTo (Stray back)) told serves goes = absurd (nothing_told what told)
   goes_with false number todo later item needs is lt _ told serves goes = absurd serves
@@ -393,10 +409,10 @@ module _ (scene : Scene) (s : State) (f : Fair scene) (i : Kept scene s) (place 
   begins_both : (number : ℕ) (todo : Todo) (later : List Todo) (item : Item Pad) (vector : VectorItem) → s.task place ≡ Writer number (todo ∷ later) (HasBoth item vector) rests → number < scene.books → (reply : Reply)
       → what_of (request scene.setup (Writer number (todo ∷ later) (HasBoth item vector) rests)) reply ≡ Some what
       → Serves scene.ledger s.objects (request scene.setup (Writer number (todo ∷ later) (HasBoth item vector) rests)) reply new.objects
-      → Goes (answered scene.setup (Writer number (todo ∷ later) (HasBoth item vector) rests) reply) → IsMove scene s place new
+      → Goes (answered scene.setup (Writer number (todo ∷ later) (HasBoth item vector) rests) reply) → IsMove scene s place what new
   begins_both number todo later item vector is lt (requests.LinkedTo (Made key)) told serves goes =
       let objects = serves.1 ∙ ap (λ b. record s.objects { book = upd s.objects.book number b }) serves.0.1 in
-      record { move = moves.Begins place number todo later item (Some vector) key; can = (here, is, lt, serves.0.0, tt); is = state_is new _ _ objects goes; at = refl }
+      record { move = moves.Begins place number todo later item (Some vector) key; can = (here, is, lt, serves.0.0, tt); is = state_is new _ _ objects goes; at = refl; touches = sym (ap touch_in told) }
   begins_both number todo later item vector is lt (requests.LinkedTo (NoRoom back)) told serves goes = absurd (nothing_told what told)
   begins_both number todo later item vector is lt (requests.LinkedTo (Stray back)) told serves goes = absurd (nothing_told what told)
   begins_both number todo later item vector is lt _ told serves goes = absurd serves
@@ -410,7 +426,7 @@ module _ (scene : Scene) (s : State) (f : Fair scene) (i : Kept scene s) (place 
       → IsLet scene.ledger s.objects (Writer number todos taken rests) (look_of (Writer number todos taken rests)) → (reply : Reply)
       → what_of (request scene.setup (Writer number todos taken rests)) reply ≡ Some what
       → Serves scene.ledger s.objects (request scene.setup (Writer number todos taken rests)) reply new.objects
-      → Goes (answered scene.setup (Writer number todos taken rests) reply) → IsMove scene s place new
+      → Goes (answered scene.setup (Writer number todos taken rests) reply) → IsMove scene s place what new
   writer_rests number [] taken is lt see reply told serves goes = absurd serves
   writer_rests number (todo ∷ later) NoBio is lt see reply told serves goes = takes_first number todo later is (seen_round number todo later see) reply told serves goes
   writer_rests number (todo ∷ later) (HasBio item) is lt see reply told serves goes = goes_with (needs_vector todo.write) number todo later item refl is lt reply told serves goes
@@ -419,7 +435,7 @@ module _ (scene : Scene) (s : State) (f : Fair scene) (i : Kept scene s) (place 
   abbrev Moved : TaskState → Reply → Type 0
   Moved x reply =
       what_of (request scene.setup x) reply ≡ Some what → Serves scene.ledger s.objects (request scene.setup x) reply new.objects
-      → Goes (answered scene.setup x reply) → IsMove scene s place new
+      → Goes (answered scene.setup x reply) → IsMove scene s place what new
 
   writes : (number : ℕ) (todo : List Todo) (taken : Taken) (doing : Doing) (lists : TaskLists) → s.task place ≡ Writer number todo taken (record { doing = doing; lists = lists })
       → TaskFits scene (Writer number todo taken (record { doing = doing; lists = lists }))
@@ -438,7 +454,7 @@ module _ (scene : Scene) (s : State) (f : Fair scene) (i : Kept scene s) (place 
 
   pops : (dev : DevId) → s.task place ≡ Rescuer dev rests → dev.0 < scene.setup.count → (reply : Reply) → Moved (Rescuer dev rests) reply
   pops dev is lt (requests.Popped bio) told serves goes =
-      record { move = moves.Pops place dev bio (new.objects.rescue dev.0); can = (here, is, lt, serves.0); is = state_is new _ _ serves.1 goes; at = refl }
+      record { move = moves.Pops place dev bio (new.objects.rescue dev.0); can = (here, is, lt, serves.0); is = state_is new _ _ serves.1 goes; at = refl; touches = sym (ap touch_in told) }
   pops dev is lt requests.Nothing told serves goes = absurd (nothing_told what told)
   pops dev is lt _ told serves goes = absurd serves
 
@@ -458,20 +474,20 @@ module _ (scene : Scene) (s : State) (f : Fair scene) (i : Kept scene s) (place 
   tells : (disk : DevId) (carried : Carried) (writer key : ℕ) (status : Status) (part : Option (Item Pad)) (ended : Ended) → s.task place ≡ Completer disk carried → Tells carried writer key status part
       → what_of (requests.Drop writer key status part) (requests.DroppedTo ended) ≡ Some what
       → Serves scene.ledger s.objects (requests.Drop writer key status part) (requests.DroppedTo ended) new.objects
-      → Goes (Completer disk (after_drop writer key ended)) → IsMove scene s place new
+      → Goes (Completer disk (after_drop writer key ended)) → IsMove scene s place what new
   tells disk carried writer key status part ended is t told_it serves goes = at_node (node_at (s.objects.book writer) key) refl ended told_it serves.0 serves.1 goes
     where
       at_node : (found : Option Node) → node_at (s.objects.book writer) key ≡ found → (ended : Ended)
           → what_of (requests.Drop writer key status part) (requests.DroppedTo ended) ≡ Some what
           → DropsAt (s.objects.book writer) key found status part ended (new.objects.book writer)
           → new.objects ≡ record s.objects { book = upd s.objects.book writer (new.objects.book writer) }
-          → Goes (Completer disk (after_drop writer key ended)) → IsMove scene s place new
+          → Goes (Completer disk (after_drop writer key ended)) → IsMove scene s place what new
       at_node (Some node) at end.Left told_it drops objects goes =
           record {
             move = moves.Told place disk carried writer key status part node;
             can = (here, is, t, in_books writer key node at, at, drops.0);
             is = state_is new _ _ (objects ∙ ap (λ b. record s.objects { book = upd s.objects.book writer b }) drops.1) goes;
-            at = refl;
+            at = refl; touches = sym (ap touch_in told_it);
           }
       at_node (Some node) at (end.Up closed) told_it drops objects goes =
           record {
@@ -479,7 +495,7 @@ module _ (scene : Scene) (s : State) (f : Fair scene) (i : Kept scene s) (place 
             can = (here, is, t, in_books writer key node at, at, drops.0);
             is = state_is new _ _ (objects ∙ ap (λ b. record s.objects { book = upd s.objects.book writer b }) drops.3)
                 (goes ∙ ap (λ c. upd s.task place (Completer disk (Carries writer c))) drops.2);
-            at = refl;
+            at = refl; touches = sym (ap touch_in told_it);
           }
       at_node (Some node) at (end.Top closed) told_it drops objects goes =
           record {
@@ -487,7 +503,7 @@ module _ (scene : Scene) (s : State) (f : Fair scene) (i : Kept scene s) (place 
             can = (here, is, t, in_books writer key node at, at, drops.0);
             is = state_is new _ _ (objects ∙ ap (λ b. record s.objects { book = upd s.objects.book writer b }) drops.3)
                 (goes ∙ ap (λ c. upd s.task place (Completer disk (Carries writer c))) drops.2);
-            at = refl;
+            at = refl; touches = sym (ap touch_in told_it);
           }
       at_node found at (end.Stray back) told_it drops objects goes = absurd (nothing_told what told_it)
       at_node None at end.Left told_it drops objects goes = absurd drops
@@ -496,7 +512,7 @@ module _ (scene : Scene) (s : State) (f : Fair scene) (i : Kept scene s) (place 
 
   completes : (disk : DevId) → s.task place ≡ Completer disk Empty → TaskFits scene (Completer disk Empty) → (reply : Reply) → Moved (Completer disk Empty) reply
   completes disk is fits (requests.Completed index bio status) told serves goes =
-      record { move = moves.Completed place disk index bio status (new.objects.disk disk.0); can = (here, is, fits, serves.0); is = state_is new _ _ serves.1 goes; at = refl }
+      record { move = moves.Completed place disk index bio status (new.objects.disk disk.0); can = (here, is, fits, serves.0); is = state_is new _ _ serves.1 goes; at = refl; touches = sym (ap touch_in told) }
   completes disk is fits requests.Nothing told serves goes = absurd (nothing_told what told)
   completes disk is fits _ told serves goes = absurd serves
 
@@ -513,21 +529,21 @@ module _ (scene : Scene) (s : State) (f : Fair scene) (i : Kept scene s) (place 
         move = moves.Gives place disk writer v.share.no (record { held = record { bio = bio; vector = Some v; slip = slip }; parent = parent; write = write; status = status }) (record { bio = bio; vector = None; slip = slip });
         can = (here, is, inl (v, refl, refl, refl), serves.0);
         is = state_is new _ _ serves.1 goes;
-        at = refl;
+        at = refl; touches = sym (ap touch_in told_it);
       }
   carries disk writer None (Some b) slip parent write status is requests.Did told_it serves goes =
       record {
         move = moves.Gives place disk writer b.share.no (record { held = record { bio = Some b; vector = None; slip = slip }; parent = parent; write = write; status = status }) (record { bio = None; vector = None; slip = slip });
         can = (here, is, inr (inl (b, refl, refl, refl)), serves.0);
         is = state_is new _ _ serves.1 goes;
-        at = refl;
+        at = refl; touches = sym (ap touch_in told_it);
       }
   carries disk writer None None (Some r) parent write status is requests.Did told_it serves goes =
       record {
         move = moves.Gives place disk writer r.share.no (record { held = record { bio = None; vector = None; slip = Some r }; parent = parent; write = write; status = status }) (record { bio = None; vector = None; slip = None });
         can = (here, is, inr (inr (r, refl, refl, refl)), serves.0);
         is = state_is new _ _ serves.1 goes;
-        at = refl;
+        at = refl; touches = sym (ap touch_in told_it);
       }
   carries disk writer None None None (Some parent) write status is (requests.DroppedTo ended) told_it serves goes =
       tells disk (Carries writer (record { held = record { bio = None; vector = None; slip = None }; parent = Some parent; write = write; status = status })) writer parent status None ended is
@@ -537,7 +553,7 @@ module _ (scene : Scene) (s : State) (f : Fair scene) (i : Kept scene s) (place 
         move = moves.Ends place disk writer (record { held = record { bio = None; vector = None; slip = None }; parent = None; write = write; status = status });
         can = (here, is, refl, refl);
         is = state_is new _ _ serves goes;
-        at = refl;
+        at = refl; touches = sym (ap touch_in told_it);
       }
   carries disk writer (Some v) bio slip parent write status is _ told_it serves goes = absurd serves
   carries disk writer None (Some b) slip parent write status is _ told_it serves goes = absurd serves
@@ -552,10 +568,10 @@ module _ (scene : Scene) (s : State) (f : Fair scene) (i : Kept scene s) (place 
   keeps_pool : (pool : PoolId) (min later : ℕ) (duties : List Duty) → s.task place ≡ Keeper (Keeps (Resizes pool min later ∷ duties)) → sum s.objects.tally.left ≡ later → (out : ℕ) (none : Bool) → (out == 0) ≡ none
       → resize_of none pool min ≡ Some what → out ≡ (s.objects.pool (pool_number pool)).facts.out
       → new.objects ≡ cond none (record s.objects { pool = upd s.objects.pool (pool_number pool) (after_move (s.objects.pool (pool_number pool)) (resizes min)) }) s.objects
-      → Goes (Keeper (after_resize none pool out duties)) → IsMove scene s place new
+      → Goes (Keeper (after_resize none pool out duties)) → IsMove scene s place what new
   keeps_pool pool min later duties is done out true zero_out told out_is objects goes =
       let z : out ≡ 0 = search (zero_out, arith) in
-      record { move = moves.Resized place pool min later duties; can = (here, is, sym out_is ∙ z, done); is = state_is new _ _ objects goes; at = refl }
+      record { move = moves.Resized place pool min later duties; can = (here, is, sym out_is ∙ z, done); is = state_is new _ _ objects goes; at = refl; touches = sym (ap touch_in told) }
   keeps_pool pool min later duties is done out false some told out_is objects goes = absurd (nothing_told what told)
 
   keeps_on : (keeping : Keeping) → s.task place ≡ Keeper keeping → TaskFits scene (Keeper keeping) → IsLet scene.ledger s.objects (Keeper keeping) (look_of (Keeper keeping)) → (reply : Reply) → Moved (Keeper keeping) reply
@@ -564,7 +580,7 @@ module _ (scene : Scene) (s : State) (f : Fair scene) (i : Kept scene s) (place 
       keeps_pool pool min later duties is (seen_left (Resizes pool min later) duties see) out (out == 0) refl told serves.0 serves.1 goes
   keeps_on (Keeps (Resizes pool min later ∷ duties)) is fits see _ told serves goes = absurd serves
   keeps_on (Keeps (Starts round later ∷ duties)) is fits see requests.Did told serves goes =
-      record { move = moves.Started place round later duties; can = (here, is, serves.0, seen_left (Starts round later) duties see); is = state_is new _ _ serves.1 goes; at = refl }
+      record { move = moves.Started place round later duties; can = (here, is, serves.0, seen_left (Starts round later) duties see); is = state_is new _ _ serves.1 goes; at = refl; touches = sym (ap touch_in told) }
   keeps_on (Keeps (Starts round later ∷ duties)) is fits see _ told serves goes = absurd serves
   keeps_on (Stops breach) is fits see reply told serves goes = absurd fits
 
@@ -579,6 +595,6 @@ module _ (scene : Scene) (s : State) (f : Fair scene) (i : Kept scene s) (place 
   moved (Keeper keeping) is fits see reply told serves goes = keeps_on keeping is fits see reply told serves goes
 
 pub step_is_move : (scene : Scene) (s : State) → Fair scene → Kept scene s → (place : ℕ) (event : Event) (new : State)
-    → Steps scene s place event new → IsMove scene s place new
+    → Steps scene s place event new → IsMove scene s place event.what new
 step_is_move scene s f i place event new steps =
     moved scene s f i place steps.here event.what new (s.task place) refl (i.tasks place) steps.is_let steps.reply steps.told steps.serves steps.goes_on

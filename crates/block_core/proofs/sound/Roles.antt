@@ -1,5 +1,5 @@
 -- Each open node waits for its parts by its role, and one master at most stands for its own part.
-use Rattle.std.proofs.Common.{◌≡◌, ◌+◌, ◌*◌, ◌<◌, ◌≤◌, ◌==◌, if◌then◌else◌, not, ℕ, Bool, true, false, [], ◌∷◌, Option, None, Some, inl, inr, refl, sym, ◌∙◌, ap, subst, arith}
+use Rattle.std.proofs.Common.{◌≡◌, ◌+◌, ◌*◌, ◌<◌, ◌≤◌, ◌==◌, if◌then◌else◌, not, ℕ, Bool, true, false, List, [], ◌∷◌, Option, None, Some, inl, inr, refl, sym, ◌∙◌, ap, subst, arith}
 use Rattle.stack_base.specs.declared.ids.DevId.{DevId}
 use Rattle.stack_base.specs.declared.ids.Status.{Status}
 use Rattle.bio_records.specs.declared.bio.Pad.{Pad}
@@ -10,18 +10,23 @@ use Rattle.bio_books.specs.declared.node.Role.TheVariants as role
 use Rattle.bio_books.specs.Books.{Node, BookState, node_at, parent_of, top_node, child_node, master_node, leg_node, keeping, raised, lowered, told}
 use Rattle.bio_books.specs.Drops.{Closed}
 use Rattle.bio_books.specs.Links.{IsVacant}
+use Rattle.run_machine.specs.declared.event.Event.{Event}
 use Rattle.run_machine.specs.Maps.{upd}
 use Rattle.run_machine.specs.Scene.{Setup, Scene, tree_at}
 use Rattle.run_machine.specs.Lines.{ToMaster, Drives, punted, first_length, legs_of, leg_at}
 use Rattle.run_machine.specs.Tasks.{Completer, Carried, Brings, Carries}
-use Rattle.run_machine.specs.Runs.{State}
+use Rattle.run_machine.specs.Runs.{State, IsRun}
 use Rattle.block_core.specs.Weights.{Weight, total, one, task_weight, carried_weight, refs, under, legs_left, count_of}
-use Rattle.block_core.specs.Roles.{is_master, is_leg, named, masters, children, legs_to_make, WaitsForParts, HasRoles}
+use Rattle.block_core.specs.Touches.{touch_of, is_master, is_master_at, masters_after, were_masters}
+use Rattle.block_core.specs.Roles.{is_leg, named, masters, children, legs_to_make, WaitsForParts, HasRoles}
 use Rattle.block_core.specs.Values.{yes, mismatch}
-use Rattle.block_core.proofs.moves.Moves.{Move, Can, after, lost, gained, limit_of, HasLine, taken_of, filled_of, vector_of, cut_lists, Tells, piece}
+use Rattle.block_core.proofs.moves.Moves.{Move, place_of, touch_by, Can, after, lost, gained, limit_of, HasLine, taken_of, filled_of, vector_of, cut_lists, Tells, piece}
 use Rattle.block_core.proofs.moves.Moves as moves
 use Rattle.block_core.proofs.moves.Sums.{upd-same, upd-other, same_or_not, one-same, one-other}
-use Rattle.block_core.proofs.sound.Facts.{own_part, own_of, Kept}
+use Rattle.block_core.proofs.sound.Facts.{own_part, own_of, Fair, Kept}
+use Rattle.block_core.proofs.sound.Orders.{Ground}
+use Rattle.block_core.proofs.sound.Wholes.{Whole, step_whole}
+use Rattle.block_core.proofs.moves.StepMoves.{step_is_move}
 use Rattle.block_core.proofs.moves.Deltas.{vacant_at, delta}
 use Rattle.block_core.proofs.sound.Places.{copies_weight, unless, unless_none, is_away}
 use Rattle.block_core.proofs.moves.BookMaps.{made, became, chained}
@@ -199,17 +204,50 @@ module _ (scene : Scene) (s : State) (i : Kept scene s) (was_master : ℕ → Bo
   stays_stood_for (moves.Resized place pool min later duties) c w k = same (moves.Resized place pool min later duties) c w k refl (omega arith)
   stays_stood_for (moves.Started place round later duties) c w k = same (moves.Started place round later duties) c w k refl (omega arith)
 
-pub record Stands (scene : Scene) (s : State) : Type 0 where
-  pub was_master : ℕ → Bool
+pub record Stands (scene : Scene) (was_master : ℕ → Bool) (s : State) : Type 0 where
   pub right : ArePlaced scene s was_master
   pub all : AreStoodFor scene s was_master
 
-pub stays_standing : (scene : Scene) (s : State) → Kept scene s → Stands scene s → (m : Move) → Can scene s m → Stands scene (after scene s m)
-stays_standing scene s i t m c = record {
-  was_master = was_after t.was_master m;
-  right = stays_right scene s i t.was_master t.right.0 t.right.1 m c;
-  all = stays_stood_for scene s i t.was_master t.all m c;
+pub stays_standing : (scene : Scene) (s : State) (was_master : ℕ → Bool) → Kept scene s → Stands scene was_master s → (m : Move) → Can scene s m
+    → Stands scene (was_after was_master m) (after scene s m)
+stays_standing scene s was_master i t m c = record {
+  right = stays_right scene s i was_master t.right.0 t.right.1 m c;
+  all = stays_stood_for scene s i was_master t.all m c;
 }
+
+-- an event closes a master exactly where its move does
+closed_so : (scene : Scene) (s : State) (was_master : ℕ → Bool) (m : Move) → Can scene s m → masters_after s (place_of m) (touch_by m) was_master ≡ was_after was_master m
+closed_so scene s was_master (moves.Closes place disk carried writer key status part node) c = ap (λ found. upd was_master place (is_master_at found)) c.4
+closed_so scene s was_master (moves.TakesFirst place writer todo later move) c = refl
+closed_so scene s was_master (moves.TakesVector place writer todo later item move) c = refl
+closed_so scene s was_master (moves.TakesSub place x doing lists dev waits move) c = refl
+closed_so scene s was_master (moves.TakesSlip place x bio lists move) c = refl
+closed_so scene s was_master (moves.MissesOne place x number used) c = refl
+closed_so scene s was_master (moves.MissesTry place x doing lists dev used) c = refl
+closed_so scene s was_master (moves.Punts place x doing lists dev) c = refl
+closed_so scene s was_master (moves.Pops place dev bio bios) c = refl
+closed_so scene s was_master (moves.Pushes place x bio lists) c = refl
+closed_so scene s was_master (moves.Completed place disk index bio status new) c = refl
+closed_so scene s was_master (moves.Begins place writer todo later item vector key) c = refl
+closed_so scene s was_master (moves.Chained place x bio lists hand number kind sizes members key node) c = refl
+closed_so scene s was_master (moves.Mastered place x bio lists slip key node) c = refl
+closed_so scene s was_master (moves.Legged place x bio lists master leg hand key node) c = refl
+closed_so scene s was_master (moves.Told place disk carried writer key status part node) c = refl
+closed_so scene s was_master (moves.Gives place disk writer number closed held) c = refl
+closed_so scene s was_master (moves.Ends place disk writer closed) c = refl
+closed_so scene s was_master (moves.Resized place pool min later duties) c = refl
+closed_so scene s was_master (moves.Started place round later duties) c = refl
+
+pub runs_stand : (scene : Scene) → Fair scene → Ground scene.setup → (s : State) (events : List Event) (new : State) (was_master : ℕ → Bool) → Whole scene s → Stands scene was_master s
+    → (run : IsRun scene s events new) → Stands scene (were_masters scene s events new run was_master) new
+runs_stand scene f g s [] new was_master i t run = subst (Stands scene was_master) (sym run) t
+runs_stand scene f g s (event ∷ events) new was_master i t (next, (place, steps), run) =
+    let moved = step_is_move scene s f i.kept place event next steps in
+    let now : masters_after s place (touch_of event.what) was_master ≡ was_after was_master moved.move =
+    ap (λ touch. masters_after s place touch was_master) moved.touches ∙ ap (λ at. masters_after s at (touch_by moved.move) was_master) (sym moved.at)
+    ∙ closed_so scene s was_master moved.move moved.can in
+    runs_stand scene f g next events new (masters_after s place (touch_of event.what) was_master) (step_whole scene f g s place event next i steps)
+    (subst (λ was. Stands scene was next) (sym now) (subst (Stands scene (was_after was_master moved.move)) (sym moved.is) (stays_standing scene s was_master i.kept t moved.move moved.can))) run
 
 -- a node's kind is its mark
 kind_is : (r : Role) (b : Bool) → mismatch r b ≡ 0 → is_master r ≡ b
@@ -275,22 +313,22 @@ waits_by (role.Chain parent) (Some bio) count bios standing below legs all own o
 waits_by (role.Leg parent) None count bios standing below legs all own one_each alone made = let z = made refl in ((sym own, omega (arith, one_each)), z, omega (arith, all, z))
 waits_by (role.Leg parent) (Some bio) count bios standing below legs all own one_each alone made = let z = made refl in ((sym own, omega (arith, one_each)), z, omega (arith, all, z))
 
-module _ (scene : Scene) (s : State) (i : Kept scene s) (t : Stands scene s) where
+module _ (scene : Scene) (s : State) (was_master : ℕ → Bool) (i : Kept scene s) (t : Stands scene was_master s) where
   abbrev mark : ℕ → ℕ → Bool
   mark = t.right.0
 
   abbrev off : Weight
-  off = misplaced t.right.0 t.was_master
+  off = misplaced t.right.0 was_master
 
   kind : (writer place : ℕ) (node : Node) → node_at (s.objects.book writer) place ≡ Some node → is_master node.role ≡ mark writer place
   kind writer place node at = kind_is node.role (mark writer place) (omega (arith, t.right.1, node_part scene s i off writer place node at))
 
-  no_masters : (w k : ℕ) → mark w k ≡ true → total scene (masters t.was_master w k) s ≡ 0
+  no_masters : (w k : ℕ) → mark w k ≡ true → total scene (masters was_master w k) s ≡ 0
   no_masters w k is =
       omega (
         arith,
         t.right.1,
-        under_in_all scene s i (masters t.was_master w k) off (record {
+        under_in_all scene s i (masters was_master w k) off (record {
           todo = λ writer todos taken part. omega arith;
           bio = λ spot item part. omega arith;
           copy = λ bio master leg left part. omega arith;
@@ -298,7 +336,7 @@ module _ (scene : Scene) (s : State) (i : Kept scene s) (t : Stands scene s) whe
           vector = λ vector. omega arith;
           slip = λ slip. omega arith;
           node = λ writer place node at part. omega (arith, by_role writer (mark writer place) node.role);
-          closed = λ task writer closed part. by_kind writer (t.was_master task) closed.parent;
+          closed = λ task writer closed part. by_kind writer (was_master task) closed.parent;
         }),
       )
     where
@@ -333,15 +371,15 @@ module _ (scene : Scene) (s : State) (i : Kept scene s) (t : Stands scene s) whe
       )
 
   waits : (writer place : ℕ) (node : Node) → node_at (s.objects.book writer) place ≡ Some node
-      → WaitsForParts (is_master node.role) node.held.bio node.count (total scene (named writer place) s) (total scene (masters t.was_master writer place) s)
-      (total scene (children t.was_master writer place) s) (total scene (legs_to_make scene.setup writer place) s)
+      → WaitsForParts (is_master node.role) node.held.bio node.count (total scene (named writer place) s) (total scene (masters was_master writer place) s)
+      (total scene (children was_master writer place) s) (total scene (legs_to_make scene.setup writer place) s)
   waits writer place node at =
       let own : own_of (node_at (s.objects.book writer) place) ≡ own_part node.role node.held.bio = ap own_of at in
       let count : count_of (node_at (s.objects.book writer) place) ≡ node.count = ap count_of at in
       let is = kind writer place node at in
-      waits_by node.role node.held.bio node.count (total scene (named writer place) s) (total scene (masters t.was_master writer place) s)
-      (total scene (children t.was_master writer place) s) (total scene (legs_to_make scene.setup writer place) s)
-      (omega (arith, count, i.counts writer place, total_sum (refs scene.setup writer place) _ _ _ _ (refs_are scene.setup t.was_master writer place) scene s))
+      waits_by node.role node.held.bio node.count (total scene (named writer place) s) (total scene (masters was_master writer place) s)
+      (total scene (children was_master writer place) s) (total scene (legs_to_make scene.setup writer place) s)
+      (omega (arith, count, i.counts writer place, total_sum (refs scene.setup writer place) _ _ _ _ (refs_are scene.setup was_master writer place) scene s))
       (sym own ∙ i.owns writer place)
       (omega (arith, own, t.all writer place))
       (λ same. no_masters writer place (sym is ∙ same))
@@ -359,12 +397,12 @@ module _ (scene : Scene) (s : State) (i : Kept scene s) (t : Stands scene s) whe
       (up.0, up.1, kind writer parent up.0 up.1 ∙ parent_kind (mark writer) node.role parent right is)
 
   carried : (place : ℕ) (disk : DevId) (writer : ℕ) (closed : Closed) (parent : ℕ) → place < scene.tasks → s.task place ≡ Completer disk (Carries writer closed) → closed.parent ≡ Some parent
-      → (above : Node) × (node_at (s.objects.book writer) parent ≡ Some above) × (t.was_master place ≡ true → is_master above.role ≡ false)
+      → (above : Node) × (node_at (s.objects.book writer) parent ≡ Some above) × (was_master place ≡ true → is_master above.role ≡ false)
   carried place disk writer closed parent here is found =
       let up = open_at scene s i writer parent
       (omega (arith, refers writer parent closed.parent found, task_part scene (refs scene.setup writer parent) s place (Completer disk (Carries writer closed)) here is)) in
-      let right : wrong_above (mark writer) (t.was_master place) closed.parent ≡ 0 = omega (arith, t.right.1, task_part scene off s place (Completer disk (Carries writer closed)) here is) in
-      (up.0, up.1, λ same. kind writer parent up.0 up.1 ∙ above_kind (mark writer) (t.was_master place) closed.parent parent right found same)
+      let right : wrong_above (mark writer) (was_master place) closed.parent ≡ 0 = omega (arith, t.right.1, task_part scene off s place (Completer disk (Carries writer closed)) here is) in
+      (up.0, up.1, λ same. kind writer parent up.0 up.1 ∙ above_kind (mark writer) (was_master place) closed.parent parent right found same)
 
-  pub has_roles : HasRoles scene s
-  has_roles = record { was_master = t.was_master; waits = waits; parents = parents; carried = carried }
+  pub has_roles : HasRoles scene was_master s
+  has_roles = record { waits = waits; parents = parents; carried = carried }

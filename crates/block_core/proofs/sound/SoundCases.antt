@@ -10,11 +10,15 @@ use Rattle.bio_records.specs.declared.bio.Pad.{Pad}
 use Rattle.bio_records.specs.Items.{Item}
 use Rattle.bio_books.specs.declared.node.Role.TheVariants as role
 use Rattle.bio_books.specs.Books.{Node, nothing_held, node_at}
+use Rattle.run_machine.specs.declared.event.End.TheVariants as left
+use Rattle.run_machine.specs.declared.event.What.TheVariants as what
+use Rattle.run_machine.specs.Maps.{upd}
 use Rattle.run_machine.specs.Scene.{Scene}
 use Rattle.run_machine.specs.Opened.{no_task}
 use Rattle.run_machine.specs.Runs.{State}
 use Rattle.block_core.specs.Weights.{sum_at, one, total, refs, count_of}
 use Rattle.block_core.specs.Roles.{named, HasRoles}
+use Rattle.block_core.specs.Touches.{touch_of, masters_after, none_was}
 
 module _ (ledger : ℕ → LedgerId) (share : LedgerId) where
   abbrev scene : Scene
@@ -68,7 +72,23 @@ module _ (ledger : ℕ → LedgerId) (share : LedgerId) where
   twice = refl
 
   -- but its own part is in two places
-  refused : HasRoles scene state → ⊥
-  refused roles =
+  refused : (was_master : ℕ → Bool) → HasRoles scene was_master state → ⊥
+  refused was_master roles =
       let once = (roles.waits 0 0 top refl).0.0 in
       omega (arith, twice, once)
+
+  -- what is left of the node once it closes is no master's, and a master's is
+  closed_top : masters_after state 3 (touch_of (what.Drop 0 0 status.Ok left.Top)) none_was 3 ≡ false
+  unfolding upd
+  closed_top = refl
+
+  abbrev of_master : State
+  of_master = record state {
+    objects = record state.objects {
+      book = λ writer. record { writer = writer; nodes = Some (record top { role = role.Master 0 }) ∷ [] };
+    };
+  }
+
+  closed_master : masters_after of_master 3 (touch_of (what.Drop 0 0 status.Ok left.Up)) none_was 3 ≡ true
+  unfolding upd
+  closed_master = refl

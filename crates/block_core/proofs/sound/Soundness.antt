@@ -1,5 +1,5 @@
 -- Every run of every scenario is sound.
-use Rattle.std.proofs.Common.{◌≡◌, ◌+◌, ◌-◌, ℕ, Bool, false, refl, sym, ◌∙◌, ap, subst, arith}
+use Rattle.std.proofs.Common.{◌≡◌, ◌+◌, ◌-◌, ℕ, false, refl, sym, ◌∙◌, ap, subst, arith}
 use Rattle.std.specs.Prelude.{min}
 use Rattle.layout_model.specs.May.{fault_of}
 use Rattle.bio_records.specs.declared.bio.Pad.{Pad}
@@ -25,7 +25,7 @@ use Rattle.block_core.proofs.sound.Lasting.{runs_keep}
 use Rattle.block_core.proofs.sound.EachBio.{each_bio, each_copied}
 use Rattle.block_core.proofs.stuck.Idle.{node_part}
 use Rattle.block_core.proofs.sound.Misplaced.{misplaced}
-use Rattle.block_core.proofs.sound.Roles.{Stands, stays_standing, has_roles}
+use Rattle.block_core.proofs.sound.Roles.{Stands, runs_stand, has_roles}
 use Rattle.block_core.proofs.sound.LegLists.{TaskHasLegs, HasLegs, Legged, stays_legged}
 use Rattle.block_core.proofs.sound.ListOrder.{hands_right, in_list_order}
 use Rattle.block_core.proofs.status.KeptEnds.{ends_are_kept}
@@ -40,6 +40,7 @@ use Rattle.block_core.proofs.images.BioData.{unfit, tied, unfit_follows}
 use Rattle.block_core.proofs.images.ImageData.{start_fits, images_are_of_completed}
 use Rattle.block_core.proofs.status.Statuses.{completers_are_right, nodes_are_valued}
 use Rattle.block_core.specs.Roles.{masters}
+use Rattle.block_core.specs.Touches.{were_masters, none_was}
 
 -- the levels that all is on, as facts
 module _ (scene : Scene) (s : State) (i : Kept scene s) (level : ℕ → ℕ → ℕ) (off : total scene (off_levels level) s ≡ 0) where
@@ -76,15 +77,13 @@ begins_legless scene s (Rescuer dev line) h = subst (λ (l : Line). HasLegs s l.
 begins_legless scene s (Completer disk carried) h = tt
 begins_legless scene s (Keeper keeping) h = tt
 
-opened_stands : (scene : Scene) (s : State) → IsOpened scene s → Stands scene s
-opened_stands scene s o =
-    let none : ℕ → Bool = λ place. false in record {
-      was_master = none;
-      right = (λ w k. false, total_zero scene s (misplaced (λ w k. false) none) (λ n todos. refl) o);
-      all = λ w k.
-          let own : own_of (node_at (s.objects.book w) k) ≡ 0 = ap own_of (o.books w k) in
-          omega (arith, own, total_zero scene s (masters none w k) (λ n todos. refl) o);
-    }
+opened_stands : (scene : Scene) (s : State) → IsOpened scene s → Stands scene none_was s
+opened_stands scene s o = record {
+  right = (λ w k. false, total_zero scene s (misplaced (λ w k. false) none_was) (λ n todos. refl) o);
+  all = λ w k.
+      let own : own_of (node_at (s.objects.book w) k) ≡ 0 = ap own_of (o.books w k) in
+      omega (arith, own, total_zero scene s (masters none_was w k) (λ n todos. refl) o);
+}
 
 pub every_run_is_sound : EveryRunIsSound
 every_run_is_sound s ledger events state good naming run =
@@ -109,7 +108,8 @@ every_run_is_sound s ledger events state good naming run =
       outs = i.kept.outs;
       counts = i.kept.counts;
       alive = λ writer place node at. subst IsAlive at (i.alive writer place);
-      roles = has_roles sc state i.kept (runs_keep sc f g (Stands sc) (λ old m before after can held. stays_standing sc old before.kept held m can) (start s) events state first (opened_stands sc (start s) o) run);
+      roles =
+          has_roles sc state (were_masters sc (start s) events state run none_was) i.kept (runs_stand sc f g (start s) events state none_was first (opened_stands sc (start s) o) run);
       kept = ends_are_kept sc (start s) events state o.books run;
       valued = nodes_are_valued s ledger events state good naming run;
       levels = pools_rise sc state i.kept l.0 l.1;
