@@ -1,5 +1,9 @@
+pub mod Marks
 pub mod RunEndings
 pub mod NodeValues
 pub mod ValuesKept
+pub mod NodeBios
+pub mod Found
+pub mod Valued
 pub mod Statuses
 pub mod KeptEnds

@@ -25,7 +25,7 @@ use Rattle.block_core.specs.Places.{HasPlaces}
 use Rattle.block_core.specs.Roles.{HasRoles}
 use Rattle.block_core.specs.Touches.{were_masters, none_was}
 use Rattle.block_core.specs.Rounds.{IsTallied}
-use Rattle.block_core.specs.Values.{IsValued, write_may}
+use Rattle.block_core.specs.Values.{node_bios, no_bios, IsValued}
 use Rattle.block_core.specs.Waits.{NoneWaitsForItself}
 
 pub record IsSound (s : Scenario) (ledger : ℕ → LedgerId) (events : List Event) (state : State) (run : IsRun (scene s ledger) (start s) events state) : Type 0 where
@@ -41,9 +41,10 @@ pub record IsSound (s : Scenario) (ledger : ℕ → LedgerId) (events : List Eve
   -- these are by its role its children or legs, the legs that are still to be made, and its own part, which was dropped or is in one place; and what
   -- tasks carry of closed nodes is left of masters exactly where the events that closed them closed masters
   pub roles : HasRoles (scene s ledger) (were_masters (scene s ledger) (start s) events state run none_was) state
-  -- a node keeps what the run told it since it was opened, and nothing that its run cannot end with
+  -- a node keeps what the run told it since it was opened, and only what it may by the run of the bio that it was opened for; so do the ends that are
+  -- still to come to it, and where that run is decided, it keeps what decides it, or that still comes
   pub kept : EndsAreKept events state
-  pub valued : IsValued (scene s ledger) (fault_of s.stack) (write_may s) state
+  pub valued : IsValued s (scene s ledger) (node_bios (scene s ledger) (start s) events state run no_bios) state
   -- what nodes hold is of pools whose numbers rise from each node to its parent
   pub levels : HasLevels (scene s ledger) state
   -- bios are in their order in lists, and no task waits for a bio of a set of which it has one in its lists

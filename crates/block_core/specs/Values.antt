@@ -1,152 +1,198 @@
--- What nodes keep of how their parts ended, against how their runs may end.
-use Rattle.std.specs.Prelude.{◌≡◌, ◌≢◌, ◌+◌, ◌-◌, ◌*◌, ◌≤◌, if◌then◌else◌, not, ℕ, Bool, true, false, List, Option, None, Some, slice_get, sum_by}
-use Rattle.std.specs.List.{range_with_len}
-use Rattle.std.specs.Option.{option_map_or}
+-- What nodes keep of how their parts ended, and how what is still to come to them may end, against how the runs may end that they were opened for.
+use Rattle.std.specs.Prelude.{◌≡◌, ◌≢◌, ◌<◌, ◌≤◌, ◌⊎◌, ◌↔◌, ℕ, Bool, true, false, IsTrue, List, [], ◌∷◌, All, Contains, Option, None, Some}
 use Rattle.elem_ledger.specs.Ledger.{LedgerId}
+use Rattle.stack_base.specs.declared.ids.DevId.{DevId}
+use Rattle.stack_base.specs.declared.ids.SetId.TheVariants.{Of}
 use Rattle.stack_base.specs.declared.ids.Status.{Status}
-use Rattle.stack_base.specs.declared.ids.Status.TheVariants.{Ok, Io, Medium, NoSpace}
-use Rattle.stack_base.specs.Fault.{status_eq}
-use Rattle.stack_base.specs.Tree.{Tree, Leaf, Split, Mirrored, tree}
+use Rattle.stack_base.specs.declared.ids.Status.TheVariants.{Ok, Io}
+use Rattle.stack_base.specs.Mapping.{slot}
+use Rattle.stack_base.specs.Tree.{Tree, Leaf, Split, Mirrored}
 use Rattle.layout_model.specs.declared.fragment.Fragment.{Fragment}
-use Rattle.layout_model.specs.declared.write.Write.{Write}
-use Rattle.layout_model.specs.Plan.{Plan, plan}
+use Rattle.layout_model.specs.Plan.{plan}
 use Rattle.layout_model.specs.May.{may_end, fault_of}
 use Rattle.bio_records.specs.declared.bio.Bio.{Bio}
-use Rattle.bio_books.specs.declared.node.Role.{Role}
+use Rattle.bio_records.specs.declared.bio.Pad.{Pad}
+use Rattle.bio_records.specs.Clear.{no_bio}
+use Rattle.bio_records.specs.Items.{Item}
+use Rattle.bio_split.specs.Split.{split_front}
 use Rattle.bio_books.specs.declared.node.Role.TheVariants as role
 use Rattle.bio_books.specs.Books.{Node, node_at, parent_of}
+use Rattle.bio_books.specs.Drops.{Closed}
 use Rattle.run_machine.specs.declared.event.Event.{Event}
+use Rattle.run_machine.specs.Maps.{upd}
 use Rattle.run_machine.specs.Scene.{Setup, Scene, tree_at}
-use Rattle.run_machine.specs.Tasks.{Todo}
+use Rattle.run_machine.specs.Lines.{Want, Links, ToCut, ToMaster, Doing, Rests, Drives, Copies, Breaks, Line, first_length, mapped, legs_of, leg_at}
+use Rattle.run_machine.specs.Tasks.{Todo, Taken, Carried, Empty, Brings, Carries, Fails, TaskState, Writer, Rescuer, Completer, Keeper, first_bio}
 use Rattle.run_machine.specs.Opened.{Scenario, scene, start}
 use Rattle.run_machine.specs.Runs.{State, IsRun}
-use Rattle.block_core.specs.Weights.{Weight, Spot, Lined, Rescued, Pending, Brought, total, one, names, under, legs_left}
-use Rattle.block_core.specs.Weights.{apart}
+use Rattle.block_core.specs.DoneWrites.{IsGiven}
 use Rattle.block_core.specs.Fragments.{offset_of, fragment_of}
 use Rattle.block_core.specs.Scenarios.{IsScenario, IsNaming}
+use Rattle.block_core.specs.Touches.{Touch, Opens, Shuts, Passes, touch_of, is_master}
 
-abbrev pub yes : Bool → ℕ
-yes b = if b then 1 else 0
+-- The bio that a node is opened for at this place: under a bio that is cut, its first piece; of a bio that a mirror copies, for the master all of it,
+-- and for a leg the next leg; and of a write all of it.
+abbrev pub first_piece : Item Pad → Item Pad → ℕ → Tree → Bio
+first_piece bio hand node (Leaf number sectors) = bio.bio
+first_piece bio hand node (Split number kind sizes members) =
+    mapped (slot kind sizes bio.bio.range.start) members (split_front bio hand (first_length kind sizes bio.bio.range) (Of bio.bio.dev) node).bio
+first_piece bio hand node (Mirrored number sizes members) = bio.bio
 
--- 1 where a status is this one
-abbrev pub is : Status → Status → ℕ
-is end other = yes (status_eq end other)
+abbrev pub line_opens : Setup → Doing → ℕ → Bio
+line_opens setup (Drives bio (ToCut (Links hand))) node = first_piece bio hand node (tree_at setup bio.bio.dev)
+line_opens setup (Drives bio (ToMaster slip)) node = bio.bio
+line_opens setup (Copies bio master leg (Links hand)) node = (leg_at bio hand leg node (tree_at setup bio.dev)).bio
+line_opens setup doing node = no_bio
 
--- 1 where a plan may end so, if each fragment ends as `ends` says
-abbrev pub may : (Fragment → Status) → Plan → Status → ℕ
-may ends p end = yes (may_end ends p end)
+abbrev pub writer_opens : Setup → ℕ → Doing → List Todo → ℕ → Bio
+writer_opens setup number Rests [] node = no_bio
+writer_opens setup number Rests (todo ∷ later) node = first_bio number todo node
+writer_opens setup number doing todo node = line_opens setup doing node
 
--- 1 where the run of a bio may end so; that of one of the legs of a bio that a mirror copies; that of a write that is to begin; and that of the
--- write with this number
-abbrev pub bio_may : Setup → (Fragment → Status) → Bio → Status → ℕ
-bio_may setup ends bio end = may ends (plan (tree_at setup bio.dev) bio.write (offset_of bio) bio.range.start bio.range.len) end
+abbrev pub opened_for : Setup → TaskState → ℕ → Bio
+opened_for setup (Writer number todo taken line) node = writer_opens setup number line.doing todo node
+opened_for setup (Rescuer dev line) node = line_opens setup line.doing node
+opened_for setup (Completer disk carried) node = no_bio
+opened_for setup (Keeper keeping) node = no_bio
 
-abbrev pub leg_may : (Fragment → Status) → Tree → Bio → ℕ → Status → ℕ
-leg_may ends (Leaf number sectors) bio leg end = 0
-leg_may ends (Split number kind sizes members) bio leg end = 0
-leg_may ends (Mirrored number sizes members) bio leg end = may ends (plan (members leg) bio.write (offset_of bio) bio.range.start bio.range.len) end
+-- Of each place of each book, the bio that its node was opened for last, once this event of a task has come,
+abbrev pub bios_after : Setup → TaskState → Touch → (ℕ → ℕ → Bio) → ℕ → ℕ → Bio
+bios_after setup task (Opens writer node) bios = upd bios writer (upd (bios writer) node (opened_for setup task node))
+bios_after setup task (Shuts writer node) bios = bios
+bios_after setup task Passes bios = bios
 
-abbrev pub todo_may : Setup → (Fragment → Status) → Todo → Status → ℕ
-todo_may setup ends todo end = may ends (plan (tree_at setup todo.write.dev) todo.number 0 todo.write.start todo.write.count) end
+-- and once all events of a run have
+abbrev pub node_bios : (scene : Scene) (old : State) (events : List Event) (new : State) → IsRun scene old events new → (ℕ → ℕ → Bio) → ℕ → ℕ → Bio
+node_bios scene old [] new run bios = bios
+node_bios scene old (event ∷ events) new (next, (place, steps), run) bios =
+    node_bios scene next events new run (bios_after scene.setup (old.task place) (touch_of event.what) bios)
 
-abbrev pub write_may : Scenario → ℕ → Status → ℕ
-write_may s number end =
-    option_map_or (λ (write : Write). may (fault_of s.stack) (plan (tree s.stack write.dev.0) number 0 write.start write.count) end) (slice_get s.writes number) 0
+-- no node is open at the start
+abbrev pub no_bios : ℕ → ℕ → Bio
+no_bios writer place = no_bio
 
--- Of a node: whether it is a master, and how its whole run may end.
-pub record Mark : Type 0 where
-  pub master : Bool
-  pub ends : Status → ℕ
+-- The run of a bio may end so, where each fragment ends as `ends` says; that of one of the legs of a bio that a mirror copies; and that of a write that
+-- is to begin.
+abbrev pub BioMayEnd : Setup → (Fragment → Status) → Bio → Status → Type 0
+BioMayEnd setup ends bio end = IsTrue (may_end ends (plan (tree_at setup bio.dev) bio.write (offset_of bio) bio.range.start bio.range.len) end)
 
-pub record IsMark (mark : Mark) : Type 0 where
-  -- a run that may end well can end with nothing else
-  pub alone : (end : Status) → (end ≢ Ok) → mark.ends end + mark.ends Ok ≤ 1
-  -- and that of a mirror ends well or with an error of no kind
-  pub failed : mark.master ≡ true → 1 ≤ mark.ends Ok + mark.ends Io
+abbrev pub LegMayEnd : (Fragment → Status) → Tree → Bio → ℕ → Status → Type 0
+LegMayEnd ends (Leaf number sectors) bio leg end = ⊥
+LegMayEnd ends (Split number kind sizes members) bio leg end = ⊥
+LegMayEnd ends (Mirrored number sizes members) bio leg end = IsTrue (may_end ends (plan (members leg) bio.write (offset_of bio) bio.range.start bio.range.len) end)
 
--- Which ends a node may be told of, and keep: one that keeps its first failure none but those that its run may end with, and a master an end that
--- is well only where its run may end well.
-abbrev pub allowed_by : Bool → (Status → ℕ) → Status → ℕ
-allowed_by false ends Ok = 1
-allowed_by false ends Io = ends Io
-allowed_by false ends Medium = ends Medium
-allowed_by false ends NoSpace = ends NoSpace
-allowed_by true ends Ok = ends Ok
-allowed_by true ends Io = 1
-allowed_by true ends Medium = 1
-allowed_by true ends NoSpace = 1
+abbrev pub TodoMayEnd : Setup → (Fragment → Status) → Todo → Status → Type 0
+TodoMayEnd setup ends todo end = IsTrue (may_end ends (plan (tree_at setup todo.write.dev) todo.number 0 todo.write.start todo.write.count) end)
 
-abbrev pub allowed : Mark → Status → ℕ
-allowed mark end = allowed_by mark.master mark.ends end
+-- What a node may be told of, and keep, by how its run may end: a failure only with which the run may end, and for a master, well only where the run may
+-- end well.
+abbrev pub IsAllowed : (is_master : Bool) → (Status → Type 0) → Status → Type 0
+IsAllowed false MayEnd end = (end ≢ Ok) → MayEnd end
+IsAllowed true MayEnd end = (end ≡ Ok) → MayEnd Ok
 
--- What decides how a node ends: an end that is not well, and for a master one that is; by 1 where the end is well.
-abbrev pub decides : Bool → ℕ → ℕ
-decides false well = 1 - well
-decides true well = well
+-- What decides how a node ends: something that cannot end well, and for a master something that may.
+abbrev pub Decides : (is_master : Bool) → (Status → Type 0) → Type 0
+Decides false MayEnd = MayEnd Ok → ⊥
+Decides true MayEnd = MayEnd Ok
 
--- 1 where the run of an open node is decided, and what the node keeps is not yet
-abbrev pub lack : Mark → Option Node → ℕ
-lack mark None = 0
-lack mark (Some node) = decides mark.master (mark.ends Ok) - decides mark.master (is Ok node.status)
+-- a bio is at work: with a driver, in the lists of a task, or in its completer's hand,
+abbrev pub DoingHolds : Item Pad → Doing → Type 0
+DoingHolds item Rests = ⊥
+DoingHolds item (Drives bio ask) = bio ≡ item
+DoingHolds item (Copies bio master leg want) = ⊥
+DoingHolds item (Breaks breach kept) = ⊥
 
--- 1 where a node of a role is marked as another one
-abbrev pub mismatch : Role → Bool → ℕ
-mismatch role.Top master = yes master
-mismatch (role.Chain parent) master = yes master
-mismatch (role.Master parent) master = yes (not master)
-mismatch (role.Leg parent) master = yes master
+abbrev pub LineHolds : Item Pad → Line → Type 0
+LineHolds item line = DoingHolds item line.doing ⊎ Contains line.lists.list0 item ⊎ Contains line.lists.list1 item
 
--- 1 where a bio that waits at its disk, or that the disk is done with, may end otherwise than its fragment does
-abbrev pub unlike : Setup → (Fragment → Status) → Status → Spot → Bio → ℕ
-unlike setup ends end (Lined limit) bio = 0
-unlike setup ends end Rescued bio = 0
-unlike setup ends end Pending bio = apart (bio_may setup ends bio end) (is end (ends (fragment_of bio)))
-unlike setup ends end Brought bio = apart (bio_may setup ends bio end) (is end (ends (fragment_of bio)))
+abbrev pub CarriedHolds : Item Pad → Carried → Type 0
+CarriedHolds item Empty = ⊥
+CarriedHolds item (Brings bio status) = bio ≡ item
+CarriedHolds item (Carries writer closed) = ⊥
+CarriedHolds item (Fails breach kept) = ⊥
 
--- 1 where an end may come that must not: to the node that another one is under, or to the write that a top node is of
-abbrev pub above : (ℕ → Status → ℕ) → (ℕ → ℕ → Mark) → Status → ℕ → ℕ → ℕ → Option ℕ → ℕ
-above written mark end may_come writer write None = may_come - written write end
-above written mark end may_come writer write (Some parent) = may_come - allowed (mark writer parent) end
+abbrev pub LineOf : TaskState → Line → Type 0
+LineOf (Writer number todo taken line) other = line ≡ other
+LineOf (Rescuer dev line) other = line ≡ other
+LineOf (Completer disk carried) other = ⊥
+LineOf (Keeper keeping) other = ⊥
 
--- How often this end may come to a node that it must not come to: from the bio that names the node, from a leg that is to be made, from a node
--- that is under it and from what is left of that; and how often it was kept by one that must not keep it. Nodes are marked by their roles.
-abbrev pub unallowed : Setup → (Fragment → Status) → (ℕ → Status → ℕ) → (ℕ → ℕ → Mark) → Status → Weight
-unallowed setup ends written mark end = record {
-  todo = λ writer todos taken. sum_by (λ todo. todo_may setup ends todo end - written todo.number end) todos;
-  bio = λ spot item. (bio_may setup ends item.bio end - allowed (mark item.bio.writer item.bio.node) end) + unlike setup ends end spot item.bio;
-  copy = λ bio master leg.
-      sum_by (λ k. leg_may ends (tree_at setup bio.dev) bio k end - allowed (mark bio.writer master) end) (range_with_len leg (legs_left setup bio leg));
-  hand = λ bio. 0;
-  vector = λ vector. 0;
-  slip = λ slip. 0;
-  node = λ writer place node.
-      mismatch node.role (mark writer place).master + (is end node.status - allowed (mark writer place) end)
-      + above written mark end ((mark writer place).ends end) writer node.write (parent_of node.role);
-  closed = λ task writer closed. above written mark end (is end closed.status) writer closed.write closed.parent;
-}
+abbrev pub IsInLine : Scene → State → Item Pad → Type 0
+IsInLine scene state item = (place : ℕ) × (line : Line) × (place < scene.tasks) × LineOf (state.task place) line × LineHolds item line
 
--- How many ends still come to the node at place k of writer w's book that decide how it ends, if it is a master or is not.
-abbrev pub deciding : Setup → (Fragment → Status) → (ℕ → ℕ → Mark) → Bool → ℕ → ℕ → Weight
-deciding setup ends mark master w k = record {
-  todo = λ writer todos taken. 0;
-  bio = λ spot item. names w k item * decides master (bio_may setup ends item.bio Ok);
-  copy = λ bio m leg.
-      one bio.writer w * one m k * sum_by (λ j. decides master (leg_may ends (tree_at setup bio.dev) bio j Ok)) (range_with_len leg (legs_left setup bio leg));
-  hand = λ bio. 0;
-  vector = λ vector. 0;
-  slip = λ slip. 0;
-  node = λ writer place node. under w k writer (parent_of node.role) * decides master ((mark writer place).ends Ok);
-  closed = λ task writer closed. under w k writer closed.parent * decides master (is Ok closed.status);
-}
+abbrev pub IsBrought : Scene → State → Item Pad → Type 0
+IsBrought scene state item = (place : ℕ) × (disk : DevId) × (carried : Carried) × (place < scene.tasks) × (state.task place ≡ Completer disk carried) × CarriedHolds item carried
 
--- There are marks of nodes such that no end comes where it must not, and what a node lacks still comes. So a node closes with an end of its run.
-pub record IsValued (scene : Scene) (ends : Fragment → Status) (written : ℕ → Status → ℕ) (state : State) : Type 0 where
-  pub mark : ℕ → ℕ → Mark
-  pub fair : (w k : ℕ) → IsMark (mark w k)
-  pub fits : (end : Status) → total scene (unallowed scene.setup ends written mark end) state ≡ 0
-  pub decided : (w k : ℕ) → lack (mark w k) (node_at (state.objects.book w) k) ≤ total scene (deciding scene.setup ends mark (mark w k).master w k) state
+-- in a rescue list, or in a disk
+abbrev pub IsRescued : Scene → State → Item Pad → Type 0
+IsRescued scene state item = (dev : ℕ) × (dev < scene.setup.count) × Contains (state.objects.rescue dev) item
 
--- after every event of every run of every scenario, where each fragment ends as the bad ranges of its disk say
+abbrev pub IsInDisk : Scene → State → Item Pad → Type 0
+IsInDisk scene state item = (dev : ℕ) × (dev < scene.setup.count) × Contains (state.objects.disk dev).pending item
+
+abbrev pub IsAtWork : Scene → State → Item Pad → Type 0
+IsAtWork scene state item = IsInLine scene state item ⊎ IsBrought scene state item ⊎ IsRescued scene state item ⊎ IsInDisk scene state item
+
+-- What is still to come to the node at place k of writer w's book, of which this is so, by how it may end: a bio that names the node,
+abbrev pub BioComes : Scene → (Fragment → Status) → State → (w k : ℕ) → ((Status → Type 0) → Type 0) → Type 0
+BioComes scene ends state w k Is =
+    (item : Item Pad) × IsAtWork scene state item × (item.bio.writer ≡ w) × (item.bio.node ≡ k) × Is (BioMayEnd scene.setup ends item.bio)
+
+-- a leg that is still to be made of it,
+abbrev pub LegComes : Scene → (Fragment → Status) → State → (w k : ℕ) → ((Status → Type 0) → Type 0) → Type 0
+LegComes scene ends state w k Is =
+    (place : ℕ) × (line : Line) × (bio : Bio) × (next : ℕ) × (want : Want) × (leg : ℕ) × (place < scene.tasks) × LineOf (state.task place) line
+    × (line.doing ≡ Copies bio k next want) × (bio.writer ≡ w) × (next ≤ leg) × (leg < legs_of (tree_at scene.setup bio.dev))
+    × Is (LegMayEnd ends (tree_at scene.setup bio.dev) bio leg)
+
+-- an open node right under it,
+abbrev pub NodeComes : Scene → (Fragment → Status) → (ℕ → ℕ → Bio) → State → (w k : ℕ) → ((Status → Type 0) → Type 0) → Type 0
+NodeComes scene ends bios state w k Is =
+    (place : ℕ) × (node : Node) × (node_at (state.objects.book w) place ≡ Some node) × (parent_of node.role ≡ Some k)
+    × Is (BioMayEnd scene.setup ends (bios w place))
+
+-- or what is left of one that has closed
+abbrev pub ClosedComes : Scene → State → (w k : ℕ) → ((Status → Type 0) → Type 0) → Type 0
+ClosedComes scene state w k Is =
+    (place : ℕ) × (disk : DevId) × (closed : Closed) × (place < scene.tasks) × (state.task place ≡ Completer disk (Carries w closed)) × (closed.parent ≡ Some k)
+    × Is (λ end. closed.status ≡ end)
+
+abbrev pub Comes : Scene → (Fragment → Status) → (ℕ → ℕ → Bio) → State → (w k : ℕ) → ((Status → Type 0) → Type 0) → Type 0
+Comes scene ends bios state w k Is =
+    BioComes scene ends state w k Is ⊎ LegComes scene ends state w k Is ⊎ NodeComes scene ends bios state w k Is ⊎ ClosedComes scene state w k Is
+
+-- of an open node that was opened for the run of this bio
+pub record NodeIsValued (s : Scenario) (scene : Scene) (bios : ℕ → ℕ → Bio) (state : State) (w k : ℕ) (node : Node) : Type 0 where
+  -- it keeps only what it may, and only that comes
+  pub kept : IsAllowed (is_master node.role) (BioMayEnd scene.setup (fault_of s.stack) (bios w k)) node.status
+  pub comes : (end : Status) → Comes scene (fault_of s.stack) bios state w k (λ MayEnd. MayEnd end)
+      → IsAllowed (is_master node.role) (BioMayEnd scene.setup (fault_of s.stack) (bios w k)) end
+  -- where its run is decided, it keeps what decides it, or that still comes
+  pub decided : Decides (is_master node.role) (BioMayEnd scene.setup (fault_of s.stack) (bios w k))
+      → Decides (is_master node.role) (λ end. node.status ≡ end) ⊎ Comes scene (fault_of s.stack) bios state w k (Decides (is_master node.role))
+  -- a run that may end well can end with nothing else, and that of a mirror ends well or with an error of no kind
+  pub alone : (end : Status) → (end ≢ Ok) → BioMayEnd scene.setup (fault_of s.stack) (bios w k) end → BioMayEnd scene.setup (fault_of s.stack) (bios w k) Ok → ⊥
+  pub copied : is_master node.role ≡ true → BioMayEnd scene.setup (fault_of s.stack) (bios w k) Ok ⊎ BioMayEnd scene.setup (fault_of s.stack) (bios w k) Io
+  -- the run of a top node may end only as its write
+  pub top : node.role ≡ role.Top → (end : Status) → BioMayEnd scene.setup (fault_of s.stack) (bios w k) end → IsGiven s node.write end
+
+-- a bio that a disk has, or is done with, ends as its fragment
+abbrev pub EndsAsItsFragment : Setup → (Fragment → Status) → Item Pad → Type 0
+EndsAsItsFragment setup ends item = (end : Status) → BioMayEnd setup ends item.bio end ↔ (end ≡ ends (fragment_of item.bio))
+
+-- where each open node was opened for the run of such a bio, and fragments end as the bad ranges of their disks say
+pub record IsValued (s : Scenario) (scene : Scene) (bios : ℕ → ℕ → Bio) (state : State) : Type 0 where
+  pub nodes : (w k : ℕ) (node : Node) → node_at (state.objects.book w) k ≡ Some node → NodeIsValued s scene bios state w k node
+  pub brought : (item : Item Pad) → IsBrought scene state item → EndsAsItsFragment scene.setup (fault_of s.stack) item
+  pub pending : (item : Item Pad) → IsInDisk scene state item → EndsAsItsFragment scene.setup (fault_of s.stack) item
+  -- what is left of a top node has an end of its write, and a write that is to begin may end only so
+  pub carried : (place : ℕ) (disk : DevId) (writer : ℕ) (closed : Closed) → place < scene.tasks → state.task place ≡ Completer disk (Carries writer closed)
+      → closed.parent ≡ None → IsGiven s closed.write closed.status
+  pub begins : (place writer : ℕ) (todos : List Todo) (taken : Taken) (line : Line) → place < scene.tasks → state.task place ≡ Writer writer todos taken line
+      → All (λ (todo : Todo). (end : Status) → TodoMayEnd scene.setup (fault_of s.stack) todo end → IsGiven s todo.number end) todos
+
+-- after every event of every run of every scenario
 abbrev pub NodesAreValued : Type 0
 NodesAreValued = (s : Scenario) (ledger : ℕ → LedgerId) (events : List Event) (state : State) → IsScenario s → IsNaming ledger
-    → IsRun (scene s ledger) (start s) events state → IsValued (scene s ledger) (fault_of s.stack) (write_may s) state
+    → (run : IsRun (scene s ledger) (start s) events state)
+    → IsValued s (scene s ledger) (node_bios (scene s ledger) (start s) events state run no_bios) state

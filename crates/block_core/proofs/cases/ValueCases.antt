@@ -6,14 +6,18 @@ use Rattle.stack_base.specs.declared.ids.Status.TheVariants.{Ok, Io, Medium, NoS
 use Rattle.layout_model.specs.declared.fragment.Fragment.{Fragment}
 use Rattle.layout_model.specs.May.{may_end, some_may_end}
 use Rattle.layout_model.specs.Plan.{each, plan}
+use Rattle.run_machine.specs.declared.event.How.TheVariants as how
+use Rattle.run_machine.specs.declared.event.What.TheVariants as what
 use Rattle.run_machine.specs.Maps.{upd}
 use Rattle.run_machine.specs.Scene.{Scene}
 use Rattle.run_machine.specs.Tasks.{first_bio}
 use Rattle.run_machine.specs.Runs.{State}
 use Rattle.run_machine.proofs.Turns.{Turn, behind}
 use Rattle.run_machine.proofs.cases.MirrorRun.{setup, mirror, todo, start, ledger, begun}
+use Rattle.block_core.specs.Touches.{touch_of}
+use Rattle.block_core.specs.Values.{bios_after, no_bios, BioMayEnd, IsAllowed, Decides}
 use Rattle.block_core.specs.Weights.{Weight, sum_at, one, total}
-use Rattle.block_core.specs.Values.{leg_may, todo_may, Mark, unallowed, deciding}
+use Rattle.block_core.proofs.status.Marks.{leg_may, todo_may, Mark, unallowed, deciding}
 
 -- the first disk is bad, and the second ends so
 abbrev ends : Status → Fragment → Status
@@ -30,6 +34,28 @@ where_one_is_well = refl
 where_none_is_well : map (todo_may (setup true) (ends NoSpace) todo) all ≡ 0 ∷ 1 ∷ 0 ∷ 0 ∷ []
 unfolding each plan may_end some_may_end
 where_none_is_well = refl
+
+-- the run of a master of that write's bio, where the second disk ends so
+abbrev OfBio : Status → Status → Type 0
+OfBio second end = BioMayEnd (setup true) (ends second) (first_bio 0 todo 0) end
+
+-- it may be marked where one disk is well, and is decided then; with both bad it may not
+may_mark : IsAllowed true (OfBio Ok) Ok
+unfolding each plan may_end some_may_end
+may_mark = λ same. refl
+
+is_marked : Decides true (OfBio Ok)
+unfolding each plan may_end some_may_end
+is_marked = refl
+
+no_mark : IsAllowed true (OfBio NoSpace) Ok → ⊥
+unfolding each plan may_end some_may_end
+no_mark allowed = let well = allowed refl in absurd cc
+
+-- and a node that is no master keeps no failure with which the run cannot end
+no_failure : IsAllowed false (OfBio Ok) Medium → ⊥
+unfolding each plan may_end some_may_end
+no_failure allowed = let fails = allowed (λ same. absurd cc) in absurd cc
 
 -- the marks of the top node, of the master and of the first leg
 abbrev mark : Status → ℕ → ℕ → Mark
@@ -78,3 +104,12 @@ module _ (some : LedgerId) where
   top_fails : decide NoSpace false 0 ≡ 0 ∷ 0 ∷ 1 ∷ 1 ∷ 1 ∷ 1 ∷ 1 ∷ []
   unfolding sum_at one upd each plan may_end some_may_end
   top_fails = refl
+
+-- the writer opens the top node for the bio of the whole write
+for_the_write : bios_after (setup true) (start.task 0) (touch_of (what.Link 0 how.Write 0)) no_bios 0 0 ≡ first_bio 0 todo 0
+unfolding upd
+for_the_write = refl
+
+and_no_other : bios_after (setup true) (start.task 0) (touch_of (what.Link 0 how.Write 0)) no_bios 0 1 ≡ no_bios 0 1
+unfolding upd
+and_no_other = refl

@@ -19,7 +19,7 @@ use Rattle.run_machine.specs.Runs.{State, IsRun}
 use Rattle.block_core.specs.Weights.{Weight, total, one, task_weight, carried_weight, refs, under, legs_left, count_of}
 use Rattle.block_core.specs.Touches.{touch_of, is_master, is_master_at, masters_after, were_masters}
 use Rattle.block_core.specs.Roles.{is_leg, named, masters, children, legs_to_make, WaitsForParts, HasRoles}
-use Rattle.block_core.specs.Values.{yes, mismatch}
+use Rattle.block_core.proofs.status.Marks.{yes, mismatch}
 use Rattle.block_core.proofs.moves.Moves.{Move, place_of, touch_by, Can, after, lost, gained, limit_of, HasLine, taken_of, filled_of, vector_of, cut_lists, Tells, piece}
 use Rattle.block_core.proofs.moves.Moves as moves
 use Rattle.block_core.proofs.moves.Sums.{upd-same, upd-other, same_or_not, one-same, one-other}

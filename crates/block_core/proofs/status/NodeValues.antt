@@ -11,7 +11,7 @@ use Rattle.bio_books.specs.declared.node.Role.TheVariants as role
 use Rattle.bio_books.specs.Books.{parent_of, kept_with, closing}
 use Rattle.run_machine.specs.Scene.{Setup, tree_at}
 use Rattle.block_core.specs.Weights.{under, legs_left}
-use Rattle.block_core.specs.Values.{is, Mark, IsMark, allowed_by, allowed, decides, mismatch, bio_may, leg_may, above, unallowed, deciding}
+use Rattle.block_core.proofs.status.Marks.{is, Mark, IsMark, allowed_by, allowed, decides, mismatch, bio_may, leg_may, above, unallowed, deciding}
 use Rattle.block_core.proofs.status.RunEndings.{few_yes}
 use Rattle.block_core.proofs.moves.Marked.{with_mark, mark_other, mark_still, IsUnmoved}
 

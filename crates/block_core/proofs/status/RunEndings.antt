@@ -33,7 +33,7 @@ use Rattle.bio_books.specs.Books.{SlipItem}
 use Rattle.run_machine.specs.Scene.{Setup, tree_at, number_of, setup_of}
 use Rattle.run_machine.specs.Lines.{ToPush, ToMaster, first_length, landed, legs_of, leg_at}
 use Rattle.block_core.specs.Fragments.{offset_of, fragment_of}
-use Rattle.block_core.specs.Values.{yes, may, bio_may, leg_may}
+use Rattle.block_core.proofs.status.Marks.{yes, may, bio_may, leg_may}
 use Rattle.block_core.proofs.moves.Moves.{piece}
 use Rattle.block_core.proofs.moves.Geometry.{IsThere, IsWhole, is_cut, falls, goes, at_device, number_of_tree, members_at, sizes_at}
 use Rattle.block_core.proofs.sound.Orders.{AskFits}

@@ -14,6 +14,8 @@ use Rattle.stack_base.specs.Tree.{tree}
 use Rattle.layout_model.specs.declared.write.Write.{Write}
 use Rattle.layout_model.specs.Plan.{plan}
 use Rattle.layout_model.specs.May.{may_end, fault_of}
+use Rattle.bio_records.specs.declared.bio.Bio.{Bio}
+use Rattle.bio_records.specs.Clear.{no_bio}
 use Rattle.bio_records.specs.declared.tasks.TaskLists.{TaskLists}
 use Rattle.bio_books.specs.declared.node.Role.{Role}
 use Rattle.bio_books.specs.declared.node.Role.TheVariants as role
@@ -33,10 +35,12 @@ use Rattle.run_machine.specs.Runs.{State, IsRun, Happens, HasEnded}
 use Rattle.block_core.specs.Weights.{total, one}
 use Rattle.block_core.specs.Rounds.{round_of, is_of_round, tops, tops_left, all_worth, unfinished_of}
 use Rattle.block_core.specs.Scenarios.{IsScenario, IsNaming}
-use Rattle.block_core.specs.Values.{yes, is, may, todo_may, write_may, Mark, IsMark, lack, above, unallowed, IsValued, NodesAreValued}
+use Rattle.block_core.proofs.status.Marks.{is, may, bio_may, todo_may, write_may, Mark, IsMark, lack, above, unallowed, IsMarked}
+use Rattle.block_core.specs.Touches.{touch_of}
+use Rattle.block_core.specs.Values.{bios_after, node_bios, no_bios, NodesAreValued}
 use Rattle.block_core.specs.DoneWrites.{IsGiven, StatusesAreGiven, HasGivenStatuses, EndedStatusesAreGiven}
 use Rattle.block_core.proofs.moves.Sums.{one-same, one-other, same_or_not}
-use Rattle.block_core.proofs.moves.Moves.{Move, place_of, Can, after, with_line, HasLine}
+use Rattle.block_core.proofs.moves.Moves.{Move, place_of, touch_by, Can, after, with_line, HasLine}
 use Rattle.block_core.proofs.moves.Moves as moves
 use Rattle.block_core.proofs.sound.Facts.{Fair}
 use Rattle.block_core.proofs.sound.TaskLines.{all-upd}
@@ -54,9 +58,11 @@ use Rattle.block_core.proofs.images.Completed.{over_follows, opened_total, all_s
 use Rattle.block_core.proofs.images.PlannedOnce.{begins_sum}
 use Rattle.block_core.proofs.images.BioData.{own_writes}
 use Rattle.block_core.proofs.images.ImageData.{IsOwn, own_stays, completed_waits, completed_ends, start_own}
-use Rattle.block_core.proofs.status.RunEndings.{Given, given}
+use Rattle.block_core.proofs.status.RunEndings.{Given, given, plan_alone}
 use Rattle.block_core.proofs.status.NodeValues.{is_itself}
-use Rattle.block_core.proofs.status.ValuesKept.{HasEnding, stays_valued}
+use Rattle.block_core.proofs.status.ValuesKept.{HasEnding, marks_by, stays_marked}
+use Rattle.block_core.proofs.status.NodeBios.{AreOfBios, stays_of_bios}
+use Rattle.block_core.proofs.status.Valued.{may_given, are_valued}
 
 -- a task with a submission brings nothing
 line_ending : (s : Scenario) (x : TaskState) (doing : Doing) (lists : TaskLists) (line : Line) → HasLine x doing lists → HasEnding (fault_of s.stack) (with_line x line)
@@ -96,37 +102,26 @@ module _ (s : Scenario) (ledger : ℕ → LedgerId) (st : State) (own : (number 
   endings_stay (moves.Resized place pool min later duties) c = goes place _ tt
   endings_stay (moves.Started place round later duties) c = goes place _ tt
 
--- such an end of a write
-may_given : (s : Scenario) (number : ℕ) (end : Status) → 1 ≤ write_may s number end → IsGiven s number end
-may_given s number end may_come = by_write (slice_get s.writes number) refl may_come
-  where
-    so : (b : Bool) → 1 ≤ yes b → b ≡ true
-    so true le = refl
-    so false le = absurd (omega (arith, le))
-
-    by_write : (found : Option Write) → slice_get s.writes number ≡ found
-        → 1 ≤ option_map_or (λ (write : Write). may (fault_of s.stack) (plan (tree s.stack write.dev.0) number 0 write.start write.count) end) found 0 → IsGiven s number end
-    by_write None at le = absurd (omega (arith, le))
-    by_write (Some write) at le = (write, at, so (may_end (fault_of s.stack) (plan (tree s.stack write.dev.0) number 0 write.start write.count) end) le)
-
 -- all that is known of statuses
-pub record IsTold (s : Scenario) (ledger : ℕ → LedgerId) (st : State) : Type 0 where
+pub record IsTold (s : Scenario) (ledger : ℕ → LedgerId) (bios : ℕ → ℕ → Bio) (st : State) : Type 0 where
   pub counted : total (scene s ledger) (misfits over) st ≡ 0
   pub own : (number : ℕ) → IsOwn s number (st.objects.disk number)
   pub endings : (place : ℕ) → HasEnding (fault_of s.stack) (st.task place)
-  pub valued : IsValued (scene s ledger) (fault_of s.stack) (write_may s) st
+  pub mark : ℕ → ℕ → Mark
+  pub tied : AreOfBios (setup_in s) (fault_of s.stack) mark bios
+  pub valued : IsMarked (scene s ledger) (fault_of s.stack) (write_may s) mark st
   -- a write is unfinished, or its status is one that it may have
   pub all : length st.objects.tally.statuses ≡ length s.writes
   pub tallied : (number : ℕ) → number < length s.writes
       → (1 ≤ total (scene s ledger) (stage number) st) ⊎ ((end : Status) × (slice_get st.objects.tally.statuses number ≡ Some end) × IsGiven s number end)
 
 -- what is left of a top node ends as its write may
-ends_given : (s : Scenario) (ledger : ℕ → LedgerId) (st : State) → IsTold s ledger st → (place : ℕ) (disk : DevId) (writer : ℕ) (closed : Closed)
+ends_given : (s : Scenario) (ledger : ℕ → LedgerId) (bios : ℕ → ℕ → Bio) (st : State) → IsTold s ledger bios st → (place : ℕ) (disk : DevId) (writer : ℕ) (closed : Closed)
     → Can (scene s ledger) st (moves.Ends place disk writer closed) → IsGiven s closed.write closed.status
-ends_given s ledger st t place disk writer closed c =
-    let w = unallowed (setup_in s) (fault_of s.stack) (write_may s) t.valued.mark closed.status in
+ends_given s ledger bios st t place disk writer closed c =
+    let w = unallowed (setup_in s) (fault_of s.stack) (write_may s) t.mark closed.status in
     let off : is closed.status closed.status - write_may s closed.write closed.status ≡ 0 =
-    ap (above (write_may s) t.valued.mark closed.status (is closed.status closed.status) writer closed.write) (sym c.3)
+    ap (above (write_may s) t.mark closed.status (is closed.status closed.status) writer closed.write) (sym c.3)
     ∙ omega (arith, t.valued.fits closed.status, task_part (scene s ledger) w st place (Completer disk (Carries writer closed)) c.0 c.1) in
     may_given s closed.write closed.status (omega (arith, off, is_itself closed.status))
 
@@ -145,7 +140,7 @@ module _ (s : Scenario) (ledger : ℕ → LedgerId) (f : Fair (scene s ledger)) 
   abbrev sc : Scene
   sc = scene s ledger
 
-  module _ (st : State) (i : Whole sc st) (t : IsTold s ledger st) where
+  module _ (bios : ℕ → ℕ → Bio) (st : State) (i : Whole sc st) (t : IsTold s ledger bios st) where
     Tallied : Move → ℕ → Type 0
     Tallied m number =
         (1 ≤ total sc (stage number) (after sc st m)) ⊎ ((end : Status) × (slice_get (after sc st m).objects.tally.statuses number ≡ Some end) × IsGiven s number end)
@@ -163,7 +158,7 @@ module _ (s : Scenario) (ledger : ℕ → LedgerId) (f : Fair (scene s ledger)) 
     ends_tallied place disk writer closed c number lt = elim (same_or_not number closed.write) [
       | inl e ↦ let P : ℕ → Type 0 = λ n. (end : Status) × (slice_get (slice_set st.objects.tally.statuses closed.write closed.status) n ≡ Some end) × IsGiven s n end in
           let long = t.all in
-          inr (subst P (sym e) (closed.status, set_get st.objects.tally.statuses closed.write closed.status (omega (arith, lt, long, e)), ends_given s ledger st t place disk writer closed c))
+          inr (subst P (sym e) (closed.status, set_get st.objects.tally.statuses closed.write closed.status (omega (arith, lt, long, e)), ends_given s ledger bios st t place disk writer closed c))
       | inr ne ↦ elim (t.tallied number lt) [
         | inl some ↦ inl (omega (arith, some, one-other closed.write number (λ q. ne (sym q)), staged sc st number (moves.Ends place disk writer closed) c))
         | inr (end, at, is_given) ↦ inr (end, set_get_other st.objects.tally.statuses closed.write number closed.status end ne at, is_given)
@@ -197,23 +192,30 @@ module _ (s : Scenario) (ledger : ℕ → LedgerId) (f : Fair (scene s ledger)) 
     long_after (moves.Ends place disk writer closed) = length-set st.objects.tally.statuses closed.write closed.status
     long_after m = refl
 
-    stays_told : (m : Move) → Can sc st m → IsTold s ledger (after sc st m)
+    stays_told : (m : Move) → Can sc st m → IsTold s ledger (bios_after sc.setup (st.task (place_of m)) (touch_by m) bios) (after sc st m)
     unfolding Tallied
     stays_told m c = record {
       counted = no_misfits over over_follows sc st i.kept t.counted m c;
       own = own_stays s ledger st i.placed t.own m c;
       endings = endings_stay s ledger st t.own t.endings m c;
-      valued = stays_valued sc (fault_of s.stack) (write_may s) v st g i.kept i.placed t.counted t.endings t.valued m c;
+mark = marks_by sc.setup (fault_of s.stack) t.mark m;
+      tied = stays_of_bios sc (fault_of s.stack) st t.mark bios t.tied m c;
+      valued = stays_marked sc (fault_of s.stack) (write_may s) v st g i.kept i.placed t.counted t.endings t.mark t.valued m c;
       all = long_after m ∙ t.all;
       tallied = tallied_after m c;
     }
 
-  pub runs_told : (st : State) (events : List Event) (new : State) → Whole sc st → IsTold s ledger st → IsRun sc st events new → IsTold s ledger new
-  runs_told st [] new i t run = subst (IsTold s ledger) (sym run) t
-  runs_told st (event ∷ events) new i t (next, (place, steps), run) =
+  pub runs_told : (st : State) (events : List Event) (new : State) (bios : ℕ → ℕ → Bio) → Whole sc st → IsTold s ledger bios st → (run : IsRun sc st events new)
+      → IsTold s ledger (node_bios sc st events new run bios) new
+  runs_told st [] new bios i t run = subst (IsTold s ledger bios) (sym run) t
+  runs_told st (event ∷ events) new bios i t (next, (place, steps), run) =
       let moved = step_is_move sc st f i.kept place event next steps in
-      runs_told next events new (runs_whole sc f g st (event ∷ []) next i (next, (place, steps), refl))
-      (subst (IsTold s ledger) (sym moved.is) (stays_told st i t moved.move moved.can)) run
+      let now : bios_after sc.setup (st.task place) (touch_of event.what) bios ≡ bios_after sc.setup (st.task (place_of moved.move)) (touch_by moved.move) bios =
+      ap (λ touch. bios_after sc.setup (st.task place) touch bios) moved.touches ∙ ap (λ at. bios_after sc.setup (st.task at) (touch_by moved.move) bios) (sym moved.at) in
+      let told : IsTold s ledger (bios_after sc.setup (st.task (place_of moved.move)) (touch_by moved.move) bios) next =
+      subst (IsTold s ledger (bios_after sc.setup (st.task (place_of moved.move)) (touch_by moved.move) bios)) (sym moved.is) (stays_told bios st i t moved.move moved.can) in
+      runs_told next events new (bios_after sc.setup (st.task place) (touch_of event.what) bios) (runs_whole sc f g st (event ∷ []) next i (next, (place, steps), refl))
+      (subst (λ b. IsTold s ledger b next) (sym now) told) run
 
 -- each write is to begin at the start
 is_numbered : (w a n : ℕ) (rs : List ℕ) (ws : List Write) → length rs ≡ n → length ws ≡ n → a ≤ w → w < a + n
@@ -229,16 +231,10 @@ is_numbered w a (suc n) (r ∷ rs) (x ∷ ws) rl wl ge lt = elim (same_or_not a 
 module _ (s : Scenario) (good : IsScenario s) (ledger : ℕ → LedgerId) where
   -- any mark will do where no node is open
   abbrev plain : Mark
-  plain = record { master = false; ends = is status.Ok }
+  plain = record { master = false; ends = bio_may (setup_in s) (fault_of s.stack) no_bio }
 
   plain_fair : IsMark plain
-  plain_fair = record { alone = alone; failed = λ same. absurd cc }
-    where
-      alone : (end : Status) → (end ≢ status.Ok) → is status.Ok end + 1 ≤ 1
-      alone status.Ok ne = absurd (ne refl)
-      alone status.Io ne = omega arith
-      alone status.Medium ne = omega arith
-      alone status.NoSpace ne = omega arith
+  plain_fair = record { alone = λ end ne. plan_alone (fault_of s.stack) _ end ne; failed = λ same. absurd cc }
 
   begins_ending : (x : TaskState) → Begins (scene s ledger) x → HasEnding (fault_of s.stack) x
   begins_ending (Writer number todos taken line) h = tt
@@ -266,15 +262,16 @@ module _ (s : Scenario) (good : IsScenario s) (ledger : ℕ → LedgerId) where
         is_numbered number 0 (length s.writes) s.rounds s.writes good.rounds refl (omega arith) (omega (arith, lt)),
       )
 
-  pub start_told : IsTold s ledger (start s)
+  pub start_told : IsTold s ledger no_bios (start s)
   start_told =
       let o = start_opened s good ledger in
       record {
         counted = start_counted s good ledger;
         own = start_own s ledger good;
         endings = λ place. begins_ending ((start s).task place) (o.tasks place);
+        mark = λ w k. plain;
+        tied = λ w k. refl;
         valued = record {
-          mark = λ w k. plain;
           fair = λ w k. plain_fair;
           fits = start_off;
           decided = λ w k. omega (arith, ap (lack plain) (o.books w k));
@@ -326,7 +323,7 @@ done_told : (w : ℕ) (end : Status) (writer : ℕ) (closed : Closed) (reply : R
 done_told w end writer closed requests.Did told = (cc, cc)
 done_told w end writer closed _ told = absurd cc
 
-module _ (s : Scenario) (ledger : ℕ → LedgerId) (st : State) (t : IsTold s ledger st) where
+module _ (s : Scenario) (ledger : ℕ → LedgerId) (bios : ℕ → ℕ → Bio) (st : State) (t : IsTold s ledger bios st) where
   ends_by : (m : Move) → Can (scene s ledger) st m → (w : ℕ) (end : Status) (reply : Reply) → done_by w m ≡ 1
       → what_of (request (setup_in s) (st.task (place_of m))) reply ≡ Some (what.Done w end) → IsGiven s w end
   ends_by (moves.Ends place disk writer closed) c w end reply done told =
@@ -334,14 +331,14 @@ module _ (s : Scenario) (ledger : ℕ → LedgerId) (st : State) (t : IsTold s l
       ap (request (setup_in s)) c.1 ∙ ap (λ (held : Holding). closed_request writer closed held.vector held.bio held.slip closed.parent) c.2
       ∙ ap (closed_request writer closed None None None) c.3 in
       let same = done_told w end writer closed reply (ap (λ r. what_of r reply) (sym asks) ∙ told) in
-      subst (λ n. IsGiven s n end) same.0 (subst (IsGiven s closed.write) same.1 (ends_given s ledger st t place disk writer closed c))
+      subst (λ n. IsGiven s n end) same.0 (subst (IsGiven s closed.write) same.1 (ends_given s ledger bios st t place disk writer closed c))
   ends_by _ c w end reply done told = absurd (omega (arith, done))
 
 module _ (s : Scenario) (ledger : ℕ → LedgerId) (events : List Event) (state : State) (good : IsScenario s) (naming : IsNaming ledger) (run : IsRun (scene s ledger) (start s) events state) where
-  told : IsTold s ledger state
+  told : IsTold s ledger (node_bios (scene s ledger) (start s) events state run no_bios) state
   told =
       let places = (setup_in s).places in
-      runs_told s ledger (record { named = naming }) (ground s.stack good.stack places) (given s.stack good.stack places (fault_of s.stack)) (start s) events state
+      runs_told s ledger (record { named = naming }) (ground s.stack good.stack places) (given s.stack good.stack places (fault_of s.stack)) (start s) events state no_bios
       (start_whole s ledger good naming) (start_told s good ledger) run
 
   happens_given : (event : Event) (new : State) → Happens (scene s ledger) state event new → (w : ℕ) (end : Status) → event.what ≡ what.Done w end → IsGiven s w end
@@ -354,7 +351,7 @@ module _ (s : Scenario) (ledger : ℕ → LedgerId) (events : List Event) (state
       subst (λ p. what_of (request (setup_in s) (state.task p)) steps.reply ≡ Some (what.Done w end)) (sym moved.at) here in
       let asks = told_done w (request (setup_in s) (state.task (place_of moved.move))) steps.reply (what.Done w end) at_place in
       let one_done : done_of w (what_of (request (setup_in s) (state.task (place_of moved.move))) steps.reply) ≡ 1 = ap (done_of w) at_place ∙ one-same w in
-      ends_by s ledger state told moved.move moved.can w end steps.reply (sym (asked_by (scene s ledger) state w moved.move moved.can) ∙ sym asks ∙ one_done) at_place
+      ends_by s ledger (node_bios (scene s ledger) (start s) events state run no_bios) state told moved.move moved.can w end steps.reply (sym (asked_by (scene s ledger) state w moved.move moved.can) ∙ sym asks ∙ one_done) at_place
 
   ended_given : HasEnded state → HasGivenStatuses s state.objects.tally.statuses
   ended_given ended =
@@ -383,4 +380,8 @@ pub completers_are_right : (s : Scenario) (ledger : ℕ → LedgerId) (events : 
 completers_are_right s ledger events state good naming run = (told s ledger events state good naming run).endings
 
 pub nodes_are_valued : NodesAreValued
-nodes_are_valued s ledger events state good naming run = (told s ledger events state good naming run).valued
+nodes_are_valued s ledger events state good naming run =
+    let t = told s ledger events state good naming run in
+    let f : Fair (scene s ledger) = record { named = naming } in
+    let i = runs_whole (scene s ledger) f (ground s.stack good.stack (setup_in s).places) (start s) events state (start_whole s ledger good naming) run in
+    are_valued s (scene s ledger) (node_bios (scene s ledger) (start s) events state run no_bios) state i.kept t.mark t.tied t.valued

@@ -29,7 +29,7 @@ use Rattle.run_machine.specs.Runs.{State}
 use Rattle.block_core.specs.Weights.{Weight, Lined, Rescued, total, one, carried_weight, refs, names, under, legs_left, count_of}
 use Rattle.block_core.specs.Fragments.{fragment_of}
 use Rattle.block_core.specs.Hands.{CarriedIsRight}
-use Rattle.block_core.specs.Values.{is, bio_may, leg_may, todo_may, Mark, IsMark, allowed, allowed_by, decides, lack, mismatch, above, unallowed, deciding, IsValued}
+use Rattle.block_core.proofs.status.Marks.{is, bio_may, leg_may, todo_may, Mark, IsMark, allowed, allowed_by, decides, lack, mismatch, above, unallowed, deciding, IsMarked}
 use Rattle.block_core.proofs.moves.Moves.{Move, Can, after, lost, gained, limit_of, with_line, HasLine, Wants, with_want, taken_of, filled_of, vector_of, cut_lists, Tells, Hands, piece}
 use Rattle.block_core.proofs.moves.Moves as moves
 use Rattle.block_core.proofs.moves.Sums.{upd-same, upd-other, one-same, one-other, same_or_not, within_book}
@@ -108,7 +108,7 @@ not_here : (writer w key k : ℕ) → (w ≢ writer) ⊎ (k ≢ key) → one wri
 not_here writer w key k (inl ne) = ap (λ n. n * one key k) (one-other writer w (λ e. ne (sym e))) ∙ omega arith
 not_here writer w key k (inr ne) = ap (λ n. one writer w * n) (one-other key k (λ e. ne (sym e))) ∙ omega arith
 
-here_or : (writer w key k : ℕ) → ((w ≡ writer) × (k ≡ key)) ⊎ ((w ≢ writer) ⊎ (k ≢ key))
+pub here_or : (writer w key k : ℕ) → ((w ≡ writer) × (k ≡ key)) ⊎ ((w ≢ writer) ⊎ (k ≢ key))
 here_or writer w key k = by_two (same_or_not w writer) (same_or_not k key)
   where
     by_two : (w ≡ writer) ⊎ (w ≢ writer) → (k ≡ key) ⊎ (k ≢ key) → ((w ≡ writer) × (k ≡ key)) ⊎ ((w ≢ writer) ⊎ (k ≢ key))
@@ -172,6 +172,19 @@ sum_few : (f : ℕ → ℕ) (n a : ℕ) → ((k : ℕ) → f k ≤ 1) → sum_by
 sum_few f zero a few = omega arith
 sum_few f (suc n) a few = omega (arith, sum_by-cons f a (range_with_len (a + 1) n), few a, sum_few f n (a + 1) few)
 
+-- the mark of a new node, and the marks behind an event
+abbrev pub new_mark : Bool → (Status → ℕ) → Mark
+new_mark master of = record { master = master; ends = of }
+
+abbrev pub marks_by : Setup → (Fragment → Status) → (ℕ → ℕ → Mark) → Move → ℕ → ℕ → Mark
+marks_by setup ends mark (moves.Begins place writer todo later item vector key) = with_mark mark writer key (new_mark false (todo_may setup ends todo))
+marks_by setup ends mark (moves.Chained place x bio lists hand number kind sizes members key node) =
+    with_mark mark bio.bio.writer key (new_mark false (bio_may setup ends (piece bio hand (first_length kind sizes bio.bio.range) key kind sizes members).bio))
+marks_by setup ends mark (moves.Mastered place x bio lists slip key node) = with_mark mark bio.bio.writer key (new_mark true (bio_may setup ends bio.bio))
+marks_by setup ends mark (moves.Legged place x bio lists master leg hand key node) =
+    with_mark mark bio.writer key (new_mark false (bio_may setup ends (leg_at bio hand leg key (tree_at setup bio.dev)).bio))
+marks_by setup ends mark m = mark
+
 module _ (scene : Scene) (ends : Fragment → Status) (written : ℕ → Status → ℕ) (v : Given scene.setup ends) where
   abbrev setup : Setup
   setup = scene.setup
@@ -221,17 +234,11 @@ module _ (scene : Scene) (ends : Fragment → Status) (written : ℕ → Status 
         omega (arith, times_few (under w k writer closed.parent) (decides master (is Ok closed.status)) (decides_few master (is Ok closed.status) (few_is Ok closed.status)));
   }
 
-  -- the mark of a new node
-  abbrev new_mark : Bool → (Status → ℕ) → Mark
-  new_mark master of = record { master = master; ends = of }
-
   new_fair : (bio : Bio) → IsMark (new_mark false (bio_may setup ends bio))
   new_fair bio = record { alone = λ end ne. plan_alone ends _ end ne; failed = λ same. absurd cc }
 
   module _ (s : State) (g : Ground setup) (i : Kept scene s) (a : Placed setup s) (counted : total scene (misfits over) s ≡ 0) (endings : (place : ℕ) → HasEnding ends (s.task place))
-      (h : IsValued scene ends written s) where
-    abbrev mark : ℕ → ℕ → Mark
-    mark = h.mark
+      (mark : ℕ → ℕ → Mark) (h : IsMarked scene ends written mark s) where
 
     has : (place : ℕ) (x : TaskState) (doing : Doing) (lists : TaskLists) → s.task place ≡ x → HasLine x doing lists → DoingPlaced setup (limit_of x) doing lists
     has place x doing lists at line = line_placed setup x doing lists (subst (TaskPlaced setup) at (a.tasks place)) line
@@ -318,15 +325,8 @@ module _ (scene : Scene) (ends : Fragment → Status) (written : ℕ → Status 
         (told_may place disk carried writer key status part c.0 c.1 c.2)
         (omega (arith, lacks, teller, one_end, own, nothing, delta scene w s m c))
 
-    -- the marks behind an event: one of a new node
-    abbrev pub marks_after : Move → ℕ → ℕ → Mark
-    marks_after (moves.Begins place writer todo later item vector key) = with_mark mark writer key (new_mark false (todo_may setup ends todo))
-    marks_after (moves.Chained place x bio lists hand number kind sizes members key node) =
-        with_mark mark bio.bio.writer key (new_mark false (bio_may setup ends (piece bio hand (first_length kind sizes bio.bio.range) key kind sizes members).bio))
-    marks_after (moves.Mastered place x bio lists slip key node) = with_mark mark bio.bio.writer key (new_mark true (bio_may setup ends bio.bio))
-    marks_after (moves.Legged place x bio lists master leg hand key node) =
-        with_mark mark bio.writer key (new_mark false (bio_may setup ends (leg_at bio hand leg key (tree_at setup bio.dev)).bio))
-    marks_after m = mark
+    abbrev marks_after : Move → ℕ → ℕ → Mark
+    marks_after m = marks_by setup ends mark m
 
     with_fair : (writer key : ℕ) (new : Mark) → IsMark new → (w k : ℕ) → IsMark (with_mark mark writer key new w k)
     with_fair writer key new fair w k = elim (here_or writer w key k) [
@@ -798,5 +798,5 @@ module _ (scene : Scene) (ends : Fragment → Status) (written : ℕ → Status 
     decided_after (moves.Resized place pool min later duties) c w k = same_decided (moves.Resized place pool min later duties) c refl w k (omega arith)
     decided_after (moves.Started place round later duties) c w k = same_decided (moves.Started place round later duties) c refl w k (omega arith)
 
-    pub stays_valued : (m : Move) → Can scene s m → IsValued scene ends written (after scene s m)
-    stays_valued m c = record { mark = marks_after m; fair = fair_after m c; fits = λ end. off_after end m c; decided = decided_after m c }
+    pub stays_marked : (m : Move) → Can scene s m → IsMarked scene ends written (marks_by setup ends mark m) (after scene s m)
+    stays_marked m c = record { fair = fair_after m c; fits = λ end. off_after end m c; decided = decided_after m c }
