@@ -18,6 +18,7 @@ use Rattle.run_machine.specs.Lines.{Want, Takes, Punts, Links, ToPush, ToCut, To
 use Rattle.run_machine.specs.Tasks.{Todo, Taken, NoBio, HasBio, HasBoth, Keeps, Stops, TaskState, Writer, Rescuer, Completer, Keeper}
 use Rattle.run_machine.specs.Opened.{Scenario, scene, start}
 use Rattle.run_machine.specs.Runs.{State, IsRun}
+use Rattle.block_core.specs.Payers.{WriteBio, WriteVector, Record, PieceBio, Fragment, charge_of}
 use Rattle.block_core.specs.Weights.{Weight, Spot, Lined, Rescued, Pending, Brought, sum_at, total, legs_left}
 use Rattle.block_core.specs.Scenarios.{IsScenario, IsNaming}
 
@@ -26,12 +27,12 @@ use Rattle.block_core.specs.Scenarios.{IsScenario, IsNaming}
 -- link, a pop, the end of its own fragment, its parent's, and that it is given back; and where one copies, where the run starts, a take, a
 -- link, an end and a give of the record, and eight a bio for each member
 unfoldable pub begun_charge : Tree → ℕ → ℕ → ℕ
-begun_charge (Leaf number sectors) r s = if r == s then 2 else 0
+begun_charge (Leaf number sectors) r s = if r == s then charge_of Fragment else 0
 begun_charge (Split number kind sizes members) r s =
-    (if (head kind sizes r s == s) && not (r == s) then 8 else 0)
+    (if (head kind sizes r s == s) && not (r == s) then charge_of PieceBio else 0)
     + begun_charge (members (slot kind sizes s).member) (slot kind sizes (head kind sizes r s)).at (slot kind sizes s).at
 begun_charge (Mirrored number sizes members) r s =
-    (if r == s then 4 + 8 * length sizes else 0) + sum_by (λ k. begun_charge (members k) r s) (range_with_len 0 (length sizes))
+    (if r == s then charge_of Record + charge_of PieceBio * length sizes else 0) + sum_by (λ k. begun_charge (members k) r s) (range_with_len 0 (length sizes))
 
 -- what the run of len sectors from r on is charged
 unfoldable pub run_charge : Tree → ℕ → ℕ → ℕ
@@ -54,7 +55,7 @@ bio_charge setup Brought item = 1
 abbrev pub leg_charge : Tree → Range → ℕ → ℕ
 leg_charge (Leaf number sectors) range leg = 0
 leg_charge (Split number kind sizes members) range leg = 0
-leg_charge (Mirrored number sizes members) range leg = 8 + run_charge (members leg) range.start range.len
+leg_charge (Mirrored number sizes members) range leg = charge_of PieceBio + run_charge (members leg) range.start range.len
 
 abbrev pub legs_charge : Setup → Bio → ℕ → ℕ
 legs_charge setup bio leg = sum_by (leg_charge (tree_at setup bio.dev) bio.range) (range_with_len leg (legs_left setup bio leg))
@@ -68,7 +69,7 @@ abbrev pub write_run : Setup → Todo → ℕ
 write_run setup todo = run_charge (tree_at setup todo.write.dev) todo.write.start todo.write.count
 
 abbrev pub write_charge : Setup → Todo → ℕ
-write_charge setup todo = 5 + 2 * vectors todo.write.count + write_run setup todo
+write_charge setup todo = charge_of WriteBio + charge_of WriteVector * vectors todo.write.count + write_run setup todo
 
 abbrev pub todo_charge : Setup → List Todo → Taken → ℕ
 todo_charge setup [] taken = 0

@@ -1,5 +1,5 @@
 -- Which events are paid for by what: the table behind the charges.
-use Rattle.std.specs.Prelude.{List, [], ◌∷◌}
+use Rattle.std.specs.Prelude.{ℕ, List, [], ◌∷◌, length}
 
 pub data Payer : Type 0 where
   -- the bio of a write, and its vector, where it has one
@@ -42,3 +42,7 @@ pays_for Fragment = IsPushed ∷ IsCompleted ∷ []
 pays_for ScriptEntry = MissesWaiting ∷ []
 pays_for LaterRound = Starts ∷ []
 pays_for ReserveChange = Resizes ∷ []
+
+-- so this is what each is charged at first: the charges of a state are what is left of these
+abbrev pub charge_of : Payer → ℕ
+charge_of payer = length (pays_for payer)
