@@ -16,6 +16,7 @@ pub mod Rounds
 pub mod OffLevels
 pub mod Levels
 pub mod LevelsKept
+pub mod CarriedLevels
 pub mod Posts
 pub mod Wholes
 pub mod OfOneWrite

@@ -11,6 +11,7 @@ use Rattle.run_machine.specs.Lines.{Want, Takes, Punts, Links, Ask, ToPush, ToCu
 use Rattle.run_machine.specs.Tasks.{Taken, NoBio, HasBio, HasBoth, Carried, Empty, Brings, Carries, Fails, TaskState, Writer, Rescuer, Completer, Keeper}
 use Rattle.run_machine.specs.Runs.{State}
 use Rattle.block_core.specs.Fragments.{fragment_of}
+use Rattle.block_core.specs.Levels.{HoldsOneLevel}
 
 -- a writer that has something in hand for its next write has it of the writers' pools, and submits nothing
 abbrev pub TakenIsRight : Taken → Line → Type 0
@@ -39,12 +40,12 @@ DoingIsRight setup (Drives bio ask) = AskIsRight (tree_at setup bio.bio.dev) bio
 DoingIsRight setup (Copies bio master leg want) = (leg < legs_of (tree_at setup bio.dev)) × WantIsRight bio.dev want
 DoingIsRight setup (Breaks breach kept) = ⊥
 
--- A completer brings a bio that is at its own disk, with the end of the fragment that the bio is. What it carries of a closed node is what the node
--- held, and comes back element by element. It never fails.
+-- A completer brings a bio that is at its own disk, with the end of the fragment that the bio is. What it still holds of a closed node is of pools of one
+-- level, as what an open node holds. It never fails.
 abbrev pub CarriedIsRight : (Fragment → Status) → DevId → Carried → Type 0
 CarriedIsRight ends disk Empty = Unit {0}
 CarriedIsRight ends disk (Brings bio status) = (bio.bio.dev.0 ≡ disk.0) × (status ≡ ends (fragment_of bio.bio))
-CarriedIsRight ends disk (Carries writer closed) = Unit {0}
+CarriedIsRight ends disk (Carries writer closed) = HoldsOneLevel closed.held
 CarriedIsRight ends disk (Fails breach kept) = ⊥
 
 abbrev pub HandIsRight : Setup → (Fragment → Status) → TaskState → Type 0

@@ -16,6 +16,10 @@ pub record HoldsLevel (level : ℕ) (held : Holding) : Type 0 where
   pub vector : (vector : VectorItem) → held.vector ≡ Some vector → IsOfLevel level vector.share.no
   pub slip : (slip : SlipItem) → held.slip ≡ Some slip → IsOfLevel level slip.share.no
 
+-- all of it is of one level
+abbrev pub HoldsOneLevel : Holding → Type 0
+HoldsOneLevel held = (level : ℕ) × HoldsLevel level held
+
 -- The numbers of pools rise from node to parent: each node has a level, of which are all elements that it holds, and the bio that names it, and
 -- which is below that of its parent.
 pub record HasLevels (scene : Scene) (state : State) : Type 0 where

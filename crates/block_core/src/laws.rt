@@ -200,9 +200,9 @@ pub fn accepted_texts_are_runnable()
 {}
 
 /// So of every scenario that can be run, whose mirrors of two members or more have rescuers, in every interleaving: each pool adds up, each write
-/// is told done at most once, after exactly its fragments and with a status that they give, an ended run leaves exactly the laid-out images, while a
-/// write is unfinished an event can come next that needs no ordinary memory, and no run has more than 8 E + 2 G + Z events. So it is with every text
-/// of which no line is refused, by the bound that is told of it.
+/// is told done at most once, after exactly its fragments and with a status that they give, an ended run leaves exactly the laid-out images, and has
+/// the number of events that the layout fixes where no take missed, while a write is unfinished an event can come next that needs no ordinary memory,
+/// and no run has more than 8 E + 2 G + Z events. So it is with every text of which no line is refused, by the bound that is told of it.
 pub fn every_run_is_as_claimed()
     ensures all { EveryRunIsAsClaimed }
     ensures accepted { AcceptedTextsRunAsClaimed }

@@ -1,6 +1,6 @@
 -- Hands by hand to which no run comes: a completer that brings a wrong end, one that brings a bio of another disk, and one that fails. And a bio that
 -- a mirror copies with the data of another place.
-use Rattle.std.proofs.Common.{◌≡◌, ℕ, true, [], refl, arith}
+use Rattle.std.proofs.Common.{◌≡◌, ℕ, true, [], None, Some, refl, arith}
 use Rattle.elem_ledger.specs.Ledger.{LedgerId}
 use Rattle.stack_base.specs.declared.ids.DevId.{DevId}
 use Rattle.stack_base.specs.declared.ids.SetId.TheVariants.{Fs}
@@ -10,6 +10,7 @@ use Rattle.layout_model.specs.declared.fragment.Fragment.{Fragment}
 use Rattle.bio_records.specs.declared.bio.Bio.{Bio}
 use Rattle.bio_records.specs.declared.bio.Pad.{Pad}
 use Rattle.bio_records.specs.Items.{Item}
+use Rattle.bio_books.specs.Books.{SlipItem}
 use Rattle.run_machine.specs.declared.event.Breach.TheVariants as breach
 use Rattle.run_machine.specs.Scene.{Setup}
 use Rattle.run_machine.specs.Lines.{Copies, Takes, Line}
@@ -17,6 +18,7 @@ use Rattle.run_machine.specs.Tasks.{TaskState, Rescuer, Completer, Brings, Fails
 use Rattle.bio_lists.specs.Submission.{no_lists}
 use Rattle.block_core.specs.EachBio.{TaskCopies}
 use Rattle.block_core.specs.Hands.{HandIsRight}
+use Rattle.block_core.specs.Levels.{HoldsOneLevel}
 
 abbrev device : ℕ → DevId
 device number = record { 0 = number }
@@ -63,3 +65,11 @@ copying = Rescuer (device 2) (record { doing = Copies (bio 1) 1 0 (Takes true); 
 
 wrong_word : TaskCopies IsOfSecond copying → ⊥
 wrong_word copied = omega (arith, copied)
+
+-- a bio of a device's set and a record of its own are of two levels, so no closed node held both
+two_levels : (bio : Item Pad) (slip : SlipItem) → bio.share.no ≡ 0 → slip.share.no ≡ 1
+    → HoldsOneLevel (record { bio = Some bio; vector = None; slip = Some slip }) → ⊥
+two_levels bio slip of_bios of_records held =
+    let a = held.1.bio bio refl in
+    let b = held.1.slip slip refl in
+    omega (arith, a, b, of_bios, of_records)

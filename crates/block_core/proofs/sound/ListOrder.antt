@@ -15,13 +15,14 @@ use Rattle.bio_records.specs.Items.{Item}
 use Rattle.bioset_pools.specs.Sets.{bios_of}
 use Rattle.run_machine.specs.Scene.{Setup, Scene, tree_at}
 use Rattle.run_machine.specs.Lines.{Want, Takes, Punts as WantsPunt, Links, Ask, ToPush, ToCut, ToRecord, ToMaster, Doing, Rests, Drives, Copies, Breaks, Line}
-use Rattle.run_machine.specs.Tasks.{TaskState, Writer, Rescuer, Completer, Keeper, Taken, NoBio, HasBio, HasBoth}
+use Rattle.run_machine.specs.Tasks.{TaskState, Writer, Rescuer, Completer, Keeper, Taken, NoBio, HasBio, HasBoth, Empty, Brings, Carries, Fails}
 use Rattle.run_machine.specs.Runs.{State}
 use Rattle.block_core.specs.Orders.{IsAbove, AreAbove, GoUp, IsSetOf, IsOwnBelow, IsLegOf, DoingInOrder, DoingBelow, AreBelow, TaskInOrder, AreInListOrder}
 use Rattle.block_core.specs.Hands.{TakenIsRight, WantIsRight, AskIsRight, DoingIsRight, HandIsRight, HandsAreRight}
 use Rattle.block_core.proofs.sound.Facts.{HandFits, DoingFits, TaskFits, Kept}
 use Rattle.block_core.proofs.sound.Orders.{Each, Above, Ordered, IsPlaced, IsOwn, WantFits, AskFits, DoingPlaced, HandHome, TaskPlaced, Placed}
 use Rattle.block_core.proofs.sound.LegLists.{HasLegs, TaskHasLegs, Legged}
+use Rattle.block_core.proofs.sound.CarriedLevels.{TaskOne}
 use Rattle.block_core.proofs.status.ValuesKept.{HasEnding}
 
 all_of : {X : Type 0} (P Q : X → Type 0) → ((x : X) → P x → Q x) → (xs : List X) → Each P xs → All Q xs
@@ -128,14 +129,17 @@ module _ (setup : Setup) where
   taken_right (HasBoth item vector) line fits home = (home.0, home.1, fits)
 
 module _ (scene : Scene) (s : State) (i : Kept scene s) (p : Placed scene.setup s) where
-  pub hands_right : (ends : Fragment → Status) → ((place : ℕ) → HasEnding ends (s.task place)) → HandsAreRight scene ends s
-  hands_right ends endings place = by_task (s.task place) (i.tasks place) (p.tasks place) (endings place)
+  pub hands_right : (ends : Fragment → Status) → ((place : ℕ) → HasEnding ends (s.task place)) → ((place : ℕ) → TaskOne (s.task place)) → HandsAreRight scene ends s
+  hands_right ends endings ones place = by_task (s.task place) (i.tasks place) (p.tasks place) (endings place) (ones place)
     where
-      by_task : (x : TaskState) → TaskFits scene x → TaskPlaced scene.setup x → HasEnding ends x → HandIsRight scene.setup ends x
-      by_task (Writer number todo taken line) fits t e = (taken_right scene.setup taken line fits.2 t.2, doing_right scene.setup 32 line.doing line.lists fits.1 t.1)
-      by_task (Rescuer dev line) fits t e = doing_right scene.setup dev.0 line.doing line.lists fits.1 t
-      by_task (Completer disk carried) fits t e = e
-      by_task (Keeper keeping) fits t e = tt
+      by_task : (x : TaskState) → TaskFits scene x → TaskPlaced scene.setup x → HasEnding ends x → TaskOne x → HandIsRight scene.setup ends x
+      by_task (Writer number todo taken line) fits t e one = (taken_right scene.setup taken line fits.2 t.2, doing_right scene.setup 32 line.doing line.lists fits.1 t.1)
+      by_task (Rescuer dev line) fits t e one = doing_right scene.setup dev.0 line.doing line.lists fits.1 t
+      by_task (Completer disk Empty) fits t e one = tt
+      by_task (Completer disk (Brings bio status)) fits t e one = e
+      by_task (Completer disk (Carries writer closed)) fits t e one = one
+      by_task (Completer disk (Fails breach kept)) fits t e one = e
+      by_task (Keeper keeping) fits t e one = tt
 
   pub in_list_order : Legged scene s → AreInListOrder scene s
   in_list_order l = record {

@@ -1,5 +1,5 @@
 -- A state by hand in which sums alone see nothing wrong, and no run comes to it: a node of two ends, of which each is a bio that names it.
-use Rattle.std.proofs.Common.{◌≡◌, ℕ, true, false, [], ◌∷◌, Some, refl, arith}
+use Rattle.std.proofs.Common.{◌≡◌, ℕ, Bool, true, false, [], ◌∷◌, Some, refl, arith}
 use Rattle.elem_ledger.specs.Ledger.{LedgerId}
 use Rattle.stack_base.specs.declared.ids.Status.TheVariants as status
 use Rattle.stack_base.specs.declared.ids.SetId.TheVariants.{Fs}

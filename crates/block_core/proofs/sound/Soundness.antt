@@ -4,7 +4,7 @@ use Rattle.std.specs.Prelude.{min}
 use Rattle.layout_model.specs.May.{fault_of}
 use Rattle.bio_records.specs.declared.bio.Pad.{Pad}
 use Rattle.bio_records.specs.Items.{Item}
-use Rattle.bio_books.specs.Books.{VectorItem, SlipItem, Holding, node_at, parent_of}
+use Rattle.bio_books.specs.Books.{node_at, parent_of}
 use Rattle.run_machine.specs.Scene.{Scene}
 use Rattle.run_machine.specs.Lines.{Line}
 use Rattle.run_machine.specs.Tasks.{TaskState, Writer, Rescuer, Completer, Keeper}
@@ -13,14 +13,16 @@ use Rattle.run_machine.specs.Runs.{State}
 use Rattle.block_core.specs.Weights.{total, weigh_option}
 use Rattle.block_core.specs.Fragments.{is_it}
 use Rattle.block_core.specs.Weights.{apart}
-use Rattle.block_core.proofs.sound.OffLevels.{parent_off, held_off, off_levels}
-use Rattle.block_core.specs.Levels.{HoldsLevel, HasLevels}
+use Rattle.block_core.proofs.sound.CarriedLevels.{on_level, TaskOne, begins_one, stays_one}
+use Rattle.block_core.proofs.sound.LevelsKept.{stays_leveled}
+use Rattle.block_core.proofs.sound.OffLevels.{parent_off, off_levels, AreLeveled}
+use Rattle.block_core.specs.Levels.{HasLevels}
 use Rattle.block_core.specs.Images.{HasItsWord}
 use Rattle.block_core.specs.Sound.{EveryRunIsSound}
 use Rattle.block_core.proofs.sound.Facts.{own_of, Fair, Kept}
 use Rattle.block_core.proofs.start.FactsAtStart.{Begins, IsOpened, total_zero, start_opened}
 use Rattle.block_core.proofs.moves.Devices.{ground}
-use Rattle.block_core.proofs.sound.Wholes.{runs_whole, run_tallied, runs_leveled, runs_roomy, start_whole, start_leveled, none_waits_for_itself}
+use Rattle.block_core.proofs.sound.Wholes.{runs_whole, run_tallied, runs_roomy, start_whole, start_leveled, none_waits_for_itself}
 use Rattle.block_core.proofs.sound.Lasting.{runs_keep}
 use Rattle.block_core.proofs.sound.EachBio.{each_bio, each_copied}
 use Rattle.block_core.proofs.stuck.Idle.{node_part}
@@ -44,22 +46,6 @@ use Rattle.block_core.specs.Touches.{were_masters, none_was}
 
 -- the levels that all is on, as facts
 module _ (scene : Scene) (s : State) (i : Kept scene s) (level : ℕ → ℕ → ℕ) (off : total scene (off_levels level) s ≡ 0) where
-  on_level : (l : ℕ) (held : Holding) → held_off l held ≡ 0 → HoldsLevel l held
-  on_level l held none = record {
-    bio = λ bio is.
-        let part : weigh_option (λ (bio : Item Pad). apart l (min bio.share.no 64)) held.bio ≡ apart l (min bio.share.no 64) =
-        ap (weigh_option (λ (bio : Item Pad). apart l (min bio.share.no 64))) is in
-        omega (arith, none, part);
-    vector = λ vector is.
-        let part : weigh_option (λ (vector : VectorItem). apart l (min vector.share.no 64)) held.vector ≡ apart l (min vector.share.no 64) =
-        ap (weigh_option (λ (vector : VectorItem). apart l (min vector.share.no 64))) is in
-        omega (arith, none, part);
-    slip = λ slip is.
-        let part : weigh_option (λ (slip : SlipItem). apart l (min slip.share.no 64)) held.slip ≡ apart l (min slip.share.no 64) =
-        ap (weigh_option (λ (slip : SlipItem). apart l (min slip.share.no 64))) is in
-        omega (arith, none, part);
-  }
-
   pools_rise : HasLevels scene s
   pools_rise = record {
     level = level;
@@ -93,7 +79,13 @@ every_run_is_sound s ledger events state good naming run =
     let o = start_opened s good ledger in
     let first = start_whole s ledger good naming in
     let i = runs_whole sc f g (start s) events state first run in
-    let l = runs_leveled sc f g (start s) events state first (start_leveled s ledger good naming) run in
+    let l =
+    runs_keep sc f g (λ st. AreLeveled sc st × ((place : ℕ) → TaskOne (st.task place)))
+    (λ old m before after can held. (
+      stays_leveled sc old g before.kept before.placed held.0.0 held.0.1 m can,
+      stays_one sc old before.kept held.0.0 held.0.1 held.1 m can,
+    ))
+    (start s) events state first (start_leveled s ledger good naming, λ place. begins_one sc ((start s).task place) (o.tasks place)) run in
     let legs =
     runs_keep sc f g (Legged sc) (λ old m before after can held. stays_legged sc old before.kept before.placed held m can after.kept) (start s) events state first
     (record { tasks = λ place lt. begins_legless sc (start s) ((start s).task place) (o.tasks place) }) run in
@@ -112,7 +104,7 @@ every_run_is_sound s ledger events state good naming run =
           has_roles sc state (were_masters sc (start s) events state run none_was) i.kept (runs_stand sc f g (start s) events state none_was first (opened_stands sc (start s) o) run);
       kept = ends_are_kept sc (start s) events state o.books run;
       valued = nodes_are_valued s ledger events state good naming run;
-      levels = pools_rise sc state i.kept l.0 l.1;
+      levels = pools_rise sc state i.kept l.0.0 l.0.1;
       lists = in_list_order sc state i.kept i.placed legs;
       waits = λ rescuers. none_waits_for_itself s ledger events state good rescuers naming run;
       fragments = λ fragment is. all (is_it fragment) ∙ is_planned s good ledger fragment is;
@@ -122,5 +114,5 @@ every_run_is_sound s ledger events state good naming run =
       images = λ disk at lt. images_are_of_completed s ledger events state good naming run disk at lt;
       tally = run_tallied s ledger good naming events state run;
       places = runs_roomy sc f g (worth s.stack good.stack (setup_in s).places) (start s) events state first (start_roomy s good ledger) run;
-      hands = hands_right sc state i.kept i.placed (fault_of s.stack) (completers_are_right s ledger events state good naming run);
+      hands = hands_right sc state i.kept i.placed (fault_of s.stack) (completers_are_right s ledger events state good naming run) l.1;
     }

@@ -34,16 +34,16 @@ some_in {X = X} f (x ∷ xs) h = elim (zero_or (f x)) [
     more : (y : X) → Contains xs y → Contains (x ∷ xs) y
     more y (k, lt, at) = (suc k, omega (arith, lt), at)
 
+same_or : (a k : ℕ) → a ≤ k → (a ≡ k) ⊎ (a + 1 ≤ k)
+same_or a k le = grind (arith, le)
+
 -- a number of a range
 pub in_range : (f : ℕ → ℕ) (n a k : ℕ) → a ≤ k → k < a + n → f k ≤ sum_by f (range_with_len a n)
 in_range f zero a k ge lt = absurd (omega (arith, ge, lt))
-in_range f (suc n) a k ge lt = elim (same_or a k) [
+in_range f (suc n) a k ge lt = elim (same_or a k ge) [
   | inl e ↦ let same : f a ≡ f k = ap f e in omega (arith, same, sum_by-cons f a (range_with_len (a + 1) n))
   | inr less ↦ omega (arith, in_range f n (a + 1) k (omega (arith, less)) (omega (arith, lt)), sum_by-cons f a (range_with_len (a + 1) n))
 ]
-  where
-    same_or : (a k : ℕ) → (a ≡ k) ⊎ (a + 1 ≤ k)
-    same_or a k = grind (arith, ge)
 
 pub some_in_range : (f : ℕ → ℕ) (n a : ℕ) → 1 ≤ sum_by f (range_with_len a n) → (k : ℕ) × (a ≤ k) × (k < a + n) × (1 ≤ f k)
 some_in_range f zero a h = absurd (omega (arith, h))

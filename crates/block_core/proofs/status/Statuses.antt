@@ -198,7 +198,7 @@ module _ (s : Scenario) (ledger : ℕ → LedgerId) (f : Fair (scene s ledger)) 
       counted = no_misfits over over_follows sc st i.kept t.counted m c;
       own = own_stays s ledger st i.placed t.own m c;
       endings = endings_stay s ledger st t.own t.endings m c;
-mark = marks_by sc.setup (fault_of s.stack) t.mark m;
+      mark = marks_by sc.setup (fault_of s.stack) t.mark m;
       tied = stays_of_bios sc (fault_of s.stack) st t.mark bios t.tied m c;
       valued = stays_marked sc (fault_of s.stack) (write_may s) v st g i.kept i.placed t.counted t.endings t.mark t.valued m c;
       all = long_after m ∙ t.all;

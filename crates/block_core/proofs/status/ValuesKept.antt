@@ -28,7 +28,6 @@ use Rattle.run_machine.specs.Tasks.{TaskState, Writer, Rescuer, Completer, Keepe
 use Rattle.run_machine.specs.Runs.{State}
 use Rattle.block_core.specs.Weights.{Weight, Lined, Rescued, total, one, carried_weight, refs, names, under, legs_left, count_of}
 use Rattle.block_core.specs.Fragments.{fragment_of}
-use Rattle.block_core.specs.Hands.{CarriedIsRight}
 use Rattle.block_core.proofs.status.Marks.{is, bio_may, leg_may, todo_may, Mark, IsMark, allowed, allowed_by, decides, lack, mismatch, above, unallowed, deciding, IsMarked}
 use Rattle.block_core.proofs.moves.Moves.{Move, Can, after, lost, gained, limit_of, with_line, HasLine, Wants, with_want, taken_of, filled_of, vector_of, cut_lists, Tells, Hands, piece}
 use Rattle.block_core.proofs.moves.Moves as moves
@@ -54,10 +53,16 @@ use Rattle.block_core.proofs.status.RunEndings.{few_yes, Given, plan_alone, mirr
 use Rattle.block_core.proofs.status.NodeValues.{is_itself, few_is, is_given, own_allowed, well_allowed, failed_allowed, less_allowed, leg_allowed, few_well, well_is, closes_given, told_allowed, told_lacks, parts_decide, unallowed_unmoved, deciding_unmoved}
 
 -- what a completer brings has ended as its fragment ends
+abbrev pub BringsRight : (Fragment → Status) → DevId → Carried → Type 0
+BringsRight ends disk Empty = Unit {0}
+BringsRight ends disk (Brings bio status) = (bio.bio.dev.0 ≡ disk.0) × (status ≡ ends (fragment_of bio.bio))
+BringsRight ends disk (Carries writer closed) = Unit {0}
+BringsRight ends disk (Fails breach kept) = ⊥
+
 abbrev pub HasEnding : (Fragment → Status) → TaskState → Type 0
 HasEnding ends (Writer number todo taken line) = Unit {0}
 HasEnding ends (Rescuer dev line) = Unit {0}
-HasEnding ends (Completer disk carried) = CarriedIsRight ends disk carried
+HasEnding ends (Completer disk carried) = BringsRight ends disk carried
 HasEnding ends (Keeper keeping) = Unit {0}
 
 -- a node that a bio names is no master
