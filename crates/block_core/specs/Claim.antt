@@ -1,5 +1,5 @@
 -- The claim, of every run of every scenario that can be run.
-use Rattle.std.specs.Prelude.{◌≡◌, ◌+◌, ◌*◌, ◌^◌, ◌-◌, ◌<◌, ◌≤◌, ℕ, List, [], length, Contains, Ok}
+use Rattle.std.specs.Prelude.{◌≡◌, ◌+◌, ◌*◌, ◌^◌, ◌-◌, ◌<◌, ◌≤◌, ℕ, List, length}
 use Rattle.elem_ledger.specs.Ledger.{LedgerId}
 use Rattle.stack_base.specs.Stack.{HasRescuers}
 use Rattle.stack_base.specs.declared.ids.Status.{Status}

@@ -1,51 +1,37 @@
 -- What is due of each thing in a state where no take misses: as many events as still come of it.
-use Rattle.std.proofs.Common.{◌≡◌, ◌≢◌, ◌+◌, ◌-◌, ◌*◌, ◌<◌, ◌≤◌, ◌==◌, ◌⊎◌, if◌then◌else◌, ℕ, zero, suc, Bool, true, false, List, [], ◌∷◌, length, Option, None, Some, inl, inr, refl, sym, ◌∙◌, ap, subst, arith}
+use Rattle.std.proofs.Common.{◌≡◌, ◌+◌, ◌-◌, ◌*◌, ◌==◌, if◌then◌else◌, ℕ, Bool, true, false, List, [], ◌∷◌, length, Option, None, Some, refl, sym, ◌∙◌, ap, arith}
 use Rattle.std.specs.Prelude.{sum_by}
 use Rattle.std.specs.List.{range_with_len}
-use Rattle.std.proofs.lemmas.List.Sums.{sum_by-cons, sum_by_push}
-use Rattle.stack_base.specs.declared.ids.DevId.{DevId}
+use Rattle.std.proofs.lemmas.List.Sums.{sum_by-cons}
 use Rattle.stack_base.specs.declared.ids.Status.{Status}
 use Rattle.stack_base.specs.Tree.{Tree, Leaf, Split, Mirrored}
 use Rattle.layout_model.specs.declared.fragment.Fragment.{Fragment}
 use Rattle.layout_model.specs.Need.{needed, vectors}
-use Rattle.layout_model.proofs.Begun.{needed_disk}
 use Rattle.bio_records.specs.declared.bio.Bio.{Bio}
 use Rattle.bio_records.specs.declared.bio.Pad.{Pad}
 use Rattle.bio_records.specs.declared.tasks.TaskLists.{TaskLists}
 use Rattle.bio_records.specs.Items.{Item}
-use Rattle.bio_lists.specs.Submission.{submitted}
 use Rattle.bio_books.specs.declared.node.Role.{Role}
 use Rattle.bio_books.specs.declared.node.Role.TheVariants as role
-use Rattle.bio_books.specs.Books.{Node, VectorItem, SlipItem, told, later_part, nothing_held}
-use Rattle.bio_books.specs.Drops.{closed_of}
-use Rattle.run_machine.specs.Scene.{Setup, Scene, tree_at}
-use Rattle.run_machine.specs.Lines.{Want, Takes, Punts as WantsPunt, Links, ToPush, ToCut, ToRecord, ToMaster, Doing, Drives, Copies, Line, rests, settled, goes_on, copies, first_waits, first_length, legs_of, leg_at}
-use Rattle.run_machine.specs.Tasks.{TaskState, Writer, Rescuer, Completer, Keeper, Keeps, Resizes, Starts, Todo, Taken, NoBio, HasBio, HasBoth, Carried, Empty, Brings, Carries, Fails}
-use Rattle.run_machine.specs.Objects.{clear_bio, clear_vector, clear_slip}
-use Rattle.run_machine.specs.Runs.{State}
-use Rattle.block_core.specs.Weights.{Weight, Spot, Lined, Rescued, Pending, Brought, total, line_weight, task_weight, carried_weight}
-use Rattle.block_core.specs.Charges.{there, task_duties}
-use Rattle.block_core.specs.Fragments.{todo_fragments, legs_come, leg_fragments, fragment_of}
+use Rattle.bio_books.specs.Books.{Node, SlipItem, later_part}
+use Rattle.run_machine.specs.Scene.{Setup, tree_at}
+use Rattle.run_machine.specs.Lines.{copies, legs_of}
+use Rattle.run_machine.specs.Tasks.{Todo, Taken, NoBio, HasBio, HasBoth, Carried, Empty, Brings, Carries, Fails}
+use Rattle.block_core.specs.Weights.{Weight, Spot, Lined, Rescued, Pending, Brought, line_weight, carried_weight}
+use Rattle.block_core.specs.Charges.{there}
+use Rattle.block_core.specs.Fragments.{todo_fragments, legs_come, leg_fragments}
 use Rattle.block_core.specs.Places.{bio_needs, legs_need}
 use Rattle.block_core.proofs.moves.Moves.{Move, IsBare, place_of, Can, after, lost, gained, limit_of, with_line, HasLine, Wants, with_want, taken_of, filled_of, vector_of, cut_lists, Tells, Hands, piece}
 use Rattle.block_core.proofs.moves.Moves as moves
-use Rattle.block_core.proofs.moves.Deltas.{delta}
-use Rattle.block_core.proofs.sound.Facts.{own_part, own_of, away, TaskFits, Fair, Kept}
-use Rattle.block_core.proofs.sound.Orders.{Each, IsPlaced, IsOwn, AskFits, DoingPlaced, TaskPlaced, Placed, Ground}
-use Rattle.block_core.proofs.sound.OrdersKept.{line_placed}
-use Rattle.block_core.proofs.sound.TaskLines.{line_fits}
-use Rattle.block_core.proofs.moves.Listed.{IsBlind, first_weight, goes_weight}
-use Rattle.block_core.proofs.moves.Landings.{AreThere, IsLanding, settled_there, goes_there, copies_there, all_there, none_there, cut_there, leg_there}
-use Rattle.block_core.proofs.sound.Places.{cut_weight, copies_weight, unless, unless_none, is_away}
+use Rattle.block_core.proofs.sound.Facts.{own_part, own_of, away}
+use Rattle.block_core.proofs.moves.Listed.{IsBlind}
+use Rattle.block_core.proofs.moves.Landings.{AreThere, IsLanding, copies_there}
+use Rattle.block_core.proofs.sound.Places.{unless}
 use Rattle.block_core.proofs.unrefused.BioNeeds.{Worth}
-use Rattle.block_core.proofs.images.FragmentCounts.{Divided, IsCounted, worth, mirror_worth, legs_next, legs_none}
-use Rattle.block_core.proofs.moves.Misfits.{misfits, cut_fits}
-use Rattle.block_core.proofs.images.StillToCome.{over}
-use Rattle.block_core.proofs.bound.EventCharges.{on_tasks, on_line, hands_charge, all_duties}
-use Rattle.block_core.proofs.images.MasterRecords.{zeros, bare_slip}
-use Rattle.block_core.proofs.sound.Owns.{brought, closing_own}
-use Rattle.block_core.proofs.bound.RoleHoldings.{odd, odd_holding}
-use Rattle.block_core.proofs.stuck.Idle.{node_part}
+use Rattle.block_core.proofs.images.FragmentCounts.{Divided, worth, legs_none}
+use Rattle.block_core.proofs.images.MasterRecords.{bare_slip}
+use Rattle.block_core.proofs.sound.Owns.{brought}
+use Rattle.block_core.proofs.bound.RoleHoldings.{odd_holding}
 
 -- each fragment counts one
 abbrev pub one_each : Fragment → ℕ

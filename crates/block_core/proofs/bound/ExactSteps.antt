@@ -1,18 +1,17 @@
 -- A run that has ended and in which no take missed has as many events as were due at its start.
-use Rattle.std.proofs.Common.{◌≡◌, ◌≢◌, ◌+◌, ◌*◌, ◌<◌, ◌≤◌, ℕ, zero, suc, Bool, true, false, List, [], ◌∷◌, length, Option, None, Some, refl, sym, ◌∙◌, ap, subst, arith}
-use Rattle.std.specs.Prelude.{sum_by, All, map, zip}
+use Rattle.std.proofs.Common.{◌≡◌, ◌+◌, ◌*◌, ◌<◌, ◌≤◌, ℕ, zero, suc, false, List, [], ◌∷◌, length, Option, None, Some, refl, sym, ◌∙◌, ap, subst, arith}
+use Rattle.std.specs.Prelude.{sum_by, map, zip}
 use Rattle.std.specs.List.{range_with_len}
 use Rattle.std.proofs.lemmas.List.Elements.{All-head, All-tail}
 use Rattle.std.proofs.lemmas.List.Sums.{sum_by-cons}
 use Rattle.elem_ledger.specs.Ledger.{LedgerId}
-use Rattle.stack_base.specs.Stack.{IsStack}
 use Rattle.stack_base.specs.Tree.{tree}
 use Rattle.layout_model.specs.declared.write.Write.{Write}
 use Rattle.layout_model.specs.declared.fragment.Fragment.{Fragment}
 use Rattle.layout_model.specs.Bound.{all_elements, all_parts}
-use Rattle.layout_model.specs.Need.{needed, vectors, fragments_of}
+use Rattle.layout_model.specs.Need.{needed, vectors}
 use Rattle.layout_model.specs.Needs.{elements as elements_of, nodes, parts}
-use Rattle.layout_model.specs.Plan.{frags, leaves, plan}
+use Rattle.layout_model.specs.Plan.{frags}
 use Rattle.layout_model.specs.Writes.{IsWrite}
 use Rattle.layout_model.proofs.CountFrags.{fragments_of_is_length}
 use Rattle.layout_model.proofs.Planned.{leaves_plan}
@@ -22,24 +21,24 @@ use Rattle.bio_records.specs.Items.{Item}
 use Rattle.stack_base.specs.declared.ids.DevId.{DevId}
 use Rattle.bio_books.specs.declared.node.Role.{Role}
 use Rattle.bio_books.specs.declared.node.Role.TheVariants as role
-use Rattle.bio_books.specs.Books.{Node, VectorItem, SlipItem, Holding, BookState, node_at}
+use Rattle.bio_books.specs.Books.{Node, VectorItem, SlipItem, Holding, node_at}
 use Rattle.bio_books.specs.Drops.{Closed}
 use Rattle.model_disks.specs.Disks.{DiskState}
 use Rattle.run_machine.specs.declared.event.Event.{Event}
-use Rattle.run_machine.specs.Scene.{Scene, tree_at}
-use Rattle.run_machine.specs.Lines.{Line, rests}
-use Rattle.run_machine.specs.Tasks.{TaskState, Writer, Rescuer, Completer, Keeper, Todo, Taken, NoBio, HasBio, HasBoth, Duty, Carried, Empty, Brings, Carries, Fails}
-use Rattle.run_machine.specs.Opened.{Scenario, scene, start, todos, duties, keepers, setup as setup_in, tasks as opened_tasks, writers}
-use Rattle.run_machine.specs.Runs.{State, IsRun, HasEnded}
+use Rattle.run_machine.specs.Scene.{Scene}
+use Rattle.run_machine.specs.Lines.{Line}
+use Rattle.run_machine.specs.Tasks.{TaskState, Writer, Rescuer, Completer, Keeper, Todo, Taken, NoBio, HasBio, HasBoth, Duty, Empty, Brings, Carries, Fails}
+use Rattle.run_machine.specs.Opened.{Scenario, scene, start, todos, duties, keepers, setup as setup_in, writers}
+use Rattle.run_machine.specs.Runs.{State, IsRun}
 use Rattle.block_core.specs.Weights.{Weight, Rescued, Pending, total, one, weigh_option, task_weight, book_weight, taken_weight, elements, holding_elements, refs, under}
 use Rattle.block_core.specs.Charges.{there, task_duties, duties_left}
-use Rattle.block_core.specs.Exact.{is_miss, NoneMissed, all_nodes, all_below, exact_steps, StepsWithoutMisses}
+use Rattle.block_core.specs.Exact.{is_miss, NoneMissed, all_nodes, all_below, StepsWithoutMisses}
 use Rattle.block_core.specs.Fragments.{todo_fragments, HasNone, NothingComes}
 use Rattle.block_core.specs.Rounds.{round_of, is_of_round, tops_left, unfinished_of}
 use Rattle.block_core.specs.Scenarios.{IsScenario, IsNaming}
 use Rattle.block_core.proofs.sound.Facts.{Fair, Kept}
 use Rattle.block_core.proofs.sound.Orders.{Ground}
-use Rattle.block_core.proofs.start.FactsAtStart.{Begins, IsOpened, total_zero, start_opened, todos_all}
+use Rattle.block_core.proofs.start.FactsAtStart.{Begins, total_zero, start_opened, todos_all}
 use Rattle.block_core.proofs.moves.Devices.{ground}
 use Rattle.block_core.proofs.sound.Wholes.{Whole, step_whole, runs_whole, start_whole, run_tallied}
 use Rattle.block_core.proofs.sound.Lasting.{runs_keep}

@@ -4,14 +4,14 @@ use Rattle.std.specs.Prelude.{All, nat_le, fold, max}
 use Rattle.std.specs.List.{range_with_len, flat_map}
 use Rattle.std.proofs.lemmas.Bool.Decides.{nat_tests}
 use Rattle.std.proofs.lemmas.List.{get_or_past}
-use Rattle.std.proofs.lemmas.List.Elements.{All-nil, All-cons, All-append, All-map, All-get_or}
+use Rattle.std.proofs.lemmas.List.Elements.{All-nil, All-cons, All-append, All-get_or}
 use Rattle.elem_ledger.specs.Ledger.{LedgerId}
 use Rattle.bio_records.specs.declared.tasks.TaskLists.{TaskLists}
 use Rattle.run_machine.specs.declared.event.Event.{Event}
 use Rattle.run_machine.specs.Maps.{upd}
 use Rattle.run_machine.specs.Scene.{Scene, is_disk}
 use Rattle.run_machine.specs.Lines.{Doing, Line, rests}
-use Rattle.run_machine.specs.Tasks.{TaskState, Writer, Rescuer, Completer, Keeper, Keeping, Keeps, Stops, Duty, Resizes, Starts, NoBio, Empty}
+use Rattle.run_machine.specs.Tasks.{TaskState, Writer, Rescuer, Completer, Keeper, Keeps, Stops, Duty, Resizes, Starts, NoBio, Empty}
 use Rattle.run_machine.specs.Opened.{Scenario, Change, scene, start, tasks as opened_tasks, todos_of, writers, duties, duties_of, keepers, no_task, round_count, writes_from, setup as setup_in, at as device_at}
 use Rattle.run_machine.specs.Runs.{State, IsRun, unfinished}
 use Rattle.block_core.specs.Charges.{task_duties, duties_left}
@@ -22,7 +22,7 @@ use Rattle.block_core.proofs.moves.Moves as moves
 use Rattle.block_core.proofs.sound.Facts.{Fair}
 use Rattle.block_core.proofs.sound.Lasting.{runs_keep}
 use Rattle.block_core.proofs.sound.Orders.{Each}
-use Rattle.block_core.proofs.sound.Rounds.{from_round, DutiesFit, KeepingFits, TaskRounds, Tallied}
+use Rattle.block_core.proofs.sound.Rounds.{from_round, TaskRounds}
 use Rattle.block_core.proofs.sound.TaskLines.{all-upd}
 use Rattle.block_core.proofs.sound.Wholes.{runs_tallied, start_whole}
 use Rattle.block_core.proofs.start.FactsAtStart.{sum_at-zero}

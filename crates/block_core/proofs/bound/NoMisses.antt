@@ -1,7 +1,7 @@
 -- Where no take missed, no task punts and no rescuer has anything to do.
-use Rattle.std.proofs.Common.{◌≡◌, ◌≢◌, ◌+◌, ◌*◌, ◌<◌, ◌≤◌, ◌==◌, if◌then◌else◌, ℕ, Bool, true, false, List, [], ◌∷◌, Option, None, Some, refl, sym, ◌∙◌, ap, subst, arith, true≢false}
+use Rattle.std.proofs.Common.{◌≡◌, ◌+◌, ◌*◌, ◌==◌, if◌then◌else◌, ℕ, Bool, true, false, List, [], ◌∷◌, Some, refl, sym, ◌∙◌, ap, subst, arith, true≢false}
 use Rattle.elem_ledger.specs.Ledger.{LedgerId}
-use Rattle.mempool_core.specs.Move.{takes_ordinary, takes_spare, misses, after_move}
+use Rattle.mempool_core.specs.Move.{takes_ordinary, takes_spare}
 use Rattle.stack_base.specs.declared.ids.DevId.{DevId}
 use Rattle.stack_base.specs.Tree.{Tree, Leaf, Split, Mirrored}
 use Rattle.bio_records.specs.declared.bio.Bio.{Bio}
@@ -30,7 +30,7 @@ use Rattle.block_core.proofs.moves.Moves as moves
 use Rattle.block_core.proofs.bound.Dues.{IsHad}
 use Rattle.block_core.proofs.sound.TaskLines.{all-upd, wants_busy}
 use Rattle.block_core.proofs.sound.Places.{out_more, out_same}
-use Rattle.block_core.proofs.moves.StepMoves.{IsMove, asks_line}
+use Rattle.block_core.proofs.moves.StepMoves.{asks_line}
 use Rattle.block_core.proofs.moves.Sums.{one-same}
 
 -- no task wants to punt

@@ -6,9 +6,9 @@ use Rattle.bio_records.specs.Items.{Item}
 use Rattle.bio_lists.specs.Submission.{submitted}
 use Rattle.bio_books.specs.declared.node.Role.{Role}
 use Rattle.bio_books.specs.declared.node.Role.TheVariants as role
-use Rattle.bio_books.specs.Books.{Node, SlipItem, Holding, keeping, lowered, told, later_part}
+use Rattle.bio_books.specs.Books.{Node, SlipItem, told, later_part}
 use Rattle.run_machine.specs.Scene.{Scene, tree_at}
-use Rattle.run_machine.specs.Lines.{ToMaster, Drives, settled, goes_on, copies, first_length, legs_of, leg_at, punted}
+use Rattle.run_machine.specs.Lines.{ToMaster, Drives, first_length, legs_of, leg_at, punted}
 use Rattle.run_machine.specs.Tasks.{Carried, Empty, Brings, Carries, Fails}
 use Rattle.run_machine.specs.Runs.{State}
 use Rattle.block_core.specs.Charges.{there}

@@ -1,52 +1,45 @@
 -- Where no take misses, each event takes one from what is still to come.
-use Rattle.std.proofs.Common.{◌≡◌, ◌≢◌, ◌+◌, ◌-◌, ◌*◌, ◌<◌, ◌≤◌, ◌==◌, ◌⊎◌, if◌then◌else◌, ℕ, zero, suc, Bool, true, false, List, [], ◌∷◌, length, Option, None, Some, inl, inr, refl, sym, ◌∙◌, ap, subst, arith}
+use Rattle.std.proofs.Common.{◌≡◌, ◌+◌, ◌*◌, ◌==◌, if◌then◌else◌, ℕ, Bool, [], ◌∷◌, None, Some, refl, ap, subst, arith}
 use Rattle.std.specs.Prelude.{sum_by}
-use Rattle.std.specs.List.{range_with_len}
 use Rattle.std.proofs.lemmas.List.Sums.{sum_by-cons, sum_by_push}
-use Rattle.stack_base.specs.declared.ids.DevId.{DevId}
-use Rattle.stack_base.specs.declared.ids.Status.{Status}
 use Rattle.stack_base.specs.Tree.{Tree, Leaf, Split, Mirrored}
-use Rattle.layout_model.specs.declared.fragment.Fragment.{Fragment}
 use Rattle.layout_model.specs.Need.{needed, vectors}
 use Rattle.layout_model.proofs.Begun.{needed_disk}
-use Rattle.bio_records.specs.declared.bio.Bio.{Bio}
 use Rattle.bio_records.specs.declared.bio.Pad.{Pad}
 use Rattle.bio_records.specs.declared.tasks.TaskLists.{TaskLists}
 use Rattle.bio_records.specs.Items.{Item}
 use Rattle.bio_lists.specs.Submission.{submitted}
-use Rattle.bio_books.specs.declared.node.Role.{Role}
-use Rattle.bio_books.specs.declared.node.Role.TheVariants as role
-use Rattle.bio_books.specs.Books.{Node, VectorItem, SlipItem, told, later_part, nothing_held}
+use Rattle.bio_books.specs.Books.{told}
 use Rattle.bio_books.specs.Drops.{closed_of}
-use Rattle.run_machine.specs.Scene.{Setup, Scene, tree_at}
-use Rattle.run_machine.specs.Lines.{Want, Takes, Punts as WantsPunt, Links, ToPush, ToCut, ToRecord, ToMaster, Doing, Drives, Copies, Line, rests, settled, goes_on, copies, first_waits, first_length, legs_of, leg_at}
-use Rattle.run_machine.specs.Tasks.{TaskState, Writer, Rescuer, Completer, Keeper, Keeps, Resizes, Starts, Todo, Taken, NoBio, HasBio, HasBoth, Carried, Empty, Brings, Carries, Fails}
+use Rattle.run_machine.specs.Scene.{Scene, tree_at}
+use Rattle.run_machine.specs.Lines.{Links, ToPush, ToCut, ToRecord, ToMaster, Doing, Drives, Copies, Line, rests, settled, goes_on, copies, first_length, legs_of, leg_at}
+use Rattle.run_machine.specs.Tasks.{TaskState, Writer, Completer, Keeper, Keeps, Resizes, Starts, NoBio, HasBio, HasBoth, Empty, Brings, Carries}
 use Rattle.run_machine.specs.Objects.{clear_bio, clear_vector, clear_slip}
 use Rattle.run_machine.specs.Runs.{State}
-use Rattle.block_core.specs.Weights.{Weight, Spot, Lined, Rescued, Pending, Brought, total, line_weight, task_weight, carried_weight}
+use Rattle.block_core.specs.Weights.{Weight, Lined, total}
 use Rattle.block_core.specs.Charges.{there, task_duties}
-use Rattle.block_core.specs.Fragments.{todo_fragments, legs_come, leg_fragments, fragment_of}
+use Rattle.block_core.specs.Fragments.{leg_fragments}
 use Rattle.block_core.specs.Places.{bio_needs, legs_need}
 use Rattle.block_core.proofs.moves.Moves.{Move, IsBare, place_of, Can, after, lost, gained, limit_of, with_line, HasLine, Wants, with_want, taken_of, filled_of, vector_of, cut_lists, Tells, Hands, piece}
 use Rattle.block_core.proofs.moves.Moves as moves
 use Rattle.block_core.proofs.moves.Deltas.{delta}
-use Rattle.block_core.proofs.sound.Facts.{own_part, own_of, away, TaskFits, Fair, Kept}
-use Rattle.block_core.proofs.sound.Orders.{Each, IsPlaced, IsOwn, AskFits, DoingPlaced, TaskPlaced, Placed, Ground}
+use Rattle.block_core.proofs.sound.Facts.{TaskFits, Fair, Kept}
+use Rattle.block_core.proofs.sound.Orders.{AskFits, DoingPlaced, TaskPlaced, Placed, Ground}
 use Rattle.block_core.proofs.sound.OrdersKept.{line_placed}
 use Rattle.block_core.proofs.sound.TaskLines.{line_fits}
-use Rattle.block_core.proofs.moves.Listed.{IsBlind, first_weight, goes_weight}
-use Rattle.block_core.proofs.moves.Landings.{AreThere, IsLanding, settled_there, goes_there, copies_there, all_there, none_there, cut_there, leg_there}
-use Rattle.block_core.proofs.sound.Places.{cut_weight, copies_weight, unless, unless_none, is_away}
+use Rattle.block_core.proofs.moves.Listed.{first_weight, goes_weight}
+use Rattle.block_core.proofs.moves.Landings.{settled_there, goes_there, all_there, none_there, cut_there, leg_there}
+use Rattle.block_core.proofs.sound.Places.{cut_weight, copies_weight, unless_none, is_away}
 use Rattle.block_core.proofs.unrefused.BioNeeds.{Worth}
-use Rattle.block_core.proofs.images.FragmentCounts.{Divided, IsCounted, worth, mirror_worth, legs_next, legs_none}
+use Rattle.block_core.proofs.images.FragmentCounts.{Divided, IsCounted, mirror_worth, legs_next}
 use Rattle.block_core.proofs.moves.Misfits.{misfits, cut_fits}
 use Rattle.block_core.proofs.images.StillToCome.{over}
 use Rattle.block_core.proofs.bound.EventCharges.{on_tasks, on_line, hands_charge, all_duties}
-use Rattle.block_core.proofs.images.MasterRecords.{zeros, bare_slip}
-use Rattle.block_core.proofs.sound.Owns.{brought, closing_own}
+use Rattle.block_core.proofs.images.MasterRecords.{zeros}
+use Rattle.block_core.proofs.sound.Owns.{closing_own}
 use Rattle.block_core.proofs.bound.RoleHoldings.{odd, odd_holding}
 use Rattle.block_core.proofs.stuck.Idle.{node_part}
-use Rattle.block_core.proofs.bound.Dues.{one_each, run_due, bio_due, copy_due, todo_run, write_due, todos_due, due, in_hand, IsHad, blind, bare_none, later_due, tells_due, carried_hand, closes_one, lands, copies_due}
+use Rattle.block_core.proofs.bound.Dues.{one_each, bio_due, due, in_hand, IsHad, blind, bare_none, later_due, tells_due, carried_hand, closes_one, lands, copies_due}
 
 module _ (scene : Scene) (s : State) (f : Fair scene) (g : Ground scene.setup) (p : Worth scene.setup) (v : Divided scene.setup one_each) (i : Kept scene s) (a : Placed scene.setup s)
     (counted : total scene (misfits over) s ≡ 0) (held : total scene odd s ≡ 0) where

@@ -198,7 +198,8 @@ module _ (scene : Scene) (s : State) (f : Fair scene) (i : Kept scene s) (place 
           inl (let low = wants_in scene.setup doing dev (Takes true) wants (there x doing lists is h) in omega arith),
         );
         is = state_is new _ _ serves.1 (missed used refl ∙ ap (upd s.task place) stays);
-        at = refl; touches = sym (ap touch_in told) ∙ miss_passes true used (Bios dev);
+        at = refl;
+        touches = sym (ap touch_in told) ∙ miss_passes true used (Bios dev);
       }
   takes_sub x doing lists dev false is h wants own (requests.Missed used) told serves had missed =
       record { move = moves.MissesTry place x doing lists dev used; can = (here, is, h, wants, serves.0); is = state_is new _ _ serves.1 (missed used refl); at = refl; touches = sym (ap touch_in told) ∙ miss_passes false used (Bios dev) }
@@ -240,7 +241,8 @@ module _ (scene : Scene) (s : State) (f : Fair scene) (i : Kept scene s) (place 
           inl (let low = there x (Drives bio ToRecord) lists is h in omega arith),
         );
         is = state_is new _ _ serves.1 (goes ∙ ap (upd s.task place) (same_line x (Drives bio ToRecord) lists h));
-        at = refl; touches = sym (ap touch_in told) ∙ miss_passes true used (Records bio.bio.dev);
+        at = refl;
+        touches = sym (ap touch_in told) ∙ miss_passes true used (Records bio.bio.dev);
       }
   takes_slip x bio lists is h _ serves goes told = absurd serves
 
@@ -264,7 +266,8 @@ module _ (scene : Scene) (s : State) (f : Fair scene) (i : Kept scene s) (place 
             move = moves.Chained place x bio lists hand split.number split.kind split.sizes split.members key node;
             can = (here, is, h, split.is, in_books bio.bio.writer bio.bio.node node at, at, c.1);
             is = state_is new _ _ objects goes2;
-            at = refl; touches = sym (ap touch_in told);
+            at = refl;
+            touches = sym (ap touch_in told);
           }
   chains x bio lists hand is h fits (requests.LinkedTo (NoRoom back)) told serves goes = absurd (nothing_told what told)
   chains x bio lists hand is h fits (requests.LinkedTo (Stray back)) told serves goes = absurd (nothing_told what told)
@@ -285,7 +288,8 @@ module _ (scene : Scene) (s : State) (f : Fair scene) (i : Kept scene s) (place 
             move = moves.Mastered place x bio lists slip key node;
             can = (here, is, h, in_books bio.bio.writer bio.bio.node node at, at, c.0);
             is = state_is new _ _ (serves.1 ∙ ap (λ b. record s.objects { book = upd s.objects.book bio.bio.writer b }) c.1) goes;
-            at = refl; touches = sym (ap touch_in told);
+            at = refl;
+            touches = sym (ap touch_in told);
           }
   masters x bio lists slip is h (requests.LinkedTo (NoRoom back)) told serves goes = absurd (nothing_told what told)
   masters x bio lists slip is h (requests.LinkedTo (Stray back)) told serves goes = absurd (nothing_told what told)
@@ -306,7 +310,8 @@ module _ (scene : Scene) (s : State) (f : Fair scene) (i : Kept scene s) (place 
             move = moves.Legged place x bio lists master leg hand key node;
             can = (here, is, h, in_books bio.writer master node at, at, c.0);
             is = state_is new _ _ (serves.1 ∙ ap (λ b. record s.objects { book = upd s.objects.book bio.writer b }) c.1) goes;
-            at = refl; touches = sym (ap touch_in told);
+            at = refl;
+            touches = sym (ap touch_in told);
           }
   legs x bio master leg lists hand is h (requests.LinkedTo (NoRoom back)) told serves goes = absurd (nothing_told what told)
   legs x bio master leg lists hand is h (requests.LinkedTo (Stray back)) told serves goes = absurd (nothing_told what told)
@@ -362,14 +367,16 @@ module _ (scene : Scene) (s : State) (f : Fair scene) (i : Kept scene s) (place 
         move = moves.TakesFirst place number todo later takes_ordinary;
         can = (here, is, tt, now, serves.0.0);
         is = state_is new _ _ serves.0.1 (goes ∙ ap (λ item. upd s.task place (Writer number (todo ∷ later) (HasBio item) rests)) serves.1);
-        at = refl; touches = sym (ap touch_in told);
+        at = refl;
+        touches = sym (ap touch_in told);
       }
   takes_first number todo later is now (requests.HadBio got.Spare hand) told serves goes =
       record {
         move = moves.TakesFirst place number todo later takes_spare;
         can = (here, is, tt, now, serves.0.0);
         is = state_is new _ _ serves.0.1 (goes ∙ ap (λ item. upd s.task place (Writer number (todo ∷ later) (HasBio item) rests)) serves.1);
-        at = refl; touches = sym (ap touch_in told);
+        at = refl;
+        touches = sym (ap touch_in told);
       }
   takes_first number todo later is now (requests.HadBio got.Missed hand) told serves goes = absurd serves.0
   takes_first number todo later is now (requests.Missed used) told serves goes =
@@ -386,14 +393,16 @@ module _ (scene : Scene) (s : State) (f : Fair scene) (i : Kept scene s) (place 
         move = moves.TakesVector place number todo later item takes_ordinary;
         can = (here, is, tt, serves.0.0, needs);
         is = state_is new _ _ serves.0.1 (goes ∙ ap (λ v. upd s.task place (Writer number (todo ∷ later) (HasBoth item v) rests)) serves.1);
-        at = refl; touches = sym (ap touch_in told);
+        at = refl;
+        touches = sym (ap touch_in told);
       }
   goes_with true number todo later item needs is lt (requests.HadVec got.Spare vector) told serves goes =
       record {
         move = moves.TakesVector place number todo later item takes_spare;
         can = (here, is, tt, serves.0.0, needs);
         is = state_is new _ _ serves.0.1 (goes ∙ ap (λ v. upd s.task place (Writer number (todo ∷ later) (HasBoth item v) rests)) serves.1);
-        at = refl; touches = sym (ap touch_in told);
+        at = refl;
+        touches = sym (ap touch_in told);
       }
   goes_with true number todo later item needs is lt (requests.HadVec got.Missed vector) told serves goes = absurd serves.0
   goes_with true number todo later item needs is lt (requests.Missed used) told serves goes =
@@ -487,7 +496,8 @@ module _ (scene : Scene) (s : State) (f : Fair scene) (i : Kept scene s) (place 
             move = moves.Told place disk carried writer key status part node;
             can = (here, is, t, in_books writer key node at, at, drops.0);
             is = state_is new _ _ (objects ∙ ap (λ b. record s.objects { book = upd s.objects.book writer b }) drops.1) goes;
-            at = refl; touches = sym (ap touch_in told_it);
+            at = refl;
+            touches = sym (ap touch_in told_it);
           }
       at_node (Some node) at (end.Up closed) told_it drops objects goes =
           record {
@@ -495,7 +505,8 @@ module _ (scene : Scene) (s : State) (f : Fair scene) (i : Kept scene s) (place 
             can = (here, is, t, in_books writer key node at, at, drops.0);
             is = state_is new _ _ (objects ∙ ap (λ b. record s.objects { book = upd s.objects.book writer b }) drops.3)
                 (goes ∙ ap (λ c. upd s.task place (Completer disk (Carries writer c))) drops.2);
-            at = refl; touches = sym (ap touch_in told_it);
+            at = refl;
+            touches = sym (ap touch_in told_it);
           }
       at_node (Some node) at (end.Top closed) told_it drops objects goes =
           record {
@@ -503,7 +514,8 @@ module _ (scene : Scene) (s : State) (f : Fair scene) (i : Kept scene s) (place 
             can = (here, is, t, in_books writer key node at, at, drops.0);
             is = state_is new _ _ (objects ∙ ap (λ b. record s.objects { book = upd s.objects.book writer b }) drops.3)
                 (goes ∙ ap (λ c. upd s.task place (Completer disk (Carries writer c))) drops.2);
-            at = refl; touches = sym (ap touch_in told_it);
+            at = refl;
+            touches = sym (ap touch_in told_it);
           }
       at_node found at (end.Stray back) told_it drops objects goes = absurd (nothing_told what told_it)
       at_node None at end.Left told_it drops objects goes = absurd drops
@@ -529,21 +541,24 @@ module _ (scene : Scene) (s : State) (f : Fair scene) (i : Kept scene s) (place 
         move = moves.Gives place disk writer v.share.no (record { held = record { bio = bio; vector = Some v; slip = slip }; parent = parent; write = write; status = status }) (record { bio = bio; vector = None; slip = slip });
         can = (here, is, inl (v, refl, refl, refl), serves.0);
         is = state_is new _ _ serves.1 goes;
-        at = refl; touches = sym (ap touch_in told_it);
+        at = refl;
+        touches = sym (ap touch_in told_it);
       }
   carries disk writer None (Some b) slip parent write status is requests.Did told_it serves goes =
       record {
         move = moves.Gives place disk writer b.share.no (record { held = record { bio = Some b; vector = None; slip = slip }; parent = parent; write = write; status = status }) (record { bio = None; vector = None; slip = slip });
         can = (here, is, inr (inl (b, refl, refl, refl)), serves.0);
         is = state_is new _ _ serves.1 goes;
-        at = refl; touches = sym (ap touch_in told_it);
+        at = refl;
+        touches = sym (ap touch_in told_it);
       }
   carries disk writer None None (Some r) parent write status is requests.Did told_it serves goes =
       record {
         move = moves.Gives place disk writer r.share.no (record { held = record { bio = None; vector = None; slip = Some r }; parent = parent; write = write; status = status }) (record { bio = None; vector = None; slip = None });
         can = (here, is, inr (inr (r, refl, refl, refl)), serves.0);
         is = state_is new _ _ serves.1 goes;
-        at = refl; touches = sym (ap touch_in told_it);
+        at = refl;
+        touches = sym (ap touch_in told_it);
       }
   carries disk writer None None None (Some parent) write status is (requests.DroppedTo ended) told_it serves goes =
       tells disk (Carries writer (record { held = record { bio = None; vector = None; slip = None }; parent = Some parent; write = write; status = status })) writer parent status None ended is
@@ -553,7 +568,8 @@ module _ (scene : Scene) (s : State) (f : Fair scene) (i : Kept scene s) (place 
         move = moves.Ends place disk writer (record { held = record { bio = None; vector = None; slip = None }; parent = None; write = write; status = status });
         can = (here, is, refl, refl);
         is = state_is new _ _ serves goes;
-        at = refl; touches = sym (ap touch_in told_it);
+        at = refl;
+        touches = sym (ap touch_in told_it);
       }
   carries disk writer (Some v) bio slip parent write status is _ told_it serves goes = absurd serves
   carries disk writer None (Some b) slip parent write status is _ told_it serves goes = absurd serves

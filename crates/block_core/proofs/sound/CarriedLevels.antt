@@ -1,5 +1,5 @@
 -- What a completer holds of a closed node is of one level, as what the node held.
-use Rattle.std.proofs.Common.{◌≡◌, ◌+◌, ◌-◌, ◌≤◌, ℕ, ◌∷◌, None, Some, inl, inr, sym, ap, subst, arith}
+use Rattle.std.proofs.Common.{◌≡◌, ℕ, None, inl, inr, sym, ap, subst, arith}
 use Rattle.std.specs.Prelude.{min}
 use Rattle.bio_records.specs.declared.bio.Pad.{Pad}
 use Rattle.bio_records.specs.declared.tasks.TaskLists.{TaskLists}

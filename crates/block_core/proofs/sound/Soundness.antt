@@ -2,17 +2,14 @@
 use Rattle.std.proofs.Common.{◌≡◌, ◌+◌, ◌-◌, ℕ, false, refl, sym, ◌∙◌, ap, subst, arith}
 use Rattle.std.specs.Prelude.{min}
 use Rattle.layout_model.specs.May.{fault_of}
-use Rattle.bio_records.specs.declared.bio.Pad.{Pad}
-use Rattle.bio_records.specs.Items.{Item}
 use Rattle.bio_books.specs.Books.{node_at, parent_of}
 use Rattle.run_machine.specs.Scene.{Scene}
 use Rattle.run_machine.specs.Lines.{Line}
 use Rattle.run_machine.specs.Tasks.{TaskState, Writer, Rescuer, Completer, Keeper}
 use Rattle.run_machine.specs.Opened.{scene, start, setup as setup_in}
 use Rattle.run_machine.specs.Runs.{State}
-use Rattle.block_core.specs.Weights.{total, weigh_option}
+use Rattle.block_core.specs.Weights.{total}
 use Rattle.block_core.specs.Fragments.{is_it}
-use Rattle.block_core.specs.Weights.{apart}
 use Rattle.block_core.proofs.sound.CarriedLevels.{on_level, TaskOne, begins_one, stays_one}
 use Rattle.block_core.proofs.sound.LevelsKept.{stays_leveled}
 use Rattle.block_core.proofs.sound.OffLevels.{parent_off, off_levels, AreLeveled}

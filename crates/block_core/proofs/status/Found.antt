@@ -1,5 +1,5 @@
 -- What is at work weighs no more than all does, and where all weighs, something does.
-use Rattle.std.proofs.Common.{◌≡◌, ◌+◌, ◌<◌, ◌≤◌, ◌⊎◌, ℕ, zero, suc, List, [], ◌∷◌, length, Option, None, Some, inl, inr, refl, sym, ◌∙◌, ap, subst, arith}
+use Rattle.std.proofs.Common.{◌≡◌, ◌+◌, ◌<◌, ◌≤◌, ◌⊎◌, ℕ, zero, suc, List, [], ◌∷◌, length, Option, None, Some, inl, inr, refl, sym, ap, subst, arith}
 use Rattle.std.specs.Prelude.{sum_by, Contains}
 use Rattle.std.specs.List.{range_with_len}
 use Rattle.std.proofs.lemmas.List.Sums.{sum_by-cons}
@@ -7,7 +7,7 @@ use Rattle.stack_base.specs.declared.ids.DevId.{DevId}
 use Rattle.bio_records.specs.declared.bio.Bio.{Bio}
 use Rattle.bio_records.specs.declared.bio.Pad.{Pad}
 use Rattle.bio_records.specs.Items.{Item}
-use Rattle.bio_books.specs.Books.{Node, BookState, VectorItem, SlipItem, node_at}
+use Rattle.bio_books.specs.Books.{Node, VectorItem, SlipItem, node_at}
 use Rattle.bio_books.specs.Drops.{Closed}
 use Rattle.model_disks.specs.Disks.{DiskState}
 use Rattle.run_machine.specs.Scene.{Scene}
@@ -15,7 +15,7 @@ use Rattle.run_machine.specs.Lines.{Want, Takes, Punts, Links, Ask, ToPush, ToCu
 use Rattle.run_machine.specs.Tasks.{Todo, Taken, NoBio, HasBio, HasBoth, Carried, Empty, Brings, Carries, Fails, TaskState, Writer, Rescuer, Completer, Keeper}
 use Rattle.run_machine.specs.Runs.{State}
 use Rattle.block_core.specs.Weights.{Weight, Spot, Lined, Rescued, Pending, Brought, sum_at, weigh_option, doing_weight, line_weight, taken_weight, want_weight, ask_weight, task_weight, book_weight, total}
-use Rattle.block_core.specs.Values.{DoingHolds, LineHolds, CarriedHolds, LineOf, IsInLine, IsBrought, IsRescued, IsInDisk, IsAtWork}
+use Rattle.block_core.specs.Values.{DoingHolds, LineHolds, CarriedHolds, LineOf, IsBrought, IsInDisk, IsAtWork}
 use Rattle.block_core.proofs.moves.Totals.{part_of, task_part}
 use Rattle.block_core.proofs.stuck.NothingWaits.{zero_or, some_place}
 

@@ -1,5 +1,5 @@
 -- Marks are how the runs of the bios may end that nodes were opened for.
-use Rattle.std.proofs.Common.{◌≡◌, ℕ, true, false, [], ◌∷◌, inl, inr, refl, sym, ◌∙◌, ap, subst}
+use Rattle.std.proofs.Common.{◌≡◌, ℕ, true, false, inl, inr, refl, sym, ◌∙◌, ap, subst}
 use Rattle.stack_base.specs.declared.ids.Status.{Status}
 use Rattle.layout_model.specs.declared.fragment.Fragment.{Fragment}
 use Rattle.bio_records.specs.declared.bio.Bio.{Bio}

@@ -1,5 +1,5 @@
 -- What marks say of nodes, in the words of runs and ends.
-use Rattle.std.proofs.Common.{◌≡◌, ◌≢◌, ◌+◌, ◌-◌, ◌*◌, ◌<◌, ◌≤◌, ◌⊎◌, ◌↔◌, ℕ, zero, suc, Bool, true, false, IsTrue, List, [], ◌∷◌, Option, None, Some, inl, inr, refl, sym, ◌∙◌, ap, subst, arith}
+use Rattle.std.proofs.Common.{◌≡◌, ◌≢◌, ◌+◌, ◌-◌, ◌*◌, ◌<◌, ◌≤◌, ◌⊎◌, ℕ, Bool, true, false, IsTrue, List, [], ◌∷◌, Option, None, Some, inl, inr, refl, sym, ◌∙◌, ap, subst, arith}
 use Rattle.std.specs.Prelude.{sum_by, slice_get, All}
 use Rattle.std.specs.List.{range_with_len}
 use Rattle.std.specs.Option.{option_map_or}
@@ -8,7 +8,6 @@ use Rattle.std.proofs.lemmas.List.Sums.{sum_by-cons}
 use Rattle.stack_base.specs.declared.ids.DevId.{DevId}
 use Rattle.stack_base.specs.declared.ids.Status.{Status}
 use Rattle.stack_base.specs.declared.ids.Status.TheVariants.{Ok, Io, Medium, NoSpace}
-use Rattle.stack_base.specs.Fault.{status_eq}
 use Rattle.stack_base.specs.Tree.{Tree, Leaf, Split, Mirrored, tree}
 use Rattle.layout_model.specs.declared.fragment.Fragment.{Fragment}
 use Rattle.layout_model.specs.declared.write.Write.{Write}
@@ -22,24 +21,23 @@ use Rattle.bio_books.specs.declared.node.Role.TheVariants as role
 use Rattle.bio_books.specs.Books.{Node, node_at, parent_of}
 use Rattle.bio_books.specs.Drops.{Closed}
 use Rattle.run_machine.specs.Scene.{Setup, Scene, tree_at}
-use Rattle.run_machine.specs.Lines.{Want, Copies, Line, legs_of}
-use Rattle.run_machine.specs.Tasks.{Todo, Taken, TaskState, Writer, Completer, Carries}
+use Rattle.run_machine.specs.Lines.{Copies, Line}
+use Rattle.run_machine.specs.Tasks.{Todo, Taken, Writer, Completer, Carries}
 use Rattle.run_machine.specs.Opened.{Scenario}
 use Rattle.run_machine.specs.Runs.{State}
 use Rattle.block_core.specs.DoneWrites.{IsGiven}
 use Rattle.block_core.specs.Fragments.{fragment_of}
 use Rattle.block_core.specs.Touches.{is_master}
-use Rattle.block_core.specs.Values.{BioMayEnd, LegMayEnd, TodoMayEnd, IsAllowed, Decides, LineOf, IsBrought, IsInDisk, IsAtWork, BioComes, LegComes, NodeComes, ClosedComes, Comes, NodeIsValued, EndsAsItsFragment, IsValued}
-use Rattle.block_core.specs.Weights.{Weight, Spot, Lined, Rescued, Pending, Brought, apart, one, names, under, legs_left, doing_weight, line_weight, total}
+use Rattle.block_core.specs.Values.{BioMayEnd, LegMayEnd, TodoMayEnd, IsAllowed, Decides, IsBrought, IsInDisk, BioComes, LegComes, NodeComes, ClosedComes, Comes, NodeIsValued, EndsAsItsFragment, IsValued}
+use Rattle.block_core.specs.Weights.{Weight, apart, one, names, under, legs_left, doing_weight, total}
 use Rattle.block_core.proofs.moves.Totals.{task_part}
 use Rattle.block_core.proofs.sound.Facts.{Kept}
 use Rattle.block_core.proofs.stuck.Idle.{node_part}
 use Rattle.block_core.proofs.stuck.NothingWaits.{zero_or, both, one-eq}
-use Rattle.block_core.proofs.status.Found.{in_sum, in_range, some_in_range, in_disk, is_brought, line_within, at_work, Weighs, IsOfWork, some_weighs}
-use Rattle.block_core.proofs.status.Marks.{yes, is, may, bio_may, leg_may, todo_may, write_may, Mark, IsMark, allowed_by, allowed, decides, lack, mismatch, above, unallowed, deciding, IsMarked}
+use Rattle.block_core.proofs.status.Found.{in_range, some_in_range, in_disk, is_brought, line_within, at_work, Weighs, IsOfWork, some_weighs}
+use Rattle.block_core.proofs.status.Marks.{yes, is, may, bio_may, leg_may, todo_may, write_may, Mark, allowed_by, allowed, decides, lack, mismatch, above, unallowed, deciding, IsMarked}
 use Rattle.block_core.proofs.status.NodeBios.{AreOfBios}
 use Rattle.block_core.proofs.status.NodeValues.{is_itself}
-use Rattle.block_core.proofs.status.RunEndings.{few_yes}
 
 -- numbers that are 1 for yes
 so : (b : Bool) → 1 ≤ yes b → IsTrue b

@@ -244,7 +244,6 @@ module _ (scene : Scene) (ends : Fragment → Status) (written : ℕ → Status 
 
   module _ (s : State) (g : Ground setup) (i : Kept scene s) (a : Placed setup s) (counted : total scene (misfits over) s ≡ 0) (endings : (place : ℕ) → HasEnding ends (s.task place))
       (mark : ℕ → ℕ → Mark) (h : IsMarked scene ends written mark s) where
-
     has : (place : ℕ) (x : TaskState) (doing : Doing) (lists : TaskLists) → s.task place ≡ x → HasLine x doing lists → DoingPlaced setup (limit_of x) doing lists
     has place x doing lists at line = line_placed setup x doing lists (subst (TaskPlaced setup) at (a.tasks place)) line
 
