@@ -23,6 +23,8 @@ pub mod Fragments
 pub mod Images
 pub mod Replies
 pub mod Runnable
+pub mod NodeBios
+pub mod AtWork
 pub mod Values
 pub mod DoneWrites
 pub mod Ending

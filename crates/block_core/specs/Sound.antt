@@ -25,7 +25,8 @@ use Rattle.block_core.specs.Places.{HasPlaces}
 use Rattle.block_core.specs.Roles.{HasRoles}
 use Rattle.block_core.specs.Touches.{were_masters, none_was}
 use Rattle.block_core.specs.Rounds.{IsTallied}
-use Rattle.block_core.specs.Values.{node_bios, no_bios, IsValued}
+use Rattle.block_core.specs.NodeBios.{node_bios, no_bios}
+use Rattle.block_core.specs.Values.{IsValued}
 use Rattle.block_core.specs.Waits.{NoneWaitsForItself}
 
 pub record IsSound (s : Scenario) (ledger : ℕ → LedgerId) (events : List Event) (state : State) (run : IsRun (scene s ledger) (start s) events state) : Type 0 where

@@ -15,7 +15,8 @@ use Rattle.run_machine.specs.Runs.{State}
 use Rattle.run_machine.proofs.Turns.{Turn, behind}
 use Rattle.run_machine.proofs.cases.MirrorRun.{setup, mirror, todo, start, ledger, begun}
 use Rattle.block_core.specs.Touches.{touch_of}
-use Rattle.block_core.specs.Values.{bios_after, no_bios, BioMayEnd, IsAllowed, Decides}
+use Rattle.block_core.specs.NodeBios.{bios_after, no_bios}
+use Rattle.block_core.specs.Values.{BioMayEnd, IsAllowed, Decides}
 use Rattle.block_core.specs.Weights.{Weight, sum_at, one, total}
 use Rattle.block_core.proofs.status.Marks.{leg_may, todo_may, Mark, unallowed, deciding}
 

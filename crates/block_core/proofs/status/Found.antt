@@ -15,7 +15,7 @@ use Rattle.run_machine.specs.Lines.{Want, Takes, Punts, Links, Ask, ToPush, ToCu
 use Rattle.run_machine.specs.Tasks.{Todo, Taken, NoBio, HasBio, HasBoth, Carried, Empty, Brings, Carries, Fails, TaskState, Writer, Rescuer, Completer, Keeper}
 use Rattle.run_machine.specs.Runs.{State}
 use Rattle.block_core.specs.Weights.{Weight, Spot, Lined, Rescued, Pending, Brought, sum_at, weigh_option, doing_weight, line_weight, taken_weight, want_weight, ask_weight, task_weight, book_weight, total}
-use Rattle.block_core.specs.Values.{DoingHolds, LineHolds, CarriedHolds, LineOf, IsBrought, IsInDisk, IsAtWork}
+use Rattle.block_core.specs.AtWork.{DoingHolds, LineHolds, CarriedHolds, LineOf, IsBrought, IsInDisk, IsAtWork}
 use Rattle.block_core.proofs.moves.Totals.{part_of, task_part}
 use Rattle.block_core.proofs.stuck.NothingWaits.{zero_or, some_place}
 

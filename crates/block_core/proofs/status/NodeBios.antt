@@ -8,7 +8,7 @@ use Rattle.run_machine.specs.Scene.{Setup, Scene, tree_at}
 use Rattle.run_machine.specs.Lines.{Links, ToCut, ToMaster, Doing, Rests, Drives, Copies, Breaks, first_length, leg_at}
 use Rattle.run_machine.specs.Tasks.{Todo, TaskState, Writer, Rescuer, Completer, Keeper, first_bio}
 use Rattle.run_machine.specs.Runs.{State}
-use Rattle.block_core.specs.Values.{first_piece, line_opens, writer_opens, opened_for, bios_after}
+use Rattle.block_core.specs.NodeBios.{first_piece, line_opens, writer_opens, opened_for, bios_after}
 use Rattle.block_core.proofs.moves.Marked.{with_mark, mark_here, mark_other}
 use Rattle.block_core.proofs.moves.Moves.{Move, place_of, touch_by, Can, HasLine, piece}
 use Rattle.block_core.proofs.moves.Moves as moves

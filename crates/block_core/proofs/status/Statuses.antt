@@ -37,7 +37,8 @@ use Rattle.block_core.specs.Rounds.{round_of, is_of_round, tops, tops_left, all_
 use Rattle.block_core.specs.Scenarios.{IsScenario, IsNaming}
 use Rattle.block_core.proofs.status.Marks.{is, may, bio_may, todo_may, write_may, Mark, IsMark, lack, above, unallowed, IsMarked}
 use Rattle.block_core.specs.Touches.{touch_of}
-use Rattle.block_core.specs.Values.{bios_after, node_bios, no_bios, NodesAreValued}
+use Rattle.block_core.specs.NodeBios.{bios_after, node_bios, no_bios}
+use Rattle.block_core.specs.Values.{NodesAreValued}
 use Rattle.block_core.specs.DoneWrites.{IsGiven, StatusesAreGiven, HasGivenStatuses, EndedStatusesAreGiven}
 use Rattle.block_core.proofs.moves.Sums.{one-same, one-other, same_or_not}
 use Rattle.block_core.proofs.moves.Moves.{Move, place_of, touch_by, Can, after, with_line, HasLine}

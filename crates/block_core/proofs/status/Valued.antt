@@ -28,7 +28,8 @@ use Rattle.run_machine.specs.Runs.{State}
 use Rattle.block_core.specs.DoneWrites.{IsGiven}
 use Rattle.block_core.specs.Fragments.{fragment_of}
 use Rattle.block_core.specs.Touches.{is_master}
-use Rattle.block_core.specs.Values.{BioMayEnd, LegMayEnd, TodoMayEnd, IsAllowed, Decides, IsBrought, IsInDisk, BioComes, LegComes, NodeComes, ClosedComes, Comes, NodeIsValued, EndsAsItsFragment, IsValued}
+use Rattle.block_core.specs.AtWork.{IsBrought, IsInDisk}
+use Rattle.block_core.specs.Values.{BioMayEnd, LegMayEnd, TodoMayEnd, IsAllowed, Decides, BioComes, LegComes, NodeComes, ClosedComes, Comes, NodeIsValued, EndsAsItsFragment, IsValued}
 use Rattle.block_core.specs.Weights.{Weight, apart, one, names, under, legs_left, doing_weight, total}
 use Rattle.block_core.proofs.moves.Totals.{task_part}
 use Rattle.block_core.proofs.sound.Facts.{Kept}
