@@ -1,5 +1,5 @@
 -- How many events a run has in which no take missed.
-use Rattle.std.specs.Prelude.{◌≡◌, ◌+◌, ◌*◌, ℕ, Bool, true, false, List, length, sum_by, All}
+use Rattle.std.specs.Prelude.{◌≡◌, ◌+◌, not, ℕ, Bool, true, false, List, length, filter, sum_by, All}
 use Rattle.elem_ledger.specs.Ledger.{LedgerId}
 use Rattle.stack_base.specs.declared.stack.Stack.{Stack}
 use Rattle.stack_base.specs.Tree.{tree}
@@ -13,6 +13,9 @@ use Rattle.run_machine.specs.declared.event.What.{What}
 use Rattle.run_machine.specs.declared.event.What.TheVariants as what
 use Rattle.run_machine.specs.Opened.{Scenario, scene, start, duties}
 use Rattle.run_machine.specs.Runs.{State, IsRun, HasEnded}
+use Rattle.run_machine.specs.Tasks.{Duty, Resizes, Starts}
+use Rattle.block_core.specs.Payers.{Paid}
+use Rattle.block_core.specs.Payers as paid
 use Rattle.block_core.specs.Scenarios.{IsScenario, IsNaming}
 
 abbrev pub is_miss : What → Bool
@@ -31,15 +34,31 @@ all_nodes stack writes = sum_by (λ write. nodes stack write) writes
 abbrev pub all_below : Stack → List Write → ℕ
 all_below stack writes = sum_by (λ (write : Write). needed (tree stack write.dev.0) write.start write.count) writes
 
--- Each element is taken and given back, and each of a node linked. Each fragment is pushed and completed, and its end is told to its node. Each
--- other end is that of a node, and is told to its parent, or of a write, which is done. And the keeper does what it has to.
+abbrev pub starts_round : Duty → Bool
+starts_round (Starts round later) = true
+starts_round (Resizes pool min later) = false
+
+-- How often each kind of event that is paid for comes where no take misses. Each element is taken and given back, and each of a node linked. Each
+-- fragment is pushed and completed, and its end is told to its node. Each other end is that of a node, and is told to its parent, or of a write,
+-- which is done. The keeper starts each round behind the first, and changes reserves. The others come only behind a miss.
+abbrev pub times_without_misses : Scenario → Paid → ℕ
+times_without_misses s paid.IsTaken = all_elements s.stack s.writes
+times_without_misses s paid.IsLinked = all_nodes s.stack s.writes
+times_without_misses s paid.IsPushed = all_parts s.stack s.writes
+times_without_misses s paid.IsCompleted = all_parts s.stack s.writes
+times_without_misses s paid.EndsItself = all_parts s.stack s.writes
+times_without_misses s paid.EndsForParent = all_below s.stack s.writes
+times_without_misses s paid.IsGiven = all_elements s.stack s.writes
+times_without_misses s paid.IsDone = length s.writes
+times_without_misses s paid.Starts = length (filter starts_round (duties s))
+times_without_misses s paid.Resizes = length (filter (λ duty. not (starts_round duty)) (duties s))
+times_without_misses s kind = 0
+
 abbrev pub exact_steps : Scenario → ℕ
 exact_steps s =
-    let taken = all_elements s.stack s.writes in
-    let linked = all_nodes s.stack s.writes in
-    let fragments = all_parts s.stack s.writes in
-    let told = fragments + all_below s.stack s.writes in
-    taken + linked + 2 * fragments + told + taken + length s.writes + length (duties s)
+    let times = times_without_misses s in
+    times paid.IsTaken + times paid.IsLinked + times paid.IsPushed + times paid.IsCompleted + times paid.EndsItself + times paid.EndsForParent
+    + times paid.IsGiven + times paid.IsDone + times paid.Starts + times paid.Resizes
 
 -- So many events has each run that has ended and in which no take missed: its keeper has done all, since the last round has a write.
 abbrev pub StepsWithoutMisses : Type 0

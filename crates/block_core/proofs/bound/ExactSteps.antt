@@ -1,6 +1,6 @@
 -- A run that has ended and in which no take missed has as many events as were due at its start.
-use Rattle.std.proofs.Common.{◌≡◌, ◌+◌, ◌*◌, ◌<◌, ◌≤◌, ℕ, zero, suc, false, List, [], ◌∷◌, length, Option, None, Some, refl, sym, ◌∙◌, ap, subst, arith}
-use Rattle.std.specs.Prelude.{sum_by, map, zip}
+use Rattle.std.proofs.Common.{◌≡◌, ◌+◌, ◌*◌, ◌<◌, ◌≤◌, not, ℕ, zero, suc, false, List, [], ◌∷◌, length, Option, None, Some, refl, sym, ◌∙◌, ap, subst, arith}
+use Rattle.std.specs.Prelude.{filter, sum_by, map, zip}
 use Rattle.std.specs.List.{range_with_len}
 use Rattle.std.proofs.lemmas.List.Elements.{All-head, All-tail}
 use Rattle.std.proofs.lemmas.List.Sums.{sum_by-cons}
@@ -27,12 +27,12 @@ use Rattle.model_disks.specs.Disks.{DiskState}
 use Rattle.run_machine.specs.declared.event.Event.{Event}
 use Rattle.run_machine.specs.Scene.{Scene}
 use Rattle.run_machine.specs.Lines.{Line}
-use Rattle.run_machine.specs.Tasks.{TaskState, Writer, Rescuer, Completer, Keeper, Todo, Taken, NoBio, HasBio, HasBoth, Duty, Empty, Brings, Carries, Fails}
+use Rattle.run_machine.specs.Tasks.{TaskState, Writer, Rescuer, Completer, Keeper, Todo, Taken, NoBio, HasBio, HasBoth, Duty, Resizes, Starts, Empty, Brings, Carries, Fails}
 use Rattle.run_machine.specs.Opened.{Scenario, scene, start, todos, duties, keepers, setup as setup_in, writers}
 use Rattle.run_machine.specs.Runs.{State, IsRun}
 use Rattle.block_core.specs.Weights.{Weight, Rescued, Pending, total, one, weigh_option, task_weight, book_weight, taken_weight, elements, holding_elements, refs, under}
 use Rattle.block_core.specs.Charges.{there, task_duties, duties_left}
-use Rattle.block_core.specs.Exact.{is_miss, NoneMissed, all_nodes, all_below, StepsWithoutMisses}
+use Rattle.block_core.specs.Exact.{is_miss, NoneMissed, all_nodes, all_below, starts_round, StepsWithoutMisses}
 use Rattle.block_core.specs.Fragments.{todo_fragments, HasNone, NothingComes}
 use Rattle.block_core.specs.Rounds.{round_of, is_of_round, tops_left, unfinished_of}
 use Rattle.block_core.specs.Scenarios.{IsScenario, IsNaming}
@@ -104,6 +104,12 @@ begins_none scene (Writer number todo taken line) h = subst (λ (l : Line). NoPu
 begins_none scene (Rescuer dev line) h = subst (λ (l : Line). NoPunt l.doing) (sym h.1) tt
 begins_none scene (Completer disk carried) h = tt
 begins_none scene (Keeper keeping) h = tt
+
+-- a duty starts a round, or changes a reserve
+kinds : (ds : List Duty) → length (filter starts_round ds) + length (filter (λ duty. not (starts_round duty)) ds) ≡ length ds
+kinds [] = refl
+kinds (Starts round later ∷ ds) = omega (arith, kinds ds)
+kinds (Resizes pool min later ∷ ds) = omega (arith, kinds ds)
 
 ones : {X : Type 0} (xs : List X) → sum_by (λ x. 1) xs ≡ length xs
 ones [] = refl
@@ -304,6 +310,7 @@ steps_without_misses s ledger events state good naming run ended all =
       due_at_start s good ledger,
       table s good ledger s.writes,
       duties_at_start s good ledger,
+      kinds (duties s),
       no_duties_left s good ledger naming events state run ended.writes,
     )
   where

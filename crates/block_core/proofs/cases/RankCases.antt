@@ -1,5 +1,5 @@
 -- Charges and counts of events on worked cases: the rank at the start of a write to a mirror of two, and behind each event up to the link of its first leg.
-use Rattle.std.proofs.Common.{◌≡◌, ◌+◌, ◌-◌, ◌*◌, ℕ, List, [], ◌∷◌, length, true, refl}
+use Rattle.std.proofs.Common.{◌≡◌, ◌+◌, ◌-◌, ◌*◌, ℕ, List, [], ◌∷◌, length, filter, true, refl}
 use Rattle.elem_ledger.specs.Ledger.{LedgerId}
 use Rattle.run_machine.specs.Maps.{upd}
 use Rattle.run_machine.specs.Scene.{Scene}
@@ -8,6 +8,9 @@ use Rattle.run_machine.proofs.Turns.{Turn, behind}
 use Rattle.run_machine.proofs.cases.MirrorRun.{setup, mirror, start, ledger, begun}
 use Rattle.block_core.specs.Weights.{sum_at, one}
 use Rattle.layout_model.specs.Need.{begun as begun_below, needed, ended, fragments_of, vectors}
+use Rattle.run_machine.specs.Tasks.{Resizes, Starts}
+use Rattle.stack_base.specs.declared.ids.PoolId.TheVariants.{FsBios}
+use Rattle.block_core.specs.Exact.{starts_round}
 use Rattle.block_core.specs.Payers.{WriteBio, WriteVector, Record, PieceBio, Fragment, pays_for}
 use Rattle.block_core.specs.Charges.{begun_charge, run_charge, rank}
 
@@ -42,3 +45,7 @@ without_misses = refl
 -- 200 writes through stripes, limits and a mirror: 1,874 elements, of which 120 are vectors, and 1,354 fragments
 of_200_writes : 1874 + (1874 - 120) + 2 * 1354 + (1354 + (200 + 400 + 954)) + 1874 + 200 ≡ 11318
 of_200_writes = refl
+
+-- a change of a reserve before a round, and its start
+of_two_duties : length (filter starts_round (Resizes FsBios 2 1 ∷ Starts 1 1 ∷ [])) ≡ 1
+of_two_duties = refl
