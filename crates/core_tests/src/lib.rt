@@ -4,6 +4,8 @@
 #[cfg(test)]
 mod cases;
 #[cfg(test)]
+mod cut_legs;
+#[cfg(test)]
 mod cuts;
 #[cfg(test)]
 mod kinds;
@@ -13,6 +15,8 @@ mod legs;
 mod mirrors;
 #[cfg(test)]
 mod nests;
+#[cfg(test)]
+mod one_member;
 #[cfg(test)]
 mod rounds;
 #[cfg(test)]

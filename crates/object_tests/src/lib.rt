@@ -18,14 +18,20 @@ mod lanes;
 #[cfg(test)]
 mod legs;
 #[cfg(test)]
+mod lists;
+#[cfg(test)]
 mod pieces;
+#[cfg(test)]
+mod pool_calls;
 #[cfg(test)]
 mod pools;
 #[cfg(test)]
-mod records;
+mod segments;
 #[cfg(test)]
 mod sets;
 #[cfg(test)]
 mod streams;
 #[cfg(test)]
 mod submission;
+#[cfg(test)]
+mod task_lists;

@@ -5,7 +5,7 @@ ghost use Rattle.bioset_pools.specs.Sets.{IsPlan, bios_of};
 
 use crate::asks::{Case, all_hold, holds};
 use crate::bios::{bio_of, element_of, one};
-use crate::records::lists_with;
+use crate::task_lists::lists_with;
 use bio_records::SlipElement;
 use bioset_pools::{BioSet, SetParts, SetPlan, clear_bio, first_is_try};
 use fail_script::Script;

@@ -11,6 +11,8 @@ mod nodes;
 mod rounds;
 #[cfg(test)]
 mod runs;
+#[cfg(test)]
+mod seams;
 pub mod texts;
 #[cfg(test)]
 mod waits;

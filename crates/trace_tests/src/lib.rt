@@ -4,5 +4,9 @@
 #[cfg(test)]
 mod edits;
 #[cfg(test)]
+mod events;
+#[cfg(test)]
 mod lines;
+#[cfg(test)]
+mod names;
 pub mod stacks;

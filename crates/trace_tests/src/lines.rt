@@ -1,12 +1,11 @@
-//! Lines that were written by hand, and the events that they are.
+//! Lines that were written by hand: those of events, and those that are none.
 ghost use Rattle.trace_text.specs.Names.{IsNamed};
 
 use crate::stacks::stack_of;
 use arrayvec::ArrayVec;
-use stack_base::{DevId, PoolId, Stack, Status};
+use stack_base::Stack;
 use std::process::Abort;
 use std::test::Fail;
-use task_core::{End, Event, Got, How, TaskId, What};
 use trace_text::{read_event, write_event};
 
 /// Two disks, and a mirror with one bio and one record.
@@ -145,7 +144,8 @@ pub fn is_event(rt: &impl Abort, stack: &Stack, line: &[u8]) -> bool
     }
 }
 
-fn check_events(rt: &impl Abort, stack: &Stack, lines: &[&str])
+/// Checks that each line is that of an event.
+pub fn check_events(rt: &impl Abort, stack: &Stack, lines: &[&str])
     requires { IsNamed stack.now }
 {
     for line in lines {
@@ -153,7 +153,8 @@ fn check_events(rt: &impl Abort, stack: &Stack, lines: &[&str])
     }
 }
 
-fn check_none(rt: &impl Abort, stack: &Stack, lines: &[&str])
+/// Checks that no line is that of an event.
+pub fn check_none(rt: &impl Abort, stack: &Stack, lines: &[&str])
     requires { IsNamed stack.now }
 {
     for line in lines {
@@ -174,188 +175,5 @@ fn events_of_a_run_are_read_and_written(rt: HostRuntime) -> Result<(), Fail> {
 fn other_lines_are_no_events(rt: HostRuntime) -> Result<(), Fail> {
     let accepted = stack_of(rt.alloc(), MIRROR)?;
     check_none(&rt, &accepted.stack, NONE);
-    Ok(())
-}
-
-/// Lines of the stack of a mirror, and the events that they are.
-const EVENTS: &[(&str, Event)] = &[
-    (
-        "event w7 take fs.vecs ordinary",
-        Event {
-            task: TaskId::Writer(7),
-            what: What::Take {
-                pool: PoolId::FsVecs,
-                got: Got::Ordinary,
-            },
-        },
-    ),
-    (
-        "event r:m try m.bios missed",
-        Event {
-            task: TaskId::Rescuer(DevId(2)),
-            what: What::Try {
-                pool: PoolId::Bios(DevId(2)),
-                got: Got::Missed,
-            },
-        },
-    ),
-    (
-        "event c:b give m.records",
-        Event {
-            task: TaskId::Completer(DevId(1)),
-            what: What::Give {
-                pool: PoolId::Records(DevId(2)),
-            },
-        },
-    ),
-    (
-        "event k resize fs.bios 2",
-        Event {
-            task: TaskId::Keeper,
-            what: What::Resize {
-                pool: PoolId::FsBios,
-                min: 2,
-            },
-        },
-    ),
-    (
-        "event w0 punt m 3",
-        Event {
-            task: TaskId::Writer(0),
-            what: What::Punt {
-                dev: DevId(2),
-                moved: 3,
-            },
-        },
-    ),
-    (
-        "event r:m pop m",
-        Event {
-            task: TaskId::Rescuer(DevId(2)),
-            what: What::Pop { dev: DevId(2) },
-        },
-    ),
-    (
-        "event w1 push b 4 5 leg 6",
-        Event {
-            task: TaskId::Writer(1),
-            what: What::Push {
-                disk: DevId(1),
-                at: 4,
-                len: 5,
-                leg: 6,
-            },
-        },
-    ),
-    (
-        "event c:a complete a 9 medium",
-        Event {
-            task: TaskId::Completer(DevId(0)),
-            what: What::Complete {
-                disk: DevId(0),
-                index: 9,
-                status: Status::Medium,
-            },
-        },
-    ),
-    (
-        "event w0 link 1 master 2",
-        Event {
-            task: TaskId::Writer(0),
-            what: What::Link {
-                writer: 1,
-                how: How::Master,
-                node: 2,
-            },
-        },
-    ),
-    (
-        "event c:a drop 3 4 nospace up",
-        Event {
-            task: TaskId::Completer(DevId(0)),
-            what: What::Drop {
-                writer: 3,
-                node: 4,
-                status: Status::NoSpace,
-                end: End::Up,
-            },
-        },
-    ),
-    (
-        "event c:b done 5 io",
-        Event {
-            task: TaskId::Completer(DevId(1)),
-            what: What::Done {
-                write: 5,
-                status: Status::Io,
-            },
-        },
-    ),
-    (
-        "event k round 6",
-        Event {
-            task: TaskId::Keeper,
-            what: What::Round { round: 6 },
-        },
-    ),
-];
-
-// Each of these events is written as its line, and the line is read as an event that is written so again. No two events of a stack are
-// written as one line, so it is the same one.
-fn check_told(rt: &impl Abort, stack: &Stack, events: &[(&str, Event)])
-    requires { IsNamed stack.now }
-{
-    for (line, event) in events {
-        let mut written = ArrayVec::new();
-        write_event(event, stack, &mut written);
-        assert!(rt; written.as_slice() == line.as_bytes(), "{line}");
-        assert!(rt; is_event(rt, stack, line.as_bytes()), "{line}");
-    }
-}
-
-#[test]
-fn lines_are_their_events(rt: HostRuntime) -> Result<(), Fail> {
-    let accepted = stack_of(rt.alloc(), MIRROR)?;
-    check_told(&rt, &accepted.stack, EVENTS);
-    Ok(())
-}
-
-/// Two disks whose names have 16 characters and differ in the last one, and a device whose name they begin with.
-const LONG_NAMES: &str =
-    "disk abcdefghijklmno_ 8\ndisk abcdefghijklmno- 8\nlinear a abcdefghijklmno_ abcdefghijklmno-\n";
-
-/// Lines of that stack. The last one is as long as a line may be, 103 bytes.
-const LONG: &[&str] = &[
-    "event w0 take a.bios ordinary",
-    "event w0 push abcdefghijklmno- 0 1 leg 0",
-    "event c:abcdefghijklmno_ drop 0 1 ok up",
-    "event c:abcdefghijklmno- push abcdefghijklmno_ 18446744073709551615 18446744073709551615 leg 4294967295",
-];
-
-/// Lines that are no events of that stack.
-const NOT_LONG: &[&str] = &[
-    "event r:abcdefghijklmno pop a",
-    "event r:abcdefghijklmno__ pop a",
-    "event w0 give a.records",
-    "event w0 take m.bios spare",
-    "event r:m pop m",
-];
-
-const LONG_EVENTS: &[(&str, Event)] = &[(
-    "event c:abcdefghijklmno- give a.bios",
-    Event {
-        task: TaskId::Completer(DevId(1)),
-        what: What::Give {
-            pool: PoolId::Bios(DevId(2)),
-        },
-    },
-)];
-
-#[test]
-fn names_are_told_apart_by_their_last_byte(rt: HostRuntime) -> Result<(), Fail> {
-    let accepted = stack_of(rt.alloc(), LONG_NAMES)?;
-    check_events(&rt, &accepted.stack, LONG);
-    check_none(&rt, &accepted.stack, NOT_LONG);
-    check_told(&rt, &accepted.stack, LONG_EVENTS);
     Ok(())
 }
