@@ -1,26 +1,19 @@
 -- The order of a run by one thread, from a stream of words: which task is tried first in each turn, and which bio a disk is done with.
 use Rattle.std.specs.Prelude.{◌≡◌, ◌+◌, ◌%◌, ◌<◌, ◌≤◌, min, ℕ, List, [], ◌∷◌, length}
 use Rattle.rand_pcg.specs.Lcg.{Lcg}
-use Rattle.rand_pcg.specs.Pcg.{pcg32}
 use Rattle.run_machine.specs.declared.event.Event.{Event}
 use Rattle.run_machine.specs.declared.event.What.{What}
 use Rattle.run_machine.specs.declared.event.What.TheVariants as what
 use Rattle.task_core.specs.PlainSteps.{IsPassedOver}
 use Rattle.run_machine.specs.Runs.{State, Steps, unfinished}
 use Rattle.run_machine.specs.Scene.{Scene}
-
--- the next word of the stream, and the stream behind it
-abbrev pub word : Lcg → ℕ
-word stream = (pcg32 stream).0
-
-abbrev pub behind : Lcg → Lcg
-behind stream = (pcg32 stream).1
+use Rattle.work_text.specs.Generated.{word, behind}
 
 -- a completion is of the bio that one more word chooses among the first 64 that wait, and nothing else takes a word
-abbrev pub Picks : State → What → Lcg → Lcg → Type 0
-Picks state (what.Complete disk index status) stream after =
+abbrev pub PicksByWord : State → What → Lcg → Lcg → Type 0
+PicksByWord state (what.Complete disk index status) stream after =
     (index ≡ word stream % min (length (state.objects.disk disk.0).pending) 64) × (after ≡ behind stream)
-Picks state what stream after = after ≡ stream
+PicksByWord state what stream after = after ≡ stream
 
 -- A turn is taken while a write is unfinished, and takes a word. It tries the task with that number first, counted round all tasks, and then the
 -- following ones, up to the first that has an event.
@@ -30,7 +23,7 @@ pub record IsTurn (scene : Scene) (state : State) (stream : Lcg) (event : Event)
   pub few : passed < scene.tasks
   pub others : (k : ℕ) → k < passed → IsPassedOver scene state ((word stream + k) % scene.tasks)
   pub steps : Steps scene state ((word stream + passed) % scene.tasks) event new
-  pub picks : Picks state event.what (behind stream) after
+  pub picks : PicksByWord state event.what (behind stream) after
 
 -- these events come turn by turn, from this state and stream to that one
 abbrev pub Follows : Scene → State → Lcg → List Event → State → Lcg → Type 0

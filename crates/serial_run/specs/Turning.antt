@@ -11,7 +11,7 @@ use Rattle.run_machine.specs.Runs.{State, Steps}
 use Rattle.run_machine.specs.Scene.{Scene}
 use Rattle.run_machine.specs.Tasks.{Keeper, Keeps, Starts, Duty}
 use Rattle.block_core.specs.Breaks.{GoesUnrefused}
-use Rattle.serial_run.specs.Schedule.{Picks, IsTurn}
+use Rattle.serial_run.specs.Schedule.{PicksByWord, IsTurn}
 
 -- no object refuses what a task asks it for next, and the round is there that the keeper is to start next
 pub record GoesWell (scene : Scene) (state : State) : Type 0 where
@@ -28,7 +28,7 @@ Hands happens step before answer now = (answer ≡ false) × (now ≡ before)
 -- memory, and nothing has changed
 abbrev pub Tried : {V : Type 0} → (V → Event → V → Type 0) → Stack → Scene → ℕ → State → Lcg → V → Bool → State → Lcg → V → Type 0
 Tried happens stack scene place old stream before true new after now =
-    (event : Event) × Steps scene old place event new × Picks old event.what stream after × happens before event now × IsEventOf stack event
+    (event : Event) × Steps scene old place event new × PicksByWord old event.what stream after × happens before event now × IsEventOf stack event
     × Fits event
 Tried happens stack scene place old stream before false new after now =
     (new ≡ old) × (after ≡ stream) × (now ≡ before) × IsPassedOver scene old place

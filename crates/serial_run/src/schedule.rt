@@ -2,7 +2,7 @@
 ghost use Rattle.std.specs.Prelude.{◌≡◌, ◌%◌, min};
 ghost use Rattle.rand_core.specs.Pcg32Seed.{pcg32_seed};
 ghost use Rattle.rand_pcg.specs.Pcg.{pcg32_of_seed};
-ghost use Rattle.serial_run.specs.Schedule.{word, behind};
+ghost use Rattle.work_text.specs.Generated.{word, behind};
 
 use rand_core::SeedableRng;
 use rand_core::utils::NextWord;

@@ -1,5 +1,5 @@
 use Rattle.std.proofs.Common.{arith}
-use Rattle.serial_run.specs.Schedule.{word, behind}
+use Rattle.work_text.specs.Generated.{word, behind}
 use Rattle.serial_run.proofs.Sweeps.{passes_on, some_steps}
 use Rattle.serial_run.proofs.turn.turn.Goals as goal
 

@@ -1,4 +1,4 @@
-use Rattle.serial_run.specs.Schedule.{word, behind}
+use Rattle.work_text.specs.Generated.{word, behind}
 use Rattle.serial_run.proofs.Sweeps.{IsSweep}
 use Rattle.serial_run.proofs.turn.turn.Given as goal
 
