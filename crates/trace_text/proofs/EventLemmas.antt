@@ -27,8 +27,8 @@ use Rattle.run_machine.specs.declared.event.What.{What}
 use Rattle.run_machine.specs.declared.event.What.TheVariants as what
 use Rattle.run_machine.specs.declared.event.Event.{Event}
 use Rattle.trace_text.specs.Names.{HasDevice, HasPool, IsNamed, has_set, is_any, is_disk, is_mirror}
-use Rattle.trace_text.specs.Lines.{Fits, IsEventOf, end_word, got_word, how_word, line_of, name_of, pool_word, status_word, task_word, what_words, words_of}
-use Rattle.trace_text.specs.Reading.{at_end, both, event_of, field, made, mark_of, task_of, what_of}
+use Rattle.trace_text.specs.Lines.{Fits, IsEventOf, end_word, got_word, how_word, line_of, device_name, pool_word, status_word, task_word, what_words, words_of}
+use Rattle.trace_text.specs.Reading.{at_end, both, event_of, field, made, fixed_word, task_of_word, what_of}
 use Rattle.trace_text.specs.Laws.{IsLineOf, IsRead, is_line_byte}
 use Rattle.trace_text.proofs.NameLemmas.{any_of}
 use Rattle.trace_text.proofs.NameWords.{is_visible, list_all_follows, name_is_word}
@@ -48,7 +48,7 @@ digit_visible byte is = grind (arith, nat_tests)
 number_unbroken : (n : ℕ) → n < 2 ^ 64 → is_unbroken (decimal n) ≡ true
 number_unbroken n small = list_all_follows is_ascii_digit is_visible digit_visible (decimal n) (digits_decimal numerals n small)
 
-name_unbroken : (stack : Stack) (dev : DevId) → IsNamed stack → HasDevice is_any stack dev → is_unbroken (name_of stack dev) ≡ true
+name_unbroken : (stack : Stack) (dev : DevId) → IsNamed stack → HasDevice is_any stack dev → is_unbroken (device_name stack dev) ≡ true
 name_unbroken stack dev named has = (name_is_word stack dev named has).visible
 
 joined_unbroken : (a b : List ℕ) → is_unbroken a ≡ true → is_unbroken b ≡ true → is_unbroken (a ++ b) ≡ true
@@ -57,15 +57,15 @@ joined_unbroken a b first second = rw (list_all-append is_visible a b, first, se
 pool_unbroken : (stack : Stack) (pool : PoolId) → IsNamed stack → HasPool stack pool → is_unbroken (pool_word stack pool) ≡ true
 pool_unbroken stack FsBios named has = refl
 pool_unbroken stack FsVecs named has = refl
-pool_unbroken stack (Bios dev) named has = joined_unbroken (name_of stack dev) (codes ".bios") (name_unbroken stack dev named (any_of has_set stack dev has)) refl
+pool_unbroken stack (Bios dev) named has = joined_unbroken (device_name stack dev) (codes ".bios") (name_unbroken stack dev named (any_of has_set stack dev has)) refl
 pool_unbroken stack (Records dev) named has =
-    joined_unbroken (name_of stack dev) (codes ".records") (name_unbroken stack dev named (any_of is_mirror stack dev has)) refl
+    joined_unbroken (device_name stack dev) (codes ".records") (name_unbroken stack dev named (any_of is_mirror stack dev has)) refl
 
 task_unbroken : (stack : Stack) (one : TaskId) → IsNamed stack → IsTask stack one → is_unbroken (task_word stack one) ≡ true
 task_unbroken stack (task.Writer number) named is = joined_unbroken (codes "w") (decimal number) refl (number_unbroken number (omega (arith, is.1)))
-task_unbroken stack (task.Rescuer dev) named is = joined_unbroken (codes "r:") (name_of stack dev) refl (name_unbroken stack dev named is.0)
+task_unbroken stack (task.Rescuer dev) named is = joined_unbroken (codes "r:") (device_name stack dev) refl (name_unbroken stack dev named is.0)
 task_unbroken stack (task.Completer disk) named is =
-    joined_unbroken (codes "c:") (name_of stack disk) refl (name_unbroken stack disk named (any_of is_disk stack disk is.0))
+    joined_unbroken (codes "c:") (device_name stack disk) refl (name_unbroken stack disk named (any_of is_disk stack disk is.0))
 task_unbroken stack task.Keeper named is = refl
 
 got_unbroken : (one : Got) → is_unbroken (got_word one) ≡ true
@@ -152,7 +152,7 @@ event_takes stack words event named e =
 event_again : (stack : Stack) (event : Event) → IsNamed stack → IsEventOf stack event → Fits event → event_of stack (words_of stack event) ≡ Some event
 unfolding event_of
 event_again stack event named is fits =
-    ap at_end (ap (made (λ of. record { task = of.1.0; what = of.1.1 }) (both (field (mark_of (codes "event"))) (both (field (task_of stack)) (what_of stack)))) (sym (append-nil (words_of stack event)))
+    ap at_end (ap (made (λ of. record { task = of.1.0; what = of.1.1 }) (both (field (fixed_word (codes "event"))) (both (field (task_of_word stack)) (what_of stack)))) (sym (append-nil (words_of stack event)))
     ∙ made_again (then (of_word (mark_is (codes "event"))) (then (of_word (task_is stack named)) (what_is stack named)))
     (λ of. record { task = of.1.0; what = of.1.1 }) (tt, (event.task, event.what)) [] (tt, ((is.task, fits.task), (is.what, fits.what))))
 

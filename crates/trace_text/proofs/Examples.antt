@@ -11,7 +11,7 @@ use Rattle.run_machine.specs.declared.event.Got.TheVariants as got
 use Rattle.run_machine.specs.declared.event.How.TheVariants as how
 use Rattle.run_machine.specs.declared.event.End.TheVariants as end
 use Rattle.run_machine.specs.declared.event.What.TheVariants as what
-use Rattle.trace_text.specs.Lines.{line_of, name_of}
+use Rattle.trace_text.specs.Lines.{line_of, device_name}
 use Rattle.trace_text.specs.Reading.{long_of, number_of, short_of}
 
 a : DevId
@@ -24,9 +24,9 @@ m : DevId
 m = record { 0 = 2 }
 
 record AreNamed (stack : Stack) : Type 0 where
-  first : name_of stack a ≡ codes "a"
-  second : name_of stack b ≡ codes "b"
-  third : name_of stack m ≡ codes "m"
+  first : device_name stack a ≡ codes "a"
+  second : device_name stack b ≡ codes "b"
+  third : device_name stack m ≡ codes "m"
 
 digit_0 : decimal 0 ≡ codes "0"
 digit_0 = decimal_digit 0 (omega arith)

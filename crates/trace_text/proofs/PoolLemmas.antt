@@ -15,7 +15,7 @@ use Rattle.stack_base.specs.declared.ids.PoolId.{PoolId}
 use Rattle.stack_base.specs.declared.ids.PoolId.TheVariants.{FsBios, FsVecs, Bios, Records}
 use Rattle.stack_base.specs.declared.stack.Stack.{Stack}
 use Rattle.trace_text.specs.Names.{IsNamed, HasDevice, HasPool, has_set, is_mirror}
-use Rattle.trace_text.specs.Lines.{name_of, pool_word}
+use Rattle.trace_text.specs.Lines.{device_name, pool_word}
 use Rattle.trace_text.specs.Reading.{bios_of, device_of, device_pool, fs_pool, if_suits, is_dot, pool_named, pool_of, records_of}
 use Rattle.trace_text.proofs.NameLemmas.{any_of, device_takes, mapped_some, suited_again, suits_some}
 use Rattle.trace_text.proofs.NameWords.{IsNameWord, name_is_word}
@@ -45,11 +45,11 @@ cut_named stack name kept is =
     ∙ ap (λ k. pool_named stack name k) cut.1
     ∙ ap (λ own. cond own (fs_pool kept) (device_pool stack name kept)) is.own
 
-bios_again : (stack : Stack) (dev : DevId) → IsNamed stack → HasDevice has_set stack dev → bios_of stack (name_of stack dev) ≡ Some (Bios dev)
+bios_again : (stack : Stack) (dev : DevId) → IsNamed stack → HasDevice has_set stack dev → bios_of stack (device_name stack dev) ≡ Some (Bios dev)
 unfolding bios_of
 bios_again stack dev named has = ap (option_map Bios) (suited_again has_set stack dev named has)
 
-records_again : (stack : Stack) (dev : DevId) → IsNamed stack → HasDevice is_mirror stack dev → records_of stack (name_of stack dev) ≡ Some (Records dev)
+records_again : (stack : Stack) (dev : DevId) → IsNamed stack → HasDevice is_mirror stack dev → records_of stack (device_name stack dev) ≡ Some (Records dev)
 unfolding records_of
 records_again stack dev named has = ap (option_map Records) (suited_again is_mirror stack dev named has)
 
@@ -58,10 +58,10 @@ unfolding pool_of
 pool_again stack FsBios named has = refl
 pool_again stack FsVecs named has = refl
 pool_again stack (Bios dev) named has =
-    cut_named stack (name_of stack dev) (codes "bios") (name_is_word stack dev named (any_of has_set stack dev has))
+    cut_named stack (device_name stack dev) (codes "bios") (name_is_word stack dev named (any_of has_set stack dev has))
     ∙ bios_again stack dev named has
 pool_again stack (Records dev) named has =
-    cut_named stack (name_of stack dev) (codes "records") (name_is_word stack dev named (any_of is_mirror stack dev has))
+    cut_named stack (device_name stack dev) (codes "records") (name_is_word stack dev named (any_of is_mirror stack dev has))
     ∙ records_again stack dev named has
 
 bios_takes : (stack : Stack) (name : List ℕ) (pool : PoolId) → bios_of stack name ≡ Some pool → HasPool stack pool × (name ++ codes ".bios" ≡ pool_word stack pool)

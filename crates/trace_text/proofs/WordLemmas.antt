@@ -20,7 +20,7 @@ use Rattle.run_machine.specs.declared.event.End.TheVariants as end
 use Rattle.trace_text.specs.declared.verb.Verb.{Verb}
 use Rattle.trace_text.specs.declared.verb.Verb.TheVariants as verb
 use Rattle.trace_text.specs.Lines.{status_word, got_word, how_word, end_word}
-use Rattle.trace_text.specs.Reading.{with_word, all_verbs, verb_word, verb_of, all_statuses, status_of, all_gots, got_of, all_hows, how_of, all_ends, end_of, is_plain, number_of, mark_of}
+use Rattle.trace_text.specs.Reading.{with_word, all_verbs, verb_word, verb_of_word, all_statuses, status_of_word, all_gots, got_of_word, all_hows, how_of_word, all_ends, end_of_word, is_plain, number_of, fixed_word}
 use Rattle.trace_text.proofs.NumberLemmas.{AllAreDigits, numerals}
 use Rattle.trace_text.proofs.Readers.{IsWord}
 
@@ -43,7 +43,7 @@ of_choice word_of all again = record {
   takes = λ word a e. (tt, found_word word_of all word a e);
 }
 
-verb_again : (one : Verb) → verb_of (verb_word one) ≡ Some one
+verb_again : (one : Verb) → verb_of_word (verb_word one) ≡ Some one
 verb_again verb.Take = refl
 verb_again verb.Try = refl
 verb_again verb.Give = refl
@@ -57,44 +57,44 @@ verb_again verb.Done = refl
 verb_again verb.Resize = refl
 verb_again verb.Round = refl
 
-pub verb_is : IsWord verb_word (λ one. Unit {0}) verb_of
+pub verb_is : IsWord verb_word (λ one. Unit {0}) verb_of_word
 verb_is = of_choice verb_word all_verbs verb_again
 
-status_again : (one : Status) → status_of (status_word one) ≡ Some one
+status_again : (one : Status) → status_of_word (status_word one) ≡ Some one
 status_again status.Ok = refl
 status_again status.Io = refl
 status_again status.Medium = refl
 status_again status.NoSpace = refl
 
-pub status_is : IsWord status_word (λ one. Unit {0}) status_of
+pub status_is : IsWord status_word (λ one. Unit {0}) status_of_word
 status_is = of_choice status_word all_statuses status_again
 
-got_again : (one : Got) → got_of (got_word one) ≡ Some one
+got_again : (one : Got) → got_of_word (got_word one) ≡ Some one
 got_again got.Ordinary = refl
 got_again got.Spare = refl
 got_again got.Missed = refl
 
-pub got_is : IsWord got_word (λ one. Unit {0}) got_of
+pub got_is : IsWord got_word (λ one. Unit {0}) got_of_word
 got_is = of_choice got_word all_gots got_again
 
-how_again : (one : How) → how_of (how_word one) ≡ Some one
+how_again : (one : How) → how_of_word (how_word one) ≡ Some one
 how_again how.Write = refl
 how_again how.Chain = refl
 how_again how.Master = refl
 how_again how.Leg = refl
 
-pub how_is : IsWord how_word (λ one. Unit {0}) how_of
+pub how_is : IsWord how_word (λ one. Unit {0}) how_of_word
 how_is = of_choice how_word all_hows how_again
 
-end_again : (one : End) → end_of (end_word one) ≡ Some one
+end_again : (one : End) → end_of_word (end_word one) ≡ Some one
 end_again end.Left = refl
 end_again end.Up = refl
 end_again end.Top = refl
 
-pub end_is : IsWord end_word (λ one. Unit {0}) end_of
+pub end_is : IsWord end_word (λ one. Unit {0}) end_of_word
 end_is = of_choice end_word all_ends end_again
 
-pub mark_is : (mark : List ℕ) → IsWord (λ (one : Unit {0}). mark) (λ one. Unit {0}) (mark_of mark)
+pub mark_is : (mark : List ℕ) → IsWord (λ (one : Unit {0}). mark) (λ one. Unit {0}) (fixed_word mark)
 mark_is mark = record {
   again = λ a is. rw ((bytes_eq-Decides mark mark).1 refl) refl;
   takes = λ word a e. (tt, (bytes_eq-Decides word mark).0 (cond_some (bytes_eq word mark) tt a e).0);

@@ -45,19 +45,19 @@ end_word end.Up = codes "up"
 end_word end.Top = codes "top"
 
 -- the name of a device
-abbrev pub name_of : Stack → DevId → List ℕ
-name_of stack dev = option_map_or (λ (device : Device). device.name.bytes) (slice_get stack.devices.items dev.0) []
+abbrev pub device_name : Stack → DevId → List ℕ
+device_name stack dev = option_map_or (λ (device : Device). device.name.bytes) (slice_get stack.devices.items dev.0) []
 
 abbrev pub pool_word : Stack → PoolId → List ℕ
 pool_word stack FsBios = codes "fs.bios"
 pool_word stack FsVecs = codes "fs.vecs"
-pool_word stack (Bios dev) = name_of stack dev ++ codes ".bios"
-pool_word stack (Records dev) = name_of stack dev ++ codes ".records"
+pool_word stack (Bios dev) = device_name stack dev ++ codes ".bios"
+pool_word stack (Records dev) = device_name stack dev ++ codes ".records"
 
 abbrev pub task_word : Stack → TaskId → List ℕ
 task_word stack (task.Writer number) = codes "w" ++ decimal number
-task_word stack (task.Rescuer dev) = codes "r:" ++ name_of stack dev
-task_word stack (task.Completer disk) = codes "c:" ++ name_of stack disk
+task_word stack (task.Rescuer dev) = codes "r:" ++ device_name stack dev
+task_word stack (task.Completer disk) = codes "c:" ++ device_name stack disk
 task_word stack task.Keeper = codes "k"
 
 -- what a task did, in words
@@ -65,11 +65,11 @@ abbrev pub what_words : Stack → What → List (List ℕ)
 what_words stack (what.Take pool got) = codes "take" ∷ pool_word stack pool ∷ got_word got ∷ []
 what_words stack (what.Try pool got) = codes "try" ∷ pool_word stack pool ∷ got_word got ∷ []
 what_words stack (what.Give pool) = codes "give" ∷ pool_word stack pool ∷ []
-what_words stack (what.Punt dev moved) = codes "punt" ∷ name_of stack dev ∷ decimal moved ∷ []
-what_words stack (what.Pop dev) = codes "pop" ∷ name_of stack dev ∷ []
+what_words stack (what.Punt dev moved) = codes "punt" ∷ device_name stack dev ∷ decimal moved ∷ []
+what_words stack (what.Pop dev) = codes "pop" ∷ device_name stack dev ∷ []
 what_words stack (what.Push disk at len leg) =
-    codes "push" ∷ name_of stack disk ∷ decimal at ∷ decimal len ∷ codes "leg" ∷ decimal leg ∷ []
-what_words stack (what.Complete disk index status) = codes "complete" ∷ name_of stack disk ∷ decimal index ∷ status_word status ∷ []
+    codes "push" ∷ device_name stack disk ∷ decimal at ∷ decimal len ∷ codes "leg" ∷ decimal leg ∷ []
+what_words stack (what.Complete disk index status) = codes "complete" ∷ device_name stack disk ∷ decimal index ∷ status_word status ∷ []
 what_words stack (what.Link writer how node) = codes "link" ∷ decimal writer ∷ how_word how ∷ decimal node ∷ []
 what_words stack (what.Drop writer node status end) =
     codes "drop" ∷ decimal writer ∷ decimal node ∷ status_word status ∷ end_word end ∷ []

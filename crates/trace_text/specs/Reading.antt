@@ -85,32 +85,32 @@ verb_word verb.Done = codes "done"
 verb_word verb.Resize = codes "resize"
 verb_word verb.Round = codes "round"
 
-abbrev pub verb_of : List ℕ → Option Verb
-verb_of word = with_word verb_word all_verbs word
+abbrev pub verb_of_word : List ℕ → Option Verb
+verb_of_word word = with_word verb_word all_verbs word
 
 abbrev pub all_statuses : List Status
 all_statuses = status.Ok ∷ status.Io ∷ status.Medium ∷ status.NoSpace ∷ []
 
-abbrev pub status_of : List ℕ → Option Status
-status_of word = with_word status_word all_statuses word
+abbrev pub status_of_word : List ℕ → Option Status
+status_of_word word = with_word status_word all_statuses word
 
 abbrev pub all_gots : List Got
 all_gots = got.Ordinary ∷ got.Spare ∷ got.Missed ∷ []
 
-abbrev pub got_of : List ℕ → Option Got
-got_of word = with_word got_word all_gots word
+abbrev pub got_of_word : List ℕ → Option Got
+got_of_word word = with_word got_word all_gots word
 
 abbrev pub all_hows : List How
 all_hows = how.Write ∷ how.Chain ∷ how.Master ∷ how.Leg ∷ []
 
-abbrev pub how_of : List ℕ → Option How
-how_of word = with_word how_word all_hows word
+abbrev pub how_of_word : List ℕ → Option How
+how_of_word word = with_word how_word all_hows word
 
 abbrev pub all_ends : List End
 all_ends = end.Left ∷ end.Up ∷ end.Top ∷ []
 
-abbrev pub end_of : List ℕ → Option End
-end_of word = with_word end_word all_ends word
+abbrev pub end_of_word : List ℕ → Option End
+end_of_word word = with_word end_word all_ends word
 
 -- decimal digits, one at least, of which the first is no 0 that others follow
 abbrev pub is_plain : List ℕ → Bool
@@ -166,33 +166,33 @@ unfoldable pub pool_of : Stack → List ℕ → Option PoolId
 pool_of stack word = pool_named stack (before_first is_dot word) (after_first is_dot word)
 
 -- what follows this in a word
-abbrev pub behind : List ℕ → List ℕ → Option (List ℕ)
-behind front word = if bytes_eq (take (length front) word) front then Some (drop (length front) word) else None
+abbrev pub past_front : List ℕ → List ℕ → Option (List ℕ)
+past_front front word = if bytes_eq (take (length front) word) front then Some (drop (length front) word) else None
 
-abbrev pub writer_of : List ℕ → Option TaskId
-writer_of word = option_map task.Writer (option_and_then short_of (behind (codes "w") word))
+abbrev pub writer_of_word : List ℕ → Option TaskId
+writer_of_word word = option_map task.Writer (option_and_then short_of (past_front (codes "w") word))
 
-abbrev pub rescuer_of : Stack → List ℕ → Option TaskId
-rescuer_of stack word = option_map task.Rescuer (option_and_then (device_of stack) (behind (codes "r:") word))
+abbrev pub rescuer_of_word : Stack → List ℕ → Option TaskId
+rescuer_of_word stack word = option_map task.Rescuer (option_and_then (device_of stack) (past_front (codes "r:") word))
 
-abbrev pub completer_of : Stack → List ℕ → Option TaskId
-completer_of stack word = option_map task.Completer (option_and_then (disk_of stack) (behind (codes "c:") word))
+abbrev pub completer_of_word : Stack → List ℕ → Option TaskId
+completer_of_word stack word = option_map task.Completer (option_and_then (disk_of stack) (past_front (codes "c:") word))
 
-unfoldable pub task_of : Stack → List ℕ → Option TaskId
-task_of stack word =
+unfoldable pub task_of_word : Stack → List ℕ → Option TaskId
+task_of_word stack word =
     if bytes_eq word (codes "k") then Some task.Keeper
-    else option_or (writer_of word) (option_or (rescuer_of stack word) (completer_of stack word))
+    else option_or (writer_of_word word) (option_or (rescuer_of_word stack word) (completer_of_word stack word))
 
 -- a word that is always the same
-abbrev pub mark_of : List ℕ → List ℕ → Option (Unit {0})
-mark_of mark word = if bytes_eq word mark then Some tt else None
+abbrev pub fixed_word : List ℕ → List ℕ → Option (Unit {0})
+fixed_word mark word = if bytes_eq word mark then Some tt else None
 
 -- what stands behind each verb
 abbrev pub take_behind : Stack → Reader What
-take_behind stack = made (λ of. what.Take of.0 of.1) (both (field (pool_of stack)) (field got_of))
+take_behind stack = made (λ of. what.Take of.0 of.1) (both (field (pool_of stack)) (field got_of_word))
 
 abbrev pub try_behind : Stack → Reader What
-try_behind stack = made (λ of. what.Try of.0 of.1) (both (field (pool_of stack)) (field got_of))
+try_behind stack = made (λ of. what.Try of.0 of.1) (both (field (pool_of stack)) (field got_of_word))
 
 abbrev pub give_behind : Stack → Reader What
 give_behind stack = made what.Give (field (pool_of stack))
@@ -205,21 +205,21 @@ pop_behind stack = made what.Pop (field (device_of stack))
 
 abbrev pub push_behind : Stack → Reader What
 push_behind stack = made (λ of. what.Push of.0 of.1.0 of.1.1.0 of.1.1.1.1)
-    (both (field (disk_of stack)) (both (field long_of) (both (field long_of) (both (field (mark_of (codes "leg"))) (field short_of)))))
+    (both (field (disk_of stack)) (both (field long_of) (both (field long_of) (both (field (fixed_word (codes "leg"))) (field short_of)))))
 
 abbrev pub complete_behind : Stack → Reader What
 complete_behind stack = made (λ of. what.Complete of.0 of.1.0 of.1.1)
-    (both (field (disk_of stack)) (both (field long_of) (field status_of)))
+    (both (field (disk_of stack)) (both (field long_of) (field status_of_word)))
 
 abbrev pub link_behind : Reader What
-link_behind = made (λ of. what.Link of.0 of.1.0 of.1.1) (both (field short_of) (both (field how_of) (field short_of)))
+link_behind = made (λ of. what.Link of.0 of.1.0 of.1.1) (both (field short_of) (both (field how_of_word) (field short_of)))
 
 abbrev pub drop_behind : Reader What
 drop_behind = made (λ of. what.Drop of.0 of.1.0 of.1.1.0 of.1.1.1)
-    (both (field short_of) (both (field short_of) (both (field status_of) (field end_of))))
+    (both (field short_of) (both (field short_of) (both (field status_of_word) (field end_of_word))))
 
 abbrev pub done_behind : Reader What
-done_behind = made (λ of. what.Done of.0 of.1) (both (field short_of) (field status_of))
+done_behind = made (λ of. what.Done of.0 of.1) (both (field short_of) (field status_of_word))
 
 abbrev pub resize_behind : Stack → Reader What
 resize_behind stack = made (λ of. what.Resize of.0 of.1) (both (field (pool_of stack)) (field short_of))
@@ -243,7 +243,7 @@ what_behind stack verb.Round = round_behind
 
 -- a verb, and what stands behind it
 unfoldable pub what_of : Stack → Reader What
-what_of stack words = option_and_then (λ (found : Verb × List (List ℕ)). what_behind stack found.0 found.1) (field verb_of words)
+what_of stack words = option_and_then (λ (found : Verb × List (List ℕ)). what_behind stack found.0 found.1) (field verb_of_word words)
 
 -- an event, where no word follows
 abbrev pub at_end : {A : Type 0} → Option (A × List (List ℕ)) → Option A
@@ -253,4 +253,4 @@ at_end (Some (found, word ∷ words)) = None
 
 unfoldable pub event_of : Stack → List (List ℕ) → Option Event
 event_of stack words =
-    at_end (made (λ of. record { task = of.1.0; what = of.1.1 }) (both (field (mark_of (codes "event"))) (both (field (task_of stack)) (what_of stack))) words)
+    at_end (made (λ of. record { task = of.1.0; what = of.1.1 }) (both (field (fixed_word (codes "event"))) (both (field (task_of_word stack)) (what_of stack))) words)

@@ -3,10 +3,10 @@ ghost use Rattle.std.specs.Prelude.{◌≡◌, ◌≤◌, ◌==◌, codes, lengt
 ghost use Rattle.std.specs.List.{slice_split};
 ghost use Rattle.trace_text.specs.Laws.{IsRead};
 ghost use Rattle.trace_text.specs.Names.{IsNamed};
-ghost use Rattle.trace_text.specs.Reading.{Reads, device_of, disk_of, end_of, event_of, field, got_of, how_of, long_of, mark_of, pool_of, short_of, status_of, task_of, verb_of, what_of, take_behind, try_behind, give_behind, punt_behind, pop_behind, push_behind, complete_behind, link_behind, drop_behind, done_behind, resize_behind, round_behind};
+ghost use Rattle.trace_text.specs.Reading.{Reads, device_of, disk_of, end_of_word, event_of, field, got_of_word, how_of_word, long_of, fixed_word, pool_of, short_of, status_of_word, task_of_word, verb_of_word, what_of, take_behind, try_behind, give_behind, punt_behind, pop_behind, push_behind, complete_behind, link_behind, drop_behind, done_behind, resize_behind, round_behind};
 
-use crate::verb::{Verb, end_of, got_of, how_of, status_of, verb_of};
-use crate::word::{device_of, disk_of, is, long_of, pool_of, short_of, task_of};
+use crate::verb::{Verb, end_of_word, got_of_word, how_of_word, status_of_word, verb_of_word};
+use crate::word::{device_of, disk_of, is, long_of, pool_of, short_of, task_of_word};
 use crate::words::Words;
 use run_machine::{End, Event, Got, How, TaskId, What};
 use stack_base::{DevId, PoolId, Stack, Status};
@@ -14,7 +14,7 @@ use stack_base::{DevId, PoolId, Stack, Status};
 // Each of the following takes one word, and answers what it tells, or nothing where it tells no such thing.
 
 fn mark(words: &mut Words<'_>, mark: &[u8]) -> Option<()>
-    ensures { Reads (field (mark_of mark.now)) words.old result words.new }
+    ensures { Reads (field (fixed_word mark.now)) words.old result words.new }
 {
     if is(words.next()?, mark) {
         Some(())
@@ -24,33 +24,33 @@ fn mark(words: &mut Words<'_>, mark: &[u8]) -> Option<()>
 }
 
 fn verb(words: &mut Words<'_>) -> Option<Verb>
-    ensures { Reads (field verb_of) words.old result words.new }
+    ensures { Reads (field verb_of_word) words.old result words.new }
 {
-    verb_of(words.next()?)
+    verb_of_word(words.next()?)
 }
 
 fn status(words: &mut Words<'_>) -> Option<Status>
-    ensures { Reads (field status_of) words.old result words.new }
+    ensures { Reads (field status_of_word) words.old result words.new }
 {
-    status_of(words.next()?)
+    status_of_word(words.next()?)
 }
 
 fn got(words: &mut Words<'_>) -> Option<Got>
-    ensures { Reads (field got_of) words.old result words.new }
+    ensures { Reads (field got_of_word) words.old result words.new }
 {
-    got_of(words.next()?)
+    got_of_word(words.next()?)
 }
 
 fn how(words: &mut Words<'_>) -> Option<How>
-    ensures { Reads (field how_of) words.old result words.new }
+    ensures { Reads (field how_of_word) words.old result words.new }
 {
-    how_of(words.next()?)
+    how_of_word(words.next()?)
 }
 
 fn end(words: &mut Words<'_>) -> Option<End>
-    ensures { Reads (field end_of) words.old result words.new }
+    ensures { Reads (field end_of_word) words.old result words.new }
 {
-    end_of(words.next()?)
+    end_of_word(words.next()?)
 }
 
 fn short(words: &mut Words<'_>) -> Option<u32>
@@ -88,9 +88,9 @@ fn pool(words: &mut Words<'_>, stack: &Stack) -> Option<PoolId>
 
 fn task(words: &mut Words<'_>, stack: &Stack) -> Option<TaskId>
     requires { length stack.now.devices.items ≤ 32 }
-    ensures { Reads (field (task_of stack.now)) words.old result words.new }
+    ensures { Reads (field (task_of_word stack.now)) words.old result words.new }
 {
-    task_of(stack, words.next()?)
+    task_of_word(stack, words.next()?)
 }
 
 // Each of the following takes what stands behind its verb.

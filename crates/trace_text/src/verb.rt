@@ -1,7 +1,7 @@
 //! The words that tell one kind of event from another, and those that have few choices.
 ghost use Rattle.std.specs.Prelude.{◌≡◌, ◌≤◌, length};
 ghost use Rattle.trace_text.specs.Lines.{end_word, got_word, how_word, status_word};
-ghost use Rattle.trace_text.specs.Reading.{end_of, got_of, how_of, status_of, verb_of, verb_word};
+ghost use Rattle.trace_text.specs.Reading.{end_of_word, got_of_word, how_of_word, status_of_word, verb_of_word, verb_word};
 
 use run_machine::{End, Got, How};
 use stack_base::Status;
@@ -66,8 +66,8 @@ fn verb_word(verb: Verb) -> &'static [u8]
 }
 
 /// The verb of this word.
-pub(crate) fn verb_of(word: &[u8]) -> Option<Verb>
-    ensures { result ≡ verb_of word.now }
+pub(crate) fn verb_of_word(word: &[u8]) -> Option<Verb>
+    ensures { result ≡ verb_of_word word.now }
 {
     VERBS.iter().copied().find(|verb| verb_word(*verb) == word)
 }
@@ -86,8 +86,8 @@ pub(crate) fn status_word(status: Status) -> &'static [u8]
 }
 
 /// The status of this word.
-pub(crate) fn status_of(word: &[u8]) -> Option<Status>
-    ensures { result ≡ status_of word.now }
+pub(crate) fn status_of_word(word: &[u8]) -> Option<Status>
+    ensures { result ≡ status_of_word word.now }
 {
     STATUSES
         .iter()
@@ -108,8 +108,8 @@ pub(crate) fn got_word(got: Got) -> &'static [u8]
 }
 
 /// Where a take had its element from, by its word.
-pub(crate) fn got_of(word: &[u8]) -> Option<Got>
-    ensures { result ≡ got_of word.now }
+pub(crate) fn got_of_word(word: &[u8]) -> Option<Got>
+    ensures { result ≡ got_of_word word.now }
 {
     GOTS.iter().copied().find(|got| got_word(*got) == word)
 }
@@ -128,8 +128,8 @@ pub(crate) fn how_word(how: How) -> &'static [u8]
 }
 
 /// What a node was opened for, by its word.
-pub(crate) fn how_of(word: &[u8]) -> Option<How>
-    ensures { result ≡ how_of word.now }
+pub(crate) fn how_of_word(word: &[u8]) -> Option<How>
+    ensures { result ≡ how_of_word word.now }
 {
     HOWS.iter().copied().find(|how| how_word(*how) == word)
 }
@@ -147,8 +147,8 @@ pub(crate) fn end_word(end: End) -> &'static [u8]
 }
 
 /// What an end left of its node, by its word.
-pub(crate) fn end_of(word: &[u8]) -> Option<End>
-    ensures { result ≡ end_of word.now }
+pub(crate) fn end_of_word(word: &[u8]) -> Option<End>
+    ensures { result ≡ end_of_word word.now }
 {
     ENDS.iter().copied().find(|end| end_word(*end) == word)
 }

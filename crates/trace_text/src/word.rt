@@ -5,7 +5,7 @@ ghost use Rattle.std.specs.List.{list_all};
 ghost use Rattle.std.specs.Char.{is_ascii_digit};
 ghost use Rattle.std.specs.Str.{bytes_eq};
 ghost use Rattle.trace_text.specs.Names.{is_disk, is_mirror};
-ghost use Rattle.trace_text.specs.Reading.{behind, bios_of, completer_of, device_of, device_pool, disk_of, fs_pool, is_dot, is_plain, long_of, pool_of, records_of, rescuer_of, short_of, task_of, writer_of};
+ghost use Rattle.trace_text.specs.Reading.{past_front, bios_of, completer_of_word, device_of, device_pool, disk_of, fs_pool, is_dot, is_plain, long_of, pool_of, records_of, rescuer_of_word, short_of, task_of_word, writer_of_word};
 
 use run_machine::TaskId;
 use stack_base::{DevId, Device, Kind, PoolId, Stack};
@@ -186,52 +186,52 @@ pub(crate) fn pool_of(stack: &Stack, word: &[u8]) -> Option<PoolId>
 }
 
 // What follows this in the word.
-fn behind<'a>(front: &[u8], word: &'a [u8]) -> Option<&'a [u8]>
-    ensures { option_map (λ rest. rest.now) result ≡ behind front.now word.now }
+fn past_front<'a>(front: &[u8], word: &'a [u8]) -> Option<&'a [u8]>
+    ensures { option_map (λ rest. rest.now) result ≡ past_front front.now word.now }
 {
     word.strip_prefix(front)
 }
 
 // `w` and a writer's number.
-fn writer_of(word: &[u8]) -> Option<TaskId>
-    ensures { result ≡ writer_of word.now }
+fn writer_of_word(word: &[u8]) -> Option<TaskId>
+    ensures { result ≡ writer_of_word word.now }
 {
-    let number = behind(b"w", word)?;
+    let number = past_front(b"w", word)?;
     Some(TaskId::Writer(short_of(number)?))
 }
 
 // `r:` and the name of a device.
-fn rescuer_of(stack: &Stack, word: &[u8]) -> Option<TaskId>
+fn rescuer_of_word(stack: &Stack, word: &[u8]) -> Option<TaskId>
     requires { length stack.now.devices.items ≤ 32 }
-    ensures { result ≡ rescuer_of stack.now word.now }
+    ensures { result ≡ rescuer_of_word stack.now word.now }
 {
-    let name = behind(b"r:", word)?;
+    let name = past_front(b"r:", word)?;
     Some(TaskId::Rescuer(device_of(stack, name)?))
 }
 
 // `c:` and the name of a disk.
-fn completer_of(stack: &Stack, word: &[u8]) -> Option<TaskId>
+fn completer_of_word(stack: &Stack, word: &[u8]) -> Option<TaskId>
     requires { length stack.now.devices.items ≤ 32 }
-    ensures { result ≡ completer_of stack.now word.now }
+    ensures { result ≡ completer_of_word stack.now word.now }
 {
-    let name = behind(b"c:", word)?;
+    let name = past_front(b"c:", word)?;
     Some(TaskId::Completer(disk_of(stack, name)?))
 }
 
 /// The task of this word.
-#[tactic(auto, unfolding(crate::specs::Reading::task_of))]
-pub(crate) fn task_of(stack: &Stack, word: &[u8]) -> Option<TaskId>
+#[tactic(auto, unfolding(crate::specs::Reading::task_of_word))]
+pub(crate) fn task_of_word(stack: &Stack, word: &[u8]) -> Option<TaskId>
     requires { length stack.now.devices.items ≤ 32 }
-    ensures { result ≡ task_of stack.now word.now }
+    ensures { result ≡ task_of_word stack.now word.now }
 {
     if is(word, b"k") {
         return Some(TaskId::Keeper);
     }
-    if let Some(task) = writer_of(word) {
+    if let Some(task) = writer_of_word(word) {
         return Some(task);
     }
-    if let Some(task) = rescuer_of(stack, word) {
+    if let Some(task) = rescuer_of_word(stack, word) {
         return Some(task);
     }
-    completer_of(stack, word)
+    completer_of_word(stack, word)
 }

@@ -1,6 +1,6 @@
 //! Writes events.
 ghost use Rattle.std.specs.Prelude.{◌≡◌, ◌+◌, ◌≤◌, ◌++◌, ◌∷◌, [], codes, decimal, length};
-ghost use Rattle.trace_text.specs.Lines.{end_word, how_word, line_of, status_word, name_of, pool_word, task_word, what_words};
+ghost use Rattle.trace_text.specs.Lines.{end_word, how_word, line_of, status_word, device_name, pool_word, task_word, what_words};
 ghost use Rattle.trace_text.specs.Writing.{spaced};
 ghost use Rattle.run_machine.specs.declared.event.What.TheVariants as what;
 
@@ -44,8 +44,8 @@ fn put_number(into: &mut Line, number: u64)
 }
 
 // The name of a device, and nothing where there is no such device.
-fn name_of(stack: &Stack, dev: DevId) -> &[u8]
-    ensures name { result.now ≡ name_of stack.now dev }
+fn device_name(stack: &Stack, dev: DevId) -> &[u8]
+    ensures name { result.now ≡ device_name stack.now dev }
     ensures short { length result.now ≤ 16 }
 {
     match stack.devices.get(dev.0 as usize) {
@@ -57,10 +57,10 @@ fn name_of(stack: &Stack, dev: DevId) -> &[u8]
 // A blank and the name of a device.
 fn put_device(into: &mut Line, stack: &Stack, dev: DevId)
     requires { length into.old.items ≤ 111 }
-    ensures items { into.new.items ≡ into.old.items ++ 32 ∷ name_of stack.now dev }
+    ensures items { into.new.items ≡ into.old.items ++ 32 ∷ device_name stack.now dev }
     ensures len { length into.new.items ≤ length into.old.items + 17 }
 {
-    put(into, name_of(stack, dev));
+    put(into, device_name(stack, dev));
 }
 
 // A blank and the name of a pool.
@@ -72,8 +72,8 @@ fn put_pool(into: &mut Line, stack: &Stack, pool: PoolId)
     match pool {
         PoolId::FsBios => put(into, b"fs.bios"),
         PoolId::FsVecs => put(into, b"fs.vecs"),
-        PoolId::Bios(dev) => put_joined(into, name_of(stack, dev), b".bios"),
-        PoolId::Records(dev) => put_joined(into, name_of(stack, dev), b".records"),
+        PoolId::Bios(dev) => put_joined(into, device_name(stack, dev), b".bios"),
+        PoolId::Records(dev) => put_joined(into, device_name(stack, dev), b".records"),
     }
 }
 
@@ -88,8 +88,8 @@ fn put_task(into: &mut Line, stack: &Stack, task: TaskId)
             let mut digits = Buffer::new();
             put_joined(into, b"w", digits.format(number).as_bytes());
         }
-        TaskId::Rescuer(dev) => put_joined(into, b"r:", name_of(stack, dev)),
-        TaskId::Completer(disk) => put_joined(into, b"c:", name_of(stack, disk)),
+        TaskId::Rescuer(dev) => put_joined(into, b"r:", device_name(stack, dev)),
+        TaskId::Completer(disk) => put_joined(into, b"c:", device_name(stack, disk)),
         TaskId::Keeper => put(into, b"k"),
     }
 }
