@@ -25,7 +25,7 @@ abbrev pub flags_in : Pair → List Bool
 flags_in p = differing (held p.disks.now) (tree p.stack.now p.one.0) (tree p.stack.now p.other.0) p.size
 
 -- the sectors lie within their disks, and no disk is large
-pub record IsWithin (s : Stretch) : Type 0 where
+pub record LiesInDisks (s : Stretch) : Type 0 where
   pub one : s.at + s.len ≤ length s.one.now.image
   pub other : s.there + s.len ≤ length s.other.now.image
   pub low : s.at + s.len ≤ 262144
@@ -40,7 +40,7 @@ differ_at s place =
 pub record IsStretchOf (p : Pair) (start : ℕ) (s : Stretch) : Type 0 where
   pub some : 1 ≤ s.len
   pub short : start + s.len ≤ p.size
-  pub within : IsWithin s
+  pub within : LiesInDisks s
   pub same : (i : ℕ) → i < s.len → differ_at s i ≡ differ_in p (start + i)
 
 -- the first place that is so, or the length where there is none

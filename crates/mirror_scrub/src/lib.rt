@@ -12,4 +12,4 @@ mod pair;
 mod stretch;
 
 pub use lines::scrub;
-pub use mirror::{all_alike, next_unlike, unlike};
+pub use mirror::{all_alike, legs, next_unlike, unlike};

@@ -1,7 +1,7 @@
 //! Sectors of two disks, as many of each, that follow one another on both.
 ghost use Rattle.std.specs.Prelude.{◌≡◌, ◌+◌, ◌<◌, ◌≤◌, not, length};
 ghost use Rattle.std.specs.List.{count_by, range_with_len};
-ghost use Rattle.mirror_scrub.specs.Stretches.{IsFirstSo, IsWithin, differ_at};
+ghost use Rattle.mirror_scrub.specs.Stretches.{IsFirstSo, LiesInDisks, differ_at};
 
 use image_lanes::same;
 use model_disks::Disk;
@@ -24,7 +24,7 @@ pub struct Stretch<'d> {
 impl<'d> Stretch<'d> {
     // Whether the words of the sectors at this place differ.
     fn differ_at(&self, place: u64) -> bool
-        requires within { IsWithin self.now }
+        requires within { LiesInDisks self.now }
         requires here { place < self.now.len }
         ensures { result ≡ differ_at self.now place }
     {
@@ -36,7 +36,7 @@ impl<'d> Stretch<'d> {
 
     /// How many sectors differ.
     pub fn count(&self) -> u64
-        requires { IsWithin self.now }
+        requires { LiesInDisks self.now }
         ensures { result ≡ count_by (differ_at self.now) (range_with_len 0 self.now.len) }
     {
         let mut count = 0;
@@ -48,7 +48,7 @@ impl<'d> Stretch<'d> {
 
     /// The place of the first sector that differs, or of the first that does not, or the length where there is none.
     pub fn first(&self, differing: bool) -> u64
-        requires { IsWithin self.now }
+        requires { LiesInDisks self.now }
         ensures { IsFirstSo self.now differing result }
     {
         'looking: for place in 0..self.len {

@@ -8,18 +8,18 @@ use Rattle.stack_base.specs.Tree.{tree, size}
 use Rattle.layout_model.specs.declared.totals.Bounds.{Bounds}
 use Rattle.outside_io.specs.Saying.{joined_text}
 
-abbrev pub kind_word : Kind → List ℕ
-kind_word (Disk sectors bad) = codes "disk"
-kind_word Linear = codes "linear"
-kind_word (Stripe chunk) = codes "stripe"
-kind_word (Zoned chunk) = codes "zoned"
-kind_word (Limit longest chunk) = codes "limit"
-kind_word (Mirror records) = codes "mirror"
+abbrev pub kind_name : Kind → List ℕ
+kind_name (Disk sectors bad) = codes "disk"
+kind_name Linear = codes "linear"
+kind_name (Stripe chunk) = codes "stripe"
+kind_name (Zoned chunk) = codes "zoned"
+kind_name (Limit longest chunk) = codes "limit"
+kind_name (Mirror records) = codes "mirror"
 
 -- `device NAME KIND SIZE`, the size in sectors
 abbrev pub device_line : Device → ℕ → List ℕ
 device_line device sectors =
-    joined_text (codes "device " ∷ device.name.bytes ∷ codes " " ∷ kind_word device.kind ∷ codes " " ∷ decimal sectors ∷ codes "\n" ∷ [])
+    joined_text (codes "device " ∷ device.name.bytes ∷ codes " " ∷ kind_name device.kind ∷ codes " " ∷ decimal sectors ∷ codes "\n" ∷ [])
 
 -- a line for each device, the first of which has this number
 abbrev pub device_lines : Stack → ℕ → List Device → List ℕ

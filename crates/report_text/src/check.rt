@@ -2,15 +2,15 @@
 ghost use Rattle.std.specs.Prelude.{◌≡◌, ◌+◌, ◌*◌, ◌^◌, ◌<◌};
 ghost use Rattle.stack_base.specs.Stack.{IsStack};
 ghost use Rattle.outside_io.specs.Saying.{Says, Writes};
-ghost use Rattle.report_text.specs.CheckText.{kind_word, device_line, device_lines, most_steps, need_line, check_text};
+ghost use Rattle.report_text.specs.CheckText.{kind_name, device_line, device_lines, most_steps, need_line, check_text};
 
 use itoa::Buffer;
 use layout_model::Bounds;
 use outside_io::{Failed, Pen, Sink};
 use stack_base::{DevId, Device, Kind, Stack};
 
-fn kind_word(kind: &Kind) -> &[u8]
-    ensures { result.now ≡ kind_word kind.now }
+fn kind_name(kind: &Kind) -> &[u8]
+    ensures { result.now ≡ kind_name kind.now }
 {
     match kind {
         Kind::Disk { .. } => b"disk",
@@ -36,7 +36,7 @@ fn device_line<K: Sink>(pen: &mut Pen, out: &mut K, device: &Device, sectors: u6
             b"device ",
             name,
             b" ",
-            kind_word(&device.kind),
+            kind_name(&device.kind),
             b" ",
             sectors,
             b"\n",
