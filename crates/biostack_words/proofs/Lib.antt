@@ -1,4 +1,8 @@
 pub mod NumberLemmas
+pub mod Parsing
+pub mod Uses
+pub mod Turns
+pub mod Standing
 pub mod Walks
 pub mod Rows
 pub mod Wholes

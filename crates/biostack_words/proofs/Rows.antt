@@ -8,7 +8,9 @@ use Rattle.clap.specs.Walk.{Row, Text, first_of, has_row, more_values, one_of, r
 use Rattle.clap.specs.declared.parser.matches.ValueSource.TheVariants.{DefaultValue}
 use Rattle.biostack_words.specs.Grammar.{Given, Kind, Setting, Word, given_in, has, is_of, kind_word, place, seed, text, trace, value, workers}
 use Rattle.biostack_words.specs.Reading.{IsSeen, flag_text}
-use Rattle.biostack_words.proofs.Walks.{first, has_row_for, id_of, is_valued, neither, row_for, row_missing, rows_for, rule_for, rules}
+use Rattle.biostack_words.proofs.Parsing.{has_row_for, id_of, is_valued, row_for, rows_for, rule_for, rules}
+use Rattle.biostack_words.proofs.Uses.{neither, row_missing}
+use Rattle.biostack_words.proofs.Walks.{first}
 
 -- kinds that are called the same are the same
 same_kind : (one other : Kind) → bytes_eq (kind_word one) (kind_word other) ≡ true → one ≡ other

@@ -14,7 +14,9 @@ use Rattle.biostack_words.specs.Reading.{IsSeen, ReadsGiven, fault_for}
 use Rattle.biostack_words.specs.Parser.{parser}
 use Rattle.biostack_words.specs.declared.WordFault.{WordFault}
 use Rattle.biostack_words.specs.declared.WordFault.TheVariants.{Refused, Memory}
-use Rattle.biostack_words.proofs.Walks.{AgreesAt, both_read, both_refuse, ends, fails, faults_are, first, parses}
+use Rattle.biostack_words.proofs.Parsing.{ends, fails}
+use Rattle.biostack_words.proofs.Standing.{AgreesAt, both_read, both_refuse}
+use Rattle.biostack_words.proofs.Walks.{faults_are, first, parses}
 use Rattle.biostack_words.proofs.Rows.{all_rows, seen_is}
 
 no_fault : (kinds : Kinds) → fails kinds ≡ true → kinds ≡ [] → ⊥
