@@ -86,43 +86,59 @@ told_other requests.LookRound reply others = refl
 told_other requests.LookLeft reply others = refl
 told_other requests.Rest reply others = refl
 
+-- neither the end of a bio nor the start of a round
+abbrev pub is_other : Request → Bool
+is_other (requests.Complete disk) = false
+is_other (requests.NextRound round) = false
+is_other request = true
+
+other_completes : (asked : Request) → is_other asked ≡ true → completes asked ≡ false
+other_completes (requests.Complete disk) other = absurd (true≢false (sym other))
+other_completes _ other = refl
+
+other_has_round : (objects : Objects) (asked : Request) → is_other asked ≡ true → HasRound objects asked
+other_has_round objects (requests.NextRound round) other = absurd (true≢false (sym other))
+other_has_round objects _ other = tt
+
 module _ (setup : Setup) where
-  line_completes : (doing : Doing) (lists : TaskLists) → completes (line_request setup doing lists) ≡ false
-  line_completes Rests lists = refl
-  line_completes (Breaks breach kept) lists = refl
-  line_completes (Drives bio ToPush) lists = refl
-  line_completes (Drives bio (ToCut (Takes waits))) lists = refl
-  line_completes (Drives bio (ToCut Punts)) lists = refl
-  line_completes (Drives bio (ToCut (Links hand))) lists = refl
-  line_completes (Drives bio ToRecord) lists = refl
-  line_completes (Drives bio (ToMaster slip)) lists = refl
-  line_completes (Copies bio master leg (Takes waits)) lists = refl
-  line_completes (Copies bio master leg Punts) lists = refl
-  line_completes (Copies bio master leg (Links hand)) lists = refl
+  -- writers and rescuers ask for nothing else
+  line_asks : (doing : Doing) (lists : TaskLists) → is_other (line_request setup doing lists) ≡ true
+  line_asks Rests lists = refl
+  line_asks (Breaks breach kept) lists = refl
+  line_asks (Drives bio ToPush) lists = refl
+  line_asks (Drives bio (ToCut (Takes waits))) lists = refl
+  line_asks (Drives bio (ToCut Punts)) lists = refl
+  line_asks (Drives bio (ToCut (Links hand))) lists = refl
+  line_asks (Drives bio ToRecord) lists = refl
+  line_asks (Drives bio (ToMaster slip)) lists = refl
+  line_asks (Copies bio master leg (Takes waits)) lists = refl
+  line_asks (Copies bio master leg Punts) lists = refl
+  line_asks (Copies bio master leg (Links hand)) lists = refl
 
-  bio_completes : (b : Bool) (writer : ℕ) (todo : Todo) → completes (with_bio writer b todo) ≡ false
-  bio_completes true writer todo = refl
-  bio_completes false writer todo = refl
+  bio_asks : (b : Bool) (writer : ℕ) (todo : Todo) → is_other (with_bio writer b todo) ≡ true
+  bio_asks true writer todo = refl
+  bio_asks false writer todo = refl
 
-  writer_completes : (writer : ℕ) (todos : List Todo) (taken : Taken) (doing : Doing) (line : Line)
-      → completes (writer_request setup writer todos taken doing line) ≡ false
-  writer_completes writer [] taken Rests line = refl
-  writer_completes writer (todo ∷ later) NoBio Rests line = refl
-  writer_completes writer (todo ∷ later) (HasBio bio) Rests line = bio_completes (needs_vector todo.write) writer todo
-  writer_completes writer (todo ∷ later) (HasBoth bio vector) Rests line = refl
-  writer_completes writer todos taken (Drives bio ask) line = line_completes (Drives bio ask) line.lists
-  writer_completes writer todos taken (Copies bio master leg want) line = line_completes (Copies bio master leg want) line.lists
-  writer_completes writer todos taken (Breaks breach kept) line = refl
+  writer_asks : (writer : ℕ) (todos : List Todo) (taken : Taken) (doing : Doing) (line : Line)
+      → is_other (writer_request setup writer todos taken doing line) ≡ true
+  writer_asks writer [] taken Rests line = refl
+  writer_asks writer (todo ∷ later) NoBio Rests line = refl
+  writer_asks writer (todo ∷ later) (HasBio bio) Rests line = bio_asks (needs_vector todo.write) writer todo
+  writer_asks writer (todo ∷ later) (HasBoth bio vector) Rests line = refl
+  writer_asks writer todos taken (Drives bio ask) line = line_asks (Drives bio ask) line.lists
+  writer_asks writer todos taken (Copies bio master leg want) line = line_asks (Copies bio master leg want) line.lists
+  writer_asks writer todos taken (Breaks breach kept) line = refl
 
-  rescuer_completes : (dev : DevId) (doing : Doing) (line : Line) → completes (rescuer_request setup dev doing line) ≡ false
-  rescuer_completes dev Rests line = refl
-  rescuer_completes dev (Drives bio ask) line = line_completes (Drives bio ask) line.lists
-  rescuer_completes dev (Copies bio master leg want) line = line_completes (Copies bio master leg want) line.lists
-  rescuer_completes dev (Breaks breach kept) line = refl
+  rescuer_asks : (dev : DevId) (doing : Doing) (line : Line) → is_other (rescuer_request setup dev doing line) ≡ true
+  rescuer_asks dev Rests line = refl
+  rescuer_asks dev (Drives bio ask) line = line_asks (Drives bio ask) line.lists
+  rescuer_asks dev (Copies bio master leg want) line = line_asks (Copies bio master leg want) line.lists
+  rescuer_asks dev (Breaks breach kept) line = refl
 
   asks_other : (task : TaskState) → IsNoCompleter task → completes (request setup task) ≡ false
-  asks_other (Writer number todos taken line) none = writer_completes number todos taken line.doing line
-  asks_other (Rescuer dev line) none = rescuer_completes dev line.doing line
+  asks_other (Writer number todos taken line) none =
+      other_completes (writer_request setup number todos taken line.doing line) (writer_asks number todos taken line.doing line)
+  asks_other (Rescuer dev line) none = other_completes (rescuer_request setup dev line.doing line) (rescuer_asks dev line.doing line)
   asks_other (Completer disk carried) none = absurd none
   asks_other (Keeper (Keeps [])) none = refl
   asks_other (Keeper (Keeps (Resizes pool min later ∷ duties))) none = refl
@@ -137,53 +153,9 @@ module _ (setup : Setup) where
   pub has_round : (objects : Objects) (task : TaskState)
       → ((round later : ℕ) (duties : List Duty) → task ≡ Keeper (Keeps (Starts round later ∷ duties)) → objects.tally.round + 1 < length objects.tally.left)
       → HasRound objects (request setup task)
-  has_round objects (Writer number todos taken line) ahead = by_writer todos taken line.doing
-    where
-      by_line : (doing : Doing) (lists : TaskLists) → HasRound objects (line_request setup doing lists)
-      by_line Rests lists = tt
-      by_line (Breaks breach kept) lists = tt
-      by_line (Drives bio ToPush) lists = tt
-      by_line (Drives bio (ToCut (Takes waits))) lists = tt
-      by_line (Drives bio (ToCut Punts)) lists = tt
-      by_line (Drives bio (ToCut (Links hand))) lists = tt
-      by_line (Drives bio ToRecord) lists = tt
-      by_line (Drives bio (ToMaster slip)) lists = tt
-      by_line (Copies bio master leg (Takes waits)) lists = tt
-      by_line (Copies bio master leg Punts) lists = tt
-      by_line (Copies bio master leg (Links hand)) lists = tt
-
-      by_vector : (b : Bool) (todo : Todo) → HasRound objects (with_bio number b todo)
-      by_vector true todo = tt
-      by_vector false todo = tt
-
-      by_writer : (todos : List Todo) (taken : Taken) (doing : Doing) → HasRound objects (writer_request setup number todos taken doing line)
-      by_writer [] taken Rests = tt
-      by_writer (todo ∷ later) NoBio Rests = tt
-      by_writer (todo ∷ later) (HasBio bio) Rests = by_vector (needs_vector todo.write) todo
-      by_writer (todo ∷ later) (HasBoth bio vector) Rests = tt
-      by_writer todos taken (Drives bio ask) = by_line (Drives bio ask) line.lists
-      by_writer todos taken (Copies bio master leg want) = by_line (Copies bio master leg want) line.lists
-      by_writer todos taken (Breaks breach kept) = tt
-  has_round objects (Rescuer dev line) ahead = by_rescuer line.doing
-    where
-      by_line : (doing : Doing) (lists : TaskLists) → HasRound objects (line_request setup doing lists)
-      by_line Rests lists = tt
-      by_line (Breaks breach kept) lists = tt
-      by_line (Drives bio ToPush) lists = tt
-      by_line (Drives bio (ToCut (Takes waits))) lists = tt
-      by_line (Drives bio (ToCut Punts)) lists = tt
-      by_line (Drives bio (ToCut (Links hand))) lists = tt
-      by_line (Drives bio ToRecord) lists = tt
-      by_line (Drives bio (ToMaster slip)) lists = tt
-      by_line (Copies bio master leg (Takes waits)) lists = tt
-      by_line (Copies bio master leg Punts) lists = tt
-      by_line (Copies bio master leg (Links hand)) lists = tt
-
-      by_rescuer : (doing : Doing) → HasRound objects (rescuer_request setup dev doing line)
-      by_rescuer Rests = tt
-      by_rescuer (Drives bio ask) = by_line (Drives bio ask) line.lists
-      by_rescuer (Copies bio master leg want) = by_line (Copies bio master leg want) line.lists
-      by_rescuer (Breaks breach kept) = tt
+  has_round objects (Writer number todos taken line) ahead =
+      other_has_round objects (writer_request setup number todos taken line.doing line) (writer_asks number todos taken line.doing line)
+  has_round objects (Rescuer dev line) ahead = other_has_round objects (rescuer_request setup dev line.doing line) (rescuer_asks dev line.doing line)
   has_round objects (Completer disk Empty) ahead = tt
   has_round objects (Completer disk (Brings bio status)) ahead = tt
   has_round objects (Completer disk (Carries writer closed)) ahead = by_held closed.held.vector closed.held.bio closed.held.slip closed.parent
