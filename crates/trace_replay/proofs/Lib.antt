@@ -1,6 +1,7 @@
 pub mod LineLemmas
 pub mod NameLemmas
 pub mod WalkLemmas
+pub mod CutLemmas
 pub mod AnswerLemmas
 pub mod Exact
 pub mod NoneStuck

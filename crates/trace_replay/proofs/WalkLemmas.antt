@@ -44,7 +44,7 @@ lines_on stack names (first ∷ front) (one ∷ events) last line event next sai
 lines_on stack names [] (one ∷ events) last line event next said is = absurd said
 lines_on stack names (first ∷ front) [] last line event next said is = absurd said
 
-cut_on : {X : Type 0} (front : List X) (x : X) (rest : List X) → front ++ x ∷ rest ≡ (front ++ x ∷ []) ++ rest
+pub cut_on : {X : Type 0} (front : List X) (x : X) (rest : List X) → front ++ x ∷ rest ≡ (front ++ x ∷ []) ++ rest
 cut_on [] x rest = refl
 cut_on (y ∷ front) x rest = ap (λ ys. y ∷ ys) (cut_on front x rest)
 

@@ -1,4 +1,5 @@
 pub mod Lines
+pub mod Parts
 pub mod Names
 pub mod Named
 pub mod Replay

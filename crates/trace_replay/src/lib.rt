@@ -5,6 +5,7 @@
 #![tactic(auto)]
 
 mod answer;
+mod cut;
 mod extents;
 pub mod laws;
 mod names;
@@ -12,5 +13,6 @@ mod told;
 mod walk;
 
 pub use answer::write_replayed;
+pub use cut::{Parts, cut_text};
 pub use extents::Extent;
 pub use walk::{Finish, Replayed, replay};
