@@ -8,3 +8,4 @@ pub mod EndingLemmas
 pub mod LaidLemmas
 pub mod LeftDisks
 pub mod ScrubLemmas
+pub mod ReplayLemmas

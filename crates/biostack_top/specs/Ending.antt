@@ -27,6 +27,7 @@ use Rattle.biostack_words.specs.declared.order.Order.TheVariants.{Run, Workers, 
 use Rattle.biostack_top.specs.Input.{HasNoInput, IsGiven, IsInput, limit, made_by}
 use Rattle.biostack_top.specs.LayoutText.{AreLaid}
 use Rattle.biostack_top.specs.Orders.{is_served, order_of}
+use Rattle.biostack_top.specs.Replaying.{TellsReplay, replay_refusal}
 use Rattle.biostack_top.specs.Running.{EveryRunIsAsClaimed, IsTold, sectors}
 use Rattle.biostack_top.specs.Scene.{Says}
 use Rattle.biostack_top.specs.Streams.{Call, Fails, Stays, Stream}
@@ -66,8 +67,8 @@ abbrev pub all_well : List Status → Bool
 all_well statuses = list_all (λ end. status_eq end no_error) statuses
 
 -- What is written of a text, and whether all is well: the lines of a run, where there is a trace, and the report of what it left; the devices of
--- the text and what it needs; its fragments; the text itself, where a number made it, or what a run of that left; or where the members of mirrors
--- differ behind a run, and its steps.
+-- the text and what it needs; its fragments; the text itself, where a number made it, or what a run of that left; what its lines of events come
+-- to; or where the members of mirrors differ behind a run, and its steps.
 abbrev pub Tells : Order → List ℕ → List ℕ → Bool → Type 0
 Tells (Run number trace) text told well =
     (accepted : Accepted) × (work : Work) × (events : List Event) × (left : Told)
@@ -84,7 +85,7 @@ Tells (Gen number false) text told well =
     × Says text accepted work × EveryRunIsAsClaimed accepted work × IsTold accepted work number events left
     × (told ≡ gen_text number (length work.writes.items) (sectors work.writes.items) accepted.stack left) × (well ≡ true)
 Tells (Workers n trace) text told well = ⊥
-Tells Replay text told well = ⊥
+Tells Replay text told well = TellsReplay text told well
 Tells (Scrub number) text told well =
     (accepted : Accepted) × (work : Work) × (events : List Event) × (left : Told)
     × Says text accepted work × EveryRunIsAsClaimed accepted work × IsTold accepted work number events left
@@ -94,6 +95,7 @@ Tells (Scrub number) text told well =
 
 -- what refuses the text of an order, if anything does
 abbrev pub refusal_for : Order → List ℕ → Option Refusal
+refusal_for Replay text = replay_refusal text
 refusal_for order text = text_refusal text
 
 -- a text has no refusal, and all that is told of it was written, without a fault; all of it is well, or it is not

@@ -6,5 +6,6 @@ pub mod Running
 pub mod Streams
 pub mod Input
 pub mod Scrubbed
+pub mod Replaying
 pub mod Ending
 pub mod Laws

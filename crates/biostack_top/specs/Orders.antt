@@ -5,25 +5,25 @@ use Rattle.biostack_words.specs.Grammar.{meaning}
 use Rattle.biostack_words.specs.declared.order.Order.{Order}
 use Rattle.biostack_words.specs.declared.order.Order.TheVariants.{Run, Workers, Check, Layout, Gen, Replay, Scrub}
 
--- whether an order is carried out: runs in threads and replays are not yet
+-- whether an order is carried out: runs in threads are not yet
 abbrev pub is_served : Order → Bool
 is_served (Run number trace) = true
 is_served (Workers n trace) = false
 is_served Check = true
 is_served Layout = true
 is_served (Gen number shown) = true
-is_served Replay = false
+is_served Replay = true
 is_served (Scrub number) = true
 
--- whether an order may find that not all is well: a run of the text that is read, of which a write did not end well, or a
--- scrub with a sector that is unlike
+-- whether an order may find that not all is well: a run of the text that is read, of which a write did not end well, a
+-- scrub with a sector that is unlike, or a replay with a bad line
 abbrev pub may_be_unwell : Order → Bool
 may_be_unwell (Run number trace) = true
 may_be_unwell (Workers n trace) = false
 may_be_unwell Check = false
 may_be_unwell Layout = false
 may_be_unwell (Gen number shown) = false
-may_be_unwell Replay = false
+may_be_unwell Replay = true
 may_be_unwell (Scrub number) = true
 
 -- whether an order is to show the text that its number makes
@@ -35,6 +35,16 @@ is_shown Check = false
 is_shown Layout = false
 is_shown Replay = false
 is_shown (Scrub number) = false
+
+-- whether an order is to replay the trace that stands behind the scenario of its text
+abbrev pub is_replay : Order → Bool
+is_replay Replay = true
+is_replay (Run number trace) = false
+is_replay (Workers n trace) = false
+is_replay Check = false
+is_replay Layout = false
+is_replay (Gen number shown) = false
+is_replay (Scrub number) = false
 
 abbrev pub if_served : Order → Option Order
 if_served order = if is_served order then Some order else None

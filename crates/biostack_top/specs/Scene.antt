@@ -1,6 +1,6 @@
 -- What a whole text says.
-use Rattle.std.specs.Prelude.{◌≡◌, ◌+◌, List, [], ℕ, length, map, Contains, None, Some, Result, Ok, Err}
-use Rattle.stack_base.specs.Stack.{HasRescuers, IsStack}
+use Rattle.std.specs.Prelude.{◌≡◌, ◌+◌, List, [], ℕ, Bool, false, length, map, Contains, None, Some, Result, Ok, Err}
+use Rattle.stack_base.specs.Stack.{IsStack}
 use Rattle.layout_model.specs.declared.write.Write.{Write}
 use Rattle.layout_model.specs.Bound.{IsBound}
 use Rattle.layout_model.specs.Writes.{IsWrite}
@@ -10,9 +10,10 @@ use Rattle.decl_text.specs.Reading.{declarations}
 use Rattle.decl_text.specs.declared.accepted.Accepted.{Accepted}
 use Rattle.decl_text.specs.declared.reason.ReadFault.{ReadFault}
 use Rattle.decl_text.specs.declared.reason.ReadFault.TheVariants.{Refused, Memory}
+use Rattle.stack_check.specs.Accept.{HasRescuersAsked}
 use Rattle.work_text.specs.Reading.{ReadsWork, work_lines}
 use Rattle.work_text.specs.Work.{all_entries, kept_resizes, last_round, resized, written}
-use Rattle.work_text.specs.Whole.{text_refusal, known_of_text}
+use Rattle.work_text.specs.Whole.{text_refusal_by, known_of_text}
 use Rattle.work_text.specs.declared.Work.{Work}
 use Rattle.biostack_top.specs.declared.scene.Scene.{Scene}
 
@@ -20,12 +21,13 @@ use Rattle.biostack_top.specs.declared.scene.Scene.{Scene}
 abbrev pub kept_lines : Known → ℕ
 kept_lines known = length (kept_resizes (last_round known.rounds) known.resizes)
 
--- the text is not refused, its declarations mean this stack with these scripts, and its other lines this work
-pub record Says (text : List ℕ) (accepted : Accepted) (work : Work) : Type 0 where
-  pub fine : text_refusal text ≡ None
+-- The text is not refused, its declarations mean this stack with these scripts, and its other lines this work. By the
+-- loose checks mirrors may lack rescuers.
+pub record SaysBy (loose : Bool) (text : List ℕ) (accepted : Accepted) (work : Work) : Type 0 where
+  pub fine : text_refusal_by loose text ≡ None
   pub stack : IsStack accepted.stack
   pub means : Means (known_of_text text) accepted.stack accepted.scripts.items
-  pub rescuers : HasRescuers accepted.stack
+  pub rescuers : HasRescuersAsked loose accepted.stack
   pub writes : map written work.writes.items ≡ (known_of_text text).writes
   pub served : (write : Write) → Contains work.writes.items write → IsWrite accepted.stack write
   pub rounds : work.rounds.items ≡ (known_of_text text).rounds
@@ -37,12 +39,19 @@ pub record Says (text : List ℕ) (accepted : Accepted) (work : Work) : Type 0 w
   pub begins : declarations (work_lines text accepted) ≡ []
   pub reads : ReadsWork text accepted (Ok work)
 
--- this text says what the scene holds
+-- by all checks
+abbrev pub Says : List ℕ → Accepted → Work → Type 0
+Says text accepted work = SaysBy false text accepted work
+
+-- its text says what the scene holds
+abbrev pub IsSaidBy : Bool → Scene → Type 0
+IsSaidBy loose scene = SaysBy loose scene.text.now scene.accepted scene.work
+
 abbrev pub IsSaid : Scene → Type 0
-IsSaid scene = Says scene.text.now scene.accepted scene.work
+IsSaid scene = IsSaidBy false scene
 
 -- the text says this, or is refused so
-abbrev pub ReadsScene : List ℕ → Result Scene ReadFault → Type 0
-ReadsScene text (Ok scene) = (scene.text.now ≡ text) × IsSaid scene
-ReadsScene text (Err (Refused refusal)) = text_refusal text ≡ Some refusal
-ReadsScene text (Err Memory) = Unit {0}
+abbrev pub ReadsScene : Bool → List ℕ → Result Scene ReadFault → Type 0
+ReadsScene loose text (Ok scene) = (scene.text.now ≡ text) × IsSaidBy loose scene
+ReadsScene loose text (Err (Refused refusal)) = text_refusal_by loose text ≡ Some refusal
+ReadsScene loose text (Err Memory) = Unit {0}

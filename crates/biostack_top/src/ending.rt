@@ -18,9 +18,11 @@ pub struct Exit(pub u8);
 /// Why a call ended.
 #[derive(Clone, Copy, PartialEq, Eq)]
 pub enum Ending {
-    /// What was asked for was written whole; of a run each write ended well, and of a scrub no sector is unlike.
+    /// What was asked for was written whole; of a run each write ended well, of a scrub no sector is unlike, and of a
+    /// replay no line is bad.
     Done,
-    /// What was asked for was written whole; some write that was run did not end well, or some sector is unlike.
+    /// What was asked for was written whole; some write that was run did not end well, some sector is unlike, or a line
+    /// is bad.
     NotAllWell,
     /// The words ask for nothing that the program does.
     Usage,
@@ -30,7 +32,7 @@ pub enum Ending {
     ReadFault,
     /// The sink failed.
     WriteFault,
-    /// There was no memory for reading, for the fragments of a layout or for the opening.
+    /// There was no memory for reading, for the fragments of a layout, for the opening or for a replay.
     Memory,
 }
 

@@ -16,6 +16,7 @@ mod input;
 pub mod laws;
 mod layout;
 mod order;
+mod replay;
 mod run;
 mod scene;
 mod scrub;
@@ -40,12 +41,13 @@ fn end<E: Sink>(ending: Ending, errors: &mut E) -> Exit
 /// number and writes its report, with the line of each event before it where there is to be a trace (`Run`), or where the
 /// members of its mirrors differ in what such a run left (`Scrub`); or writes its devices and what its writes need
 /// (`Check`), or where its writes go (`Layout`); or makes a scenario of a number, and shows it, or runs it and writes what
-/// it had and left (`Gen`). Orders that are not carried out yet are not handed in.
+/// it had and left (`Gen`); or reads a scenario with a trace behind it, and writes how far that is a run of it (`Replay`).
+/// Orders that are not carried out yet are not handed in.
 ///
-/// The status is 0 where the whole text was written, 1 where it was but some write that `Run` ran did not end well or
-/// `Scrub` found a sector that is unlike, 3 where the scenario is refused, 4 where the source failed, 5 where the output
-/// did, and 6 where there was no memory for reading, for the text of a number, for the fragments of a layout or for
-/// opening the scenario. With 3, 4 and 6 nothing was written, and behind a fault of the output nothing more was. `errors`
+/// The status is 0 where the whole text was written, 1 where it was but some write that `Run` ran did not end well,
+/// `Scrub` found a sector that is unlike or `Replay` a bad line, 3 where the scenario is refused, 4 where the source
+/// failed, 5 where the output did, and 6 where there was no memory for reading, for the text of a number, for the
+/// fragments of a layout, for opening the scenario or for a replay. With 3, 4 and 6 nothing was written, and behind a fault of the output nothing more was. `errors`
 /// gets the line of the status. A fault of `errors` changes nothing else: it has a front of the line then.
 pub fn serve_alone<S: Source, K: Sink, E: Sink>(
     alloc: Global,

@@ -1,7 +1,7 @@
 //! What the words ask for.
 ghost use Rattle.std.specs.Prelude.{◌≡◌, map};
 ghost use Rattle.std.specs.String.{string_bytes};
-ghost use Rattle.biostack_top.specs.Orders.{is_served, is_shown};
+ghost use Rattle.biostack_top.specs.Orders.{is_replay, is_served, is_shown};
 ghost use Rattle.biostack_top.specs.Ending.{IsAsked};
 
 use crate::ending::Ending;
@@ -17,8 +17,9 @@ fn is_served(order: Order) -> bool
         | Order::Check
         | Order::Layout
         | Order::Gen { .. }
+        | Order::Replay
         | Order::Scrub { .. } => { true }
-        Order::Workers { .. } | Order::Replay => false,
+        Order::Workers { .. } => false,
     }
 }
 
@@ -35,6 +36,13 @@ pub(crate) fn is_shown(order: Order) -> bool
         Order::Replay => false,
         Order::Scrub { .. } => false,
     }
+}
+
+/// Whether an order is to replay the trace that stands behind the scenario of its text.
+pub(crate) fn is_replay(order: Order) -> bool
+    ensures { result ≡ is_replay order }
+{
+    matches!(order, Order::Replay)
 }
 
 /// The order that the words give, where it is carried out.

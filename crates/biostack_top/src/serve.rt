@@ -11,7 +11,8 @@ ghost use Rattle.biostack_top.specs.Streams.{stream};
 use crate::ending::Ending;
 use crate::input::input;
 use crate::layout::layout_lines;
-use crate::order::is_shown;
+use crate::order::{is_replay, is_shown};
+use crate::replay::replay;
 use crate::run::{run, run_made};
 use crate::scene::{Scene, read_scene};
 use crate::scrub::scrub;
@@ -76,7 +77,10 @@ fn serve_text<K: Sink>(alloc: Global, order: Order, text: &[u8], out: &mut K) ->
     if is_shown(order) {
         return tell_text(order, text, out);
     }
-    let scene = match read_scene(alloc, text) {
+    if is_replay(order) {
+        return replay(alloc, text, out);
+    }
+    let scene = match read_scene(alloc, text, false) {
         Ok(scene) => scene,
         Err(ReadFault::Refused(refusal)) => return Ending::Refused(refusal),
         Err(ReadFault::Memory) => return Ending::Memory,
