@@ -1,6 +1,6 @@
-//! Tests of what no clause says, of texts and of what is made of them: why texts are refused, what others mean, worked runs, scrubs and layouts, a
-//! slow scan of layouts, faults at every call, and texts of as many bytes as there may be. The slow way of a sector is proved to be the way
-//! of the definitions.
+//! Tests of what no clause says, of texts and of what is made of them: why texts are refused, what others mean, worked runs,
+//! scrubs, replays and layouts, a slow scan of layouts, faults at every call, and texts of as many bytes as there may be. The
+//! slow way of a sector is proved to be the way of the definitions.
 #![tactic(auto)]
 
 #[cfg(test)]
@@ -25,6 +25,8 @@ mod meanings;
 mod orders;
 #[cfg(test)]
 mod refusals;
+#[cfg(test)]
+mod replays;
 #[cfg(test)]
 mod rounds;
 #[cfg(test)]

@@ -102,7 +102,9 @@ const OTHER_WORDS: &[Call] = &[
     Call::Usage(&["layout", "check"]),
     Call::Usage(&["gen"]),
     Call::Usage(&["gen", "-7", "--text"]),
-    Call::Usage(&["replay"]),
+    Call::Usage(&["replay", "x"]),
+    Call::Usage(&["replay", "--trace"]),
+    Call::Usage(&["replay", "--seed", "1"]),
     Call::Usage(&["scrub", "--trace"]),
     Call::Usage(&["scrub", "--seed", "1", "--seed", "2"]),
     Call::Usage(&["--help"]),
@@ -165,4 +167,5 @@ fn no_more_is_read_than_one_byte_past_the_longest_text(rt: HostRuntime) {
     holds(&rt, stops(&rt, "run"), "run");
     holds(&rt, stops(&rt, "check"), "check");
     holds(&rt, stops(&rt, "layout"), "layout");
+    holds(&rt, stops(&rt, "replay"), "replay");
 }
