@@ -89,6 +89,7 @@ CASES = [
     ("1,024 rounds behind the first", ["check"], rounds()),
     ("a scrub of 131,072 sectors, alike", ["scrub"], compared()),
     ("the same, with no data on one member", ["scrub"], compared("bad b 0 131072 io\n")),
+    ("4 MiB of lines that tell no event", ["replay"], filled("disk a 64\nevent k\n" + "eventual lines of 32 bytes......\n" * 127000)),
     ("layout of 2,048 fragments", ["layout"], "disk a 262144\nlimit l max=1 a\nwrite 0 l 0 2048 0\n"),
 ]
 

@@ -1,11 +1,12 @@
 //! The twin of main.rt.txt: the plain state of a run in plain Rust, with the same parts, to which events are applied: the task that an event
-//! names is found by an index, what the event says is compared with what the task asks for next, and the state changes in its place.
+//! names is found by an index, what the event says is compared with what the task asks for next, and the state changes in its place. With the
+//! word `replay` it follows the lines of events behind a scenario, as the program does, and writes no `end` line.
 #[path = "../runs/twin.rs"]
 #[allow(dead_code)]
 mod machine;
 
 use machine::{Device, FS, Kind, Status, Text, Todo, cuts, needs_of, piece, read};
-use std::collections::VecDeque;
+use std::collections::{BTreeMap, VecDeque};
 use std::io::{self, Read};
 use std::mem;
 use std::time::Instant;
@@ -962,10 +963,101 @@ fn apply_all(core: &mut Core, events: &[Event]) -> u64 {
     applied
 }
 
+/// What stands for each name of a node in a trace: the place in its writer's book, by the order in which the writer opens nodes.
+struct Names {
+    opened: [u32; 8],
+    places: BTreeMap<(u32, u32), u32>,
+}
+
+impl Names {
+    fn placed(&mut self, what: What) -> Option<What> {
+        match what {
+            What::Link { writer, how, node } => {
+                let place = self.opened[writer as usize];
+                if self.places.contains_key(&(writer, node)) {
+                    return None;
+                }
+                self.opened[writer as usize] += 1;
+                self.places.insert((writer, node), place);
+                Some(What::Link { writer, how, node: place })
+            }
+            What::Drop { writer, node, status, end } => {
+                let place = *self.places.get(&(writer, node))?;
+                if end != End::Left {
+                    self.places.remove(&(writer, node));
+                }
+                Some(What::Drop { writer, node: place, status, end })
+            }
+            _ => Some(what),
+        }
+    }
+}
+
+/// Whether the first word of a line is `event`.
+fn is_told(line: &str) -> bool {
+    line.split([' ', '\t', '\r']).find(|word| !word.is_empty()) == Some("event")
+}
+
+/// The pools in the order of a report, with their names.
+fn told_pools(text: &Text) -> Vec<(usize, String)> {
+    let mut pools = vec![(65, "fs.bios".to_string()), (64, "fs.vecs".to_string())];
+    for (dev, device) in text.devices.iter().enumerate() {
+        if matches!(device.kind, Kind::Mirror) {
+            pools.push((2 * dev + 1, format!("{}.records", device.name)));
+        }
+        if !matches!(device.kind, Kind::Disk) {
+            pools.push((2 * dev, format!("{}.bios", device.name)));
+        }
+    }
+    pools
+}
+
+/// Follows the lines of events behind a scenario, and writes how many came, a bad line, and how far each pool went.
+fn replay(input: &str) {
+    let mut cut = 0;
+    let before = input.split_inclusive('\n').take_while(|line| !is_told(line.trim_end_matches('\n')));
+    let first = before.inspect(|line| cut += line.len()).count() + 1;
+    let text = read(&input[..cut]);
+    let mut core = open(&text);
+    let mut names = Names { opened: [0; 8], places: BTreeMap::new() };
+    let pools = told_pools(&text);
+    let has = |core: &Core, pool: usize| (core.objects.pools[pool].spares, core.objects.pools[pool].out);
+    let mut extents: Vec<(u64, u64)> = pools.iter().map(|pool| has(&core, pool.0)).collect();
+    let (mut events, mut bad) = (0, None);
+    for (number, line) in input[cut..].lines().enumerate() {
+        if !is_told(line) {
+            continue;
+        }
+        let mut event = event_of(&text, line);
+        let placed = names.placed(event.what);
+        event.what = placed.unwrap_or(event.what);
+        if placed.is_none() || !core.apply(&event) {
+            bad = Some(first + number);
+            break;
+        }
+        for (extent, pool) in extents.iter_mut().zip(&pools) {
+            let (spares, out) = has(&core, pool.0);
+            *extent = (extent.0.min(spares), extent.1.max(out));
+        }
+        events += 1;
+    }
+    println!("replay events {events}");
+    if let Some(line) = bad {
+        println!("bad line {line}");
+    }
+    for ((_, name), (lowest, most)) in pools.iter().zip(extents) {
+        println!("pool {name} lowest {lowest} most {most}");
+    }
+}
+
 fn main() {
     let count: u64 = std::env::args().nth(1).and_then(|word| word.parse().ok()).unwrap_or(0);
     let mut input = String::new();
     io::stdin().read_to_string(&mut input).unwrap();
+    if std::env::args().nth(1).as_deref() == Some("replay") {
+        replay(&input);
+        return;
+    }
     let (text, trace) = input.split_once("# events\n").unwrap();
     let text = read(text);
     let events: Vec<Event> = trace.lines().map(|line| event_of(&text, line)).collect();
