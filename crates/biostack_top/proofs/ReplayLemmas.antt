@@ -1,15 +1,12 @@
 -- What is told of the lines of events behind a scenario.
-use Rattle.std.proofs.Common.{◌≡◌, ◌≢◌, ◌++◌, ◌+◌, ◌^◌, ◌<◌, ◌≤◌, ℕ, Bool, true, false, true≢false, List, length, Option, None, Some, refl, sym, ap, ◌∙◌, subst, arith, length-append}
+use Rattle.std.proofs.Common.{◌≡◌, ◌+◌, ◌^◌, ◌<◌, ◌≤◌, ℕ, Bool, true, false, true≢false, List, length, Option, None, Some, refl, sym, ap, ◌∙◌, subst, arith, length-append}
 use Rattle.std.specs.Prelude.{if◌then◌else◌, is_none, is_some, map, not, nat_lt, IfOk, Result, Ok, Err}
-use Rattle.std.specs.Bool.{Decides}
 use Rattle.std.proofs.lemmas.Bool.{le-ltb, lt-ltb}
-use Rattle.stack_base.specs.Stack.{HasRescuers}
 use Rattle.decl_text.specs.Text.{lines, most_bytes}
 use Rattle.decl_text.specs.Known.{nothing}
 use Rattle.decl_text.specs.Refusals.{refusal, refused}
 use Rattle.decl_text.specs.declared.accepted.Accepted.{Accepted}
 use Rattle.decl_text.specs.declared.reason.Reason.TheVariants.{TooLong}
-use Rattle.decl_text.specs.declared.reason.Refusal.{Refusal}
 use Rattle.work_text.specs.Work.{checks_by}
 use Rattle.work_text.specs.Whole.{text_refusal_by}
 use Rattle.work_text.specs.declared.Work.{Work}
@@ -23,7 +20,7 @@ use Rattle.report_text.specs.Pools.{told_pools}
 use Rattle.trace_text.specs.Names.{IsNamed}
 use Rattle.trace_replay.specs.Answer.{replay_text}
 use Rattle.trace_replay.specs.Lines.{told_in}
-use Rattle.trace_replay.specs.Exact.{IsReplayOf, NoneIsStuck, RunsHaveNoBadLine, TellRun}
+use Rattle.trace_replay.specs.Exact.{IsReplayOf, NoneIsStuck, RunsHaveNoBadLine}
 use Rattle.trace_replay.specs.Parts.{AreParts, scenario_lines}
 use Rattle.trace_replay.specs.Replay.{IsReplay}
 use Rattle.trace_replay.specs.declared.extents.Extent.{Extent}

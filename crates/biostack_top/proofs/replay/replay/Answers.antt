@@ -1,5 +1,5 @@
 -- What was written is what the lines of events behind the scenario come to.
-use Rattle.std.proofs.Common.{◌∙◌, ◌≤◌, List, ℕ, length, subst, arith}
+use Rattle.std.proofs.Common.{◌∙◌, ◌≤◌, List, ℕ, true, length, subst}
 use Rattle.std.specs.Prelude.{is_none}
 use Rattle.trace_replay.specs.Answer.{replay_text}
 use Rattle.biostack_top.specs.Replaying.{TellsReplay}
@@ -12,7 +12,7 @@ pub returns-in-Err : goal.returns-in-Err
 returns-in-Err g c =
     let parts = c.cut_text-parts.result in
     let scene = c.in-Ok.scene in
-    let short : length c.args.text.now ≤ 4194304 = omega (arith, c.if-text-gt-MOST_BYTES.false) in
+    let short : length c.args.text.now ≤ 4194304 = c.if-text-gt-MOST_BYTES.false in
     let says = subst (λ (t : List ℕ). SaysBy true t scene.accepted scene.work) c.in-Ok.ensures.0 c.in-Ok.ensures.1 in
     let fine = refused_before c.args.text.now parts.scenario.now parts.events.now parts.first c.cut_text-parts.ensures short ∙ says.fine in
     let replayed = c.in-Ok-replayed.replayed in
@@ -26,7 +26,7 @@ pub returns-then-is_none : goal.returns-then-is_none
 returns-then-is_none g c =
     let parts = c.cut_text-parts.result in
     let scene = c.in-Ok.scene in
-    let short : length c.args.text.now ≤ 4194304 = omega (arith, c.if-text-gt-MOST_BYTES.false) in
+    let short : length c.args.text.now ≤ 4194304 = c.if-text-gt-MOST_BYTES.false in
     let says = subst (λ (t : List ℕ). SaysBy true t scene.accepted scene.work) c.in-Ok.ensures.0 c.in-Ok.ensures.1 in
     let fine = refused_before c.args.text.now parts.scenario.now parts.events.now parts.first c.cut_text-parts.ensures short ∙ says.fine in
     let replayed = c.in-Ok-replayed.replayed in
@@ -40,7 +40,7 @@ pub returns : goal.returns
 returns g c =
     let parts = c.cut_text-parts.result in
     let scene = c.in-Ok.scene in
-    let short : length c.args.text.now ≤ 4194304 = omega (arith, c.if-text-gt-MOST_BYTES.false) in
+    let short : length c.args.text.now ≤ 4194304 = c.if-text-gt-MOST_BYTES.false in
     let says = subst (λ (t : List ℕ). SaysBy true t scene.accepted scene.work) c.in-Ok.ensures.0 c.in-Ok.ensures.1 in
     let fine = refused_before c.args.text.now parts.scenario.now parts.events.now parts.first c.cut_text-parts.ensures short ∙ says.fine in
     let replayed = c.in-Ok-replayed.replayed in
