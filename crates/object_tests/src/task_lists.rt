@@ -1,6 +1,7 @@
 //! The lists of tasks: that of a rescuer, and the two of a task that is busy while one of them has a bio.
 use crate::asks::{Case, all_hold};
 use crate::bios::{list_of, shows, write_of};
+use bio_lists::Waits;
 use bio_records::{RescueList, TaskLists};
 use stack_base::DevId;
 use std::process::Abort;
