@@ -1,4 +1,5 @@
 mod Pooled
 mod Pops
-mod Rising
-mod Looking
+pub mod Rising
+pub mod Looking
+mod Adding

@@ -5,3 +5,4 @@ pub mod Tallies
 pub mod Disks
 pub mod Lists
 pub mod Pools
+pub mod Homes

@@ -1,10 +1,11 @@
 //! What holds of things, as functions that do nothing.
 ghost use Rattle.object_things.specs.Books.{BookLooks, BookServes};
-ghost use Rattle.object_things.specs.Disks.{DiskLooks, DiskServes};
+ghost use Rattle.object_things.specs.Disks.{DiskAnswers, DiskLooks, DiskServes, disk_mark};
 ghost use Rattle.object_things.specs.Histories.{KeepsHistory};
-ghost use Rattle.object_things.specs.Lists.{ListLooks, ListServes};
-ghost use Rattle.object_things.specs.Pools.{PoolLooks, PoolServes};
-ghost use Rattle.object_things.specs.Tallies.{TallyLooks, TallyServes};
+ghost use Rattle.object_things.specs.Homes.{AddsUpAtHome, PoolAddsUp, ListAddsUp, DiskAddsUp, TallyAddsUp};
+ghost use Rattle.object_things.specs.Lists.{ListAnswers, ListLooks, ListServes, list_mark};
+ghost use Rattle.object_things.specs.Pools.{PoolAnswers, PoolLooks, PoolServes, pool_mark};
+ghost use Rattle.object_things.specs.Tallies.{TallyAnswers, TallyLooks, TallyServes, tally_mark};
 
 /// Along each history of a thing tickets rise, from what the note had seen to what it has seen. The calls that drew one are a run of the object's
 /// machine, which leaves the object as it is while no draw failed. A call that drew none changes nothing, or found none, and tells of no event.
@@ -14,4 +15,13 @@ pub fn things_keep_histories()
     ensures disks { KeepsHistory DiskServes DiskLooks }
     ensures books { KeepsHistory BookServes BookLooks }
     ensures tally { KeepsHistory TallyServes TallyLooks }
+{}
+
+/// What lies in a lock adds up at every moment at which it is at home, whatever calls were made and whether or not a draw failed: the numbers of a
+/// pool, what a rescuer's list was handed and has handed out, the bios of a disk, and the writes that are left.
+pub fn things_add_up_at_home()
+    ensures pools { AddsUpAtHome pool_mark PoolAnswers PoolAddsUp }
+    ensures lists { AddsUpAtHome list_mark ListAnswers ListAddsUp }
+    ensures disks { AddsUpAtHome disk_mark DiskAnswers DiskAddsUp }
+    ensures tally { AddsUpAtHome tally_mark TallyAnswers TallyAddsUp }
 {}

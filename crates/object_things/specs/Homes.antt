@@ -1,0 +1,74 @@
+-- What adds up in the lock of an object, at every moment at which the object is at home.
+use Rattle.std.specs.Prelude.{◌≡◌, ◌+◌, ◌≤◌, ◌++◌, ℕ, List, [], ◌∷◌, length, sum, sum_by}
+use Rattle.std.specs.List.{flat_map}
+use Rattle.std.specs.declared.snapshot.Snapshot.{Snapshot}
+use mathlib.Core.Option.{some}
+use Rattle.atomic_table.specs.Table.{State}
+use Rattle.seat_lock.specs.declared.view.View.{View}
+use Rattle.seat_lock.specs.History.{Leads}
+use Rattle.seat_lock.specs.Turning.{IsTurning}
+use Rattle.mempool_core.specs.Facts.{AddsUp}
+use Rattle.mempool_core.specs.Pool.{LedgerPool}
+use Rattle.bio_records.specs.declared.bio.Pad.{Pad}
+use Rattle.bio_records.specs.Items.{Item}
+use Rattle.bio_records.specs.Rescue.{Rescue}
+use Rattle.model_disks.specs.Disks.{DiskState}
+use Rattle.run_machine.specs.Objects.{TallyState}
+use Rattle.run_machine.specs.Requests.{Request, Reply, Punt, Pop, Push, Complete, Done, Did, Popped, Completed}
+use Rattle.object_things.specs.Stamps.{Held, MarkState, ThingState, Told, thing_state}
+use Rattle.object_things.specs.Histories.{Call}
+
+module _ {O : Type 0} (mark : Held O → MarkState) (answers : ThingState O → Request → Told → ThingState O → Type 0) (adds_up : O → List Call → O → Type 0) where
+  -- An object as it was locked, its history and the object as it is now add up: along each history; and so at every moment of its lock, which is
+  -- seen by the rule of the lock's table, where the object is at home.
+  pub record AddsUpAtHome : Type 0 where
+    pub along : (old new : ThingState O) (history : List Call) → Leads answers old history new → adds_up old.object history new.object
+    pub at_home : (key : Snapshot (Held O)) (table : State (Held O) (View (Held O) Request Told)) (kept : Held O)
+        → (turning : IsTurning (λ held. thing_state held.object held.stamp) mark answers key table) → table.homes ≡ some kept ∷ []
+        → adds_up key.value.object turning.log kept.object
+
+-- A pool that added up adds up, whatever was taken, given back and resized, and whether or not a draw failed. Its elements are of the same ledger,
+-- and its reserve may be as large.
+pub record PoolAddsUp (old : LedgerPool) (history : List Call) (new : LedgerPool) : Type 0 where
+  pub adds_up : AddsUp old.state.facts → AddsUp new.state.facts
+  pub ledger : new.ledger ≡ old.ledger
+  pub most : new.most ≡ old.most
+
+-- the bios that were handed to a rescuer's list, and those that it handed out
+abbrev pub punted : Request → Reply → List (Item Pad)
+punted (Punt dev moved) Did = moved
+punted asked reply = []
+
+abbrev pub popped : Request → Reply → List (Item Pad)
+popped (Pop dev) (Popped bio) = bio ∷ []
+popped asked reply = []
+
+-- What waited and what was handed over since was handed out in this order, or waits.
+abbrev pub ListAddsUp : Rescue → List Call → Rescue → Type 0
+ListAddsUp old history new =
+    old.bios ++ flat_map (λ (c : Call). punted c.asked c.told.reply) history ≡ flat_map (λ (c : Call). popped c.asked c.told.reply) history ++ new.bios
+
+-- how many bios came into a disk, and how many were completed
+abbrev pub pushes : Request → Reply → ℕ
+pushes (Push bio) Did = 1
+pushes asked reply = 0
+
+abbrev pub completions : Request → Reply → ℕ
+completions (Complete disk) (Completed index bio status) = 1
+completions asked reply = 0
+
+-- As many bios as waited and came since were completed, or wait.
+abbrev pub DiskAddsUp : DiskState → List Call → DiskState → Type 0
+DiskAddsUp old history new =
+    length old.pending + sum_by (λ (c : Call). pushes c.asked c.told.reply) history ≡ sum_by (λ (c : Call). completions c.asked c.told.reply) history + length new.pending
+
+-- how many writes were done
+abbrev pub dones : Request → Reply → ℕ
+dones (Done write status) Did = 1
+dones asked reply = 0
+
+-- Of the writes that were left, all that were not done since are left. Rounds and writes are as many as before.
+pub record TallyAddsUp (old : TallyState) (history : List Call) (new : TallyState) : Type 0 where
+  pub left : (sum new.left ≤ sum old.left) × (sum old.left ≤ sum new.left + sum_by (λ (c : Call). dones c.asked c.told.reply) history)
+  pub rounds : length new.left ≡ length old.left
+  pub writes : length new.statuses ≡ length old.statuses
