@@ -1,0 +1,112 @@
+-- What a step keeps of a task with its seats.
+use Rattle.std.proofs.Common.{◌≡◌, ℕ, ◌+◌, ◌-◌, ◌^◌, ◌⊎◌, inl, inr, Bool, true, false, List, [], ◌∷◌, ◌++◌, Option, Some, None, arith, refl, sym, ◌∙◌, ap, subst}
+use Rattle.std.specs.Prelude.{length, min, map, All, ◌≤◌}
+use Rattle.tick_clock.specs.declared.ticking.Ticket.{Ticket}
+use Rattle.tick_clock.specs.Tickets.{PassState}
+use Rattle.std.proofs.lemmas.List.{length-append}
+use Rattle.std.proofs.lemmas.List.Elements.{All-nil, filter-append, Contains-append_left, Contains-append_right}
+use Rattle.task_steps.specs.declared.step.Step.{Step}
+use Rattle.task_steps.specs.declared.step.Step.TheVariants.{Stepped, Blocked, Waiting, Ended, Broken}
+use Rattle.run_machine.specs.Requests.{Request, Reply, Rest}
+use Rattle.run_machine.specs.Scene.{Setup}
+use Rattle.run_machine.specs.Tasks.{TaskState, request, look_of, lets}
+use Rattle.task_steps.specs.Routed.{Routing, setup}
+use Rattle.task_steps.specs.Stage.{Stage, Owes}
+use Rattle.task_steps.specs.TaskViews.{TaskOf}
+use Rattle.task_steps.specs.Turns.{Turns, TurnsBy, ActsIf, AsksFor}
+use Rattle.object_things.specs.Histories.{Call}
+use Rattle.shared_objects.specs.Desks.{DeskState, DeskServes}
+use Rattle.shared_objects.specs.Logs.{is_event, events_in, IsMet, IsSeenIn, FoundNone, KnowsLast, WentThrough, HasPass, IsLogged, HasStopped, ShowsStep}
+use Rattle.shared_objects.specs.Rans.{IsRan, events_after, stopped_after, IsUnused, IsNewDesk, NewDesksAreRan, StepsKeepRan}
+use Rattle.shared_objects.proofs.Stepping.{steps_are_logged}
+
+capped_more : (n cap : ℕ) → min (min n cap + 1) cap ≡ min (n + 1) cap
+capped_more n cap = omega (arith)
+
+events_more : (log more : List Call) → length (events_in (log ++ more)) ≡ length (events_in log) + length (events_in more)
+events_more log more =
+    ap length (filter-append (λ (c : Call). is_event c.asked c.told.reply) log more) ∙ length-append (events_in log) (events_in more)
+
+events_same : (log more : List Call) → events_in more ≡ [] → length (events_in (log ++ more)) ≡ length (events_in log)
+events_same log more none = (let all = events_more log more in let none_is : length (events_in more) ≡ 0 = ap length none in omega (arith, all, none_is))
+
+-- an event is one more, and any other step adds none
+counts : (setup : Setup) (task next : TaskState) (log more : List Call) (step : Step) (events : ℕ) → ShowsStep setup task next more step
+    → events ≡ min (length (events_in log)) (2 ^ 64 - 1) → events_after step events ≡ min (length (events_in (log ++ more))) (2 ^ 64 - 1)
+counts setup task next log more (Stepped event) events shows is =
+    let one : length (events_in more) ≡ 1 = ap length shows.1 in
+    ap (λ n. min (n + 1) (2 ^ 64 - 1)) is ∙ capped_more (length (events_in log)) (2 ^ 64 - 1)
+    ∙ ap (λ n. min n (2 ^ 64 - 1)) (sym (events_more log more ∙ ap (λ n. length (events_in log) + n) one))
+counts setup task next log more Ended events shows is = is ∙ ap (λ n. min n (2 ^ 64 - 1)) (sym (events_same log more shows.0))
+counts setup task next log more (Broken breach) events shows is = is ∙ ap (λ n. min n (2 ^ 64 - 1)) (sym (events_same log more shows.0))
+counts setup task next log more Waiting events shows is = is ∙ ap (λ n. min n (2 ^ 64 - 1)) (sym (events_same log more shows))
+counts setup task next log more (Blocked pool) events shows is = is ∙ ap (λ n. min n (2 ^ 64 - 1)) (sym (events_same log more shows))
+
+module _ (owes : Request → Reply → Type 0) (setup : Setup) where
+  -- a task that asks for nothing stays as it is
+  rest_acts : (task next : TaskState) (old new : DeskState) (step : Step) (asked : Request) → asked ≡ Rest → AsksFor DeskServes owes setup asked task old next new step
+      → next ≡ task
+  rest_acts task next old new step Rest is a = a.0
+  rest_acts task next old new step asked is a = absurd (cc is)
+
+  rest_if : (b : Bool) (task next : TaskState) (old new : DeskState) (step : Step) → request setup task ≡ Rest → ActsIf b DeskServes owes setup task old next new step → next ≡ task
+  rest_if true task next old new step is a = rest_acts task next old new step (request setup task) is a
+  rest_if false task next old new step is a = a.0
+
+  rest_turns : (look : Option Request) (task next : TaskState) (old new : DeskState) (step : Step) → request setup task ≡ Rest
+      → TurnsBy look DeskServes owes setup task old next new step → next ≡ task
+  rest_turns None task next old new step is t = rest_acts task next old new step (request setup task) is t
+  rest_turns (Some look) task next old new step is t = rest_if (lets task t.0) task next t.1 new step is t.3
+
+  -- a task that has stopped has stopped later
+  still : (task next : TaskState) (log more : List Call) (old new : DeskState) (step : Step) → Turns DeskServes owes setup task old next new step
+      → HasStopped setup log task → HasStopped setup (log ++ more) next
+  still task next log more old new step t stopped = elim stopped [
+    | inl rests ↦ inl (ap (request setup) (rest_turns (look_of task) task next old new step rests t) ∙ rests)
+    | inr saw ↦ inr (saw.0, Contains-append_left log more saw.0 saw.1, saw.2, saw.3)
+  ]
+
+  stops : (task next : TaskState) (log more : List Call) (old new : DeskState) (step : Step) (stopped : Bool) → ShowsStep setup task next more step
+      → (stopped ≡ true → HasStopped setup (log ++ more) next) → stopped_after step stopped ≡ true → HasStopped setup (log ++ more) next
+  stops task next log more old new (Stepped event) stopped shows was is = was is
+  stops task next log more old new Ended stopped shows was is = elim shows.1 [
+    | inl rests ↦ inl rests
+    | inr saw ↦ inr (saw.0, Contains-append_right log more saw.0 saw.1, saw.2, saw.3)
+  ]
+  stops task next log more old new (Broken breach) stopped shows was is = inl shows.1
+  stops task next log more old new Waiting stopped shows was is = was is
+  stops task next log more old new (Blocked pool) stopped shows was is = was is
+
+pub steps_keep_ran : StepsKeepRan
+steps_keep_ran stage first task next old new step events stopped is turns same =
+    let t : Turns DeskServes (Owes stage) (setup first.routing) task.state old next.state new step =
+    subst (λ r. Turns DeskServes (Owes stage) (setup r) task.state old next.state new step) is.routing turns in
+    let g = steps_are_logged stage (setup first.routing) first.state task.state next.state is.log old new step is.logged t in
+    record {
+      log = is.log ++ g.0;
+      logged = g.1;
+      routing = same ∙ is.routing;
+      counted = counts (setup first.routing) task.state next.state is.log g.0 step events g.2 is.counted;
+      stops = stops (Owes stage) (setup first.routing) task.state next.state is.log g.0 old new step stopped g.2
+          (λ was. still (Owes stage) (setup first.routing) task.state next.state is.log g.0 old new step t (is.stops was));
+    }
+
+unused_goes : (pass : Option PassState) → IsUnused pass → HasPass pass 0 []
+unused_goes None is = absurd is
+unused_goes (Some pass) is = record {
+  above = omega (arith);
+  met = All-nil (IsMet pass.seen);
+  own = inl is.0;
+  drew = ap (map (λ (t : Ticket). t.number)) is.1;
+  saw = subst (All (λ (t : Ticket). IsSeenIn [] t.seen)) (sym is.1) (All-nil (λ (t : Ticket). IsSeenIn [] t.seen));
+  last = All-nil (λ (c : Call). FoundNone c → KnowsLast pass []);
+}
+
+pub new_desks_are_ran : NewDesksAreRan
+new_desks_are_ran task desk is = record {
+  log = [];
+  logged = record { calls = is.calls; leads = refl; end = 0; rises = refl; pass = unused_goes desk.pass is.pass };
+  routing = refl;
+  counted = refl;
+  stops = λ e. absurd (cc e);
+}

@@ -1,0 +1,211 @@
+-- A task whose call was a glance is as it was.
+use Rattle.std.proofs.Common.{◌≡◌, ℕ, ◌==◌, ◌||◌, Bool, true, false, not, List, [], ◌∷◌, Option, None, Some, refl, sym, ◌∙◌, ap}
+use Rattle.std.specs.Option.{is_some}
+use Rattle.stack_base.specs.declared.ids.DevId.{DevId}
+use Rattle.stack_base.specs.declared.ids.PoolId.{PoolId}
+use Rattle.bio_records.specs.declared.bio.Pad.{Pad}
+use Rattle.bio_records.specs.Items.{Item}
+use Rattle.bio_books.specs.Books.{VectorItem, SlipItem}
+use Rattle.bio_books.specs.Drops.{Closed}
+use Rattle.bio_books.specs.Drops as end
+use Rattle.bio_books.specs.Links.{Made, NoRoom, Stray}
+use Rattle.run_machine.specs.Events.{what_of, resize_of}
+use Rattle.run_machine.specs.Lines.{Doing, Rests, Drives, Copies, Breaks, Ask, ToPush, ToCut, ToRecord, ToMaster, Want, Takes, Punts, Links, Line, line_request, line_answered}
+use Rattle.run_machine.specs.Requests.{Request, Reply, GiveBio, GiveVec, GiveSlip, NextRound, HadBio, HadVec, HadSlip, Missed, Did, Popped, Completed, LinkedTo, DroppedTo, OutIs, Nothing, Spent}
+use Rattle.run_machine.specs.Scene.{Setup}
+use Rattle.run_machine.specs.Tasks.{Todo, Taken, NoBio, HasBio, HasBoth, Carried, Empty, Brings, Carries, Fails, Duty, Resizes, Starts, Keeping, Keeps, Stops, TaskState, Writer, Rescuer, Completer, Keeper, needs_vector, with_bio, write_request, writer_request, rescuer_request, closed_request, carried_request, keeper_request, request, write_answered, writer_answered, rescuer_answered, carried_answered, after_resize, keeper_answered, answered}
+use Rattle.task_steps.specs.Stage.{Stage, Owes}
+use Rattle.shared_objects.specs.Calls.{struck}
+use Rattle.shared_objects.specs.Logs.{is_event, is_stop, is_glance}
+
+-- what is struck out of a request makes it no other kind of call
+pub event_struck : (asked : Request) (reply : Reply) → is_event (struck asked) reply ≡ is_event asked reply
+event_struck (GiveBio bio) Did = refl
+event_struck (GiveBio bio) reply = refl
+event_struck (GiveVec vector) Did = refl
+event_struck (GiveVec vector) reply = refl
+event_struck (GiveSlip slip) Did = refl
+event_struck (GiveSlip slip) reply = refl
+event_struck (NextRound round) Did = refl
+event_struck (NextRound round) reply = refl
+event_struck asked reply = refl
+
+pub stop_struck : (asked : Request) (reply : Reply) → is_stop (struck asked) reply ≡ is_stop asked reply
+stop_struck (GiveBio bio) reply = refl
+stop_struck (GiveVec vector) reply = refl
+stop_struck (GiveSlip slip) reply = refl
+stop_struck (NextRound round) reply = refl
+stop_struck asked reply = refl
+
+pub glance_struck : (asked : Request) (reply : Reply) → is_glance (struck asked) reply ≡ is_glance asked reply
+glance_struck asked reply =
+    ap (λ b. not (b || is_stop (struck asked) reply)) (event_struck asked reply) ∙ ap (λ b. not (is_event asked reply || b)) (stop_struck asked reply)
+
+-- a glance is no event, and stops no task
+pub glance_kinds : (event stop : Bool) → not (event || stop) ≡ true → (event ≡ false) × (stop ≡ false)
+glance_kinds true stop is = absurd (cc is)
+glance_kinds false true is = absurd (cc is)
+glance_kinds false false is = (refl, refl)
+
+line_stays : (stage : Stage) (setup : Setup) (doing : Doing) (line : Line) (reply : Reply) → is_glance (line_request setup doing line.lists) reply ≡ true
+    → Owes stage (line_request setup doing line.lists) reply → line_answered setup doing line.lists reply ≡ record { doing = doing; lists = line.lists }
+line_stays stage setup Rests line Spent is owed = absurd (cc is)
+line_stays stage setup Rests line reply is owed = absurd owed
+line_stays stage setup (Breaks breach kept) line Spent is owed = absurd (cc is)
+line_stays stage setup (Breaks breach kept) line reply is owed = absurd owed
+line_stays stage setup (Drives bio ToPush) line Spent is owed = absurd (cc is)
+line_stays stage setup (Drives bio ToPush) line Did is owed = absurd (cc is)
+line_stays stage setup (Drives bio ToPush) line reply is owed = absurd owed
+line_stays stage setup (Drives bio (ToCut (Takes true))) line Spent is owed = absurd (cc is)
+line_stays stage setup (Drives bio (ToCut (Takes true))) line (HadBio got hand) is owed = absurd (cc is)
+line_stays stage setup (Drives bio (ToCut (Takes true))) line (Missed true) is owed = absurd (cc is)
+line_stays stage setup (Drives bio (ToCut (Takes true))) line (Missed false) is owed = refl
+line_stays stage setup (Drives bio (ToCut (Takes true))) line reply is owed = absurd owed
+line_stays stage setup (Drives bio (ToCut (Takes false))) line Spent is owed = absurd (cc is)
+line_stays stage setup (Drives bio (ToCut (Takes false))) line (HadBio got hand) is owed = absurd (cc is)
+line_stays stage setup (Drives bio (ToCut (Takes false))) line (Missed used) is owed = absurd (cc is)
+line_stays stage setup (Drives bio (ToCut (Takes false))) line reply is owed = absurd owed
+line_stays stage setup (Drives bio (ToCut Punts)) line Spent is owed = absurd (cc is)
+line_stays stage setup (Drives bio (ToCut Punts)) line Did is owed = absurd (cc is)
+line_stays stage setup (Drives bio (ToCut Punts)) line reply is owed = absurd owed
+line_stays stage setup (Drives bio ToRecord) line Spent is owed = absurd (cc is)
+line_stays stage setup (Drives bio ToRecord) line (HadSlip got slip) is owed = absurd (cc is)
+line_stays stage setup (Drives bio ToRecord) line (Missed used) is owed = refl
+line_stays stage setup (Drives bio ToRecord) line reply is owed = absurd owed
+line_stays stage setup (Copies bio master leg (Takes true)) line Spent is owed = absurd (cc is)
+line_stays stage setup (Copies bio master leg (Takes true)) line (HadBio got hand) is owed = absurd (cc is)
+line_stays stage setup (Copies bio master leg (Takes true)) line (Missed true) is owed = absurd (cc is)
+line_stays stage setup (Copies bio master leg (Takes true)) line (Missed false) is owed = refl
+line_stays stage setup (Copies bio master leg (Takes true)) line reply is owed = absurd owed
+line_stays stage setup (Copies bio master leg (Takes false)) line Spent is owed = absurd (cc is)
+line_stays stage setup (Copies bio master leg (Takes false)) line (HadBio got hand) is owed = absurd (cc is)
+line_stays stage setup (Copies bio master leg (Takes false)) line (Missed used) is owed = absurd (cc is)
+line_stays stage setup (Copies bio master leg (Takes false)) line reply is owed = absurd owed
+line_stays stage setup (Copies bio master leg Punts) line Spent is owed = absurd (cc is)
+line_stays stage setup (Copies bio master leg Punts) line Did is owed = absurd (cc is)
+line_stays stage setup (Copies bio master leg Punts) line reply is owed = absurd owed
+line_stays stage setup (Drives bio (ToCut (Links hand))) line Spent is owed = absurd (cc is)
+line_stays stage setup (Drives bio (ToCut (Links hand))) line (LinkedTo (Made node)) is owed = absurd (cc is)
+line_stays stage setup (Drives bio (ToCut (Links hand))) line (LinkedTo (NoRoom back)) is owed = absurd (cc is)
+line_stays stage setup (Drives bio (ToCut (Links hand))) line (LinkedTo (Stray back)) is owed = absurd (cc is)
+line_stays stage setup (Drives bio (ToCut (Links hand))) line reply is owed = absurd owed
+line_stays stage setup (Drives bio (ToMaster slip)) line Spent is owed = absurd (cc is)
+line_stays stage setup (Drives bio (ToMaster slip)) line (LinkedTo (Made node)) is owed = absurd (cc is)
+line_stays stage setup (Drives bio (ToMaster slip)) line (LinkedTo (NoRoom back)) is owed = absurd (cc is)
+line_stays stage setup (Drives bio (ToMaster slip)) line (LinkedTo (Stray back)) is owed = absurd (cc is)
+line_stays stage setup (Drives bio (ToMaster slip)) line reply is owed = absurd owed
+line_stays stage setup (Copies bio master leg (Links hand)) line Spent is owed = absurd (cc is)
+line_stays stage setup (Copies bio master leg (Links hand)) line (LinkedTo (Made node)) is owed = absurd (cc is)
+line_stays stage setup (Copies bio master leg (Links hand)) line (LinkedTo (NoRoom back)) is owed = absurd (cc is)
+line_stays stage setup (Copies bio master leg (Links hand)) line (LinkedTo (Stray back)) is owed = absurd (cc is)
+line_stays stage setup (Copies bio master leg (Links hand)) line reply is owed = absurd owed
+
+with_stays : (stage : Stage) (setup : Setup) (writer : ℕ) (needs : Bool) (todo : Todo) (later : List Todo) (bio : Item Pad) (line : Line) (reply : Reply)
+    → is_glance (with_bio writer needs todo) reply ≡ true → Owes stage (with_bio writer needs todo) reply
+    → write_answered setup writer (todo ∷ later) (HasBio bio) line reply ≡ Writer writer (todo ∷ later) (HasBio bio) line
+with_stays stage setup writer true todo later bio line Spent is owed = absurd (cc is)
+with_stays stage setup writer true todo later bio line (HadVec got vector) is owed = absurd (cc is)
+with_stays stage setup writer true todo later bio line (Missed true) is owed = absurd (cc is)
+with_stays stage setup writer true todo later bio line (Missed false) is owed = refl
+with_stays stage setup writer true todo later bio line reply is owed = absurd owed
+with_stays stage setup writer false todo later bio line Spent is owed = absurd (cc is)
+with_stays stage setup writer false todo later bio line (LinkedTo (Made node)) is owed = absurd (cc is)
+with_stays stage setup writer false todo later bio line (LinkedTo (NoRoom back)) is owed = absurd (cc is)
+with_stays stage setup writer false todo later bio line (LinkedTo (Stray back)) is owed = absurd (cc is)
+with_stays stage setup writer false todo later bio line reply is owed = absurd owed
+
+write_stays : (stage : Stage) (setup : Setup) (writer : ℕ) (todo : List Todo) (taken : Taken) (line : Line) (reply : Reply)
+    → is_glance (write_request writer todo taken) reply ≡ true → Owes stage (write_request writer todo taken) reply
+    → write_answered setup writer todo taken line reply ≡ Writer writer todo taken line
+write_stays stage setup writer [] taken line Spent is owed = absurd (cc is)
+write_stays stage setup writer [] taken line reply is owed = absurd owed
+write_stays stage setup writer (todo ∷ later) NoBio line Spent is owed = absurd (cc is)
+write_stays stage setup writer (todo ∷ later) NoBio line (HadBio got bio) is owed = absurd (cc is)
+write_stays stage setup writer (todo ∷ later) NoBio line (Missed true) is owed = absurd (cc is)
+write_stays stage setup writer (todo ∷ later) NoBio line (Missed false) is owed = refl
+write_stays stage setup writer (todo ∷ later) NoBio line reply is owed = absurd owed
+write_stays stage setup writer (todo ∷ later) (HasBio bio) line reply is owed = with_stays stage setup writer (needs_vector todo.write) todo later bio line reply is owed
+write_stays stage setup writer (todo ∷ later) (HasBoth bio vector) line Spent is owed = absurd (cc is)
+write_stays stage setup writer (todo ∷ later) (HasBoth bio vector) line (LinkedTo (Made node)) is owed = absurd (cc is)
+write_stays stage setup writer (todo ∷ later) (HasBoth bio vector) line (LinkedTo (NoRoom back)) is owed = absurd (cc is)
+write_stays stage setup writer (todo ∷ later) (HasBoth bio vector) line (LinkedTo (Stray back)) is owed = absurd (cc is)
+write_stays stage setup writer (todo ∷ later) (HasBoth bio vector) line reply is owed = absurd owed
+
+writer_stays : (stage : Stage) (setup : Setup) (writer : ℕ) (todo : List Todo) (taken : Taken) (doing : Doing) (line : Line) (reply : Reply) → line.doing ≡ doing
+    → is_glance (writer_request setup writer todo taken doing line) reply ≡ true → Owes stage (writer_request setup writer todo taken doing line) reply
+    → writer_answered setup writer todo taken doing line reply ≡ Writer writer todo taken line
+writer_stays stage setup writer todo taken Rests line reply e is owed = write_stays stage setup writer todo taken line reply is owed
+writer_stays stage setup writer todo taken doing line reply e is owed =
+    ap (Writer writer todo taken) (line_stays stage setup doing line reply is owed ∙ ap (λ d. record { doing = d; lists = line.lists }) (sym e))
+
+rescuer_stays : (stage : Stage) (setup : Setup) (dev : DevId) (doing : Doing) (line : Line) (reply : Reply) → line.doing ≡ doing
+    → is_glance (rescuer_request setup dev doing line) reply ≡ true → Owes stage (rescuer_request setup dev doing line) reply
+    → rescuer_answered setup dev doing line reply ≡ Rescuer dev line
+rescuer_stays stage setup dev Rests line Spent e is owed = absurd (cc is)
+rescuer_stays stage setup dev Rests line (Popped bio) e is owed = absurd (cc is)
+rescuer_stays stage setup dev Rests line Nothing e is owed = refl
+rescuer_stays stage setup dev Rests line reply e is owed = absurd owed
+rescuer_stays stage setup dev doing line reply e is owed =
+    ap (Rescuer dev) (line_stays stage setup doing line reply is owed ∙ ap (λ d. record { doing = d; lists = line.lists }) (sym e))
+
+closed_stays : (stage : Stage) (writer : ℕ) (closed : Closed) (vector : Option VectorItem) (bio : Option (Item Pad)) (slip : Option SlipItem) (parent : Option ℕ) (reply : Reply)
+    → is_glance (closed_request writer closed vector bio slip parent) reply ≡ true → Owes stage (closed_request writer closed vector bio slip parent) reply → ⊥
+closed_stays stage writer closed (Some vector) bio slip parent Spent is owed = absurd (cc is)
+closed_stays stage writer closed (Some vector) bio slip parent Did is owed = absurd (cc is)
+closed_stays stage writer closed (Some vector) bio slip parent reply is owed = absurd owed
+closed_stays stage writer closed None (Some bio) slip parent Spent is owed = absurd (cc is)
+closed_stays stage writer closed None (Some bio) slip parent Did is owed = absurd (cc is)
+closed_stays stage writer closed None (Some bio) slip parent reply is owed = absurd owed
+closed_stays stage writer closed None None (Some slip) parent Spent is owed = absurd (cc is)
+closed_stays stage writer closed None None (Some slip) parent Did is owed = absurd (cc is)
+closed_stays stage writer closed None None (Some slip) parent reply is owed = absurd owed
+closed_stays stage writer closed None None None (Some parent) Spent is owed = absurd (cc is)
+closed_stays stage writer closed None None None (Some parent) (DroppedTo end.Left) is owed = absurd (cc is)
+closed_stays stage writer closed None None None (Some parent) (DroppedTo (end.Up up)) is owed = absurd (cc is)
+closed_stays stage writer closed None None None (Some parent) (DroppedTo (end.Top up)) is owed = absurd (cc is)
+closed_stays stage writer closed None None None (Some parent) (DroppedTo (end.Stray part)) is owed = absurd (cc is)
+closed_stays stage writer closed None None None (Some parent) reply is owed = absurd owed
+closed_stays stage writer closed None None None None Spent is owed = absurd (cc is)
+closed_stays stage writer closed None None None None Did is owed = absurd (cc is)
+closed_stays stage writer closed None None None None reply is owed = absurd owed
+
+carried_stays : (stage : Stage) (disk : DevId) (carried : Carried) (reply : Reply) → is_glance (carried_request disk carried) reply ≡ true
+    → Owes stage (carried_request disk carried) reply → carried_answered carried reply ≡ carried
+carried_stays stage disk Empty Spent is owed = absurd (cc is)
+carried_stays stage disk Empty (Completed index bio status) is owed = absurd (cc is)
+carried_stays stage disk Empty Nothing is owed = refl
+carried_stays stage disk Empty reply is owed = absurd owed
+carried_stays stage disk (Brings bio status) Spent is owed = absurd (cc is)
+carried_stays stage disk (Brings bio status) (DroppedTo end.Left) is owed = absurd (cc is)
+carried_stays stage disk (Brings bio status) (DroppedTo (end.Up up)) is owed = absurd (cc is)
+carried_stays stage disk (Brings bio status) (DroppedTo (end.Top up)) is owed = absurd (cc is)
+carried_stays stage disk (Brings bio status) (DroppedTo (end.Stray part)) is owed = absurd (cc is)
+carried_stays stage disk (Brings bio status) reply is owed = absurd owed
+carried_stays stage disk (Carries writer closed) reply is owed =
+    absurd (closed_stays stage writer closed closed.held.vector closed.held.bio closed.held.slip closed.parent reply is owed)
+carried_stays stage disk (Fails breach kept) Spent is owed = absurd (cc is)
+carried_stays stage disk (Fails breach kept) reply is owed = absurd owed
+
+resize_tells : (home : Bool) (pool : PoolId) (min : ℕ) → not (is_some (resize_of home pool min) || (not home || false)) ≡ true → ⊥
+resize_tells true pool min is = absurd (cc is)
+resize_tells false pool min is = absurd (cc is)
+
+keeper_stays : (stage : Stage) (keeping : Keeping) (reply : Reply) → is_glance (keeper_request keeping) reply ≡ true
+    → Owes stage (keeper_request keeping) reply → keeper_answered keeping reply ≡ keeping
+keeper_stays stage (Keeps []) Spent is owed = absurd (cc is)
+keeper_stays stage (Keeps []) reply is owed = absurd owed
+keeper_stays stage (Keeps (Resizes pool min later ∷ duties)) Spent is owed = absurd (cc is)
+keeper_stays stage (Keeps (Resizes pool min later ∷ duties)) (OutIs out) is owed = absurd (resize_tells (out == 0) pool min is)
+keeper_stays stage (Keeps (Resizes pool min later ∷ duties)) reply is owed = absurd owed
+keeper_stays stage (Keeps (Starts round later ∷ duties)) Spent is owed = absurd (cc is)
+keeper_stays stage (Keeps (Starts round later ∷ duties)) Did is owed = absurd (cc is)
+keeper_stays stage (Keeps (Starts round later ∷ duties)) reply is owed = absurd owed
+keeper_stays stage (Stops breach) Spent is owed = absurd (cc is)
+keeper_stays stage (Stops breach) reply is owed = absurd owed
+
+pub glance_stays : (stage : Stage) (setup : Setup) (task : TaskState) (reply : Reply) → is_glance (request setup task) reply ≡ true
+    → Owes stage (request setup task) reply → answered setup task reply ≡ task
+glance_stays stage setup (Writer number todo taken line) reply is owed = writer_stays stage setup number todo taken line.doing line reply refl is owed
+glance_stays stage setup (Rescuer dev line) reply is owed = rescuer_stays stage setup dev line.doing line reply refl is owed
+glance_stays stage setup (Completer disk carried) reply is owed = ap (Completer disk) (carried_stays stage disk carried reply is owed)
+glance_stays stage setup (Keeper keeping) reply is owed = ap Keeper (keeper_stays stage keeping reply is owed)

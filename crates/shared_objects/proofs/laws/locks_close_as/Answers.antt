@@ -1,0 +1,5 @@
+use Rattle.shared_objects.proofs.ClosedAs.{closes_as}
+use Rattle.shared_objects.proofs.laws.locks_close_as.Goals as goal
+
+pub returns : goal.returns
+returns c = closes_as

@@ -1,0 +1,6 @@
+use Rattle.shared_objects.proofs.Leading.{logs_lead}
+use Rattle.shared_objects.proofs.laws.logs_lead.Goals as goal
+
+-- src/laws.rt
+pub returns : goal.returns
+returns c = logs_lead

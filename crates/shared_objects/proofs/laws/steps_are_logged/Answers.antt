@@ -1,0 +1,6 @@
+use Rattle.shared_objects.proofs.Stepping.{steps_are_logged}
+use Rattle.shared_objects.proofs.laws.steps_are_logged.Goals as goal
+
+-- src/laws.rt
+pub returns : goal.returns
+returns c = steps_are_logged

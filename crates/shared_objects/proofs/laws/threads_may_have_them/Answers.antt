@@ -1,0 +1,9 @@
+use denote.Param.Send.{sendable}
+use Rattle.shared_objects.proofs.Sent.{locks_sync, seats_send}
+use Rattle.shared_objects.proofs.laws.threads_may_have_them.Goals as goal
+
+pub shared-requires-sync-X : goal.shared-requires-sync-X
+shared-requires-sync-X c κs = search (sendable, locks_sync) depth 40
+
+pub sent-requires-send-X : goal.sent-requires-send-X
+sent-requires-send-X c κs = search (sendable, seats_send) depth 40

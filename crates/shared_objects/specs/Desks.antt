@@ -1,0 +1,47 @@
+-- What a desk tells of its calls.
+use Rattle.std.specs.Prelude.{◌≡◌, ◌⊎◌, ◌≤◌, ◌<◌, ℕ, Bool, Option, None, Some}
+use Rattle.stack_base.specs.declared.ids.DevId.{DevId}
+use Rattle.tick_clock.specs.Tickets.{PassState}
+use Rattle.run_machine.specs.Laws.{object_of}
+use Rattle.run_machine.specs.Requests.{Request, Reply, Complete, LeftOver, Nothing, Rest}
+use Rattle.object_things.specs.Histories.{Call}
+use Rattle.object_things.specs.Stamps.{Told, PassBy, is_spent}
+use Rattle.shared_objects.specs.Calls.{CallsAt, struck, with_call}
+
+-- A task at its desk: the number of its seats, its pass, which is away while an object is asked, and the calls that it has made.
+pub record DeskState : Type 0 where
+  pub number : ℕ
+  pub pass : Option PassState
+  pub calls : CallsAt
+
+-- the pass went through a call
+abbrev pub PassOn : Option PassState → ℕ → Bool → Bool → Option ℕ → Option PassState → Type 0
+PassOn None note spent drew ticket after = ⊥
+PassOn (Some pass) note spent drew ticket None = ⊥
+PassOn (Some pass) note spent drew ticket (Some after) = PassBy pass note spent drew ticket after
+
+-- One call was made. It stands last among the task's calls at the object that it asked.
+pub record HasCalled (old : DeskState) (asked : Request) (reply : Reply) (new : DeskState) : Type 0 where
+  pub told : Told
+  pub replies : told.reply ≡ reply
+  pub number : new.number ≡ old.number
+  pub calls : new.calls ≡ with_call old.calls (object_of asked) (record { by = old.number; asked = asked; told = told })
+  pub pass : PassOn old.pass told.note (is_spent told.reply) told.drew told.ticket new.pass
+
+-- A bio of a disk is completed by one look, where none waits, or by a look and a call behind it.
+pub record LooksAndCompletes (old : DeskState) (disk : DevId) (reply : Reply) (new : DeskState) : Type 0 where
+  pub count : ℕ
+  pub between : DeskState
+  pub looks : HasCalled old (Complete disk) (LeftOver count) between
+  pub goes : ((count ≡ 0) × (reply ≡ Nothing) × (new ≡ between)) ⊎ ((0 < count) × HasCalled between (Complete disk) reply new)
+
+-- What a desk serves: a call of the object, as its history keeps it.
+abbrev pub DeskServes : DeskState → Request → Reply → DeskState → Type 0
+DeskServes old Rest reply new = ⊥
+DeskServes old (Complete disk) reply new = LooksAndCompletes old disk reply new
+DeskServes old request reply new = HasCalled old (struck request) reply new
+
+-- the index is the one that was chosen, or the last one where fewer waited by then
+abbrev pub PicksBy : ℕ → Option ℕ → Type 0
+PicksBy chosen None = Unit {0}
+PicksBy chosen (Some index) = index ≤ chosen

@@ -1,0 +1,30 @@
+-- Locks round objects as they were opened.
+use Rattle.std.specs.Prelude.{◌≡◌, List, map}
+use Rattle.seat_lock.specs.Seats.{LockId}
+use Rattle.model_disks.specs.Disks.{DiskState}
+use Rattle.stack_base.specs.declared.ids.DevId.{DevId}
+use Rattle.task_core.specs.declared.plain.Plain.{Plain}
+use Rattle.task_core.specs.Plains.{tally_of}
+use Rattle.shared_objects.specs.declared.locks.Locks.{Locks}
+use Rattle.shared_objects.specs.Guards.{guarded}
+use Rattle.shared_objects.specs.Rows.{Abreast}
+
+-- locks of a kind are round these objects, one by one
+abbrev pub AreRound : {K O T : Type 0} → (O → T) → List (K × O) → List (K × LockId T) → Type 0
+AreRound guard objects locks = Abreast (λ entry lock. (lock.0 ≡ entry.0) × (lock.1.key.value ≡ guard entry.1)) objects locks
+
+-- disks, each with its device
+abbrev pub keyed : List DiskState → List (DevId × DiskState)
+keyed disks = map (λ disk. (disk.dev, disk)) disks
+
+-- the locks are round these objects, of which nothing was asked
+pub record AreOfOpened (opened : Plain) (locks : Locks) : Type 0 where
+  pub same : locks.common.value.opened ≡ opened
+  pub index : locks.index ≡ opened.index
+  pub bios : AreRound (guarded locks.common.value) opened.bios.items locks.bios.items
+  pub vecs : locks.vecs.key.value ≡ guarded locks.common.value opened.vecs
+  pub records : AreRound (guarded locks.common.value) opened.records.items locks.records.items
+  pub lists : AreRound (guarded locks.common.value) opened.lists.items locks.lists.items
+  pub disks : AreRound (guarded locks.common.value) (keyed opened.disks.items) locks.disks.items
+  pub books : AreRound (guarded locks.common.value) opened.books.items locks.books.items
+  pub tally : locks.tally.key.value ≡ guarded locks.common.value (tally_of opened.tally)

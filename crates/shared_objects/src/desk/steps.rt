@@ -1,0 +1,26 @@
+//! Steps of a task at its desk.
+ghost use Rattle.std.specs.Prelude.{◌≡◌};
+ghost use Rattle.task_steps.specs.Homes.{IsTaskOf};
+ghost use Rattle.task_steps.specs.Routed.{setup};
+ghost use Rattle.task_steps.specs.Stage.{Owes};
+ghost use Rattle.task_steps.specs.Turns.{Turns};
+ghost use Rattle.shared_objects.specs.Desks.{DeskServes};
+ghost use Rattle.shared_objects.specs.Holding.{DeskHolds, desk_of, stage_at};
+
+use crate::desk::Desk;
+use std::sync::Wait;
+use task_steps::{Chooser, Step, Task};
+
+impl<'a, R: Wait> Desk<'a, R> {
+    /// The next step of the task whose desk it is. What the desk tells of it is kept in the task's calls.
+    pub fn step<C: Chooser>(&mut self, task: &mut Task, chooser: &mut C) -> Step
+        requires holds { DeskHolds self.old.locks.now self.old.seats }
+        requires routing { task.old.routing ≡ (stage_at self.old.locks.now).routing }
+        requires task { IsTaskOf (stage_at self.old.locks.now) task.old.state }
+        ensures turns { Turns DeskServes (Owes (stage_at self.old.locks.now)) (setup task.old.routing) task.old.state (desk_of self.old.seats) task.new.state (desk_of self.new.seats) result }
+        ensures kept { DeskHolds self.new.locks.now self.new.seats × (stage_at self.new.locks.now ≡ stage_at self.old.locks.now) }
+        ensures same { task.new.routing ≡ task.old.routing }
+    {
+        task.step(self, chooser)
+    }
+}

@@ -1,0 +1,55 @@
+//! What holds of the calls of tasks and of what is left of their locks, as functions that do nothing.
+ghost use Rattle.shared_objects.specs.Closing.{LocksCloseAs};
+ghost use Rattle.shared_objects.specs.Led.{LogsLead};
+ghost use Rattle.shared_objects.specs.Logs.{CallsAreLogged, StepsAreLogged};
+ghost use Rattle.shared_objects.specs.Rans.{NewDesksAreRan, StepsKeepRan};
+
+use crate::locks::Locks;
+use crate::seats::TaskSeats;
+
+/// One more call of a task stands behind those that it made.
+pub fn calls_are_logged()
+    ensures { CallsAreLogged }
+{}
+
+/// Each step of a task at its desk is kept: what it calls stands behind the calls so far.
+pub fn steps_are_logged()
+    ensures { StepsAreLogged }
+{}
+
+/// The events among a task's calls lead it on; it looked before each, where it has to; and it is where they lead, or broke off from there.
+pub fn logs_lead()
+    ensures { LogsLead }
+{}
+
+/// What is kept of a task with its seats is kept by each step of it at its desk.
+pub fn steps_keep_ran()
+    ensures { StepsKeepRan }
+{}
+
+/// A task at a desk where nothing was called yet has no events, and has not stopped.
+pub fn new_desks_are_ran()
+    ensures { NewDesksAreRan }
+{}
+
+/// What is left of locks that were round opened objects, and into whose first seats those of all tasks were joined: the history of each object,
+/// with the calls of each task, and the tickets of the clock.
+pub fn locks_close_as()
+    ensures { LocksCloseAs }
+{}
+
+/// What is handed to it may go to another thread.
+fn sent<X: Send>(x: &X) {
+    let _ = x;
+}
+
+/// What is lent to it may be lent to several threads.
+fn shared<X: Sync>(x: &X) {
+    let _ = x;
+}
+
+/// The locks may be shared among threads, and the seats of a task handed from one to another.
+fn threads_may_have_them(locks: &Locks, seats: &TaskSeats) {
+    shared(locks);
+    sent(seats);
+}
