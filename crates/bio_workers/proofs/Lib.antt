@@ -1,0 +1,4 @@
+pub mod Dealing
+pub mod Parts
+pub mod Somes
+pub mod Sweeps

@@ -1,0 +1,50 @@
+use Rattle.std.proofs.Common.{◌≡◌, ◌+◌, All, length, map, take, slice_index_or, arith, ap, sym, subst, ◌∙◌}
+use Rattle.std.proofs.lemmas.List.{length-map}
+use Rattle.std.proofs.Math.Seq.{map-set_same}
+use Rattle.bio_workers.specs.Somes.{somes}
+use Rattle.bio_workers.proofs.Somes.{as_long, some_at, some_set, mapped_at}
+use Rattle.bio_workers.proofs.Sweeps.{more_over}
+use Rattle.bio_workers.proofs.few.Few.step_at.Goals as goal
+
+pub unreachable-requires : goal.unreachable-requires
+unreachable-requires g c =
+    let same = ap length c.self.view_is in
+    let long = as_long c.self.inside.slots.items c.self.invariant in
+    let below = c.requires.at in
+    let some = c.in_default.ensures.variant.1 (omega arith) in
+    absurd (cc)
+
+pub step-task-requires : goal.step-task-requires
+step-task-requires g c =
+    let slots = c.self.inside.slots.items in
+    let same = ap length c.self.view_is in
+    let long = as_long slots c.self.invariant in
+    let below = c.requires.at in
+    let task = c.in-Some-take.task in
+    let here = sym c.in-Some.ensures.value ∙ sym c.take.ensures.value ∙ c.in-Some-take.is in
+    let stands = some_at slots c.args.at task task c.in-Some.slot.now c.self.invariant (omega arith) here in
+    let stands_now = subst (λ l. slice_index_or l c.args.at task ≡ task) c.self.view_is stands in
+    let keyed = mapped_at g.W.Work.key c.args.self.now c.args.at task stands_now in
+    subst (g.W.Work.can c.args.work.now) keyed (c.requires.can c.args.at (g.W.Work.key task) (omega (arith, length-map c.args.self.now g.W.Work.key)))
+
+pub returns-clause-keys : goal.returns-clause-keys
+returns-clause-keys g c =
+    let slots = c.self.inside.slots.items in
+    let same = ap length c.self.view_is in
+    let long = as_long slots c.self.invariant in
+    let below = c.requires.at in
+    let task = c.in-Some-take.task in
+    let here = sym c.in-Some.ensures.value ∙ sym c.take.ensures.value ∙ c.in-Some-take.is in
+    let stands = some_at slots c.args.at task task c.in-Some.slot.now c.self.invariant (omega arith) here in
+    ap (map g.W.Work.key) (some_set slots c.args.at c.step-task.result.0 c.self.invariant)
+    ∙ map-set_same g.W.Work.key (somes slots) c.args.at c.step-task.result.0 task (c.step-task.ensures.key ∙ ap g.W.Work.key (sym stands))
+    ∙ ap (map g.W.Work.key) c.self.view_is
+
+pub returns-clause-over : goal.returns-clause-over
+returns-clause-over g c = λ over before.
+    let slots = c.self.inside.slots.items in
+    let same = ap length c.self.view_is in
+    let long = as_long slots c.self.invariant in
+    let below = c.requires.at in
+    subst (λ l. All g.W.Work.is_over (take (c.args.at + 1) l)) (sym (some_set slots c.args.at c.step-task.result.0 c.self.invariant))
+    (more_over g.W.Work.is_over (somes slots) c.args.at c.step-task.result.0 (omega arith) (subst (λ l. All g.W.Work.is_over (take c.args.at l)) (sym c.self.view_is) before) (c.step-task.ensures.over over))

@@ -1,0 +1,13 @@
+use Rattle.std.proofs.Common.{◌++◌, IsPermutation, map, subst}
+use Rattle.std.proofs.lemmas.List.{map-append}
+use Rattle.std.proofs.lemmas.List.Sorted.{IsPermutation-map}
+use Rattle.bio_workers.proofs.shift.ShiftJobHand.deal.Goals as goal
+
+pub returns : goal.returns
+returns g c =
+    let key = g.W.Work.key in
+    let own = c.parted-own.result.0 in
+    let others = c.parted-own.result.1 in
+    let tasks = c.args.all.now.tasks in
+    subst (λ l. IsPermutation (map key tasks) l) (map-append key own others)
+    (IsPermutation-map key tasks (own ++ others) (subst (λ l. IsPermutation l (own ++ others)) c.replace-tasks.ensures.value c.parted-own.ensures.all))

@@ -1,0 +1,4 @@
+pub mod Parting
+pub mod Progress
+pub mod Room
+pub mod Somes

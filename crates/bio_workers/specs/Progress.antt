@@ -1,0 +1,11 @@
+-- What steps came to.
+use Rattle.bio_workers.specs.declared.work.Progress.{Progress}
+use Rattle.bio_workers.specs.declared.work.Progress.TheVariants.{Event, Nothing, Over}
+
+-- Something happened if it did in either. No task goes on if none does in both.
+abbrev pub both : Progress → Progress → Progress
+both Over b = b
+both Nothing Event = Event
+both Nothing Nothing = Nothing
+both Nothing Over = Nothing
+both Event b = Event

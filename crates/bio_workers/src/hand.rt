@@ -1,0 +1,71 @@
+//! The tasks of one worker.
+ghost use Rattle.std.specs.Prelude.{◌≡◌, ◌++◌, ◌+◌, ◌<◌, ◌≤◌, ◌%◌, ◌≢◌, All, IsPermutation, length};
+ghost use Rattle.bio_workers.specs.Parting.{PutBy};
+
+use crate::few::Few;
+use crate::work::Work;
+
+/// A worker's number, and its tasks.
+#[derive(Drop)]
+pub struct Hand<T: Drop> {
+    pub(crate) worker: u32,
+    pub(crate) tasks: Few<T>,
+}
+
+/// All tasks of both.
+pub(crate) fn joined<T: Drop>(tasks: Few<T>, others: Few<T>) -> Few<T>
+    requires { length tasks + length others ≤ 41 }
+    ensures { IsPermutation (others ++ tasks) result }
+{
+    let mut tasks = tasks;
+    let mut others = others;
+    while let Some(task) = others.pop() {
+        tasks.push(task);
+    }
+    tasks
+}
+
+/// The tasks that fall to a worker, by their numbers, and the others.
+pub(crate) fn parted<T: Drop, W: Work<T>>(
+    work: &W,
+    tasks: Few<T>,
+    workers: u32,
+    worker: u32,
+) -> (Few<T>, Few<T>)
+    requires { 1 ≤ workers }
+    ensures all { IsPermutation tasks (result.0 ++ result.1) }
+    ensures own { All (λ task. W.number (W.key task) % workers ≡ worker) result.0 }
+    ensures others { All (λ task. W.number (W.key task) % workers ≢ worker) result.1 }
+{
+    let mut tasks = tasks;
+    let mut own = Few::new();
+    let mut others = Few::new();
+    let count = tasks.len();
+    'parting: for done in 0..count {
+        let Some(task) = tasks.pop() else {
+            unreachable!()
+        };
+        put_by(work, task, workers, worker, &mut own, &mut others);
+    }
+    (own, others)
+}
+
+// Puts a task to the worker's own, or to the others.
+fn put_by<T: Drop, W: Work<T>>(
+    work: &W,
+    task: T,
+    workers: u32,
+    worker: u32,
+    own: &mut Few<T>,
+    others: &mut Few<T>,
+)
+    requires some { 1 ≤ workers }
+    requires room { length own.old + length others.old < 41 }
+    ensures { PutBy (λ t. W.number (W.key t) % workers ≡ worker) task own.old others.old own.new others.new }
+{
+    if work.number(&task) % workers == worker {
+        own.push(task);
+    } else {
+        others.push(task);
+    }
+}

@@ -1,0 +1,18 @@
+//! Workers: threads that step tasks in turn until none goes on.
+//!
+//! What a task is and what a step of it does is told by who starts the workers (`Work`). Each worker has a hand of tasks. It sweeps over them
+//! again and again, and sleeps where a whole sweep met nothing, until some other worker rings.
+#![tactic(auto)]
+
+mod bell;
+mod crew;
+mod few;
+mod hand;
+mod shift;
+mod work;
+
+pub use bell::Bell;
+pub use crew::{Job, run};
+pub use few::Few;
+pub use shift::run_tasks;
+pub use work::{Progress, Work};

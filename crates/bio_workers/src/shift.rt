@@ -1,0 +1,159 @@
+//! Workers at their tasks.
+ghost use Rattle.std.specs.Prelude.{◌≡◌, ◌≤◌, ◌<◌, ◌+◌, All, IsPermutation, length, map, take};
+ghost use Rattle.bio_workers.specs.Room.{HasRoom};
+ghost use Rattle.bio_workers.specs.declared.work.Progress.TheVariants.{Over};
+
+use crate::bell::Bell;
+use crate::crew::{Job, run};
+use crate::few::Few;
+use crate::hand::{Hand, joined, parted};
+use crate::work::{Progress, Work};
+use std::mem;
+use std::sync::Wait;
+use std::sync::atomic::{AtomicU64, Ordering};
+use std::thread::Threads;
+
+/// What the workers of a run share.
+#[derive(Drop)]
+struct Shift<'a, W> {
+    work: &'a W,
+    workers: u32,
+    bell: Bell,
+    // The workers that could not be started, one bit each.
+    refused: AtomicU64,
+    ghost some: { 1 ≤ workers },
+}
+
+impl<'a, W> Shift<'a, W> {
+    // Steps each task once, and rings where that met an event.
+    fn sweep<T: Drop, R: Wait>(&self, rt: &R, tasks: &mut Few<T>) -> Progress
+    where
+        W: Work<T>,
+        requires { All (W.can self.now.work.now) (map W.key tasks.old) }
+        ensures keys { map W.key tasks.new ≡ map W.key tasks.old }
+        ensures over { result ≡ Over → All W.is_over tasks.new }
+    {
+        let mut came = Progress::Over;
+        for at in 0..tasks.len() {
+            came = came.and(self.step(rt, tasks, at));
+        }
+        came
+    }
+
+    // Steps the task at a place, and rings where that was an event.
+    fn step<T: Drop, R: Wait>(&self, rt: &R, tasks: &mut Few<T>, at: usize) -> Progress
+    where
+        W: Work<T>,
+        requires at { at < length tasks.old }
+        requires can { All (W.can self.now.work.now) (map W.key tasks.old) }
+        ensures keys { map W.key tasks.new ≡ map W.key tasks.old }
+        ensures over { result ≡ Over → All W.is_over (take at tasks.old) → All W.is_over (take (at + 1) tasks.new) }
+    {
+        let came = tasks.step_at(rt, self.work, at);
+        if came == Progress::Event {
+            self.bell.ring();
+        }
+        came
+    }
+
+    // Sweeps until no task goes on. It sleeps only where a whole sweep since it read the bell met nothing, and some task may go on once
+    // others did.
+    fn finish<T: Drop, R: Wait>(&self, rt: &R, tasks: &mut Few<T>)
+    where
+        W: Work<T>,
+        requires { All (W.can self.now.work.now) (map W.key tasks.old) }
+        ensures keys { map W.key tasks.new ≡ map W.key tasks.old }
+        ensures over { All W.is_over tasks.new }
+    {
+        for _ in rt.forever() {
+            let heard = self.bell.heard();
+            match self.sweep(rt, tasks) {
+                Progress::Event => {}
+                Progress::Nothing => self.bell.wait(rt, heard),
+                Progress::Over => return,
+            }
+        }
+        unreachable!()
+    }
+
+    fn is_refused(&self, worker: u32) -> bool {
+        self.refused.load(Ordering::SeqCst) >> (worker % 64) & 1 == 1
+    }
+}
+
+impl<'a, T: Drop, W: Work<T>> Job<Hand<T>> for Shift<'a, W> {
+    ghost use Rattle.std.specs.Prelude.{map};
+
+    type Key = W::Key;
+
+    ghost keys = { λ hand. map W.key hand.tasks };
+
+    ghost most = { 41 };
+
+    ghost can = { λ shift key. W.can shift.work.now key };
+
+    fn deal(&self, all: &mut Hand<T>, worker: u32) -> Hand<T> {
+        let tasks = mem::replace(&mut all.tasks, Few::new());
+        let (own, others) = parted(self.work, tasks, self.workers, worker);
+        all.tasks = others;
+        Hand { worker, tasks: own }
+    }
+
+    fn absorb(&self, hand: Hand<T>, other: Hand<T>) -> Hand<T> {
+        let Hand { worker, tasks } = hand;
+        let Hand {
+            worker: _,
+            tasks: others,
+        } = other;
+        Hand {
+            worker,
+            tasks: joined(tasks, others),
+        }
+    }
+
+    fn halt(&self, worker: u32) {
+        self.refused.fetch_add(1 << (worker % 64), Ordering::SeqCst);
+    }
+
+    fn work<R: Wait>(&self, rt: &R, hand: Hand<T>) -> Hand<T> {
+        let mut hand = hand;
+        if !self.is_refused(hand.worker) {
+            self.finish(rt, &mut hand.tasks);
+        }
+        hand
+    }
+}
+
+/// Steps tasks by so many workers, of which the caller is one, until none of them goes on. Task number `k` falls to worker `k` modulo their
+/// number, and to the caller where that worker's thread could not be started.
+///
+/// It takes no memory but for threads.
+pub fn run_tasks<R: Threads + Wait + Sync, T: Send + Drop, W: Work<T> + Sync>(
+    rt: &R,
+    work: &W,
+    tasks: Few<T>,
+    workers: u32,
+) -> Few<T>
+    requires workers { (1 ≤ workers) × (workers ≤ 16) }
+    requires can { All (W.can work.now) (map W.key tasks) }
+    requires size { HasRoom T.row }
+    ensures tasks { IsPermutation (map W.key tasks) (map W.key result) }
+    ensures over { All W.is_over result }
+{
+    let count = tasks.len();
+    prove!(count <= 41);
+    let shift = Shift {
+        work,
+        workers,
+        bell: Bell::new(),
+        refused: AtomicU64::new(0),
+    };
+    let Hand {
+        worker: _,
+        mut tasks,
+    } = run(rt, &shift, Hand { worker: 0, tasks }, workers);
+    // Each worker left its tasks where none went on. That each of all is over is seen here once more, since a hand that comes back tells no more
+    // than that its tasks are those that were dealt.
+    shift.finish(rt, &mut tasks);
+    tasks
+}

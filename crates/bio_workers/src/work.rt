@@ -1,0 +1,59 @@
+//! What workers do with tasks.
+ghost use Rattle.std.specs.Prelude.{◌≡◌};
+ghost use Rattle.bio_workers.specs.Progress.{both};
+
+use std::sync::Wait;
+
+/// What a step came to, or a sweep of steps.
+#[derive(Clone, Copy, PartialEq, Eq)]
+pub enum Progress {
+    /// Something happened, so that other tasks may go on now.
+    Event,
+    /// Nothing happened, and some task may go on once others did.
+    Nothing,
+    /// No task goes on any more, whatever others do.
+    Over,
+}
+
+impl Progress {
+    /// What two came to together.
+    pub fn and(self, other: Progress) -> Progress
+        ensures { result ≡ both self other }
+    {
+        match (self, other) {
+            (Progress::Event, _) | (_, Progress::Event) => Progress::Event,
+            (Progress::Nothing, _) | (_, Progress::Nothing) => Progress::Nothing,
+            (Progress::Over, Progress::Over) => Progress::Over,
+        }
+    }
+}
+
+/// What workers step tasks at. All of them share it.
+pub trait Work<T> {
+    ghost use Rattle.std.specs.Prelude.{◌≡◌, ℕ};
+    ghost use Rattle.bio_workers.specs.declared.work.Progress.TheVariants.{Over};
+
+    /// What stays of a task, whatever steps it makes. No value of it is made.
+    type Key;
+
+    ghost key: { T → Self.Key };
+
+    /// The number of a task of this key.
+    ghost number: { Self.Key → ℕ };
+
+    /// Whether a task of this key can be stepped here.
+    ghost can: { Self → Self.Key → Type 0 };
+
+    /// Whether a task goes on no more.
+    ghost is_over: { T → Type 0 };
+
+    /// The number of a task, by which it falls to a worker.
+    fn number(&self, task: &T) -> u32
+        ensures { result ≡ number (key task.now) };
+
+    /// Steps a task once.
+    fn step<R: Wait>(&self, rt: &R, task: T) -> (T, Progress)
+        requires { can self.now (key task) }
+        ensures key { key result.0 ≡ key task }
+        ensures over { result.1 ≡ Over → is_over result.0 };
+}
