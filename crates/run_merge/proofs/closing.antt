@@ -1,4 +1,5 @@
 -- Shared objects that were closed show an ended run.
+pub mod FewTasks
 pub mod Rows
 pub mod Counts
 pub mod Early

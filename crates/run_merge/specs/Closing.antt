@@ -11,7 +11,7 @@ use Rattle.run_machine.specs.Tasks.{TaskState, request, answered, look_of}
 use Rattle.block_core.specs.Breaks.{is_broken}
 use Rattle.block_core.specs.Runnable.{IsRunnable}
 use Rattle.block_core.specs.Scenarios.{IsNaming}
-use Rattle.run_merge.specs.Entries.{struck}
+use Rattle.shared_objects.specs.Calls.{struck}
 use Rattle.run_merge.specs.Machines.{ServesAt, LeadsObject}
 use Rattle.run_merge.specs.Merging.{Ticketed, Histories, entries_of, sorted, all_of, history_of, done_by, TallyThen, LetsAsk, Shown}
 use Rattle.run_merge.specs.ObjectsByName.{StateAt, get}
@@ -73,4 +73,4 @@ pub record HasMerged (s : Scenario) (ledger : ℕ → LedgerId) (histories : His
 
 abbrev pub ClosedRunsEnd : Type 0
 ClosedRunsEnd = (s : Scenario) (ledger : ℕ → LedgerId) (histories : Histories) (drawn : List ℕ) (last : State) → IsRunnable s → HasRescuers s.stack
-    → IsNaming ledger → length (tasks s) ≤ 2 ^ 24 → IsClosed s ledger histories drawn last → HasMerged s ledger histories drawn last
+    → IsNaming ledger → IsClosed s ledger histories drawn last → HasMerged s ledger histories drawn last

@@ -6,3 +6,4 @@ pub mod Numbers
 pub mod Merging
 pub mod Closing
 pub mod Joining
+pub mod SharedObjects

@@ -14,8 +14,9 @@ use Rattle.run_machine.specs.declared.event.Got.TheVariants as got
 use Rattle.run_machine.specs.Laws.{Object, OfPool, OfRescuer, OfDisk, OfBook, OfTally, OfNone, object_of}
 use Rattle.run_machine.specs.Objects.{TallyState, Opened, clear_bio, clear_vector, clear_slip, done_one}
 use Rattle.run_machine.specs.Requests.{Request, Reply, TakeBio, TakeVec, TakeSlip, GiveBio, GiveVec, GiveSlip, Punt, Pop, Push, Complete, Link, Drop, Done, Resize, NextRound, LookRound, LookLeft, HadBio, HadVec, HadSlip, Missed, Did, Popped, Completed, LinkedTo, DroppedTo, OutIs, Present, LeftOver, Nothing}
+use Rattle.shared_objects.specs.Calls.{is_same}
 use Rattle.run_merge.specs.Entries.{Entry}
-use Rattle.run_merge.specs.ObjectsByName.{is_same, StateAt}
+use Rattle.run_merge.specs.ObjectsByName.{StateAt}
 
 -- a pool, whose elements are of this ledger
 abbrev pub PoolGoes : PoolState → Move → PoolState → Type 0

@@ -8,9 +8,11 @@ use Rattle.run_machine.specs.Requests.{Request, Reply}
 use Rattle.run_machine.specs.Runs.{State}
 use Rattle.run_machine.specs.Tasks.{TaskState, look_of, lets}
 use Rattle.block_core.specs.Scenarios.{IsScenario, IsNaming}
-use Rattle.run_merge.specs.Entries.{Entry, is_event}
+use Rattle.shared_objects.specs.Calls.{is_same}
+use Rattle.shared_objects.specs.Logs.{is_event}
+use Rattle.run_merge.specs.Entries.{Entry}
 use Rattle.run_merge.specs.Machines.{TallyServes, LeadsObject}
-use Rattle.run_merge.specs.ObjectsByName.{is_same, get}
+use Rattle.run_merge.specs.ObjectsByName.{get}
 use Rattle.run_merge.specs.Products.{LeadsTask, task_behind, AreOfRun}
 
 -- an entry with the ticket that its call drew

@@ -1,5 +1,5 @@
 -- All objects, by the names that requests have for them.
-use Rattle.std.specs.Prelude.{◌==◌, Bool, true, false, List}
+use Rattle.std.specs.Prelude.{List}
 use Rattle.mempool_core.specs.Move.{PoolState}
 use Rattle.bio_records.specs.declared.bio.Pad.{Pad}
 use Rattle.bio_records.specs.Items.{Item}
@@ -8,15 +8,6 @@ use Rattle.bio_books.specs.Books.{BookState}
 use Rattle.run_machine.specs.Laws.{Object, OfPool, OfRescuer, OfDisk, OfBook, OfTally, OfNone}
 use Rattle.run_machine.specs.Maps.{upd}
 use Rattle.run_machine.specs.Objects.{TallyState, Objects}
-
-abbrev pub is_same : Object → Object → Bool
-is_same (OfPool a) (OfPool b) = a == b
-is_same (OfRescuer a) (OfRescuer b) = a == b
-is_same (OfDisk a) (OfDisk b) = a == b
-is_same (OfBook a) (OfBook b) = a == b
-is_same OfTally OfTally = true
-is_same OfNone OfNone = true
-is_same a b = false
 
 -- what an object of this name is
 abbrev pub StateAt : Object → Type 0
@@ -44,3 +35,7 @@ put objects (OfDisk dev) disk = record objects { disk = upd objects.disk dev dis
 put objects (OfBook writer) book = record objects { book = upd objects.book writer book }
 put objects OfTally tally = record objects { tally = tally }
 put objects OfNone none = objects
+
+-- and made of one for each name
+abbrev pub made_of : ((name : Object) → StateAt name) → Objects
+made_of f = record { pool = λ n. f (OfPool n); rescue = λ n. f (OfRescuer n); disk = λ n. f (OfDisk n); book = λ n. f (OfBook n); tally = f OfTally }

@@ -12,7 +12,8 @@ use Rattle.run_machine.specs.Scene.{Setup}
 use Rattle.run_machine.specs.Tasks.{Todo, Taken, NoBio, TaskState, Writer, request, answered}
 use Rattle.block_core.specs.Rounds.{round_of}
 use Rattle.block_core.specs.Scenarios.{IsScenario, IsNaming}
-use Rattle.run_merge.specs.Entries.{Entry, AreEvents, struck, entries_in}
+use Rattle.shared_objects.specs.Calls.{struck}
+use Rattle.run_merge.specs.Entries.{Entry, AreEvents, entries_in}
 use Rattle.run_merge.specs.Machines.{LeadsObject, entries_at}
 use Rattle.run_merge.specs.ObjectsByName.{get}
 

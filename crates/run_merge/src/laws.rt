@@ -3,6 +3,7 @@ ghost use Rattle.run_merge.specs.Closing.{ClosedRunsEnd};
 ghost use Rattle.run_merge.specs.Merging.{MergesAreRuns};
 ghost use Rattle.run_merge.specs.Numbers.{RoundsAreNumbered};
 ghost use Rattle.run_merge.specs.Products.{RunsAreProducts};
+ghost use Rattle.run_merge.specs.SharedObjects.{ClosesAreRuns};
 
 /// A list of entries is that of a run exactly where it is a product: each is an event, those at each object are a run of its machine, those of
 /// each task lead it on, the first take of each write stands behind the start of its round, and the start of each round and each change of a
@@ -26,4 +27,10 @@ pub fn merges_are_runs()
 /// that none did and none was, that the merge of the histories is a run which has ended, and that it leaves the objects as they are.
 pub fn closed_runs_end()
     ensures { ClosedRunsEnd }
+{}
+
+/// What a close of shared objects shows is enough for it, where they and the tasks were opened of an accepted text whose mirrors have rescuers: the
+/// merge of the histories is a run that has ended and leaves what is left, no task broke off, and no draw failed.
+pub fn closes_are_runs()
+    ensures { ClosesAreRuns }
 {}

@@ -23,6 +23,7 @@ use Rattle.run_merge.specs.Merging.{Ticketed, Histories, entries_of, sorted, all
 use Rattle.run_merge.specs.ObjectsByName.{get}
 use Rattle.run_merge.specs.Products.{AreOfRun}
 use Rattle.run_merge.proofs.closing.Counts.{merge_length}
+use Rattle.run_merge.proofs.closing.FewTasks.{few_tasks}
 use Rattle.run_merge.proofs.closing.Refused.{not_refused}
 use Rattle.run_merge.proofs.closing.Rows.{row_long}
 use Rattle.run_merge.proofs.merging.Merged.{merge_runs}
@@ -64,12 +65,12 @@ module _ (s : Scenario) (ledger : ℕ → LedgerId) (good : IsRunnable s) (rescu
           by_task (inr (was, none)) = runs_end_with_their_writes s ledger events last good.scenario naming run (none_left last shown was none)
           by_task (inl rests) = absurd (subst (λ q. Serves ledger last.objects q steps.reply new.objects) rests steps.serves)
 
-  module _ (drawn : List ℕ) (last : State) (small : length (tasks s) ≤ 2 ^ 24) (c : IsClosed s ledger hs drawn last) where
+  module _ (drawn : List ℕ) (last : State) (c : IsClosed s ledger hs drawn last) where
     no_last : HasLast drawn → ⊥
     no_last there = too_many (2 ^ 64 - 1) there (omega arith)
       where
         too_many : (n : ℕ) → Contains drawn n → 2 ^ 26 ≤ n → ⊥
-        too_many n there large = let few = c.few in omega (arith, row_long drawn c.row n there, few, small, large, few_entries c.reached c.shown)
+        too_many n there large = let few = c.few in omega (arith, row_long drawn c.row n there, few, few_tasks s good.scenario, large, few_entries c.reached c.shown)
 
     object_is : (name : Object) → get last.objects name ≡ get c.reached.objects name
     object_is name = by_two (c.object name)
@@ -104,4 +105,4 @@ module _ (s : Scenario) (ledger : ℕ → LedgerId) (good : IsRunnable s) (rescu
         }
 
 pub closed_runs_end : ClosedRunsEnd
-closed_runs_end s ledger histories drawn last good rescuers naming small closed = has_merged s ledger good rescuers naming histories drawn last small closed
+closed_runs_end s ledger histories drawn last good rescuers naming closed = has_merged s ledger good rescuers naming histories drawn last closed

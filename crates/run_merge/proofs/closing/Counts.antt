@@ -23,7 +23,7 @@ insert_length n (x ∷ xs) = by_test (nat_lt x.ticket n.ticket) (insert_length n
     by_test true rest = omega (arith, rest)
     by_test false rest = omega arith
 
-sorted_length : (ns : List Ticketed) → length (sorted ns) ≡ length ns
+pub sorted_length : (ns : List Ticketed) → length (sorted ns) ≡ length ns
 sorted_length [] = refl
 sorted_length (n ∷ ns) = let a = insert_length n (sorted ns) in let b = sorted_length ns in omega (arith, a, b)
 

@@ -9,22 +9,23 @@ use Rattle.run_machine.specs.Opened.{Scenario, start, setup}
 use Rattle.run_machine.specs.Requests.{Request}
 use Rattle.run_machine.specs.Runs.{State}
 use Rattle.run_machine.specs.Tasks.{TaskState, look_of}
-use Rattle.run_merge.specs.Entries.{is_event}
+use Rattle.shared_objects.specs.Calls.{is_same}
+use Rattle.shared_objects.specs.Logs.{is_event}
 use Rattle.run_merge.specs.Machines.{LeadsObject}
 use Rattle.run_merge.specs.Merging.{Ticketed, Histories, entries_of, sorted, Rises, all_of, history_of, AreApart, AreTagged, done_by, LetsAsk, Shown}
-use Rattle.run_merge.specs.ObjectsByName.{StateAt, is_same, get, put}
+use Rattle.run_merge.specs.ObjectsByName.{StateAt, get, put, made_of}
 use Rattle.run_merge.specs.Products.{LeadsTask, task_behind}
 use Rattle.run_merge.proofs.merging.Picked.{is_by, filter_swap}
 use Rattle.run_merge.proofs.merging.Splits.{object_split, task_split}
 use Rattle.run_merge.proofs.merging.Tickets.{sorted_ordered, filter_sorted, early, early_first, early_all, early_few, rises_ordered}
-use Rattle.run_merge.proofs.products.Names.{get_put, get_other, same_is, made_of, get_made}
+use Rattle.run_merge.proofs.products.Names.{get_put, get_other, same_is, get_made}
 
 abbrev pub early_histories : ℕ → Histories → Histories
 early_histories ticket [] = []
 early_histories ticket (h ∷ hs) = (h.0, early ticket h.1) ∷ early_histories ticket hs
 
 -- along an object tickets rise
-rises_from : (m n : ℕ) (ns : List Ticketed) → m ≤ n → Rises n ns → Rises m ns
+pub rises_from : (m n : ℕ) (ns : List Ticketed) → m ≤ n → Rises n ns → Rises m ns
 rises_from m n [] le r = tt
 rises_from m n (e ∷ ns) le r = (let lt = r.0 in omega (arith, le, lt), r.1)
 

@@ -20,8 +20,9 @@ use Rattle.block_core.specs.Runnable.{IsRunnable}
 use Rattle.block_core.specs.Scenarios.{IsNaming}
 use Rattle.block_core.proofs.unrefused.Answered.{replies_are_events}
 use Rattle.block_core.proofs.unrefused.Unbroken.{no_task_breaks}
+use Rattle.shared_objects.specs.Calls.{struck}
 use Rattle.run_merge.specs.Closing.{IsRefused}
-use Rattle.run_merge.specs.Entries.{Entry, struck}
+use Rattle.run_merge.specs.Entries.{Entry}
 use Rattle.run_merge.specs.Machines.{ServesAt, LeadsObject}
 use Rattle.run_merge.specs.Merging.{Ticketed, Histories, entries_of, sorted, all_of, history_of, done_by, LetsAsk, Shown}
 use Rattle.run_merge.specs.ObjectsByName.{StateAt, get, put}

@@ -4,9 +4,9 @@ use Rattle.std.specs.Prelude.{All, filter}
 use Rattle.std.proofs.lemmas.List.{append-nil}
 use Rattle.std.proofs.lemmas.List.Elements.{All-head, All-tail, filter-append}
 use Rattle.run_machine.specs.Laws.{Object, object_of}
+use Rattle.shared_objects.specs.Calls.{is_same}
 use Rattle.run_merge.specs.Entries.{Entry}
 use Rattle.run_merge.specs.Machines.{entries_at}
-use Rattle.run_merge.specs.ObjectsByName.{is_same}
 use Rattle.run_merge.specs.Products.{entries_by}
 use Rattle.run_merge.specs.Merging.{Ticketed, Histories, entries_of, sorted, Rises, all_of, history_of, AreApart, AreTagged, done_by}
 use Rattle.run_merge.proofs.merging.Tickets.{rising_sorted, filter_sorted}

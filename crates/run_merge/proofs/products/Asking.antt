@@ -10,7 +10,7 @@ use Rattle.run_machine.specs.Scene.{Setup}
 use Rattle.run_machine.specs.Lines.{Takes, Punts, Links, ToPush, ToCut, ToRecord, ToMaster, Doing, Rests, Drives, Copies, Breaks, Line, line_request}
 use Rattle.run_machine.specs.Requests.{Request, NextRound, Resize}
 use Rattle.run_machine.specs.Tasks.{Todo, Taken, NoBio, HasBio, HasBoth, Carried, Empty, Brings, Carries, Fails, request, write_request, with_bio, needs_vector, writer_request, rescuer_request, carried_request, closed_request}
-use Rattle.run_merge.specs.Entries.{struck}
+use Rattle.shared_objects.specs.Calls.{struck}
 
 -- the requests of keepers
 abbrev pub is_keeping : Request → Bool

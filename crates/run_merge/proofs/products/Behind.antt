@@ -11,7 +11,8 @@ use Rattle.run_machine.specs.Opened.{Scenario, scene, start, setup, tasks, no_ta
 use Rattle.run_machine.specs.Tasks.{TaskState, request, answered}
 use Rattle.run_machine.specs.Runs.{State, Steps, IsRun}
 use Rattle.run_machine.proofs.Frames.{upd_same, upd_other}
-use Rattle.run_merge.specs.Entries.{Entry, struck, entries_in}
+use Rattle.shared_objects.specs.Calls.{struck}
+use Rattle.run_merge.specs.Entries.{Entry, entries_in}
 use Rattle.run_merge.specs.Products.{entries_by, led_by, rounds_started, AreOfRun}
 use Rattle.run_merge.proofs.products.Lets.{round_after, started_more}
 use Rattle.run_merge.proofs.products.Served.{serves_struck}

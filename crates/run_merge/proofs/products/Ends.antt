@@ -10,7 +10,8 @@ use Rattle.run_machine.specs.Runs.{State, Steps, IsRun}
 use Rattle.block_core.specs.Dones.{done_in, times_done}
 use Rattle.block_core.specs.Weights.{one}
 use Rattle.block_core.proofs.sound.DoneOnce.{asked, done_of, told_done}
-use Rattle.run_merge.specs.Entries.{Entry, struck, entries_in}
+use Rattle.shared_objects.specs.Calls.{struck}
+use Rattle.run_merge.specs.Entries.{Entry, entries_in}
 use Rattle.run_merge.specs.Products.{ends_write}
 
 abbrev pub ends : ℕ → Entry → Bool

@@ -21,9 +21,11 @@ use Rattle.run_machine.specs.Tasks.{TaskState, request, answered}
 use Rattle.run_machine.proofs.Frames.{upd_same, upd_other}
 use Rattle.block_core.specs.Scenarios.{IsScenario, IsNaming}
 use Rattle.block_core.proofs.bound.EventCharges.{below_or}
-use Rattle.run_merge.specs.Entries.{Entry, AreEvents, is_event, struck}
+use Rattle.shared_objects.specs.Calls.{is_same, struck}
+use Rattle.shared_objects.specs.Logs.{is_event}
+use Rattle.run_merge.specs.Entries.{Entry, AreEvents}
 use Rattle.run_merge.specs.Machines.{ServesAt, LeadsObject, entries_at}
-use Rattle.run_merge.specs.ObjectsByName.{is_same, StateAt, get, put}
+use Rattle.run_merge.specs.ObjectsByName.{StateAt, get, put}
 use Rattle.run_merge.specs.Products.{LeadsTask, entries_by, AreOfRun}
 use Rattle.run_merge.proofs.products.Behind.{Behind, one_more}
 use Rattle.run_merge.proofs.products.Known.{known}

@@ -13,8 +13,9 @@ use Rattle.run_machine.specs.Requests as requests
 use Rattle.run_machine.specs.Requests.{Request, Reply, Resize, NextRound, Did, Present, LeftOver}
 use Rattle.run_machine.specs.Runs.{State, IsLet}
 use Rattle.run_machine.specs.Tasks.{TaskState, Writer, Rescuer, Completer, Keeper, Keeps, Stops, Duty, Resizes, Starts, Todo, Taken, NoBio, request, look_of, writer_look, later_of}
-use Rattle.run_merge.specs.Entries.{Entry, struck}
-use Rattle.run_merge.specs.ObjectsByName.{is_same, get}
+use Rattle.shared_objects.specs.Calls.{is_same, struck}
+use Rattle.run_merge.specs.Entries.{Entry}
+use Rattle.run_merge.specs.ObjectsByName.{get}
 use Rattle.run_merge.specs.Products.{starts_round, changes_reserve, rounds_started, AreDone, RoundHasCome, MayBegin}
 use Rattle.run_merge.proofs.products.Asking.{is_keeping, writer_keeps_none, rescuer_keeps_none, completer_keeps_none}
 use Rattle.run_merge.proofs.products.Known.{Known, present_left}

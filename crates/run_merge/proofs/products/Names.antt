@@ -5,7 +5,8 @@ use mathlib.Core.Path.{fun_ext}
 use Rattle.run_machine.specs.Laws.{Object, OfPool, OfRescuer, OfDisk, OfBook, OfTally, OfNone}
 use Rattle.run_machine.specs.Objects.{Objects}
 use Rattle.run_machine.proofs.Frames.{upd_same, upd_other, upd_own}
-use Rattle.run_merge.specs.ObjectsByName.{is_same, StateAt, get, put}
+use Rattle.shared_objects.specs.Calls.{is_same}
+use Rattle.run_merge.specs.ObjectsByName.{StateAt, get, put, made_of}
 
 pub same_self : (name : Object) → is_same name name ≡ true
 same_self (OfPool a) = eq-eqb a a refl
@@ -70,9 +71,6 @@ all_same a b same = λ i. record {
 }
 
 -- and made of one for each name
-abbrev pub made_of : ((name : Object) → StateAt name) → Objects
-made_of f = record { pool = λ n. f (OfPool n); rescue = λ n. f (OfRescuer n); disk = λ n. f (OfDisk n); book = λ n. f (OfBook n); tally = f OfTally }
-
 pub get_made : (f : (name : Object) → StateAt name) (name : Object) → get (made_of f) name ≡ f name
 get_made f (OfPool n) = refl
 get_made f (OfRescuer n) = refl

@@ -13,7 +13,8 @@ use Rattle.run_machine.specs.Runs.{State, IsRun}
 use Rattle.run_machine.specs.Tasks.{TaskState, Writer, Rescuer, Completer, Keeper, Keeps, Stops, Resizes, Starts, request}
 use Rattle.run_machine.proofs.Able.{Needs, can_of}
 use Rattle.block_core.specs.Scenarios.{IsScenario, IsNaming}
-use Rattle.run_merge.specs.Entries.{Entry, struck}
+use Rattle.shared_objects.specs.Calls.{struck}
+use Rattle.run_merge.specs.Entries.{Entry}
 use Rattle.run_merge.specs.Numbers.{round_in, rounds_in, RoundsAreNumbered}
 use Rattle.run_merge.specs.Products.{starts_round}
 use Rattle.run_merge.proofs.products.Asking.{is_keeping, writer_keeps_none, rescuer_keeps_none, completer_keeps_none}

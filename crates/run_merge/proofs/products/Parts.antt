@@ -14,9 +14,11 @@ use Rattle.run_machine.specs.Scene.{Scene}
 use Rattle.run_machine.specs.Tasks.{TaskState, request, answered}
 use Rattle.run_machine.proofs.Frames.{upd_same, upd_other}
 use Rattle.block_core.specs.Scenarios.{IsScenario, IsNaming}
-use Rattle.run_merge.specs.Entries.{Entry, AreEvents, is_event, struck, entries_in}
+use Rattle.shared_objects.specs.Calls.{is_same, struck}
+use Rattle.shared_objects.specs.Logs.{is_event}
+use Rattle.run_merge.specs.Entries.{Entry, AreEvents, entries_in}
 use Rattle.run_merge.specs.Machines.{ServesAt, LeadsObject, entries_at}
-use Rattle.run_merge.specs.ObjectsByName.{is_same, get}
+use Rattle.run_merge.specs.ObjectsByName.{get}
 use Rattle.run_merge.specs.Products.{LeadsTask, entries_by, led_by, AtEach, IsProduct, AreOfRun, RunsAreProducts}
 use Rattle.run_merge.proofs.products.Behind.{entry_of, at_start, behind_run}
 use Rattle.run_merge.proofs.products.Known.{known}

@@ -17,7 +17,8 @@ use Rattle.run_machine.specs.Maps.{upd}
 use Rattle.run_machine.specs.Requests.{Request, Reply, TakeBio, TakeVec, TakeSlip, GiveBio, GiveVec, GiveSlip, Punt, Pop, Push, Complete, Link, Drop, Done, Resize, NextRound, LookRound, LookLeft, Rest, HadBio, HadVec, HadSlip, Missed, Did, Popped, Completed, LinkedTo, DroppedTo, OutIs, Present, LeftOver, Nothing}
 use Rattle.run_machine.specs.Objects.{Objects, Opened, PoolMoves, Has, Serves}
 use Rattle.run_machine.proofs.Frames.{upd_same, one_object_changes}
-use Rattle.run_merge.specs.Entries.{struck, is_event}
+use Rattle.shared_objects.specs.Calls.{struck}
+use Rattle.shared_objects.specs.Logs.{is_event}
 use Rattle.run_merge.specs.Machines.{PoolGoes, PoolHas, ServesAt}
 use Rattle.run_merge.specs.ObjectsByName.{StateAt, get, put}
 use Rattle.run_merge.proofs.products.Names.{get_put, put_get}

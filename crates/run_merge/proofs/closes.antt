@@ -1,0 +1,17 @@
+-- What a close of shared objects shows is enough for an ended run.
+pub mod Kinds
+pub mod Breaking
+pub mod Walks
+pub mod Drawn
+pub mod Objects
+pub mod Sorting
+pub mod Merged
+pub mod Places
+pub mod Rounds
+pub mod Owners
+pub mod Drawing
+pub mod Spending
+pub mod Looks
+pub mod Stopping
+pub mod Counting
+pub mod Closes

@@ -1,0 +1,256 @@
+-- Calls that found no ticket, and what is refused with one.
+use Rattle.std.proofs.Common.{◌≡◌, ◌⊎◌, ◌<◌, ◌==◌, not, ℕ, Bool, true, false, List, [], ◌∷◌, Option, None, Some, inl, inr, refl, sym, ◌∙◌, ap, subst, arith}
+use Rattle.std.specs.Option.{is_some}
+use Rattle.std.specs.Prelude.{Contains}
+use Rattle.std.proofs.lemmas.Bool.{true≢false, ne_eqb}
+use Rattle.std.proofs.lemmas.List.Elements.{Contains-append_right}
+use Rattle.bio_books.specs.Books.{BookState}
+use Rattle.bio_records.specs.Rescue.{Rescue}
+use Rattle.model_disks.specs.Disks.{DiskState}
+use Rattle.run_machine.specs.Objects.{TallyState}
+use Rattle.bio_books.specs.Links.{Made, NoRoom, Stray}
+use Rattle.bio_books.specs.Drops as end
+use Rattle.mempool_core.specs.Pool.{LedgerPool, PoolMoves}
+use Rattle.mempool_core.specs.Move.{resizes}
+use Rattle.seat_lock.specs.History.{Leads}
+use Rattle.stack_base.specs.declared.ids.PoolId.{PoolId}
+use Rattle.run_machine.specs.Events.{miss_of}
+use Rattle.run_machine.specs.Laws.{Object, OfPool, OfRescuer, OfDisk, OfBook, OfTally, OfNone}
+use Rattle.run_machine.specs.Requests.{Request, Reply, TakeBio, TakeVec, TakeSlip, GiveBio, GiveVec, GiveSlip, Punt, Pop, Push, Complete, Link, Drop, Done, Resize, NextRound, LookRound, LookLeft, HadBio, HadVec, HadSlip, Missed, Did, Popped, Completed, LinkedTo, DroppedTo, OutIs, Present, LeftOver, Nothing, Spent}
+use Rattle.object_things.specs.Books.{BookServes, BookLooks}
+use Rattle.object_things.specs.Disks.{DiskServes, DiskLooks}
+use Rattle.object_things.specs.Histories.{Call}
+use Rattle.object_things.specs.Lists.{ListServes, ListLooks}
+use Rattle.object_things.specs.Pools.{PoolServes, PoolLooks}
+use Rattle.object_things.specs.Stamps.{ThingState, StepOf, is_spent}
+use Rattle.object_things.specs.Tallies.{TallyServes, TallyLooks}
+use Rattle.shared_objects.specs.Kinds.{ThingAt, serves_at, looks_at, answers_at}
+use Rattle.shared_objects.specs.Logs.{is_event, is_refused, is_stop, FoundNone}
+use Rattle.run_merge.proofs.closes.Owners.{first_there}
+
+-- a look that finds a ticket, or needs none, leaves the object with as many
+pool_keeps : (old new : ThingState LedgerPool) (asked : Request) (reply : Reply) → PoolLooks old asked reply new → is_spent reply ≡ false → new.spent ≡ old.spent
+pool_keeps old new (TakeBio set waits) (Missed used) looks not_none = looks.3
+pool_keeps old new TakeVec (Missed used) looks not_none = looks.3
+pool_keeps old new (TakeSlip dev) (Missed used) looks not_none = looks.3
+pool_keeps old new (TakeBio set waits) Spent looks not_none = absurd (true≢false not_none)
+pool_keeps old new TakeVec Spent looks not_none = absurd (true≢false not_none)
+pool_keeps old new (TakeSlip dev) Spent looks not_none = absurd (true≢false not_none)
+pool_keeps old new (GiveBio bio) Spent looks not_none = absurd (true≢false not_none)
+pool_keeps old new (GiveVec vector) Spent looks not_none = absurd (true≢false not_none)
+pool_keeps old new (GiveSlip slip) Spent looks not_none = absurd (true≢false not_none)
+pool_keeps old new (Resize pool min) Spent looks not_none = absurd (true≢false not_none)
+pool_keeps old new asked reply looks not_none = absurd looks
+
+list_keeps : (old new : ThingState Rescue) (asked : Request) (reply : Reply) → ListLooks old asked reply new → is_spent reply ≡ false → new.spent ≡ old.spent
+list_keeps old new (Pop dev) Nothing looks not_none = looks.1.1
+list_keeps old new (Punt dev moved) Spent looks not_none = absurd (true≢false not_none)
+list_keeps old new (Pop dev) Spent looks not_none = absurd (true≢false not_none)
+list_keeps old new asked reply looks not_none = absurd looks
+
+disk_keeps : (old new : ThingState DiskState) (asked : Request) (reply : Reply) → DiskLooks old asked reply new → is_spent reply ≡ false → new.spent ≡ old.spent
+disk_keeps old new (Complete disk) (LeftOver count) looks not_none = looks.1.1
+disk_keeps old new (Complete disk) Nothing looks not_none = looks.1.1
+disk_keeps old new (Push bio) Spent looks not_none = absurd (true≢false not_none)
+disk_keeps old new (Complete disk) Spent looks not_none = absurd (true≢false not_none)
+disk_keeps old new asked reply looks not_none = absurd looks
+
+book_keeps : (old new : ThingState BookState) (asked : Request) (reply : Reply) → BookLooks old asked reply new → is_spent reply ≡ false → new.spent ≡ old.spent
+book_keeps old new (Link writer opening) Spent looks not_none = absurd (true≢false not_none)
+book_keeps old new (Drop writer node status part) Spent looks not_none = absurd (true≢false not_none)
+book_keeps old new asked reply looks not_none = absurd looks
+
+tally_keeps : (old new : ThingState TallyState) (asked : Request) (reply : Reply) → TallyLooks old asked reply new → is_spent reply ≡ false → new.spent ≡ old.spent
+tally_keeps old new LookRound (Present round) looks not_none = looks.1.1
+tally_keeps old new LookLeft (LeftOver count) looks not_none = looks.1.1
+tally_keeps old new (Done write status) Spent looks not_none = absurd (true≢false not_none)
+tally_keeps old new (NextRound round) Spent looks not_none = absurd (true≢false not_none)
+tally_keeps old new asked reply looks not_none = absurd looks
+
+look_keeps : (name : Object) (old new : ThingState (ThingAt name)) (asked : Request) (reply : Reply) → looks_at name old asked reply new → is_spent reply ≡ false → new.spent ≡ old.spent
+look_keeps (OfPool number) old new asked reply looks not_none = pool_keeps old new asked reply looks not_none
+look_keeps (OfRescuer dev) old new asked reply looks not_none = list_keeps old new asked reply looks not_none
+look_keeps (OfDisk dev) old new asked reply looks not_none = disk_keeps old new asked reply looks not_none
+look_keeps (OfBook writer) old new asked reply looks not_none = book_keeps old new asked reply looks not_none
+look_keeps OfTally old new asked reply looks not_none = tally_keeps old new asked reply looks not_none
+look_keeps OfNone old new asked reply looks not_none = absurd looks
+
+-- an object that had tickets has none after a look: then it said so
+pub looks_spent : (name : Object) (old new : ThingState (ThingAt name)) (asked : Request) (reply : Reply) → looks_at name old asked reply new → old.spent ≡ false → new.spent ≡ true
+    → is_spent reply ≡ true
+looks_spent name old new asked reply looks had none = by_test (is_spent reply) refl
+  where
+    by_test : (b : Bool) → is_spent reply ≡ b → b ≡ true
+    by_test true is = refl
+    by_test false is = absurd (true≢false (sym none ∙ look_keeps name old new asked reply looks is ∙ had))
+
+-- nothing that was served said so
+none_pool : {X : Type 0} (old new : LedgerPool) (asked : Request) → PoolServes old asked Spent new → X
+none_pool old new (GiveBio bio) serves = absurd serves
+none_pool old new asked serves = absurd serves
+
+none_list : {X : Type 0} (old new : Rescue) (asked : Request) → ListServes old asked Spent new → X
+none_list old new (Pop dev) serves = absurd serves
+none_list old new asked serves = absurd serves
+
+none_disk : {X : Type 0} (old new : DiskState) (asked : Request) → DiskServes old asked Spent new → X
+none_disk old new (Push bio) serves = absurd serves
+none_disk old new asked serves = absurd serves
+
+none_book : {X : Type 0} (old new : BookState) (asked : Request) → BookServes old asked Spent new → X
+none_book old new (Link writer opening) serves = absurd serves
+none_book old new asked serves = absurd serves
+
+none_tally : {X : Type 0} (old new : TallyState) (asked : Request) → TallyServes old asked Spent new → X
+none_tally old new (Done write status) serves = absurd serves
+none_tally old new asked serves = absurd serves
+
+pub none_served : {X : Type 0} (name : Object) (old new : ThingAt name) (asked : Request) → serves_at name old asked Spent new → X
+none_served (OfPool number) old new asked serves = none_pool old new asked serves
+none_served (OfRescuer dev) old new asked serves = none_list old new asked serves
+none_served (OfDisk dev) old new asked serves = none_disk old new asked serves
+none_served (OfBook writer) old new asked serves = none_book old new asked serves
+none_served OfTally old new asked serves = none_tally old new asked serves
+none_served OfNone old new asked serves = absurd serves
+
+-- what was served and is no event was refused
+miss_event : (waits used : Bool) (pool : PoolId) → (waits ≡ true → used ≡ true) → is_some (miss_of waits used pool) ≡ true
+miss_event true true pool told = refl
+miss_event true false pool told = absurd (true≢false (sym (told refl)))
+miss_event false used pool told = refl
+
+wrong : {X : Type 0} {b : Bool} → b ≡ true → b ≡ false → X
+wrong is not = absurd (true≢false (sym is ∙ not))
+
+out_refused : (old new : LedgerPool) (pool : PoolId) (min out : ℕ) → ((out ≡ 0) × PoolMoves old (resizes min) new) ⊎ ((0 < out) × (new ≡ old)) → is_event (Resize pool min) (OutIs out) ≡ false
+    → not (out == 0) ≡ true
+out_refused old new pool min out (inr (some, same)) not_event = ap not (ne_eqb out 0 (λ none. omega (arith, none, some)))
+out_refused old new pool min out (inl (none, moves)) not_event = wrong (subst (λ n. is_event (Resize pool min) (OutIs n) ≡ true) (sym none) refl) not_event
+
+pool_refused : (old new : LedgerPool) (asked : Request) (reply : Reply) → PoolServes old asked reply new → is_event asked reply ≡ false → is_refused asked reply ≡ true
+pool_refused old new (TakeBio set waits) (HadBio from bio) h none = wrong refl none
+pool_refused old new (TakeBio set waits) (Missed used) h none = wrong (miss_event waits used _ h.1) none
+pool_refused old new (TakeBio set waits) reply h none = absurd h
+pool_refused old new TakeVec (HadVec from vector) h none = wrong refl none
+pool_refused old new TakeVec (Missed used) h none = wrong (miss_event true used _ h.1) none
+pool_refused old new TakeVec reply h none = absurd h
+pool_refused old new (TakeSlip dev) (HadSlip from slip) h none = wrong refl none
+pool_refused old new (TakeSlip dev) (Missed used) h none = wrong (miss_event true used _ h.1) none
+pool_refused old new (TakeSlip dev) reply h none = absurd h
+pool_refused old new (GiveBio bio) Did h none = wrong refl none
+pool_refused old new (GiveBio bio) reply h none = absurd h
+pool_refused old new (GiveVec vector) Did h none = wrong refl none
+pool_refused old new (GiveVec vector) reply h none = absurd h
+pool_refused old new (GiveSlip slip) Did h none = wrong refl none
+pool_refused old new (GiveSlip slip) reply h none = absurd h
+pool_refused old new (Resize pool min) (OutIs out) h none = out_refused old new pool min out h.1 none
+pool_refused old new (Resize pool min) reply h none = absurd h
+pool_refused old new asked reply h none = absurd h
+
+list_refused : (old new : Rescue) (asked : Request) (reply : Reply) → ListServes old asked reply new → is_event asked reply ≡ false → is_refused asked reply ≡ true
+list_refused old new (Punt other moved) Did h none = wrong refl none
+list_refused old new (Pop other) (Popped bio) h none = wrong refl none
+list_refused old new asked reply h none = absurd h
+
+disk_refused : (old new : DiskState) (asked : Request) (reply : Reply) → DiskServes old asked reply new → is_event asked reply ≡ false → is_refused asked reply ≡ true
+disk_refused old new (Push bio) Did h none = wrong refl none
+disk_refused old new (Complete disk) (Completed index bio status) h none = wrong refl none
+disk_refused old new asked reply h none = absurd h
+
+book_refused : (old new : BookState) (asked : Request) (reply : Reply) → BookServes old asked reply new → is_event asked reply ≡ false → is_refused asked reply ≡ true
+book_refused old new (Link other opening) (LinkedTo (Made place)) h none = wrong refl none
+book_refused old new (Link other opening) (LinkedTo (NoRoom back)) h none = refl
+book_refused old new (Link other opening) (LinkedTo (Stray back)) h none = refl
+book_refused old new (Drop other node status part) (DroppedTo end.Left) h none = wrong refl none
+book_refused old new (Drop other node status part) (DroppedTo (end.Up closed)) h none = wrong refl none
+book_refused old new (Drop other node status part) (DroppedTo (end.Top closed)) h none = wrong refl none
+book_refused old new (Drop other node status part) (DroppedTo (end.Stray back)) h none = refl
+book_refused old new asked reply h none = absurd h
+
+tally_refused : (old new : TallyState) (asked : Request) (reply : Reply) → TallyServes old asked reply new → is_event asked reply ≡ false → is_refused asked reply ≡ true
+tally_refused old new (Done write status) Did h none = wrong refl none
+tally_refused old new (NextRound round) Did h none = wrong refl none
+tally_refused old new asked reply h none = absurd h
+
+pub served_refused : (name : Object) (old new : ThingAt name) (asked : Request) (reply : Reply) → serves_at name old asked reply new → is_event asked reply ≡ false
+    → is_refused asked reply ≡ true
+served_refused (OfPool number) old new asked reply h none = pool_refused old new asked reply h none
+served_refused (OfRescuer dev) old new asked reply h none = list_refused old new asked reply h none
+served_refused (OfDisk dev) old new asked reply h none = disk_refused old new asked reply h none
+served_refused (OfBook writer) old new asked reply h none = book_refused old new asked reply h none
+served_refused OfTally old new asked reply h none = tally_refused old new asked reply h none
+served_refused OfNone old new asked reply h none = absurd h
+
+-- where an object has no more tickets, a call found none
+pub found_none : (name : Object) (old new : ThingState (ThingAt name)) (calls : List Call) → Leads (answers_at name) old calls new → old.spent ≡ false → new.spent ≡ true
+    → (call : Call) × Contains calls call × FoundNone call
+found_none name old new [] leads had none = absurd (true≢false (sym none ∙ ap (λ (thing : ThingState (ThingAt name)). thing.spent) (sym leads) ∙ had))
+found_none name old new (call ∷ calls) leads had none =
+    by_ticket call.told.ticket refl leads.1.step leads.0.spent refl (λ still. found_none name leads.0 new calls leads.2 still none)
+  where
+    Found : List Call → Type 0
+    Found list = (x : Call) × Contains list x × FoundNone x
+
+    further : Found calls → Found (call ∷ calls)
+    further (x, there, found) = (x, Contains-append_right (call ∷ []) calls x there, found)
+
+    by_ticket : (ticket : Option ℕ) → call.told.ticket ≡ ticket → StepOf (serves_at name) (looks_at name) old call.asked call.told.reply ticket leads.0 → (b : Bool) → leads.0.spent ≡ b
+        → (leads.0.spent ≡ false → Found calls) → Found (call ∷ calls)
+    by_ticket ticket t step false is rest = further (rest is)
+    by_ticket (Some n) t step true is rest = absurd (true≢false (sym is ∙ step.4))
+    by_ticket None t step true is rest =
+        (call, first_there call calls, (looks_spent name old leads.0 call.asked call.told.reply step.0 had is, leads.1.drew ∙ ap not had, t))
+
+-- a look after which a task has no ticket is all that stops it
+pool_goes : (old new : ThingState LedgerPool) (asked : Request) (reply : Reply) → PoolLooks old asked reply new → is_spent reply ≡ false → is_stop asked reply ≡ false
+pool_goes old new (TakeBio set waits) (Missed used) looks not_none = refl
+pool_goes old new TakeVec (Missed used) looks not_none = refl
+pool_goes old new (TakeSlip dev) (Missed used) looks not_none = refl
+pool_goes old new (TakeBio set waits) Spent looks not_none = absurd (true≢false not_none)
+pool_goes old new TakeVec Spent looks not_none = absurd (true≢false not_none)
+pool_goes old new (TakeSlip dev) Spent looks not_none = absurd (true≢false not_none)
+pool_goes old new (GiveBio bio) Spent looks not_none = absurd (true≢false not_none)
+pool_goes old new (GiveVec vector) Spent looks not_none = absurd (true≢false not_none)
+pool_goes old new (GiveSlip slip) Spent looks not_none = absurd (true≢false not_none)
+pool_goes old new (Resize pool min) Spent looks not_none = absurd (true≢false not_none)
+pool_goes old new asked reply looks not_none = absurd looks
+
+list_goes : (old new : ThingState Rescue) (asked : Request) (reply : Reply) → ListLooks old asked reply new → is_spent reply ≡ false → is_stop asked reply ≡ false
+list_goes old new (Pop dev) Nothing looks not_none = refl
+list_goes old new (Punt dev moved) Spent looks not_none = absurd (true≢false not_none)
+list_goes old new (Pop dev) Spent looks not_none = absurd (true≢false not_none)
+list_goes old new asked reply looks not_none = absurd looks
+
+disk_goes : (old new : ThingState DiskState) (asked : Request) (reply : Reply) → DiskLooks old asked reply new → is_spent reply ≡ false → is_stop asked reply ≡ false
+disk_goes old new (Complete disk) (LeftOver count) looks not_none = refl
+disk_goes old new (Complete disk) Nothing looks not_none = refl
+disk_goes old new (Push bio) Spent looks not_none = absurd (true≢false not_none)
+disk_goes old new (Complete disk) Spent looks not_none = absurd (true≢false not_none)
+disk_goes old new asked reply looks not_none = absurd looks
+
+book_goes : (old new : ThingState BookState) (asked : Request) (reply : Reply) → BookLooks old asked reply new → is_spent reply ≡ false → is_stop asked reply ≡ false
+book_goes old new (Link writer opening) Spent looks not_none = absurd (true≢false not_none)
+book_goes old new (Drop writer node status part) Spent looks not_none = absurd (true≢false not_none)
+book_goes old new asked reply looks not_none = absurd looks
+
+tally_goes : (old new : ThingState TallyState) (asked : Request) (reply : Reply) → TallyLooks old asked reply new → is_spent reply ≡ false → is_stop asked reply ≡ false
+tally_goes old new LookRound (Present round) looks not_none = refl
+tally_goes old new LookLeft (LeftOver count) looks not_none = refl
+tally_goes old new (Done write status) Spent looks not_none = absurd (true≢false not_none)
+tally_goes old new (NextRound round) Spent looks not_none = absurd (true≢false not_none)
+tally_goes old new asked reply looks not_none = absurd looks
+
+look_goes : (name : Object) (old new : ThingState (ThingAt name)) (asked : Request) (reply : Reply) → looks_at name old asked reply new → is_spent reply ≡ false → is_stop asked reply ≡ false
+look_goes (OfPool number) old new asked reply looks not_none = pool_goes old new asked reply looks not_none
+look_goes (OfRescuer dev) old new asked reply looks not_none = list_goes old new asked reply looks not_none
+look_goes (OfDisk dev) old new asked reply looks not_none = disk_goes old new asked reply looks not_none
+look_goes (OfBook writer) old new asked reply looks not_none = book_goes old new asked reply looks not_none
+look_goes OfTally old new asked reply looks not_none = tally_goes old new asked reply looks not_none
+look_goes OfNone old new asked reply looks not_none = absurd looks
+
+pub stop_spent : (name : Object) (old new : ThingState (ThingAt name)) (asked : Request) (reply : Reply) → looks_at name old asked reply new → is_stop asked reply ≡ true → is_spent reply ≡ true
+stop_spent name old new asked reply looks stop = by_test (is_spent reply) refl
+  where
+    by_test : (b : Bool) → is_spent reply ≡ b → b ≡ true
+    by_test true is = refl
+    by_test false is = absurd (true≢false (sym stop ∙ look_goes name old new asked reply looks is))

@@ -1,0 +1,6 @@
+use Rattle.run_merge.proofs.closes.Closes.{closes_are_runs}
+use Rattle.run_merge.proofs.laws.closes_are_runs.Goals as goal
+
+-- src/laws.rt
+pub returns : goal.returns
+returns c = closes_are_runs

@@ -1,0 +1,68 @@
+-- What is left of objects that were shared, as histories of entries and as a state of runs.
+use Rattle.std.specs.Prelude.{◌≡◌, ◌-◌, ◌≤◌, ℕ, List, All, map, slice_index_or, Option, Some, None}
+use Rattle.stack_base.specs.Stack.{HasRescuers}
+use Rattle.tick_clock.specs.declared.ticking.Ticket.{Ticket}
+use Rattle.tick_clock.specs.Tickets.{PassState}
+use Rattle.run_machine.specs.Laws.{Object, OfPool, OfRescuer, OfDisk, OfBook, OfTally, OfNone}
+use Rattle.run_machine.specs.Opened.{no_task}
+use Rattle.run_machine.specs.Runs.{State}
+use Rattle.run_machine.specs.Tasks.{TaskState}
+use Rattle.task_steps.specs.Routed.{setup}
+use Rattle.task_core.specs.declared.opening.Opened.{Opened}
+use Rattle.task_core.specs.Plains.{stage_of}
+use Rattle.task_core.specs.opened.OfOne.{IsOpened, scenario_in, states}
+use Rattle.object_things.specs.Histories.{Call, or_last}
+use Rattle.object_things.specs.Stamps.{ThingState}
+use Rattle.shared_objects.specs.Closes.{Returned, ClosesAs}
+use Rattle.shared_objects.specs.Kinds.{ThingAt}
+use Rattle.shared_objects.specs.Logs.{events_in}
+use Rattle.run_merge.specs.Closing.{HasMerged}
+use Rattle.run_merge.specs.Merging.{Ticketed, Histories}
+use Rattle.run_merge.specs.ObjectsByName.{StateAt, made_of}
+
+-- a call with its ticket, which each event has; the seats of the task at a place have the number that is one more
+abbrev pub ticketed : Call → Ticketed
+ticketed call = record { entry = record { place = call.by - 1; asked = call.asked; reply = call.told.reply }; ticket = or_last 0 call.told.ticket }
+
+-- the events among calls
+abbrev pub ticketed_events : List Call → List Ticketed
+ticketed_events calls = map ticketed (events_in calls)
+
+-- the events of the history of each of these objects
+abbrev pub merged_histories : List Object → (Object → List Call) → Histories
+merged_histories names history = map (λ name. (name, ticketed_events (history name))) names
+
+-- what a thing is as an object of runs
+abbrev pub seen_at : (name : Object) → ThingAt name → StateAt name
+seen_at (OfPool number) pool = pool.state
+seen_at (OfRescuer dev) list = list.bios
+seen_at (OfDisk dev) disk = disk
+seen_at (OfBook writer) book = book
+seen_at OfTally tally = tally
+seen_at OfNone none = none
+
+-- what is left, as a state of runs
+abbrev pub tasks_of : List Returned → List TaskState
+tasks_of tasks = map (λ (task : Returned). task.task) tasks
+
+abbrev pub state_left : ((name : Object) → ThingState (ThingAt name)) → List Returned → State
+state_left left tasks =
+    record { objects = made_of (λ name. seen_at name (left name).object); task = λ place. slice_index_or (tasks_of tasks) place no_task }
+
+abbrev pub numbers_of : List Ticket → List ℕ
+numbers_of tickets = map (λ (ticket : Ticket). ticket.number) tickets
+
+-- the last ticket that a pass has found
+abbrev pub found_by : Option PassState → ℕ
+found_by None = 0
+found_by (Some pass) = pass.known
+
+-- What a close shows of objects and tasks as they were opened of a text whose mirrors have rescuers, where the first pass has found what those
+-- of the tasks have: the merge of the histories is a run that has ended and leaves what is left.
+abbrev pub ClosesAreRuns : Type 0
+ClosesAreRuns = (opened : Opened) (names : List Object) (history : Object → List Call) (left : (name : Object) → ThingState (ThingAt name))
+    (tasks : List Returned) (pass : PassState) → IsOpened opened → HasRescuers (scenario_in opened).stack
+    → map (λ (task : Returned). task.first) tasks ≡ states opened.tasks.items
+    → ClosesAs (setup (stage_of opened.objects).routing) opened.objects names history left tasks pass
+    → All (λ (task : Returned). found_by task.desk.pass ≤ pass.known) tasks
+    → HasMerged (scenario_in opened) (stage_of opened.objects).ledger (merged_histories names history) (numbers_of pass.drawn) (state_left left tasks)
