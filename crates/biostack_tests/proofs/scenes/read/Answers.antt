@@ -3,4 +3,4 @@ use Rattle.biostack_tests.proofs.scenes.read.Goals as goal
 
 -- the declarations end at the first write or `sync` line
 pub read_work-requires-clause-work : goal.read_work-requires-clause-work
-read_work-requires-clause-work c = rest_begins c.args.text.now c.in_ok-decl.decl c.in_ok-accepted.accepted c.in_ok-decl.ensures c.in_ok-accepted.ensures
+read_work-requires-clause-work c = rest_begins false c.args.text.now c.in_ok-decl.decl c.in_ok-accepted.accepted c.in_ok-decl.ensures c.in_ok-accepted.ensures
