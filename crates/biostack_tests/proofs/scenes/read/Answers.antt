@@ -1,3 +1,4 @@
+use Rattle.std.proofs.Common.{false}
 use Rattle.biostack_top.proofs.SceneLemmas.{rest_begins}
 use Rattle.biostack_tests.proofs.scenes.read.Goals as goal
 
