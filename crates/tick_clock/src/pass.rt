@@ -38,6 +38,13 @@ impl Pass {
     {
         self.seen = greater(self.seen, note.seen);
     }
+
+    /// The greatest ticket that the pass has seen; 0 where it has seen none.
+    pub fn seen(&self) -> u64
+        ensures { result ≡ self.now.seen }
+    {
+        self.seen
+    }
 }
 
 /// The greater of two numbers.
