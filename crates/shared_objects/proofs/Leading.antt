@@ -57,12 +57,12 @@ event_goes (Resize pool min) (OutIs out) is = resize_goes (out == 0) pool min is
 event_goes asked Spent is = absurd (cc (sym (ap is_some (spent_none asked)) ∙ is))
 event_goes asked reply is = refl
 
-stop_kind : (event stop : Bool) → not (event || stop) ≡ false → event ≡ false → stop ≡ true
+pub stop_kind : (event stop : Bool) → not (event || stop) ≡ false → event ≡ false → stop ≡ true
 stop_kind true stop is e = absurd (cc e)
 stop_kind false true is e = refl
 stop_kind false false is e = absurd (cc is)
 
-abbrev AsksSome : Call → Type 0
+abbrev pub AsksSome : Call → Type 0
 AsksSome call = is_same OfNone (object_of call.asked) ≡ false
 
 asks_by : (call : Call) (log : List Call) (b : Bool) → is_same OfNone (object_of call.asked) ≡ b → [] ≡ calls_to OfNone (call ∷ log)
@@ -70,16 +70,16 @@ asks_by : (call : Call) (log : List Call) (b : Bool) → is_same OfNone (object_
 asks_by call log true is none = absurd (cc (none ∙ ap (λ (e : Bool). cond e (call ∷ calls_to OfNone log) (calls_to OfNone log)) is))
 asks_by call log false is none = (is, none ∙ ap (λ (e : Bool). cond e (call ∷ calls_to OfNone log) (calls_to OfNone log)) is)
 
-asks_some : (log : List Call) → [] ≡ calls_to OfNone log → All AsksSome log
+pub asks_some : (log : List Call) → [] ≡ calls_to OfNone log → All AsksSome log
 asks_some [] none = All-nil AsksSome
 asks_some (call ∷ log) none =
     let first = asks_by call log (is_same OfNone (object_of call.asked)) refl none in
     All-cons AsksSome call log first.0 (asks_some log first.1)
 
-event_first : (call : Call) (calls : List Call) → is_event call.asked call.told.reply ≡ true → events_in (call ∷ calls) ≡ call ∷ events_in calls
+pub event_first : (call : Call) (calls : List Call) → is_event call.asked call.told.reply ≡ true → events_in (call ∷ calls) ≡ call ∷ events_in calls
 event_first call calls is = ap (λ (e : Bool). cond e (call ∷ events_in calls) (events_in calls)) is
 
-quiet_first : (call : Call) (calls : List Call) → is_event call.asked call.told.reply ≡ false → events_in (call ∷ calls) ≡ events_in calls
+pub quiet_first : (call : Call) (calls : List Call) → is_event call.asked call.told.reply ≡ false → events_in (call ∷ calls) ≡ events_in calls
 quiet_first call calls is = ap (λ (e : Bool). cond e (call ∷ events_in calls) (events_in calls)) is
 
 first_or : Call → List Call → Call
@@ -95,22 +95,22 @@ looked_later : (before more : List Call) (task : TaskState) (call : Call) (look 
 looked_later before more task call None l = tt
 looked_later before more task call (Some look) l = (l.0, Contains-append_left before more l.0 l.1, l.2, l.3, l.4)
 
-abbrev IsGlance : Call → Type 0
+abbrev pub IsGlance : Call → Type 0
 IsGlance c = is_glance c.asked c.told.reply ≡ true
 
 abbrev IsGone : Call → Type 0
 IsGone c = is_stop c.asked c.told.reply ≡ false
 
-abbrev Glances : List Call → Type 0
+abbrev pub Glances : List Call → Type 0
 Glances calls = All IsGlance calls
 
 abbrev Goes : List Call → Type 0
 Goes calls = All IsGone calls
 
-kinds : (call : Call) → is_glance call.asked call.told.reply ≡ true → (is_event call.asked call.told.reply ≡ false) × (is_stop call.asked call.told.reply ≡ false)
+pub kinds : (call : Call) → is_glance call.asked call.told.reply ≡ true → (is_event call.asked call.told.reply ≡ false) × (is_stop call.asked call.told.reply ≡ false)
 kinds call is = glance_kinds (is_event call.asked call.told.reply) (is_stop call.asked call.told.reply) is
 
-glances_quiet : (calls : List Call) → Glances calls → events_in calls ≡ []
+pub glances_quiet : (calls : List Call) → Glances calls → events_in calls ≡ []
 glances_quiet [] all = refl
 glances_quiet (call ∷ calls) all = quiet_first call calls (kinds call (All-head IsGlance call calls all)).0 ∙ glances_quiet calls (All-tail IsGlance call calls all)
 
@@ -119,10 +119,10 @@ none_behind [] rest call is = absurd (cc is)
 none_behind (first ∷ mine) rest call is = absurd (cc is)
 
 -- a call that the task asked for is of some object
-apart_of : (setup : Setup) (task : TaskState) (call : Call) → AsksSome call → call.asked ≡ struck (request setup task) → request setup task ≡ Rest → ⊥
+pub apart_of : (setup : Setup) (task : TaskState) (call : Call) → AsksSome call → call.asked ≡ struck (request setup task) → request setup task ≡ Rest → ⊥
 apart_of setup task call some asks rests = absurd (cc (sym (ap (λ a. is_same OfNone (object_of a)) (asks ∙ ap struck rests)) ∙ some))
 
-rest_glances : (setup : Setup) (before calls : List Call) (task last : TaskState) → request setup task ≡ Rest → All AsksSome calls → LogLeads setup before task calls last
+pub rest_glances : (setup : Setup) (before calls : List Call) (task last : TaskState) → request setup task ≡ Rest → All AsksSome calls → LogLeads setup before task calls last
     → Glances calls × (last ≡ task)
 rest_glances setup before [] task last rests some l = (All-nil IsGlance, l)
 rest_glances setup before (call ∷ calls) task last rests some l = elim l [

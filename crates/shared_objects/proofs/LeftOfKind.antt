@@ -32,7 +32,7 @@ module _ {K E Z O : Type 0} {answers : ThingState O → Request → Told → Thi
     {thing : Z → Held O} {seen : Z → List Call} {common : CommonState} {es : List E} {locks : List (K × LockId (Held O))}
     {firsts : List (K × SeatState (Held O) Request Told)} {zs : List Z} {rows : List (List (K × SeatState (Held O) Request Told))}
     (left : IsLeftOf answers skey ekey zkey value thing seen common es locks firsts zs rows) where
-  pairs : Abreast (λ e z. (zkey z ≡ ekey e) × Leads answers (unasked (value e)) (seen z) (state_of (thing z))) es zs
+  pub pairs : Abreast (λ e z. (zkey z ≡ ekey e) × Leads answers (unasked (value e)) (seen z) (state_of (thing z))) es zs
   pairs = record {
     lens = let l = left.round.lens in let m = left.shut.lens.0 in let n = left.shut.lens.1 in omega (arith, l, m, n);
     each = λ place e z lt.

@@ -8,8 +8,11 @@ use Rattle.task_core.specs.declared.plain.Plain.{Plain}
 use Rattle.task_core.specs.Plains.{Holds, is_of_set, stage_of}
 use Rattle.shared_objects.specs.Holding.{by_pool}
 
-same_by : (a b : ℕ) → (a == b) ≡ true → a ≡ b
+pub same_by : (a b : ℕ) → (a == b) ≡ true → a ≡ b
 same_by a b e = grind (arith, nat_tests)
+
+pub apart_by : (a b : ℕ) → (a == b) ≡ false → a ≢ b
+apart_by a b e same = grind (arith, nat_tests)
 
 not_64 : (m n : ℕ) → m ≡ n → n ≢ 64 → (m == 64) ≡ false
 not_64 m n e apart = grind (arith, nat_tests)

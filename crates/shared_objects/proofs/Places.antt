@@ -15,13 +15,13 @@ module _ {X : Type 0} where
   some_of [] lt = absurd (omega (arith, lt))
   some_of (x ∷ xs) lt = x
 
-  at_end : (xs : List X) (x : X) (place : ℕ) (d : X) → place ≡ length xs → get_or (xs ++ x ∷ []) place d ≡ x
+  pub at_end : (xs : List X) (x : X) (place : ℕ) (d : X) → place ≡ length xs → get_or (xs ++ x ∷ []) place d ≡ x
   at_end xs x place d e = subst (λ k. get_or (xs ++ x ∷ []) k d ≡ x) (sym e) (get_or-append_seam xs x [] d)
 
-  before : (xs : List X) (x : X) (place : ℕ) (d : X) → place < length xs → get_or (xs ++ x ∷ []) place d ≡ get_or xs place d
+  pub before : (xs : List X) (x : X) (place : ℕ) (d : X) → place < length xs → get_or (xs ++ x ∷ []) place d ≡ get_or xs place d
   before xs x place d lt = get_or_append_left xs (x ∷ []) d place lt
 
-  longer : (xs : List X) (x : X) → length (xs ++ x ∷ []) ≡ length xs + 1
+  pub longer : (xs : List X) (x : X) → length (xs ++ x ∷ []) ≡ length xs + 1
   longer xs x = length-append xs (x ∷ [])
 
 module _ {X Y Z : Type 0} (P : X → Y → Z → Type 0) where

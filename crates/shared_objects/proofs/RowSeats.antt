@@ -26,7 +26,7 @@ default_to : {X : Type 0} (xs : List X) (k : ℕ) (a b : X) → k < length xs �
 default_to xs k a b lt = get_or_from_slice_get xs k (get_or xs k b) a (slice_get-get_or xs k b lt)
 
 -- where two rows pass tests at the same places, the first such place is the same
-same_position : {X Y : Type 0} (p : X → Bool) (q : Y → Bool) (xs : List X) (ys : List Y) → length ys ≡ length xs
+pub same_position : {X Y : Type 0} (p : X → Bool) (q : Y → Bool) (xs : List X) (ys : List Y) → length ys ≡ length xs
     → ((k : ℕ) (x : X) (y : Y) → k < length xs → q (get_or ys k y) ≡ p (get_or xs k x)) → position_or_len q ys ≡ position_or_len p xs
 same_position p q [] [] long each = refl
 same_position p q [] (y ∷ ys) long each = absurd (omega (arith, long))

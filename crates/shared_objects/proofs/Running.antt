@@ -16,8 +16,11 @@ use Rattle.task_steps.specs.TaskViews.{TaskOf}
 use Rattle.task_steps.specs.Turns.{Turns, TurnsBy, ActsIf, AsksFor}
 use Rattle.object_things.specs.Histories.{Call}
 use Rattle.shared_objects.specs.Desks.{DeskState, DeskServes}
-use Rattle.shared_objects.specs.Logs.{is_event, events_in, IsMet, IsSeenIn, FoundNone, KnowsLast, WentThrough, HasPass, IsLogged, HasStopped, ShowsStep}
+use Rattle.shared_objects.specs.Logs.{is_event, events_in, IsMet, IsSeenIn, FoundNone, KnowsLast, WentThrough, HasPass, IsLogged, HasStopped, seen_by, ShowsStep}
+use Rattle.shared_objects.specs.Noting.{notes_of, AreNoted, IsBlank}
 use Rattle.shared_objects.specs.Rans.{IsRan, events_after, stopped_after, IsUnused, IsNewDesk, NewDesksAreRan, StepsKeepRan}
+use Rattle.shared_objects.specs.declared.noted.Noted.{Noted}
+use Rattle.shared_objects.proofs.Noting.{earlier_tickets, log_notes, stays_noted}
 use Rattle.shared_objects.proofs.Stepping.{steps_are_logged}
 
 capped_more : (n cap : ℕ) → min (min n cap + 1) cap ≡ min (n + 1) cap
@@ -31,16 +34,16 @@ events_same : (log more : List Call) → events_in more ≡ [] → length (event
 events_same log more none = (let all = events_more log more in let none_is : length (events_in more) ≡ 0 = ap length none in omega (arith, all, none_is))
 
 -- an event is one more, and any other step adds none
-counts : (setup : Setup) (task next : TaskState) (log more : List Call) (step : Step) (events : ℕ) → ShowsStep setup task next more step
+counts : (setup : Setup) (task next : TaskState) (seen : ℕ) (log more : List Call) (step : Step) (events : ℕ) → ShowsStep setup task next seen more step
     → events ≡ min (length (events_in log)) (2 ^ 64 - 1) → events_after step events ≡ min (length (events_in (log ++ more))) (2 ^ 64 - 1)
-counts setup task next log more (Stepped event) events shows is =
+counts setup task next seen log more (Stepped event) events shows is =
     let one : length (events_in more) ≡ 1 = ap length shows.1 in
     ap (λ n. min (n + 1) (2 ^ 64 - 1)) is ∙ capped_more (length (events_in log)) (2 ^ 64 - 1)
     ∙ ap (λ n. min n (2 ^ 64 - 1)) (sym (events_more log more ∙ ap (λ n. length (events_in log) + n) one))
-counts setup task next log more Ended events shows is = is ∙ ap (λ n. min n (2 ^ 64 - 1)) (sym (events_same log more shows.0))
-counts setup task next log more (Broken breach) events shows is = is ∙ ap (λ n. min n (2 ^ 64 - 1)) (sym (events_same log more shows.0))
-counts setup task next log more Waiting events shows is = is ∙ ap (λ n. min n (2 ^ 64 - 1)) (sym (events_same log more shows))
-counts setup task next log more (Blocked pool) events shows is = is ∙ ap (λ n. min n (2 ^ 64 - 1)) (sym (events_same log more shows))
+counts setup task next seen log more Ended events shows is = is ∙ ap (λ n. min n (2 ^ 64 - 1)) (sym (events_same log more shows.0))
+counts setup task next seen log more (Broken breach) events shows is = is ∙ ap (λ n. min n (2 ^ 64 - 1)) (sym (events_same log more shows.0))
+counts setup task next seen log more Waiting events shows is = is ∙ ap (λ n. min n (2 ^ 64 - 1)) (sym (events_same log more shows))
+counts setup task next seen log more (Blocked pool) events shows is = is ∙ ap (λ n. min n (2 ^ 64 - 1)) (sym (events_same log more shows))
 
 module _ (owes : Request → Reply → Type 0) (setup : Setup) where
   -- a task that asks for nothing stays as it is
@@ -66,7 +69,7 @@ module _ (owes : Request → Reply → Type 0) (setup : Setup) where
     | inr saw ↦ inr (saw.0, Contains-append_left log more saw.0 saw.1, saw.2, saw.3)
   ]
 
-  stops : (task next : TaskState) (log more : List Call) (old new : DeskState) (step : Step) (stopped : Bool) → ShowsStep setup task next more step
+  stops : (task next : TaskState) (log more : List Call) (old new : DeskState) (step : Step) (stopped : Bool) → ShowsStep setup task next (seen_by new.pass) more step
       → (stopped ≡ true → HasStopped setup (log ++ more) next) → stopped_after step stopped ≡ true → HasStopped setup (log ++ more) next
   stops task next log more old new (Stepped event) stopped shows was is = was is
   stops task next log more old new Ended stopped shows was is = elim shows.1 [
@@ -78,7 +81,7 @@ module _ (owes : Request → Reply → Type 0) (setup : Setup) where
   stops task next log more old new (Blocked pool) stopped shows was is = was is
 
 pub steps_keep_ran : StepsKeepRan
-steps_keep_ran stage first task next old new step events stopped is turns same =
+steps_keep_ran stage first task next old new step events stopped noted after is turns same goes =
     let t : Turns DeskServes (Owes stage) (setup first.routing) task.state old next.state new step =
     subst (λ r. Turns DeskServes (Owes stage) (setup r) task.state old next.state new step) is.routing turns in
     let g = steps_are_logged stage (setup first.routing) first.state task.state next.state is.log old new step is.logged t in
@@ -86,9 +89,11 @@ steps_keep_ran stage first task next old new step events stopped is turns same =
       log = is.log ++ g.0;
       logged = g.1;
       routing = same ∙ is.routing;
-      counted = counts (setup first.routing) task.state next.state is.log g.0 step events g.2 is.counted;
+      counted = counts (setup first.routing) task.state next.state (seen_by new.pass) is.log g.0 step events g.2 is.counted;
       stops = stops (Owes stage) (setup first.routing) task.state next.state is.log g.0 old new step stopped g.2
           (λ was. still (Owes stage) (setup first.routing) task.state next.state is.log g.0 old new step t (is.stops was));
+      notes = λ have. stays_noted step (seen_by new.pass) (notes_of (setup first.routing) first.state is.log) (notes_of (setup first.routing) first.state (is.log ++ g.0)) noted after
+          (log_notes (setup first.routing) first.state task.state next.state is.log g.0 old new step is.logged g.1 g.2 have) (is.notes (earlier_tickets is.log g.0 have)) goes;
     }
 
 unused_goes : (pass : Option PassState) → IsUnused pass → HasPass pass 0 []
@@ -102,11 +107,16 @@ unused_goes (Some pass) is = record {
   last = All-nil (λ (c : Call). FoundNone c → KnowsLast pass []);
 }
 
+blank_notes : (noted : Option Noted) → IsBlank noted → AreNoted [] noted
+blank_notes None blank = tt
+blank_notes (Some noted) blank = λ whole. blank.0
+
 pub new_desks_are_ran : NewDesksAreRan
-new_desks_are_ran task desk is = record {
+new_desks_are_ran task desk noted is blank = record {
   log = [];
   logged = record { calls = is.calls; leads = refl; end = 0; rises = refl; pass = unused_goes desk.pass is.pass };
   routing = refl;
   counted = refl;
   stops = λ e. absurd (cc e);
+  notes = λ have. blank_notes noted blank;
 }

@@ -27,7 +27,7 @@ use Rattle.object_things.specs.Stamps.{is_spent, PassBy}
 use Rattle.object_things.specs.Histories.{Call}
 use Rattle.shared_objects.specs.Calls.{struck}
 use Rattle.shared_objects.specs.Desks.{DeskState, HasCalled, PassOn, LooksAndCompletes, DeskServes}
-use Rattle.shared_objects.specs.Logs.{is_event, is_stop, is_glance, events_in, Looked, LogLeads, IsMet, HasPass, IsMade, IsLogged, HasStopped, ShowsStep, StepsAreLogged}
+use Rattle.shared_objects.specs.Logs.{is_event, is_stop, is_glance, events_in, Looked, LogLeads, IsMet, HasPass, IsMade, IsLogged, HasStopped, seen_by, ShowsStep, StepsAreLogged}
 use Rattle.shared_objects.proofs.Idling.{idle}
 use Rattle.shared_objects.proofs.Logging.{one_call}
 use Rattle.shared_objects.proofs.Staying.{event_struck, glance_struck, glance_kinds, glance_stays}
@@ -62,9 +62,20 @@ looked setup first task log old after asked reply call (Some look) is l made =
     (l.0, l.1, l.2, l.3, λ ok. above old.pass after is.end log l.0 call is.pass l.1 made.pass ok)
 
 -- what the calls for a request show of the event that it is, if it is one
-abbrev Tells : Option What → Request → Reply → List Call → Type 0
-Tells None asked reply calls = events_in calls ≡ []
-Tells (Some what) asked reply calls = (call : Call) × (events_in calls ≡ call ∷ []) × (call.asked ≡ struck asked) × (call.told.reply ≡ reply)
+abbrev Tells : Option What → Request → Reply → ℕ → List Call → Type 0
+Tells None asked reply seen calls = events_in calls ≡ []
+Tells (Some what) asked reply seen calls = (call : Call) × (events_in calls ≡ call ∷ []) × (call.asked ≡ struck asked) × (call.told.reply ≡ reply)
+    × IfSome call.told.ticket (λ n. n ≡ seen)
+
+-- a ticket is the last thing that its pass has seen
+seen_last : (pass after : PassState) (note : ℕ) (spent drew : Bool) (ticket : Option ℕ) → PassBy pass note spent drew ticket after → IfSome ticket (λ n. n ≡ after.seen)
+seen_last pass after note spent drew None by = tt
+seen_last pass after note spent drew (Some n) by = sym (ap (λ (p : PassState). p.seen) by.2)
+
+seen_made : (pass after : Option PassState) (note : ℕ) (spent drew : Bool) (ticket : Option ℕ) → PassOn pass note spent drew ticket after → IfSome ticket (λ n. n ≡ seen_by after)
+seen_made None after note spent drew ticket by = absurd by
+seen_made (Some pass) None note spent drew ticket by = absurd by
+seen_made (Some pass) (Some after) note spent drew ticket by = seen_last pass after note spent drew ticket by
 
 same_event : (call : Call) (asked : Request) (reply : Reply) → call.asked ≡ struck asked → call.told.reply ≡ reply → is_event call.asked call.told.reply ≡ is_event asked reply
 same_event call asked reply asks replies =
@@ -73,72 +84,73 @@ same_event call asked reply asks replies =
 event_alone : (call : Call) (b : Bool) → is_event call.asked call.told.reply ≡ b → events_in (call ∷ []) ≡ cond b (call ∷ []) []
 event_alone call b is = ap (λ (e : Bool). cond e (call ∷ []) []) is
 
-tells_one : (told : Option What) (call : Call) (asked : Request) (reply : Reply) → what_of asked reply ≡ told → call.asked ≡ struck asked → call.told.reply ≡ reply
-    → Tells told asked reply (call ∷ [])
-tells_one None call asked reply is asks replies = event_alone call false (same_event call asked reply asks replies ∙ ap is_some is)
-tells_one (Some what) call asked reply is asks replies = (call, event_alone call true (same_event call asked reply asks replies ∙ ap is_some is), asks, replies)
+tells_one : (told : Option What) (call : Call) (asked : Request) (reply : Reply) (seen : ℕ) → what_of asked reply ≡ told → call.asked ≡ struck asked
+    → call.told.reply ≡ reply → IfSome call.told.ticket (λ n. n ≡ seen) → Tells told asked reply seen (call ∷ [])
+tells_one None call asked reply seen is asks replies last = event_alone call false (same_event call asked reply asks replies ∙ ap is_some is)
+tells_one (Some what) call asked reply seen is asks replies last =
+    (call, event_alone call true (same_event call asked reply asks replies ∙ ap is_some is), asks, replies, last)
 
 -- glances in front and behind are no events
 quiet_first : (look : Call) (calls : List Call) → is_event look.asked look.told.reply ≡ false → events_in (look ∷ calls) ≡ events_in calls
 quiet_first look calls is = ap (λ (e : Bool). cond e (look ∷ events_in calls) (events_in calls)) is
 
-tells_further : (told : Option What) (look : Call) (asked : Request) (reply : Reply) (calls : List Call) → is_event look.asked look.told.reply ≡ false
-    → Tells told asked reply calls → Tells told asked reply (look ∷ calls)
-tells_further None look asked reply calls quiet tells = quiet_first look calls quiet ∙ tells
-tells_further (Some what) look asked reply calls quiet tells = (tells.0, quiet_first look calls quiet ∙ tells.1, tells.2, tells.3)
+tells_further : (told : Option What) (look : Call) (asked : Request) (reply : Reply) (seen : ℕ) (calls : List Call) → is_event look.asked look.told.reply ≡ false
+    → Tells told asked reply seen calls → Tells told asked reply seen (look ∷ calls)
+tells_further None look asked reply seen calls quiet tells = quiet_first look calls quiet ∙ tells
+tells_further (Some what) look asked reply seen calls quiet tells = (tells.0, quiet_first look calls quiet ∙ tells.1, tells.2, tells.3, tells.4)
 
 no_event : (call : Call) → is_glance call.asked call.told.reply ≡ true → is_event call.asked call.told.reply ≡ false
 no_event call is = (glance_kinds (is_event call.asked call.told.reply) (is_stop call.asked call.told.reply) is).0
 
-shows_further : (setup : Setup) (task next : TaskState) (look : Call) (calls : List Call) (step : Step) → is_event look.asked look.told.reply ≡ false
-    → ShowsStep setup task next calls step → ShowsStep setup task next (look ∷ calls) step
-shows_further setup task next look calls (Stepped event) quiet shows = (shows.0, quiet_first look calls quiet ∙ shows.1, shows.2, shows.3, shows.4)
-shows_further setup task next look calls Ended quiet shows = (
+shows_further : (setup : Setup) (task next : TaskState) (seen : ℕ) (look : Call) (calls : List Call) (step : Step) → is_event look.asked look.told.reply ≡ false
+    → ShowsStep setup task next seen calls step → ShowsStep setup task next seen (look ∷ calls) step
+shows_further setup task next seen look calls (Stepped event) quiet shows = (shows.0, quiet_first look calls quiet ∙ shows.1, shows.2, shows.3, shows.4, shows.5)
+shows_further setup task next seen look calls Ended quiet shows = (
   quiet_first look calls quiet ∙ shows.0,
   elim shows.1 [
     | inl rests ↦ inl rests
     | inr saw ↦ inr (saw.0, Contains-append_right (look ∷ []) calls saw.0 saw.1, saw.2, saw.3)
   ],
 )
-shows_further setup task next look calls (Broken breach) quiet shows = (quiet_first look calls quiet ∙ shows.0, shows.1)
-shows_further setup task next look calls Waiting quiet shows = quiet_first look calls quiet ∙ shows
-shows_further setup task next look calls (Blocked pool) quiet shows = quiet_first look calls quiet ∙ shows
+shows_further setup task next seen look calls (Broken breach) quiet shows = (quiet_first look calls quiet ∙ shows.0, shows.1)
+shows_further setup task next seen look calls Waiting quiet shows = quiet_first look calls quiet ∙ shows
+shows_further setup task next seen look calls (Blocked pool) quiet shows = quiet_first look calls quiet ∙ shows
 
 -- what a step comes to that is no event
 resize_stops : (home : Bool) (pool : PoolId) (min : ℕ) → resize_of home pool min ≡ None → (not home || false) ≡ true
 resize_stops true pool min is = absurd (cc is)
 resize_stops false pool min is = refl
 
-silent_shows : (setup : Setup) (task next : TaskState) (calls : List Call) (asked : Request) (reply : Reply) → what_of asked reply ≡ None → events_in calls ≡ []
+silent_shows : (setup : Setup) (task next : TaskState) (seen : ℕ) (calls : List Call) (asked : Request) (reply : Reply) → what_of asked reply ≡ None → events_in calls ≡ []
     → (reply ≡ Spent → request setup next ≡ Rest) → (is_stop asked reply ≡ true → request setup next ≡ Rest)
-    → ShowsStep setup task next calls (silent_step setup asked reply)
-silent_shows setup task next calls asked Spent none quiet spent stop = (quiet, spent refl)
-silent_shows setup task next calls (Link writer opening) (LinkedTo (NoRoom back)) none quiet spent stop = (quiet, stop refl)
-silent_shows setup task next calls (Link writer opening) (LinkedTo (Stray back)) none quiet spent stop = (quiet, stop refl)
-silent_shows setup task next calls (Drop writer node status part) (DroppedTo (end.Stray back)) none quiet spent stop = (quiet, stop refl)
-silent_shows setup task next calls (Resize pool min) (OutIs out) none quiet spent stop = (quiet, stop (resize_stops (out == 0) pool min none))
-silent_shows setup task next calls (TakeBio set waits) (Missed used) none quiet spent stop = quiet
-silent_shows setup task next calls TakeVec (Missed used) none quiet spent stop = quiet
-silent_shows setup task next calls (TakeSlip dev) (Missed used) none quiet spent stop = quiet
-silent_shows setup task next calls asked reply none quiet spent stop = quiet
+    → ShowsStep setup task next seen calls (silent_step setup asked reply)
+silent_shows setup task next seen calls asked Spent none quiet spent stop = (quiet, spent refl)
+silent_shows setup task next seen calls (Link writer opening) (LinkedTo (NoRoom back)) none quiet spent stop = (quiet, stop refl)
+silent_shows setup task next seen calls (Link writer opening) (LinkedTo (Stray back)) none quiet spent stop = (quiet, stop refl)
+silent_shows setup task next seen calls (Drop writer node status part) (DroppedTo (end.Stray back)) none quiet spent stop = (quiet, stop refl)
+silent_shows setup task next seen calls (Resize pool min) (OutIs out) none quiet spent stop = (quiet, stop (resize_stops (out == 0) pool min none))
+silent_shows setup task next seen calls (TakeBio set waits) (Missed used) none quiet spent stop = quiet
+silent_shows setup task next seen calls TakeVec (Missed used) none quiet spent stop = quiet
+silent_shows setup task next seen calls (TakeSlip dev) (Missed used) none quiet spent stop = quiet
+silent_shows setup task next seen calls asked reply none quiet spent stop = quiet
 
-shows_step : (setup : Setup) (task next : TaskState) (calls : List Call) (told : Option What) (asked : Request) (reply : Reply) → asked ≡ request setup task
-    → what_of asked reply ≡ told → Tells told asked reply calls → (reply ≡ Spent → request setup next ≡ Rest) → (is_stop asked reply ≡ true → request setup next ≡ Rest)
-    → ShowsStep setup task next calls (step_by (id_of task) told (silent_step setup asked reply))
-shows_step setup task next calls None asked reply same is tells spent stop = silent_shows setup task next calls asked reply is tells spent stop
-shows_step setup task next calls (Some what) asked reply same is tells spent stop =
-    (tells.0, tells.1, tells.2 ∙ ap struck same, ap (what_of (request setup task)) tells.3 ∙ subst (λ a. what_of a reply ≡ Some what) same is, refl)
+shows_step : (setup : Setup) (task next : TaskState) (seen : ℕ) (calls : List Call) (told : Option What) (asked : Request) (reply : Reply) → asked ≡ request setup task
+    → what_of asked reply ≡ told → Tells told asked reply seen calls → (reply ≡ Spent → request setup next ≡ Rest) → (is_stop asked reply ≡ true → request setup next ≡ Rest)
+    → ShowsStep setup task next seen calls (step_by (id_of task) told (silent_step setup asked reply))
+shows_step setup task next seen calls None asked reply same is tells spent stop = silent_shows setup task next seen calls asked reply is tells spent stop
+shows_step setup task next seen calls (Some what) asked reply same is tells spent stop =
+    (tells.0, tells.1, tells.2 ∙ ap struck same, ap (what_of (request setup task)) tells.3 ∙ subst (λ a. what_of a reply ≡ Some what) same is, refl, tells.4)
 
 -- a task that asks for nothing has ended, or broken off
-rests_shows : (setup : Setup) (task next : TaskState) (breach : Option Breach) → request setup next ≡ Rest → ShowsStep setup task next [] (resting_step breach)
-rests_shows setup task next None rests = (refl, inl rests)
-rests_shows setup task next (Some breach) rests = (refl, rests)
+rests_shows : (setup : Setup) (task next : TaskState) (seen : ℕ) (breach : Option Breach) → request setup next ≡ Rest → ShowsStep setup task next seen [] (resting_step breach)
+rests_shows setup task next seen None rests = (refl, inl rests)
+rests_shows setup task next seen (Some breach) rests = (refl, rests)
 
-idle_shows : (setup : Setup) (task next : TaskState) (calls : List Call) (look : Call) (left : ℕ) (none : Bool) → (left == 0) ≡ none → events_in calls ≡ []
-    → look.asked ≡ LookLeft → look.told.reply ≡ LeftOver left → Contains calls look → ShowsStep setup task next calls (if none then Ended else Waiting)
-idle_shows setup task next calls look left true is quiet asks replies within =
+idle_shows : (setup : Setup) (task next : TaskState) (seen : ℕ) (calls : List Call) (look : Call) (left : ℕ) (none : Bool) → (left == 0) ≡ none → events_in calls ≡ []
+    → look.asked ≡ LookLeft → look.told.reply ≡ LeftOver left → Contains calls look → ShowsStep setup task next seen calls (if none then Ended else Waiting)
+idle_shows setup task next seen calls look left true is quiet asks replies within =
     (quiet, inr (look, within, asks, replies ∙ ap LeftOver (grind (arith, nat_tests, is))))
-idle_shows setup task next calls look left false is quiet asks replies within = quiet
+idle_shows setup task next seen calls look left false is quiet asks replies within = quiet
 
 nothing_none : (asked : Request) → what_of asked Nothing ≡ None
 nothing_none (TakeBio set waits) = refl
@@ -203,10 +215,14 @@ module _ (setup : Setup) (first : TaskState) where
 
   plain : (stage : Stage) (log : List Call) (task : TaskState) (old new : DeskState) (asked : Request) (reply : Reply) → asked ≡ request setup task → IsLogged setup first log task old
       → Let log task (look_of task) → HasCalled old (struck asked) reply new → (object_of (struck asked) ≡ OfNone → ⊥) → Owes stage asked reply
-      → Goes log (answered setup task reply) new (Tells (what_of asked reply) asked reply)
+      → Goes log (answered setup task reply) new (Tells (what_of asked reply) asked reply (seen_by new.pass))
   plain stage log task old new asked reply same is l calls apart owed =
-      let made = called stage log task old new asked reply (is_glance asked reply) refl same is l calls apart owed in
-      (made.0 ∷ [], made.2, tells_one (what_of asked reply) made.0 asked reply refl made.1.asks made.1.replies)
+      let made = called stage log task old new asked reply (is_glance asked reply) refl same is l calls apart owed in (
+        made.0 ∷ [],
+        made.2,
+        tells_one (what_of asked reply) made.0 asked reply (seen_by new.pass) refl made.1.asks made.1.replies
+            (seen_made old.pass new.pass made.0.told.note (is_spent made.0.told.reply) made.0.told.drew made.0.told.ticket made.1.pass),
+      )
 
   further : (log : List Call) (look : Call) (next : TaskState) (new : DeskState) (Shows Then : List Call → Type 0) → ((calls : List Call) → Shows calls → Then (look ∷ calls))
       → Goes (log ++ look ∷ []) next new Shows → Goes log next new Then
@@ -215,16 +231,16 @@ module _ (setup : Setup) (first : TaskState) where
 
   completes : (stage : Stage) (log : List Call) (task : TaskState) (old new : DeskState) (disk : DevId) (reply : Reply) → Complete disk ≡ request setup task
       → IsLogged setup first log task old → Let log task (look_of task) → LooksAndCompletes old disk reply new → answered setup task Nothing ≡ task
-      → Owes stage (Complete disk) reply → Goes log (answered setup task reply) new (Tells (what_of (Complete disk) reply) (Complete disk) reply)
+      → Owes stage (Complete disk) reply → Goes log (answered setup task reply) new (Tells (what_of (Complete disk) reply) (Complete disk) reply (seen_by new.pass))
   completes stage log task old new disk reply same is l c idle owed =
       let look = glanced log task old c.between (Complete disk) (LeftOver c.count) is c.looks (λ e. cc) refl in
-      let Tell : List Call → Type 0 = Tells (what_of (Complete disk) reply) (Complete disk) reply in
+      let Tell : List Call → Type 0 = Tells (what_of (Complete disk) reply) (Complete disk) reply (seen_by new.pass) in
       let on : (calls : List Call) → Tell calls → Tell (look.0 ∷ calls) =
-      λ calls tells. tells_further (what_of (Complete disk) reply) look.0 (Complete disk) reply calls look.3 tells in
+      λ calls tells. tells_further (what_of (Complete disk) reply) look.0 (Complete disk) reply (seen_by new.pass) calls look.3 tells in
       elim c.goes [
         | inl none ↦ further log look.0 (answered setup task reply) new Tell Tell on
             (stays (log ++ look.0 ∷ []) task (answered setup task reply) c.between new Tell look.2 (ap (answered setup task) none.1 ∙ idle) none.2
-            (subst (λ r. Tells (what_of (Complete disk) r) (Complete disk) r []) (sym none.1) refl))
+            (subst (λ r. Tells (what_of (Complete disk) r) (Complete disk) r (seen_by new.pass) []) (sym none.1) refl))
         | inr some ↦ further log look.0 (answered setup task reply) new Tell Tell on
             (plain stage (log ++ look.0 ∷ []) task c.between new (Complete disk) reply same look.2 (let_later log (look.0 ∷ []) task (look_of task) l) some.1 (λ e. cc) owed)
       ]
@@ -232,7 +248,7 @@ module _ (setup : Setup) (first : TaskState) where
   -- the calls of what the task asks for
   one_ask : (stage : Stage) (log : List Call) (task : TaskState) (old new : DeskState) (asked : Request) (reply : Reply) → asked ≡ request setup task
       → IsLogged setup first log task old → Let log task (look_of task) → DeskServes old asked reply new → answered setup task Nothing ≡ task → Owes stage asked reply
-      → Goes log (answered setup task reply) new (Tells (what_of asked reply) asked reply)
+      → Goes log (answered setup task reply) new (Tells (what_of asked reply) asked reply (seen_by new.pass))
   one_ask stage log task old new Rest reply same is l serves idle owed = absurd serves
   one_ask stage log task old new (Complete disk) reply same is l serves idle owed = completes stage log task old new disk reply same is l serves idle owed
   one_ask stage log task old new asked reply same is l serves idle owed = plain stage log task old new asked reply same is l serves (λ e. cc) owed
@@ -242,31 +258,31 @@ module _ (setup : Setup) (first : TaskState) where
   not_rest old new asked reply serves is = absurd (cc is)
 
   looks_left : (log : List Call) (task next : TaskState) (asked : Request) (middle new : DeskState) (left : ℕ) (step : Step) → IsLogged setup first log next middle
-      → HasCalled middle LookLeft (LeftOver left) new → step ≡ idle_step left → Goes log next new (λ calls. ShowsStep setup task next calls step)
+      → HasCalled middle LookLeft (LeftOver left) new → step ≡ idle_step left → Goes log next new (λ calls. ShowsStep setup task next (seen_by new.pass) calls step)
   looks_left log task next asked middle new left step is calls tells =
       let look = glanced log next middle new LookLeft (LeftOver left) is calls (λ e. cc) refl in (
         look.0 ∷ [],
         look.2,
-        subst (ShowsStep setup task next (look.0 ∷ [])) (sym tells)
-            (idle_shows setup task next (look.0 ∷ []) look.0 left (left == 0) refl (quiet_first look.0 [] look.3) look.1.asks look.1.replies (Contains-push [] look.0)),
+        subst (ShowsStep setup task next (seen_by new.pass) (look.0 ∷ [])) (sym tells)
+            (idle_shows setup task next (seen_by new.pass) (look.0 ∷ []) look.0 left (left == 0) refl (quiet_first look.0 [] look.3) look.1.asks look.1.replies (Contains-push [] look.0)),
       )
 
   followed : (log : List Call) (task next : TaskState) (asked : Request) (reply : Reply) (middle new : DeskState) (step : Step) → asked ≡ request setup task
-      → (asked ≡ Rest → ⊥) → next ≡ answered setup task reply → Goes log next middle (Tells (what_of asked reply) asked reply)
-      → Follows DeskServes setup (id_of task) asked reply middle new step → Goes log next new (λ calls. ShowsStep setup task next calls step)
+      → (asked ≡ Rest → ⊥) → next ≡ answered setup task reply → Goes log next middle (Tells (what_of asked reply) asked reply (seen_by middle.pass))
+      → Follows DeskServes setup (id_of task) asked reply middle new step → Goes log next new (λ calls. ShowsStep setup task next (seen_by new.pass) calls step)
   followed log task next asked Nothing middle new step same apart goes_on g f =
       let look = looks_left (log ++ g.0) task next asked middle new f.0 step g.1 f.1 f.2 in
-      let quiet : events_in g.0 ≡ [] = subst (λ told. Tells told asked Nothing g.0) (nothing_none asked) g.2 in (
+      let quiet : events_in g.0 ≡ [] = subst (λ told. Tells told asked Nothing (seen_by middle.pass) g.0) (nothing_none asked) g.2 in (
         g.0 ++ look.0,
         subst (λ l. IsLogged setup first l next new) (append_assoc log g.0 look.0) look.1,
         shows_behind g.0 look.0 quiet look.2,
       )
     where
-      shows_behind : (calls more : List Call) → events_in calls ≡ [] → ShowsStep setup task next more step → ShowsStep setup task next (calls ++ more) step
+      shows_behind : (calls more : List Call) → events_in calls ≡ [] → ShowsStep setup task next (seen_by new.pass) more step → ShowsStep setup task next (seen_by new.pass) (calls ++ more) step
       shows_behind [] more quiet shows = shows
       shows_behind (call ∷ calls) more quiet shows =
           let kinds = quiet_parts call calls (is_event call.asked call.told.reply) refl quiet in
-          shows_further setup task next call (calls ++ more) step kinds.0 (shows_behind calls more kinds.1 shows)
+          shows_further setup task next (seen_by new.pass) call (calls ++ more) step kinds.0 (shows_behind calls more kinds.1 shows)
         where
           quiet_parts : (call : Call) (calls : List Call) (b : Bool) → is_event call.asked call.told.reply ≡ b → events_in (call ∷ calls) ≡ []
               → (is_event call.asked call.told.reply ≡ false) × (events_in calls ≡ [])
@@ -279,15 +295,16 @@ module _ (setup : Setup) (first : TaskState) where
       λ broke. subst (λ t. request setup t ≡ Rest) (sym goes_on) (broken_rests setup (answered setup task reply) broke) in (
         g.0,
         subst (λ n. IsLogged setup first (log ++ g.0) next n) (sym f.0) g.1,
-        subst (ShowsStep setup task next g.0) (sym f.1)
-            (shows_step setup task next g.0 (what_of asked reply) asked reply same refl g.2
+        subst (ShowsStep setup task next (seen_by new.pass) g.0) (sym f.1)
+            (shows_step setup task next (seen_by new.pass) g.0 (what_of asked reply) asked reply same refl
+            (subst (λ d. Tells (what_of asked reply) asked reply (seen_by d.pass) g.0) (sym f.0) g.2)
             (λ spent. rests (subst (λ r. is_some (breach_of (answered setup task r)) ≡ true) (sym spent) (spent_breaks_off setup task apart_task)))
             (λ stop. rests (stop_breaks setup task reply apart_task (subst (λ a. is_stop a reply ≡ true) same stop)))),
       )
 
   asks : (stage : Stage) (log : List Call) (task next : TaskState) (old new : DeskState) (step : Step) (asked : Request) → asked ≡ request setup task
       → IsLogged setup first log task old → Let log task (look_of task) → answered setup task Nothing ≡ task
-      → Asks DeskServes (Owes stage) setup asked task old next new step → Goes log next new (λ calls. ShowsStep setup task next calls step)
+      → Asks DeskServes (Owes stage) setup asked task old next new step → Goes log next new (λ calls. ShowsStep setup task next (seen_by new.pass) calls step)
   asks stage log task next old new step asked same is l idle a =
       let g = one_ask stage log task old a.middle asked a.reply same is l a.replied idle a.owed in
       followed log task next asked a.reply a.middle new step same (not_rest old a.middle asked a.reply a.replied) a.goes_on
@@ -295,18 +312,18 @@ module _ (setup : Setup) (first : TaskState) where
 
   asks_for : (stage : Stage) (log : List Call) (task next : TaskState) (old new : DeskState) (step : Step) (asked : Request) → asked ≡ request setup task
       → IsLogged setup first log task old → Let log task (look_of task) → answered setup task Nothing ≡ task
-      → AsksFor DeskServes (Owes stage) setup asked task old next new step → Goes log next new (λ calls. ShowsStep setup task next calls step)
+      → AsksFor DeskServes (Owes stage) setup asked task old next new step → Goes log next new (λ calls. ShowsStep setup task next (seen_by new.pass) calls step)
   asks_for stage log task next old new step Rest same is l idle a =
-      stays log task next old new (λ calls. ShowsStep setup task next calls step) is a.0 a.1
-      (subst (ShowsStep setup task next []) (sym a.2) (rests_shows setup task next (breach_of task) (ap (request setup) a.0 ∙ sym same)))
+      stays log task next old new (λ calls. ShowsStep setup task next (seen_by new.pass) calls step) is a.0 a.1
+      (subst (ShowsStep setup task next (seen_by new.pass) []) (sym a.2) (rests_shows setup task next (seen_by new.pass) (breach_of task) (ap (request setup) a.0 ∙ sym same)))
   asks_for stage log task next old new step asked same is l idle a = asks stage log task next old new step asked same is l idle a
 
   acts_if : (stage : Stage) (log : List Call) (task next : TaskState) (old new : DeskState) (step : Step) (b : Bool)
       → IsLogged setup first log task old → (b ≡ true → Let log task (look_of task)) → answered setup task Nothing ≡ task
-      → ActsIf b DeskServes (Owes stage) setup task old next new step → Goes log next new (λ calls. ShowsStep setup task next calls step)
+      → ActsIf b DeskServes (Owes stage) setup task old next new step → Goes log next new (λ calls. ShowsStep setup task next (seen_by new.pass) calls step)
   acts_if stage log task next old new step true is l idle a = asks_for stage log task next old new step (request setup task) refl is (l refl) idle a
   acts_if stage log task next old new step false is l idle a =
-      stays log task next old new (λ calls. ShowsStep setup task next calls step) is a.0 a.1 (subst (ShowsStep setup task next []) (sym a.2) refl)
+      stays log task next old new (λ calls. ShowsStep setup task next (seen_by new.pass) calls step) is a.0 a.1 (subst (ShowsStep setup task next (seen_by new.pass) []) (sym a.2) refl)
 
   look_call : (look : Request) → (look ≡ LookRound) ⊎ (look ≡ LookLeft) → (old new : DeskState) (reply : Reply) → DeskServes old look reply new
       → HasCalled old look reply new × (object_of look ≡ OfNone → ⊥) × (is_glance look reply ≡ true)
@@ -325,14 +342,14 @@ module _ (setup : Setup) (first : TaskState) where
 
   turns : (stage : Stage) (log : List Call) (task next : TaskState) (old new : DeskState) (step : Step) (look : Option Request) → look_of task ≡ look
       → IsLogged setup first log task old → answered setup task Nothing ≡ task → TurnsBy look DeskServes (Owes stage) setup task old next new step
-      → Goes log next new (λ calls. ShowsStep setup task next calls step)
+      → Goes log next new (λ calls. ShowsStep setup task next (seen_by new.pass) calls step)
   turns stage log task next old new step None same is idle t =
       asks_for stage log task next old new step (request setup task) refl is (subst (Let log task) (sym same) tt) idle t
   turns stage log task next old new step (Some look) same is idle t =
       let called_look = look_call look (looks task look same) old t.1 t.0 t.2 in
       let seen = glanced log task old t.1 look t.0 is called_look.0 called_look.1 called_look.2 in
-      further log seen.0 next new (λ calls. ShowsStep setup task next calls step) (λ calls. ShowsStep setup task next calls step)
-      (λ calls shows. shows_further setup task next seen.0 calls step seen.3 shows)
+      further log seen.0 next new (λ calls. ShowsStep setup task next (seen_by new.pass) calls step) (λ calls. ShowsStep setup task next (seen_by new.pass) calls step)
+      (λ calls shows. shows_further setup task next (seen_by new.pass) seen.0 calls step seen.3 shows)
       (acts_if stage (log ++ seen.0 ∷ []) task next t.1 new step (lets task t.0) seen.2
       (λ ok. subst (Let (log ++ seen.0 ∷ []) task) (sym same)
       (seen.0, Contains-push log seen.0, seen.1.asks, subst (λ r. IsTrue (lets task r)) (sym seen.1.replies) (subst IsTrue (sym ok) refl))) idle t.3)

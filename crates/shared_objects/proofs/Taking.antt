@@ -22,10 +22,10 @@ by_none number none = dite (ℕ_discrete number 0)
     (λ apart. omega (arith, apart))
 
 module _ {T A R : Type 0} where
-  opens : (start : Snapshot T) → HasTaken {T = T} {A = A} {R = R} 0 [] (first_seat start)
+  pub opens : (start : Snapshot T) → HasTaken {T = T} {A = A} {R = R} 0 [] (first_seat start)
   opens start = record { rank = refl; joined = refl; numbers = refl; none = refl; each = λ place other lt. absurd (omega (arith, lt)) }
 
-  splits : (split : ℕ) (others : List (Known T A R)) (first : Known T A R) → HasTaken split others first → HasTaken (split + 1) others (split_more first) × IsNumbered split (new_seat first)
+  pub splits : (split : ℕ) (others : List (Known T A R)) (first : Known T A R) → HasTaken split others first → HasTaken (split + 1) others (split_more first) × IsNumbered split (new_seat first)
   splits split others first taken = let n = ap split_of taken.rank in (
     record { rank = ap one_more taken.rank; joined = taken.joined; numbers = taken.numbers; none = taken.none; each = taken.each },
     record { rank = refl; joined = refl; number = ap (λ k. k + 1) n; numbers = ap (λ k. (k + 1) ∷ []) n },
@@ -56,7 +56,7 @@ module _ {T A R : Type 0} where
         (λ apart. let less : place < length others = omega (arith, lt, apart) in
         stays (place + 1) (omega (arith, less)) ∙ taken.each place d less ∙ ap own (sym (get_or_append_left others (other ∷ []) d place less)))
 
-    joins : HasTaken split (others ++ other ∷ []) new
+    pub joins : HasTaken split (others ++ other ∷ []) new
     joins =
         let long : length (others ++ other ∷ []) ≡ length others + 1 = length-append others (other ∷ []) in
         let more : new.joined ≡ first.joined + other.joined + 1 = ap (λ (k : Known T A R). k.joined) joined.joined in

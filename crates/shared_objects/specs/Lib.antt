@@ -14,6 +14,12 @@ pub mod Sharing
 pub mod Taking
 pub mod Shutting
 pub mod Closed
+pub mod Noting
 pub mod Led
 pub mod Rans
 pub mod Closing
+pub mod Shared
+pub mod Joining
+pub mod Left
+pub mod Parted
+pub mod Opening

@@ -115,20 +115,25 @@ abbrev pub HasStopped : Setup → List Call → TaskState → Type 0
 HasStopped setup log task = (request setup task ≡ Rest)
     ⊎ ((call : Call) × Contains log call × (call.asked ≡ LookLeft) × (call.told.reply ≡ LeftOver 0))
 
--- What the calls of a step show of its answer: where it tells an event they have one event, which is that one, and else none. Behind `Ended` the
--- task has stopped, and behind `Broken` it asks for nothing more.
-abbrev pub ShowsStep : Setup → TaskState → TaskState → List Call → Step → Type 0
-ShowsStep setup task next calls (Stepped event) = (call : Call) × (events_in calls ≡ call ∷ []) × (call.asked ≡ struck (request setup task))
-    × (what_of (request setup task) call.told.reply ≡ Some event.what) × (event.task ≡ id_of task)
-ShowsStep setup task next calls Ended = (events_in calls ≡ []) × HasStopped setup calls next
-ShowsStep setup task next calls (Broken breach) = (events_in calls ≡ []) × (request setup next ≡ Rest)
-ShowsStep setup task next calls step = events_in calls ≡ []
+-- what a pass has seen, where it is at home
+abbrev pub seen_by : Option PassState → ℕ
+seen_by None = 0
+seen_by (Some pass) = pass.seen
+
+-- What the calls of a step show of its answer: where it tells an event they have one event, which is that one, and else none. The ticket that the
+-- event drew is the last thing that the pass has seen. Behind `Ended` the task has stopped, and behind `Broken` it asks for nothing more.
+abbrev pub ShowsStep : Setup → TaskState → TaskState → ℕ → List Call → Step → Type 0
+ShowsStep setup task next seen calls (Stepped event) = (call : Call) × (events_in calls ≡ call ∷ []) × (call.asked ≡ struck (request setup task))
+    × (what_of (request setup task) call.told.reply ≡ Some event.what) × (event.task ≡ id_of task) × IfSome call.told.ticket (λ n. n ≡ seen)
+ShowsStep setup task next seen calls Ended = (events_in calls ≡ []) × HasStopped setup calls next
+ShowsStep setup task next seen calls (Broken breach) = (events_in calls ≡ []) × (request setup next ≡ Rest)
+ShowsStep setup task next seen calls step = events_in calls ≡ []
 
 -- Each step of a task at its desk is kept: what it calls stands behind the calls so far.
 abbrev pub StepsAreLogged : Type 0
 StepsAreLogged = (stage : Stage) (setup : Setup) (first task next : TaskState) (log : List Call) (old new : DeskState) (step : Step)
     → IsLogged setup first log task old → Turns DeskServes (Owes stage) setup task old next new step
-    → (more : List Call) × IsLogged setup first (log ++ more) next new × ShowsStep setup task next more step
+    → (more : List Call) × IsLogged setup first (log ++ more) next new × ShowsStep setup task next (seen_by new.pass) more step
 
 -- the same of one call
 abbrev pub CallsAreLogged : Type 0

@@ -1,9 +1,12 @@
 -- A task with its seats, as it is handed over: what is known of it.
 use Rattle.std.specs.Prelude.{◌≡◌, ◌+◌, ◌-◌, ◌^◌, ℕ, Bool, true, false, List, [], length, min, Option, None, Some}
+use Rattle.std.specs.Option.{is_some}
+use Rattle.tick_clock.specs.declared.ticking.Rank.TheVariants as pass_rank
 use Rattle.tick_clock.specs.Tickets.{PassState}
 use Rattle.run_machine.specs.Laws.{Object}
 use Rattle.task_steps.specs.declared.step.Step.{Step}
 use Rattle.task_steps.specs.declared.step.Step.TheVariants.{Stepped, Ended, Broken}
+use Rattle.task_steps.specs.Homes.{IsTaskOf}
 use Rattle.task_steps.specs.Routed.{setup}
 use Rattle.task_steps.specs.Stage.{Stage, Owes}
 use Rattle.task_steps.specs.TaskViews.{TaskOf}
@@ -11,16 +14,22 @@ use Rattle.task_steps.specs.Turns.{Turns}
 use Rattle.object_things.specs.Histories.{Call}
 use Rattle.shared_objects.specs.Calls.{calls_at}
 use Rattle.shared_objects.specs.Desks.{DeskState, DeskServes}
-use Rattle.shared_objects.specs.Logs.{events_in, IsLogged, HasStopped}
+use Rattle.shared_objects.specs.Holding.{DeskHolds, desk_of, stage_at}
+use Rattle.shared_objects.specs.Logs.{events_in, IsLogged, HasStopped, seen_by}
+use Rattle.shared_objects.specs.Noting.{notes_of, AreNoted, HaveTickets, IsBlank, NotesStep}
+use Rattle.shared_objects.specs.declared.locks.Locks.{Locks}
+use Rattle.shared_objects.specs.declared.noted.Noted.{Noted}
+use Rattle.shared_objects.specs.declared.seats.TaskSeats.{TaskSeats}
 
 -- Calls led the task from the first state to this one. They have so many events, or 2^64 - 1 where there are more, and the task has stopped if a
--- step of it answered so.
-pub record IsRan (first task : TaskOf) (desk : DeskState) (events : ℕ) (stopped : Bool) : Type 0 where
+-- step of it answered so. What it noted is all its events, where it did not stop noting them.
+pub record IsRan (first task : TaskOf) (desk : DeskState) (events : ℕ) (stopped : Bool) (noted : Option Noted) : Type 0 where
   pub log : List Call
   pub logged : IsLogged (setup first.routing) first.state log task.state desk
   pub routing : task.routing ≡ first.routing
   pub counted : events ≡ min (length (events_in log)) (2 ^ 64 - 1)
   pub stops : stopped ≡ true → HasStopped (setup first.routing) log task.state
+  pub notes : HaveTickets log → AreNoted (notes_of (setup first.routing) first.state log) noted
 
 -- how many events there are behind a step, and whether the task has stopped
 abbrev pub events_after : Step → ℕ → ℕ
@@ -34,9 +43,10 @@ stopped_after step stopped = stopped
 
 -- each step of the task at its desk keeps it
 abbrev pub StepsKeepRan : Type 0
-StepsKeepRan = (stage : Stage) (first task next : TaskOf) (old new : DeskState) (step : Step) (events : ℕ) (stopped : Bool)
-    → IsRan first task old events stopped → Turns DeskServes (Owes stage) (setup task.routing) task.state old next.state new step
-    → next.routing ≡ task.routing → IsRan first next new (events_after step events) (stopped_after step stopped)
+StepsKeepRan = (stage : Stage) (first task next : TaskOf) (old new : DeskState) (step : Step) (events : ℕ) (stopped : Bool) (noted after : Option Noted)
+    → IsRan first task old events stopped noted → Turns DeskServes (Owes stage) (setup task.routing) task.state old next.state new step
+    → next.routing ≡ task.routing → NotesStep step (seen_by new.pass) noted after
+    → IsRan first next new (events_after step events) (stopped_after step stopped) after
 
 -- a pass that was just split off, with which nothing was seen or drawn
 abbrev pub IsUnused : Option PassState → Type 0
@@ -50,4 +60,51 @@ pub record IsNewDesk (desk : DeskState) : Type 0 where
 
 -- a task at a new desk has no events, and has not stopped
 abbrev pub NewDesksAreRan : Type 0
-NewDesksAreRan = (task : TaskOf) (desk : DeskState) → IsNewDesk desk → IsRan task task desk 0 false
+NewDesksAreRan = (task : TaskOf) (desk : DeskState) (noted : Option Noted) → IsNewDesk desk → IsBlank noted → IsRan task task desk 0 false noted
+
+-- A task with its seats of locks, as it was opened, how many events it has had, whether it has stopped, and what it noted, where that is wanted.
+pub record RanState : Type 0 where
+  pub task : TaskOf
+  pub seats : TaskSeats
+  pub first : TaskOf
+  pub home : Locks
+  pub events : ℕ
+  pub stopped : Bool
+  pub noted : Option Noted
+
+-- what never changes of it: as it was opened, the locks that its seats are of, and its number
+pub record RanKey : Type 0 where
+  pub first : TaskOf
+  pub home : Locks
+  pub number : ℕ
+
+abbrev pub ran_key : RanState → RanKey
+ran_key ran = record { first = ran.first; home = ran.home; number = ran.seats.number }
+
+-- a pass that was split off, into which none was joined
+abbrev pub IsOtherPass : Option PassState → Type 0
+IsOtherPass None = ⊥
+IsOtherPass (Some pass) = (pass.rank ≡ pass_rank.Other) × (pass.joined ≡ 0)
+
+-- What holds of it wherever it is: its seats are of those locks, it is a task of the objects behind them, and it is where its calls have led it.
+pub record RanHolds (state : RanState) : Type 0 where
+  pub desk : DeskHolds state.home state.seats
+  pub routing : state.first.routing ≡ (stage_at state.home).routing
+  pub task : IsTaskOf (stage_at state.home) state.task.state
+  pub pass : IsOtherPass state.seats.pass
+  -- it notes its events exactly where its locks want that
+  pub listed : is_some state.noted ≡ state.home.trace
+  pub ran : IsRan state.first state.task (desk_of state.seats) state.events state.stopped state.noted
+
+-- it has made no call yet
+pub record IsNewRan (ran : RanState) : Type 0 where
+  pub task : ran.task ≡ ran.first
+  pub desk : IsNewDesk (desk_of ran.seats)
+  pub events : ran.events ≡ 0
+  pub stopped : ran.stopped ≡ false
+
+-- whether a step tells that the task has stopped
+abbrev pub is_over : Step → Bool
+is_over Ended = true
+is_over (Broken breach) = true
+is_over step = false

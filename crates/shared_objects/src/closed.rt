@@ -1,4 +1,7 @@
 //! What is left of shared objects.
+ghost use Rattle.std.specs.Prelude.{◌≡◌};
+
+use crate::noted::Noted;
 use crate::seats::TaskSeats;
 use bio_records::{BioBody, Pad, Slip, Vector};
 use object_things::{BookThing, DiskThing, ListThing, PoolThing, TallyThing};
@@ -16,6 +19,10 @@ pub struct ClosedTask {
     pub first: Snapshot<Task>,
     /// Its seats as they were before they were joined into the first ones. What they have seen is its own calls, among those of others.
     pub seats: Snapshot<TaskSeats>,
+    /// How many events it has had; 2^64 - 1 where there are more.
+    pub events: u64,
+    /// Its events with their tickets, where there is a trace.
+    pub noted: Option<Noted>,
 }
 
 /// What is left of each object: the thing as all calls have left it, and the first seat, which has seen its whole history.
@@ -38,6 +45,79 @@ pub struct Closed {
     /// What was shared. It has no bytes here.
     pub told: Snapshot<Opened>,
     pub(crate) tasks: Vec<ClosedTask>,
+    // Whether each task noted its events.
+    pub(crate) trace: bool,
     pub(crate) pass: Snapshot<Pass>,
     pub(crate) room: Ended,
+}
+
+/// What is left of shared objects, each part by itself.
+#[derive(Drop)]
+pub struct ClosedParts {
+    pub bios: Vec<(SetId, Shut<PoolThing<BioBody<Pad>>>)>,
+    pub vecs: Shut<PoolThing<Vector>>,
+    pub records: Vec<(DevId, Shut<PoolThing<Slip>>)>,
+    pub lists: Vec<(DevId, Shut<ListThing>)>,
+    pub disks: Vec<Shut<DiskThing>>,
+    pub books: Vec<(u32, Shut<BookThing>)>,
+    pub tally: Shut<TallyThing>,
+    pub told: Snapshot<Opened>,
+    /// The tasks, in their order.
+    pub tasks: Vec<ClosedTask>,
+    /// Whether each of them noted its events.
+    pub trace: bool,
+    /// The first pass of the clock, into which all others were joined.
+    pub pass: Snapshot<Pass>,
+    /// Room for what the run leaves.
+    pub room: Ended,
+}
+
+impl Closed {
+    ghost use Rattle.shared_objects.specs.Parted.{ArePartsOf};
+
+    /// Each part by itself.
+    pub fn parts(self) -> ClosedParts
+        ensures { ArePartsOf self result }
+    {
+        let Closed {
+            bios,
+            vecs,
+            records,
+            lists,
+            disks,
+            books,
+            tally,
+            told,
+            tasks,
+            trace,
+            pass,
+            room,
+        } = self;
+        ClosedParts {
+            bios,
+            vecs,
+            records,
+            lists,
+            disks,
+            books,
+            tally,
+            told,
+            tasks,
+            trace,
+            pass,
+            room,
+        }
+    }
+}
+
+/// Room for what is left of shared objects, reserved as they are shared.
+#[derive(Drop)]
+pub(crate) struct Room {
+    pub(crate) bios: Vec<(SetId, Shut<PoolThing<BioBody<Pad>>>)>,
+    pub(crate) records: Vec<(DevId, Shut<PoolThing<Slip>>)>,
+    pub(crate) lists: Vec<(DevId, Shut<ListThing>)>,
+    pub(crate) disks: Vec<Shut<DiskThing>>,
+    pub(crate) books: Vec<(u32, Shut<BookThing>)>,
+    pub(crate) tasks: Vec<ClosedTask>,
+    pub(crate) ended: Ended,
 }

@@ -5,6 +5,7 @@ ghost use Rattle.shared_objects.specs.Logs.{CallsAreLogged, StepsAreLogged};
 ghost use Rattle.shared_objects.specs.Rans.{NewDesksAreRan, StepsKeepRan};
 
 use crate::locks::Locks;
+use crate::ran::Ran;
 use crate::seats::TaskSeats;
 
 /// One more call of a task stands behind those that it made.
@@ -48,8 +49,9 @@ fn shared<X: Sync>(x: &X) {
     let _ = x;
 }
 
-/// The locks may be shared among threads, and the seats of a task handed from one to another.
-fn threads_may_have_them(locks: &Locks, seats: &TaskSeats) {
+/// The locks may be shared among threads, and a task with its seats handed from one to another.
+fn threads_may_have_them(locks: &Locks, seats: &TaskSeats, ran: &Ran) {
     shared(locks);
     sent(seats);
+    sent(ran);
 }

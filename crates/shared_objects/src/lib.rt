@@ -3,13 +3,22 @@
 
 pub(crate) mod calls;
 pub mod closed;
+pub(crate) mod closing;
 pub mod desk;
 pub mod laws;
 pub mod locks;
+pub mod noted;
+mod opening;
+pub mod ran;
 pub mod rows;
 pub mod seats;
+pub mod shared;
 
-pub use closed::{Closed, ClosedTask};
+pub use closed::{Closed, ClosedParts, ClosedTask};
 pub use desk::Desk;
 pub use locks::Locks;
+pub use noted::Noted;
+pub use opening::share;
+pub use ran::Ran;
 pub use seats::TaskSeats;
+pub use shared::Shared;

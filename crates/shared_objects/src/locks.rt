@@ -34,6 +34,8 @@ pub struct Locks {
     pub books: Vec<(u32, SeatLock<BookThing>)>,
     /// The rounds, and the writes that are done.
     pub tally: SeatLock<TallyThing>,
+    /// Whether each task is to note its events.
+    pub trace: bool,
 }
 
 impl Locks {

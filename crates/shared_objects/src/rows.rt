@@ -113,7 +113,7 @@ pub fn join_row<K: Copy + Drop, T: Thing + Drop>(
 }
 
 // Ends the use of a lock.
-fn close_one<K: Copy + Drop, T: Thing + Drop>(
+pub(crate) fn close_one<K: Copy + Drop, T: Thing + Drop>(
     lock: (K, SeatLock<T>),
     first: (K, Seat<T>),
 ) -> (K, Shut<T>)

@@ -124,7 +124,7 @@ impl<'a, R: Wait> Objects for Desk<'a, R> {
 
     ghost holds = { λ desk. DeskHolds desk.locks.now desk.seats };
 
-    ghost serves = { λ old request reply new. DeskServes (desk_of old.seats) request reply (desk_of new.seats) };
+    ghost serves = { λ old request reply new. DeskServes (desk_of old.seats) request reply (desk_of new.seats) × (new.locks.now ≡ old.locks.now) };
 
     ghost picks = { λ desk dev pending chosen picked. PicksBy chosen picked };
 

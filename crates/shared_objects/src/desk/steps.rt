@@ -20,6 +20,7 @@ impl<'a, R: Wait> Desk<'a, R> {
         ensures turns { Turns DeskServes (Owes (stage_at self.old.locks.now)) (setup task.old.routing) task.old.state (desk_of self.old.seats) task.new.state (desk_of self.new.seats) result }
         ensures kept { DeskHolds self.new.locks.now self.new.seats × (stage_at self.new.locks.now ≡ stage_at self.old.locks.now) }
         ensures same { task.new.routing ≡ task.old.routing }
+        ensures locks { self.new.locks.now ≡ self.old.locks.now }
     {
         task.step(self, chooser)
     }

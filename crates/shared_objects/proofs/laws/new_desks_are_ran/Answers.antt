@@ -1,5 +1,4 @@
 use Rattle.shared_objects.proofs.Running.{new_desks_are_ran}
-use Rattle.shared_objects.proofs.Viewing.{turns_seen}
 use Rattle.shared_objects.proofs.laws.new_desks_are_ran.Goals as goal
 
 -- src/laws.rt

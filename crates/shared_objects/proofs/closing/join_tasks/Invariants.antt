@@ -1,0 +1,9 @@
+use Rattle.std.proofs.Common.{◌≤◌, length, vec_capacity}
+use Rattle.shared_objects.specs.Joining.{ArePutAway}
+use Rattle.shared_objects.proofs.Places.{Part}
+use Rattle.shared_objects.proofs.closing.join_tasks.Given as goal
+
+abbrev pub invariant-joining : goal.invariant-joining
+invariant-joining l =
+    (length l.fn.tasks.items ≤ vec_capacity l.closed)
+    × Part l.fn.tasks.items l.slot-iterator.rest.items (λ done. ArePutAway (length l.fn.tasks.items) l.locks done l.firsts l.closed.items)

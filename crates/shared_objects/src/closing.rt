@@ -1,0 +1,201 @@
+//! Ends the use of shared objects.
+ghost use Rattle.std.specs.Prelude.{◌≡◌, ◌+◌, ◌≤◌, All, None, Some, [], length, vec_capacity};
+ghost use Rattle.object_things.specs.Disks.{DiskAnswers, disk_mark};
+ghost use Rattle.shared_objects.specs.Holding.{IsPassOf, LocksHold, SeatsHold};
+ghost use Rattle.shared_objects.specs.Joining.{AreHere, ArePutAway, CanEnd, HasBeside, HasJoinedPass, HasJoinedSeats, IsPutAway, RowsFit};
+ghost use Rattle.shared_objects.specs.Left.{HasClosed};
+ghost use Rattle.shared_objects.specs.Rans.{IsOtherPass, RanHolds};
+ghost use Rattle.shared_objects.specs.Rows.{Abreast, AreAdded, CanClose, IsAt};
+ghost use Rattle.shared_objects.specs.Shared.{FirstsHold, HaveStopped, SharedHolds};
+ghost use Rattle.shared_objects.specs.Shutting.{HasShut, IsShutOf};
+ghost use Rattle.shared_objects.specs.Taking.{TakenHold};
+
+use crate::closed::{Closed, ClosedTask, Room};
+use crate::locks::Locks;
+use crate::ran::Ran;
+use crate::rows::{close_one, close_row, join_row};
+use crate::seats::TaskSeats;
+use crate::shared::Shared;
+use object_things::DiskThing;
+use seat_lock::{Seat, SeatLock, Shut};
+use stack_base::DevId;
+use std::snapshot::Snapshot;
+use task_core::Opened;
+use tick_clock::{Clock, Pass};
+
+// Joins a task's pass into the first one.
+fn join_pass(clock: &Clock, first: &mut Option<Pass>, other: Option<Pass>)
+    requires first { IsPassOf clock.now first.old }
+    requires other { IsPassOf clock.now other × IsOtherPass other }
+    ensures joined { HasJoinedPass first.old other first.new }
+    ensures of { IsPassOf clock.now first.new }
+{
+    let Some(mut pass) = first.take() else {
+        unreachable!()
+    };
+    let Some(other) = other else { unreachable!() };
+    clock.join(&mut pass, other);
+    *first = Some(pass);
+}
+
+// Joins a task's seats into the first ones.
+fn join_seats(locks: &Locks, firsts: &mut TaskSeats, seats: TaskSeats)
+    requires firsts { FirstsHold locks.now firsts.old }
+    requires seats { SeatsHold locks.now seats }
+    requires pass { IsPassOf locks.now.common.value.clock seats.pass × IsOtherPass seats.pass }
+    ensures joined { HasJoinedSeats locks.now firsts.old seats firsts.new }
+    ensures of { FirstsHold locks.now firsts.new }
+{
+    let TaskSeats {
+        number: _,
+        pass,
+        bios,
+        vecs,
+        records,
+        lists,
+        disks,
+        books,
+        tally,
+    } = seats;
+    join_row(&locks.bios, &mut firsts.bios, bios);
+    locks.vecs.join(&mut firsts.vecs, vecs);
+    join_row(&locks.records, &mut firsts.records, records);
+    join_row(&locks.lists, &mut firsts.lists, lists);
+    join_row(&locks.disks, &mut firsts.disks, disks);
+    join_row(&locks.books, &mut firsts.books, books);
+    locks.tally.join(&mut firsts.tally, tally);
+    join_pass(locks.common.clock(), &mut firsts.pass, pass);
+}
+
+// Puts a task away, and joins its seats into the first ones.
+fn join_task(locks: &Locks, firsts: &mut TaskSeats, ran: Ran) -> ClosedTask
+    requires home { ran.home ≡ locks.now }
+    requires firsts { FirstsHold locks.now firsts.old }
+    ensures holds { RanHolds ran }
+    ensures away { IsPutAway ran result }
+    ensures joined { HasJoinedSeats locks.now firsts.old ran.seats firsts.new }
+    ensures of { FirstsHold locks.now firsts.new }
+{
+    let Ran {
+        task,
+        seats,
+        first,
+        home: _,
+        events,
+        stopped: _,
+        noted,
+    } = ran;
+    let shown = Snapshot::of(&seats);
+    join_seats(locks, firsts, seats);
+    ClosedTask {
+        task,
+        first,
+        seats: shown,
+        events,
+        noted,
+    }
+}
+
+// Puts all tasks away, and joins the seats of each into the first ones. There is room for them.
+fn join_tasks(
+    locks: &Locks,
+    firsts: &mut TaskSeats,
+    tasks: Vec<Option<Ran>>,
+    closed: &mut Vec<ClosedTask>,
+)
+    requires firsts { FirstsHold locks.now firsts.old }
+    requires taken { TakenHold (length tasks.items) locks.now [] firsts.old }
+    requires here { AreHere locks.now tasks.items }
+    requires room { (closed.old.items ≡ []) × (length tasks.items ≤ vec_capacity closed.old) }
+    ensures { ArePutAway (length tasks.items) locks.now tasks.items firsts.new closed.new.items }
+{
+    'joining: for slot in tasks {
+        let Some(ran) = slot else { unreachable!() };
+        closed.push(join_task(locks, firsts, ran)).unwrap();
+    }
+}
+
+// Ends the use of the disks' locks, with their first seats. What is left of each stands behind what was there, for which there is room; which
+// device it is, the disk knows.
+fn close_disks(
+    locks: Vec<(DevId, SeatLock<DiskThing>)>,
+    firsts: Vec<(DevId, Seat<DiskThing>)>,
+    shut: &mut Vec<Shut<DiskThing>>,
+)
+    requires of { Abreast IsAt locks.items firsts.items }
+    requires whole { All CanClose firsts.items }
+    requires room { length shut.old.items + length locks.items ≤ vec_capacity shut.old }
+    ensures { AreAdded (λ lock first left. IsShutOf disk_mark DiskAnswers lock.1 first.1 left.thing left.told.value) locks.items firsts.items shut.old.items shut.new.items }
+{
+    let mut rest = firsts.into_iter();
+    'closing: for lock in locks {
+        let Some(first) = rest.next() else {
+            unreachable!()
+        };
+        let (_, left) = close_one(lock, first);
+        shut.push(left).unwrap();
+    }
+}
+
+// The first pass as it is at the end.
+fn last_of(pass: Option<Pass>) -> Snapshot<Pass>
+    requires { pass ≡ None → ⊥ }
+    ensures { pass ≡ Some result.value }
+{
+    let Some(pass) = pass else { unreachable!() };
+    Snapshot::of(&pass)
+}
+
+// Ends the use of the locks, with their first seats, into which those of all tasks were joined.
+fn close_locks(locks: Locks, firsts: TaskSeats, mut room: Room, told: Snapshot<Opened>) -> Closed
+    requires locks { LocksHold locks }
+    requires firsts { FirstsHold locks firsts }
+    requires whole { CanEnd firsts }
+    requires room { RowsFit locks room }
+    ensures shut { HasShut locks firsts result }
+    ensures beside { HasBeside told.value firsts room result }
+    ensures trace { result.trace ≡ locks.trace }
+{
+    close_row(locks.bios, firsts.bios, &mut room.bios);
+    close_row(locks.records, firsts.records, &mut room.records);
+    close_row(locks.lists, firsts.lists, &mut room.lists);
+    close_disks(locks.disks, firsts.disks, &mut room.disks);
+    close_row(locks.books, firsts.books, &mut room.books);
+    Closed {
+        bios: room.bios,
+        vecs: locks.vecs.close(firsts.vecs),
+        records: room.records,
+        lists: room.lists,
+        disks: room.disks,
+        books: room.books,
+        tally: locks.tally.close(firsts.tally),
+        told,
+        tasks: room.tasks,
+        trace: locks.trace,
+        pass: last_of(firsts.pass),
+        room: room.ended,
+    }
+}
+
+impl Shared {
+    /// Ends the use of the objects: each task was handed out, came back and has stopped. What is left shows the whole history of each object,
+    /// with each task's calls in it.
+    pub fn close(self) -> Closed
+        requires holds { SharedHolds self }
+        requires over { HaveStopped self }
+        ensures closed { HasClosed result }
+        ensures told { result.told.value ≡ self.told.value }
+        ensures trace { result.trace ≡ self.locks.trace }
+    {
+        let Shared {
+            locks,
+            mut firsts,
+            tasks,
+            next: _,
+            mut room,
+            told,
+        } = self;
+        join_tasks(&locks, &mut firsts, tasks, &mut room.tasks);
+        close_locks(locks, firsts, room, told)
+    }
+}

@@ -1,0 +1,194 @@
+//! A task with its seats.
+ghost use Rattle.std.specs.Prelude.{◌≡◌};
+ghost use Rattle.std.specs.Option.{is_some};
+ghost use Rattle.shared_objects.specs.Logs.{seen_by};
+ghost use Rattle.shared_objects.specs.Noting.{IsBlank, NotesStep};
+ghost use Rattle.shared_objects.specs.Rans.{events_after, stopped_after};
+
+use crate::locks::Locks;
+use crate::noted::Noted;
+use crate::seats::TaskSeats;
+use std::alloc::Global;
+use std::marker::Model;
+use std::snapshot::Snapshot;
+use std::sync::Wait;
+use task_core::{Chooser, Kind, Step, Task, TaskId};
+use tick_clock::Pass;
+
+/// A task with its seats of shared objects, as it goes from thread to thread. Whatever steps it has made, its seats show the calls that led it
+/// from where it was opened to where it is.
+#[derive(Drop)]
+pub struct Ran {
+    pub task: Task,
+    pub seats: TaskSeats,
+    /// The task as it was opened. It has no bytes here, nor have the locks that the seats are of.
+    pub first: Snapshot<Task>,
+    pub(crate) home: Snapshot<Locks>,
+    // How many events it has had; 2^64 - 1 where there are more.
+    pub(crate) events: u64,
+    // Whether a step has told that it has stopped.
+    pub(crate) stopped: bool,
+    // What it has noted, where that is wanted.
+    pub(crate) noted: Option<Noted>,
+}
+
+impl Model for Ran {
+    ghost use Rattle.shared_objects.specs.Rans.{RanState, RanHolds};
+
+    ghost Value = { RanState };
+
+    ghost view = { λ r. record { task = r.task; seats = r.seats; first = r.first.value; home = r.home.value; events = r.events; stopped = r.stopped; noted = r.noted } };
+
+    ghost invariant = { λ r. RanHolds (record { task = r.task; seats = r.seats; first = r.first.value; home = r.home.value; events = r.events; stopped = r.stopped; noted = r.noted }) };
+}
+
+impl Ran {
+    ghost use Rattle.std.specs.Prelude.{false};
+    ghost use Rattle.run_machine.specs.Events.{id_of};
+    ghost use Rattle.task_steps.specs.Homes.{IsTaskOf};
+    ghost use Rattle.task_steps.specs.Routed.{setup};
+    ghost use Rattle.task_steps.specs.Stage.{Owes};
+    ghost use Rattle.task_steps.specs.Turns.{Turns};
+    ghost use Rattle.shared_objects.specs.Desks.{DeskServes};
+    ghost use Rattle.shared_objects.specs.Holding.{DeskHolds, desk_of, stage_at};
+    ghost use Rattle.shared_objects.specs.Rans.{IsNewDesk, IsOtherPass, ran_key};
+
+    /// A task as it was opened, with seats of these locks, at which nothing was called yet, and an empty list for its events, where the locks
+    /// want that.
+    pub(crate) fn new(alloc: Global, task: Task, seats: TaskSeats, locks: &Locks) -> Ran
+        requires desk { DeskHolds locks.now seats }
+        requires routing { task.routing ≡ (stage_at locks.now).routing }
+        requires task { IsTaskOf (stage_at locks.now) task.state }
+        requires pass { IsOtherPass seats.pass }
+        requires unused { IsNewDesk (desk_of seats) }
+        ensures made { result ≡ record { task = task; seats = seats; first = task; home = locks.now; events = 0; stopped = false; noted = result.noted } }
+        ensures blank { IsBlank result.noted }
+        ensures listed { is_some result.noted ≡ locks.now.trace }
+    {
+        let first = Snapshot::of(&task);
+        let noted = noted_for(alloc, locks.trace);
+        Ran {
+            task,
+            seats,
+            first,
+            home: Snapshot::of(locks),
+            events: 0,
+            stopped: false,
+            noted,
+        }
+    }
+
+    /// Steps the task once, at a desk of the locks that its seats are of. Where that is wanted, it notes its event, with the ticket.
+    pub fn step<R: Wait, C: Chooser>(self, rt: &R, locks: &Locks, chooser: &mut C) -> (Ran, Step)
+        requires home { self.home ≡ locks.now }
+        ensures turns { Turns DeskServes (Owes (stage_at locks.now)) (setup self.task.routing) self.task.state (desk_of self.seats) result.0.task.state (desk_of result.0.seats) result.1 }
+        ensures key { ran_key result.0 ≡ ran_key self }
+        ensures events { result.0.events ≡ events_after result.1 self.events }
+        ensures stopped { result.0.stopped ≡ stopped_after result.1 self.stopped }
+        ensures noted { NotesStep result.1 (seen_by result.0.seats.pass) self.noted result.0.noted }
+    {
+        let Ran {
+            mut task,
+            seats,
+            first,
+            home,
+            events,
+            stopped,
+            noted,
+        } = self;
+        let mut desk = locks.desk(rt, seats);
+        let step = desk.step(&mut task, chooser);
+        let seats = desk.back();
+        let seen = seen_by(&seats.pass);
+        let ran = Ran {
+            task,
+            seats,
+            first,
+            home,
+            events: events_after(step, events),
+            stopped: stopped_after(step, stopped),
+            noted: noted_after(step, seen, noted),
+        };
+        (ran, step)
+    }
+
+    /// Which task it is: its number among the tasks of the run, in their order.
+    pub fn number(&self) -> u32
+        ensures { result ≡ self.now.seats.number }
+    {
+        self.seats.number
+    }
+
+    /// Which task it is, as its events name it.
+    pub fn id(&self) -> TaskId
+        ensures { result ≡ id_of self.now.task.state }
+    {
+        match self.task.kind() {
+            Kind::Writer(writer) => TaskId::Writer(writer.number()),
+            Kind::Rescuer(rescuer) => TaskId::Rescuer(rescuer.dev()),
+            Kind::Completer { disk, carried: _ } => TaskId::Completer(*disk),
+            Kind::Keeper(_) => TaskId::Keeper,
+        }
+    }
+
+    /// Whether a step of it has told that it has stopped: it has ended, or cannot go on.
+    pub fn stopped(&self) -> bool
+        ensures { result ≡ self.now.stopped }
+    {
+        self.stopped
+    }
+}
+
+// How many events there are behind a step.
+fn events_after(step: Step, events: u64) -> u64
+    ensures { result ≡ events_after step events }
+{
+    match step {
+        Step::Stepped(_) => events.saturating_add(1),
+        Step::Blocked(_) | Step::Waiting | Step::Ended | Step::Broken(_) => events,
+    }
+}
+
+// Whether the task has stopped behind a step.
+fn stopped_after(step: Step, stopped: bool) -> bool
+    ensures { result ≡ stopped_after step stopped }
+{
+    match step {
+        Step::Ended | Step::Broken(_) => true,
+        Step::Stepped(_) | Step::Blocked(_) | Step::Waiting => stopped,
+    }
+}
+
+// What a pass has seen, where it is at home.
+fn seen_by(pass: &Option<Pass>) -> u64
+    ensures { result ≡ seen_by pass.now }
+{
+    match pass {
+        Some(pass) => pass.seen(),
+        None => 0,
+    }
+}
+
+// A list for a task's events, where one is wanted.
+fn noted_for(alloc: Global, trace: bool) -> Option<Noted>
+    ensures blank { IsBlank result }
+    ensures listed { is_some result ≡ trace }
+{
+    if trace { Some(Noted::new(alloc)) } else { None }
+}
+
+// What is noted behind a step, with the ticket that its event drew. The pass has seen that one last.
+fn noted_after(step: Step, ticket: u64, noted: Option<Noted>) -> Option<Noted>
+    ensures { NotesStep step ticket noted result }
+{
+    let Some(mut list) = noted else {
+        return None;
+    };
+    match step {
+        Step::Stepped(event) => {
+            list.note(ticket, event);
+            Some(list)
+        }
+        Step::Blocked(_) | Step::Waiting | Step::Ended | Step::Broken(_) => Some(list),
+    }
+}

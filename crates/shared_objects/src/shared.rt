@@ -1,0 +1,73 @@
+//! Shared objects.
+ghost use Rattle.std.specs.Prelude.{◌≡◌, length};
+
+use crate::closed::Room;
+use crate::locks::Locks;
+use crate::ran::Ran;
+use crate::seats::TaskSeats;
+use std::mem;
+use std::snapshot::Snapshot;
+use task_core::Opened;
+
+/// The objects of a run behind locks, with the tasks that were not handed out yet, or are back.
+///
+/// Threads share the locks by reference (`locks`). The first seats stand beside them, since only one thread may have a seat at a time.
+#[derive(Drop)]
+pub struct Shared {
+    pub(crate) locks: Locks,
+    // The first seat of each lock and the first pass of the clock, from which those of all tasks were split off.
+    pub(crate) firsts: TaskSeats,
+    // Each task at its place, where it is not out.
+    pub(crate) tasks: Vec<Option<Ran>>,
+    // The next task to hand out.
+    pub(crate) next: u32,
+    pub(crate) room: Room,
+    // What was shared. It has no bytes here.
+    pub(crate) told: Snapshot<Opened>,
+}
+
+impl Shared {
+    ghost use Rattle.std.specs.Prelude.{◌↔◌, IfSome, IsNone, None};
+    ghost use Rattle.shared_objects.specs.Shared.{HandsOut, IsOut, SharedHolds, TakesBack};
+
+    /// The locks of the objects.
+    pub fn locks(&self) -> &Locks
+        ensures { result.now ≡ self.now.locks }
+    {
+        &self.locks
+    }
+
+    /// How many tasks the run has.
+    pub fn count(&self) -> usize
+        ensures { result ≡ length self.now.tasks.items }
+    {
+        self.tasks.len()
+    }
+
+    /// Hands out the next task, with its seats, if there is one that was not handed out yet.
+    pub fn take_task(&mut self) -> Option<Ran>
+        requires { SharedHolds self.old }
+        ensures holds { SharedHolds self.new }
+        ensures none { IsNone result ↔ (self.old.next ≡ length self.old.tasks.items) }
+        ensures task { IfSome result (λ ran. HandsOut self.old ran self.new) }
+        ensures same { result ≡ None → self.new ≡ self.old }
+    {
+        let at = self.next as usize;
+        if at == self.tasks.len() {
+            return None;
+        }
+        self.next += 1;
+        self.tasks[at].take()
+    }
+
+    /// Takes back a task that was handed out.
+    pub fn put_task(&mut self, ran: Ran)
+        requires holds { SharedHolds self.old }
+        requires out { IsOut self.old ran }
+        ensures holds { SharedHolds self.new }
+        ensures back { TakesBack self.old ran self.new }
+    {
+        let at = ran.number() as usize;
+        drop(mem::replace(&mut self.tasks[at], Some(ran)));
+    }
+}
