@@ -2,4 +2,6 @@ pub mod products
 pub mod merging
 pub mod closing
 pub mod cases
+pub mod tracing
 pub mod closes
+pub mod leaving

@@ -6,4 +6,8 @@ pub mod Numbers
 pub mod Merging
 pub mod Closing
 pub mod Joining
+pub mod Listing
+pub mod Tracing
 pub mod SharedObjects
+pub mod Falling
+pub mod Outcomes

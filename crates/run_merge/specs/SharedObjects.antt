@@ -1,5 +1,5 @@
 -- What is left of objects that were shared, as histories of entries and as a state of runs.
-use Rattle.std.specs.Prelude.{◌≡◌, ◌-◌, ◌≤◌, ℕ, List, All, map, slice_index_or, Option, Some, None}
+use Rattle.std.specs.Prelude.{◌≡◌, ◌-◌, ◌≤◌, ℕ, List, All, map, slice_index_or}
 use Rattle.stack_base.specs.Stack.{HasRescuers}
 use Rattle.tick_clock.specs.declared.ticking.Ticket.{Ticket}
 use Rattle.tick_clock.specs.Tickets.{PassState}
@@ -16,6 +16,7 @@ use Rattle.object_things.specs.Stamps.{ThingState}
 use Rattle.shared_objects.specs.Closes.{Returned, ClosesAs}
 use Rattle.shared_objects.specs.Kinds.{ThingAt}
 use Rattle.shared_objects.specs.Logs.{events_in}
+use Rattle.shared_objects.specs.Passes.{found_by}
 use Rattle.run_merge.specs.Closing.{HasMerged}
 use Rattle.run_merge.specs.Merging.{Ticketed, Histories}
 use Rattle.run_merge.specs.ObjectsByName.{StateAt, made_of}
@@ -51,11 +52,6 @@ state_left left tasks =
 
 abbrev pub numbers_of : List Ticket → List ℕ
 numbers_of tickets = map (λ (ticket : Ticket). ticket.number) tickets
-
--- the last ticket that a pass has found
-abbrev pub found_by : Option PassState → ℕ
-found_by None = 0
-found_by (Some pass) = pass.known
 
 -- What a close shows of objects and tasks as they were opened of a text whose mirrors have rescuers, where the first pass has found what those
 -- of the tasks have: the merge of the histories is a run that has ended and leaves what is left.

@@ -4,6 +4,7 @@ ghost use Rattle.run_merge.specs.Merging.{MergesAreRuns};
 ghost use Rattle.run_merge.specs.Numbers.{RoundsAreNumbered};
 ghost use Rattle.run_merge.specs.Products.{RunsAreProducts};
 ghost use Rattle.run_merge.specs.SharedObjects.{ClosesAreRuns};
+ghost use Rattle.run_merge.specs.Tracing.{NotesAreRuns};
 
 /// A list of entries is that of a run exactly where it is a product: each is an event, those at each object are a run of its machine, those of
 /// each task lead it on, the first take of each write stands behind the start of its round, and the start of each round and each change of a
@@ -33,4 +34,10 @@ pub fn closed_runs_end()
 /// merge of the histories is a run that has ended and leaves what is left, no task broke off, and no draw failed.
 pub fn closes_are_runs()
     ensures { ClosesAreRuns }
+{}
+
+/// The trace of a run by threads, of what a close shows: what all tasks noted of their calls, joined by the tickets that these drew, are the events
+/// of each run whose entries are the merge of the histories.
+pub fn notes_are_runs()
+    ensures { NotesAreRuns }
 {}

@@ -3,3 +3,9 @@
 
 pub mod joining;
 pub mod laws;
+pub(crate) mod left;
+pub mod outcome;
+pub(crate) mod rows;
+pub(crate) mod trace;
+
+pub use outcome::{Outcome, merge};

@@ -28,12 +28,13 @@ use Rattle.shared_objects.specs.Calls.{is_same}
 use Rattle.shared_objects.specs.Closes.{Returned, ClosesAs}
 use Rattle.shared_objects.specs.Kinds.{ThingAt, opened_at, unasked}
 use Rattle.shared_objects.specs.Logs.{LogLeads}
+use Rattle.shared_objects.specs.Passes.{found_by}
 use Rattle.run_merge.specs.Closing.{IsThrough, IsRefused, HasLast, IsClosed}
 use Rattle.run_merge.specs.Machines.{LeadsObject}
 use Rattle.run_merge.specs.Merging.{Ticketed, Rises, entries_of, history_of, done_by, LetsAsk, Shown}
 use Rattle.run_merge.specs.ObjectsByName.{get, made_of}
 use Rattle.run_merge.specs.Products.{LeadsTask, led_by, task_behind}
-use Rattle.run_merge.specs.SharedObjects.{ticketed, ticketed_events, merged_histories, seen_at, tasks_of, state_left, found_by, numbers_of, ClosesAreRuns}
+use Rattle.run_merge.specs.SharedObjects.{ticketed, ticketed_events, merged_histories, seen_at, tasks_of, state_left, numbers_of, ClosesAreRuns}
 use Rattle.run_merge.proofs.closes.Counting.{walked, first_is, done_at, rounds_few, few_drawn, image_at, image_none}
 use Rattle.run_merge.proofs.closes.Drawing.{in_row}
 use Rattle.run_merge.proofs.closes.Drawn.{events_told, events_untold, rises_events}

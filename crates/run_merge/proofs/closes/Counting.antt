@@ -135,7 +135,7 @@ module _ (s : Scenario) (plain : Plain) (names : List Object) (history : Object 
       (All-weaker (λ (call : Call). (0 < call.by) × (call.by ≤ length tasks)) (λ (call : Call). call.by - 1 < length tasks)
       (λ call h. let some = h.0 in let less = h.1 in omega (arith, some, less)) (history name) (c.numbers name)))
 
-  log_drew : (place : ℕ) (task : Returned) → slice_get tasks place ≡ Some task → All HasTicket task.log
+  pub log_drew : (place : ℕ) (task : Returned) → slice_get tasks place ≡ Some task → All HasTicket task.log
   log_drew place task at =
       All-weaker (Contains task.log) HasTicket
       (λ call within. All-contains HasTicket (history (object_of call.asked)) call
@@ -198,7 +198,7 @@ module _ (s : Scenario) (plain : Plain) (names : List Object) (history : Object 
           by_two (inl (task, less, at, same)) = at_task k task at
           by_two (inr (le, none)) = absurd (omega (arith, lt, le))
 
-  all_placed : (ns : List Object) → All (λ (x : Ticketed). x.entry.place < length tasks) (all_of (merged_histories ns history))
+  pub all_placed : (ns : List Object) → All (λ (x : Ticketed). x.entry.place < length tasks) (all_of (merged_histories ns history))
   all_placed [] = All-nil (λ (x : Ticketed). x.entry.place < length tasks)
   all_placed (name ∷ ns) =
       All-append (λ (x : Ticketed). x.entry.place < length tasks) (ticketed_events (history name)) (all_of (merged_histories ns history)) (placed name) (all_placed ns)

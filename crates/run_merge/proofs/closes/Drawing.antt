@@ -13,11 +13,11 @@ use Rattle.task_core.specs.declared.plain.Plain.{Plain}
 use Rattle.object_things.specs.Histories.{Call, or_last, TicketsRise}
 use Rattle.object_things.specs.Stamps.{ThingState}
 use Rattle.shared_objects.specs.Closes.{Returned, ClosesAs}
-use Rattle.shared_objects.specs.Passes.{drawn_by}
+use Rattle.shared_objects.specs.Passes.{drawn_by, found_by}
 use Rattle.shared_objects.specs.Kinds.{ThingAt, opened_at, unasked}
 use Rattle.shared_objects.specs.Logs.{tickets_in, IsSeenIn, FoundNone, KnowsLast, HasPass, IsLogged}
 use Rattle.run_merge.specs.Closing.{AreInRow, HasLast}
-use Rattle.run_merge.specs.SharedObjects.{found_by, numbers_of}
+use Rattle.run_merge.specs.SharedObjects.{numbers_of}
 use Rattle.run_merge.proofs.closes.Objects.{keeps}
 use Rattle.run_merge.proofs.closes.Owners.{split_at, first_there, at_all, IsOwned, owner, logged, kept, IsInPlace, in_place}
 
@@ -34,7 +34,7 @@ ticket_there calls call n there is =
     (sym (ap tickets_in p.is ∙ filter_map-append (λ (c : Call). c.told.ticket) p.before (call ∷ p.after) ∙ ap (λ o. tickets_in p.before ++ cons_option o (tickets_in p.after)) is))
     (Contains-append_right (tickets_in p.before) (n ∷ tickets_in p.after) n (first_there n (tickets_in p.after)))
 
-flat_there : {X Y : Type 0} (f : X → List Y) (xs : List X) (i : ℕ) (x : X) (y : Y) → slice_get xs i ≡ Some x → Contains (f x) y → Contains (flat_map f xs) y
+pub flat_there : {X Y : Type 0} (f : X → List Y) (xs : List X) (i : ℕ) (x : X) (y : Y) → slice_get xs i ≡ Some x → Contains (f x) y → Contains (flat_map f xs) y
 flat_there {X} {Y} f xs i x y at there = at_all (λ z. Contains (f z) y → Contains (flat_map f xs) y) xs i x (every xs) at there
   where
     every : (xs : List X) → All (λ z. Contains (f z) y → Contains (flat_map f xs) y) xs

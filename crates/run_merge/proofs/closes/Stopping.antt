@@ -17,11 +17,12 @@ use Rattle.object_things.specs.Stamps.{ThingState, StepOf, is_spent}
 use Rattle.shared_objects.specs.Closes.{Returned, ClosesAs}
 use Rattle.shared_objects.specs.Kinds.{ThingAt, serves_at, looks_at, opened_at, unasked}
 use Rattle.shared_objects.specs.Logs.{HasStopped}
+use Rattle.shared_objects.specs.Passes.{found_by}
 use Rattle.run_merge.specs.Closing.{IsThrough, IsRefused, HasLast}
 use Rattle.run_merge.specs.Machines.{ServesAt, TallyServes, LeadsObject}
 use Rattle.run_merge.specs.Merging.{Ticketed, entries_of, done_by}
 use Rattle.run_merge.specs.ObjectsByName.{get}
-use Rattle.run_merge.specs.SharedObjects.{ticketed, ticketed_events, merged_histories, found_by, numbers_of, seen_at}
+use Rattle.run_merge.specs.SharedObjects.{ticketed, ticketed_events, merged_histories, numbers_of, seen_at}
 use Rattle.run_merge.proofs.closes.Drawing.{last_drawn}
 use Rattle.run_merge.proofs.closes.Drawn.{HasTicket, events_append, events_untold, rises_events, none_greater, rises_above, rises_parts}
 use Rattle.run_merge.proofs.closes.Looks.{parts_ready, history_parts, IsSeen, seen_then, left_look, lets_ask}

@@ -27,7 +27,7 @@ no_event : (event stop : Bool) → not (event || stop) ≡ true → event ≡ fa
 no_event true stop h = absurd (true≢false (sym h))
 no_event false stop h = refl
 
-is_one : (event stop : Bool) → not (event || stop) ≡ false → event ≡ false → stop ≡ true
+pub is_one : (event stop : Bool) → not (event || stop) ≡ false → event ≡ false → stop ≡ true
 is_one true stop h not = absurd (true≢false not)
 is_one false true h not = refl
 is_one false false h not = absurd (true≢false h)
@@ -79,7 +79,7 @@ module _ (setup : Setup) where
       (subst (λ es. Looked ((before ++ m ∷ []) ++ mine) (led_by setup first (entries_of (map_all es))) call (look_of (led_by setup first (entries_of (map_all es))))) (sym is) looked)
 
   -- behind it a task only looks
-  only_looks : (before : List Call) (task : TaskState) (calls : List Call) (last : TaskState) → is_broken task ≡ true → AskSome calls → LogLeads setup before task calls last
+  pub only_looks : (before : List Call) (task : TaskState) (calls : List Call) (last : TaskState) → is_broken task ≡ true → AskSome calls → LogLeads setup before task calls last
       → (last ≡ task) × (events_in calls ≡ [])
   only_looks before task [] last broken some leads = (leads, refl)
   only_looks before task (call ∷ calls) last broken some (inl (glance, leads)) =

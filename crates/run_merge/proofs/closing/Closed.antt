@@ -8,7 +8,7 @@ use Rattle.stack_base.specs.Stack.{HasRescuers}
 use Rattle.run_machine.specs.declared.event.Event.{Event}
 use Rattle.run_machine.specs.Laws.{Object, OfTally}
 use Rattle.run_machine.specs.Objects.{Serves}
-use Rattle.run_machine.specs.Opened.{Scenario, scene, start, tasks}
+use Rattle.run_machine.specs.Opened.{Scenario, scene, start}
 use Rattle.run_machine.specs.Runs.{State, IsRun, HasFree, HasEnded, unfinished}
 use Rattle.block_core.specs.Runnable.{IsRunnable}
 use Rattle.block_core.specs.Scenarios.{IsNaming}

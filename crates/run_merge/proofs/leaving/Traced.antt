@@ -1,0 +1,81 @@
+-- What the tasks of closed objects noted, joined by tickets, are the events of the run to which the histories merge.
+use Rattle.std.proofs.Common.{◌≡◌, ◌⊎◌, ◌<◌, ◌≤◌, ◌++◌, ℕ, suc, List, [], ◌∷◌, Option, None, Some, length, get_or, inl, inr, refl, sym, ◌∙◌, subst, arith}
+use Rattle.std.specs.Prelude.{All, slice_get, slice_index_or}
+use Rattle.std.specs.List.{flat_map}
+use Rattle.std.proofs.lemmas.Option.{slice_get_cases, get_or_from_slice_get}
+use Rattle.run_machine.specs.declared.event.Event.{Event}
+use Rattle.run_machine.specs.Opened.{setup as setup_in}
+use Rattle.run_machine.specs.Runs.{State}
+use Rattle.run_machine.specs.Scene.{Setup}
+use Rattle.task_core.specs.Plains.{stage_of}
+use Rattle.task_steps.specs.Routed.{setup}
+use Rattle.shared_objects.specs.Closed.{history_in, left_in, names_in}
+use Rattle.shared_objects.specs.Closes.{Returned, ClosesAs}
+use Rattle.shared_objects.specs.Left.{HasClosed}
+use Rattle.shared_objects.specs.Noting.{notes_of, AreNoted, HaveTickets}
+use Rattle.shared_objects.specs.Rows.{Abreast}
+use Rattle.shared_objects.specs.declared.closed.Closed.{Closed}
+use Rattle.shared_objects.specs.declared.closed.ClosedTask.{ClosedTask}
+use Rattle.shared_objects.specs.declared.noted.Noted.{Noted}
+use Rattle.run_merge.specs.Joining.{IsJoined}
+use Rattle.run_merge.specs.Listing.{IsList, list_in, AreWhole, noted_in}
+use Rattle.run_merge.specs.Merging.{entries_of, sorted, all_of}
+use Rattle.run_merge.specs.Outcomes.{scenario_of, ledger_of, histories_in}
+use Rattle.run_merge.specs.Products.{AreOfRun}
+use Rattle.run_merge.specs.Tracing.{notes_in}
+use Rattle.run_merge.proofs.closes.Counting.{log_drew}
+use Rattle.run_merge.proofs.tracing.Notes.{notes_are_runs}
+
+-- rows of which this is the same at each place
+flats_same : {X Y Z : Type 0} (f : X → List Z) (g : Y → List Z) (xs : List X) (ys : List Y) → Abreast (λ x y. f x ≡ g y) xs ys → flat_map f xs ≡ flat_map g ys
+flats_same f g [] [] are = refl
+flats_same f g [] (y ∷ ys) are = absurd (let long = are.lens in omega (arith, long))
+flats_same f g (x ∷ xs) [] are = absurd (let long = are.lens in omega (arith, long))
+flats_same f g (x ∷ xs) (y ∷ ys) are =
+    let here = are.each 0 x y (omega arith) in
+    let long = are.lens in
+    let rest = flats_same f g xs ys (record { lens = omega (arith, long); each = λ place a b lt. are.each (suc place) a b (omega (arith, lt)) }) in
+    λ i. here i ++ rest i
+
+-- a whole list has all notes
+whole_is : (notes : List (ℕ × Event)) (noted : Option Noted) → AreNoted notes noted → IsList noted (list_in noted) → list_in noted ≡ notes
+whole_is notes None are whole = absurd whole
+whole_is notes (Some noted) are whole = are whole.0
+
+module _ (closed : Closed) (has : HasClosed closed) where
+  abbrev now : Setup
+  now = setup (stage_of closed.told.value.objects).routing
+
+  -- each event of a task drew a ticket
+  have_tickets : All (λ (task : Returned). HaveTickets task.log) has.returned
+  have_tickets place task less = by_two (slice_get_cases has.returned place).1
+    where
+      in_scenario : ClosesAs (setup_in (scenario_of closed)) closed.told.value.objects (names_in closed) (history_in closed) (left_in closed closed.told.value.objects) has.returned closed.pass.value
+      in_scenario =
+          subst (λ setup. ClosesAs setup closed.told.value.objects (names_in closed) (history_in closed) (left_in closed closed.told.value.objects) has.returned closed.pass.value)
+          has.opened.setup has.closes
+
+      by_two : ((x : Returned) × (place < length has.returned) × (slice_get has.returned place ≡ Some x) × (get_or has.returned place x ≡ x))
+          ⊎ ((length has.returned ≤ place) × (slice_get has.returned place ≡ None)) → HaveTickets (get_or has.returned place task).log
+      by_two (inl (x, lt, is, same)) =
+          subst (λ (r : Returned). HaveTickets r.log) (sym (get_or_from_slice_get has.returned place x task is))
+          (log_drew (scenario_of closed) closed.told.value.objects (names_in closed) (history_in closed) (left_in closed closed.told.value.objects) has.returned closed.pass.value
+          in_scenario (has.firsts ∙ has.opened.tasks) place x is)
+      by_two (inr (le, none)) = absurd (omega (arith, le, less))
+
+  -- what tasks noted are the notes of their calls
+  noted_is : AreWhole closed.tasks.items → noted_in closed.tasks.items ≡ notes_in now has.returned
+  noted_is whole = flats_same (λ (task : ClosedTask). list_in task.noted) (λ (task : Returned). notes_of now task.first task.log) closed.tasks.items has.returned (record {
+    lens = has.tasks.lens;
+    each = λ place task returned lt.
+        let long = has.tasks.lens in
+        whole_is (notes_of now (slice_index_or has.returned place returned).first (slice_index_or has.returned place returned).log)
+        (slice_index_or closed.tasks.items place task).noted
+        ((has.tasks.each place task returned lt).notes (have_tickets place returned (omega (arith, long, lt)))) (whole place task lt);
+  })
+
+  pub trace_is : (joined : List Event) (last : State) → AreWhole closed.tasks.items → IsJoined (noted_in closed.tasks.items) joined
+      → (run : AreOfRun (scenario_of closed) (ledger_of closed) (entries_of (sorted (all_of (histories_in closed)))) last) → joined ≡ run.0
+  trace_is joined last whole is run =
+      sym (notes_are_runs closed.told.value (names_in closed) (history_in closed) (left_in closed closed.told.value.objects) has.returned closed.pass.value
+      has.opened has.firsts has.closes joined last (subst (λ all. IsJoined all joined) (noted_is whole) is) run)

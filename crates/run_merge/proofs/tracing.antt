@@ -1,0 +1,5 @@
+-- What tasks noted, joined by tickets, are the events of the run.
+pub mod Climbing
+pub mod Numbers
+pub mod Walking
+pub mod Notes

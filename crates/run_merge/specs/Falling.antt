@@ -1,0 +1,57 @@
+-- The pools of devices: in rows by rising number, and their facts by falling number.
+use Rattle.std.specs.Prelude.{◌≡◌, ◌≢◌, ◌⊎◌, ◌++◌, if◌then◌else◌, ℕ, zero, suc, Bool, List, [], ◌∷◌, map}
+use Rattle.stack_base.specs.declared.ids.DevId.{DevId}
+use Rattle.stack_base.specs.declared.ids.PoolId.{PoolId}
+use Rattle.stack_base.specs.declared.ids.PoolId.TheVariants.{Bios, Records}
+use Rattle.stack_base.specs.declared.ids.SetId.{SetId}
+use Rattle.stack_base.specs.declared.ids.SetId.TheVariants.{Of}
+use Rattle.mempool_core.specs.declared.Facts.{Facts}
+use Rattle.run_machine.specs.Opened.{at}
+
+-- which devices have a set of bios, which are mirrors, and the facts of each pool
+pub record DevicePools : Type 0 where
+  pub has_set : ℕ → Bool
+  pub is_mirror : ℕ → Bool
+  pub facts : PoolId → Facts
+
+-- the facts of each pool of a row, with its key
+abbrev pub row_of : {K X : Type 0} → (X → Facts) → List (K × X) → List (K × Facts)
+row_of facts row = map (λ entry. (entry.0, facts entry.1)) row
+
+-- what there is of a number, and of the numbers below one, in their order
+abbrev pub at_number : {A : Type 0} → (ℕ → Bool) → (ℕ → A) → ℕ → List A
+at_number has entry number = if has number then entry number ∷ [] else []
+
+unfoldable pub below : {A : Type 0} → (ℕ → Bool) → (ℕ → A) → ℕ → List A
+below has entry zero = []
+below has entry (suc number) = below has entry number ++ at_number has entry number
+
+-- the pools of the devices below a number, in rows
+abbrev pub sets_below : DevicePools → ℕ → List (SetId × Facts)
+sets_below pools = below pools.has_set (λ number. (Of (at number), pools.facts (Bios (at number))))
+
+abbrev pub records_below : DevicePools → ℕ → List (DevId × Facts)
+records_below pools = below pools.is_mirror (λ number. (at number, pools.facts (Records (at number))))
+
+-- and all of them by falling number, records before bios
+abbrev pub with_facts : DevicePools → PoolId → PoolId × Facts
+with_facts pools pool = (pool, pools.facts pool)
+
+unfoldable pub falling_below : DevicePools → ℕ → List (PoolId × Facts)
+falling_below pools zero = []
+falling_below pools (suc number) =
+    at_number pools.is_mirror (λ n. with_facts pools (Records (at n))) number
+    ++ (at_number pools.has_set (λ n. with_facts pools (Bios (at n))) number ++ falling_below pools number)
+
+module _ {K X : Type 0} (facts : X → Facts) where
+  -- the last of a row left it, and its facts stand behind others, by the name of its pool
+  pub record MovesLast (pool : PoolId) (old : List (K × X)) (before : List (PoolId × Facts)) (new : List (K × X)) (after : List (PoolId × Facts)) : Type 0 where
+    pub last : K × X
+    pub was : old ≡ new ++ last ∷ []
+    pub added : after ≡ before ++ (pool, facts last.1) ∷ []
+
+  -- so it was where the last has this key, and else nothing was changed
+  abbrev pub MovesIf : K → PoolId → List (K × X) → List (PoolId × Facts) → List (K × X) → List (PoolId × Facts) → Type 0
+  MovesIf key pool old before new after =
+      ((move : MovesLast pool old before new after) × (move.last.0 ≡ key))
+      ⊎ (((rest : List (K × X)) (last : K × X) → old ≡ rest ++ last ∷ [] → last.0 ≢ key) × (new ≡ old) × (after ≡ before))

@@ -1,0 +1,67 @@
+-- What the merge of closed objects is: the entries of a run that has ended, and what that run leaves.
+use Rattle.std.specs.Prelude.{◌≡◌, ℕ, false, List, All, IfSome, length, map, slice_get, slice_index_or, Some}
+use Rattle.std.specs.Option.{is_some}
+use Rattle.elem_ledger.specs.Ledger.{LedgerId}
+use Rattle.run_machine.specs.declared.event.Event.{Event}
+use Rattle.run_machine.specs.Named.{IsEventOf}
+use Rattle.run_machine.specs.Opened.{Scenario, at, no_task, scene, start}
+use Rattle.run_machine.specs.Runs.{State, IsRun, HasEnded}
+use Rattle.block_core.specs.Breaks.{is_broken}
+use Rattle.block_core.specs.Scenarios.{IsNaming}
+use Rattle.task_core.specs.Leaving.{IsLeft}
+use Rattle.task_core.specs.Plains.{stage_of}
+use Rattle.task_core.specs.opened.OfOne.{scenario_in}
+use Rattle.shared_objects.specs.Calls.{calls_at}
+use Rattle.shared_objects.specs.Closed.{history_in, left_in, names_in}
+use Rattle.shared_objects.specs.Holding.{calls_of}
+use Rattle.shared_objects.specs.declared.closed.Closed.{Closed}
+use Rattle.shared_objects.specs.declared.closed.ClosedTask.{ClosedTask}
+use Rattle.shared_objects.specs.declared.seats.TaskSeats.{TaskSeats}
+use Rattle.run_merge.specs.declared.outcome.Outcome.{Outcome}
+use Rattle.run_merge.specs.Entries.{entries_in}
+use Rattle.run_merge.specs.Merging.{Histories, entries_of, sorted, all_of, done_by}
+use Rattle.run_merge.specs.ObjectsByName.{made_of}
+use Rattle.run_merge.specs.SharedObjects.{merged_histories, seen_at}
+
+-- the scenario that was shared, and the ledgers of its pools
+abbrev pub scenario_of : Closed → Scenario
+scenario_of closed = scenario_in closed.told.value
+
+abbrev pub ledger_of : Closed → ℕ → LedgerId
+ledger_of closed = (stage_of closed.told.value.objects).ledger
+
+-- the events in the history of each object
+abbrev pub histories_in : Closed → Histories
+histories_in closed = merged_histories (names_in closed) (history_in closed)
+
+-- those of them that seats show
+abbrev pub histories_by : Closed → TaskSeats → Histories
+histories_by closed seats = merged_histories (names_in closed) (calls_at (calls_of seats))
+
+-- the closed objects and tasks, as a state of runs
+abbrev pub state_in : Closed → State
+state_in closed = record {
+  objects = made_of (λ name. seen_at name (left_in closed closed.told.value.objects name).object);
+  task = λ place. slice_index_or (map (λ (task : ClosedTask). task.task.state) closed.tasks.items) place no_task;
+}
+
+-- The merge of the histories is the entries of a run from the opened state, which has ended and leaves the closed objects and tasks. No task broke
+-- off, and the events of each are those that its seats show.
+pub record IsMerged (closed : Closed) (outcome : Outcome) : Type 0 where
+  pub events : List Event
+  pub run : IsRun (scene (scenario_of closed) (ledger_of closed)) (start (scenario_of closed)) events (state_in closed)
+  pub merges : entries_in (scene (scenario_of closed) (ledger_of closed)) (start (scenario_of closed)) events (state_in closed) run
+      ≡ entries_of (sorted (all_of (histories_in closed)))
+  pub shows : (place : ℕ) (task : ClosedTask) → slice_get closed.tasks.items place ≡ Some task
+      → done_by place (histories_in closed) ≡ sorted (all_of (histories_by closed task.seats.value))
+  pub ends : HasEnded (state_in closed)
+  pub unbroken : (place : ℕ) → is_broken ((state_in closed).task place) ≡ false
+  -- this is what the run leaves
+  pub left : IsLeft (scenario_of closed).stack (state_in closed).objects (length events) outcome.ended
+  -- the ledger of each pool and each disk have their own number, and each event names what the stack has
+  pub naming : IsNaming (ledger_of closed)
+  pub disks : (number : ℕ) → ((state_in closed).objects.disk number).dev ≡ at number
+  pub named : All (IsEventOf (scenario_of closed).stack) events
+  -- where there is a trace, and nowhere else, its events come with it
+  pub traced : is_some outcome.events ≡ closed.trace
+  pub trace : IfSome outcome.events (λ list. list.items ≡ events)

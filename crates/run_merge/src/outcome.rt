@@ -1,0 +1,61 @@
+//! What a run leaves whose objects were shared.
+ghost use Rattle.std.specs.Prelude.{◌≡◌, IfOk, IsOk, false};
+ghost use Rattle.stack_base.specs.Stack.{HasRescuers};
+ghost use Rattle.shared_objects.specs.Left.{HasClosed};
+ghost use Rattle.run_merge.specs.Outcomes.{IsMerged, scenario_of};
+
+use crate::left::{disks_of, events_of, pools_of, statuses_of};
+use crate::trace::trace_of;
+use run_machine::Event;
+use shared_objects::{Closed, ClosedParts};
+use std::alloc::{AllocError, Global};
+use task_core::Ended;
+
+/// What the merge of closed objects comes to.
+#[derive(Drop)]
+pub struct Outcome {
+    /// What the run leaves.
+    pub ended: Ended,
+    /// Its events in their order, where there is a trace.
+    pub events: Option<Vec<Event>>,
+}
+
+/// What closed objects leave of their run: the merge of their histories is one that has ended. With a trace its events come with it.
+///
+/// Without a trace it takes no memory. No image is copied.
+///
+/// # Errors
+///
+/// With a trace: where there was no memory for a task to note one of its events, or there is none to join what all tasks noted.
+pub fn merge(alloc: Global, closed: Closed) -> Result<Outcome, AllocError>
+    requires closed { HasClosed closed }
+    requires rescuers { HasRescuers (scenario_of closed).stack }
+    ensures merged { IfOk result (IsMerged closed) }
+    ensures untraced { closed.trace ≡ false → IsOk result }
+{
+    let ClosedParts {
+        bios,
+        vecs,
+        records,
+        disks,
+        tally,
+        tasks,
+        trace,
+        room,
+        ..
+    } = closed.parts();
+    let steps = events_of(&tasks);
+    let events = trace_of(alloc, trace, tasks)?;
+    let disks = disks_of(disks, room.disks);
+    let pools = pools_of(bios, vecs, records, room.pools);
+    let statuses = statuses_of(tally);
+    Ok(Outcome {
+        ended: Ended {
+            statuses,
+            disks,
+            pools,
+            steps,
+        },
+        events,
+    })
+}
