@@ -1,4 +1,7 @@
+pub mod Gates
+pub mod Hands
 pub mod Parting
 pub mod Progress
 pub mod Room
 pub mod Somes
+pub mod Steps

@@ -7,12 +7,16 @@
 mod bell;
 mod crew;
 mod few;
+mod gate;
 mod hand;
 mod shift;
 mod work;
+mod workers;
 
 pub use bell::Bell;
 pub use crew::{Job, run};
 pub use few::Few;
+pub use gate::{Gate, NoGate};
 pub use shift::run_tasks;
 pub use work::{Progress, Work};
+pub use workers::run_workers;

@@ -82,7 +82,7 @@ impl<'a, W> Shift<'a, W> {
 }
 
 impl<'a, T: Drop, W: Work<T>> Job<Hand<T>> for Shift<'a, W> {
-    ghost use Rattle.std.specs.Prelude.{map};
+    ghost use Rattle.std.specs.Prelude.{◌≡◌, ◌%◌, map};
 
     type Key = W::Key;
 
@@ -91,6 +91,10 @@ impl<'a, T: Drop, W: Work<T>> Job<Hand<T>> for Shift<'a, W> {
     ghost most = { 41 };
 
     ghost can = { λ shift key. W.can shift.work.now key };
+
+    ghost falls = { λ shift key worker. W.number key % shift.workers ≡ worker };
+
+    ghost holder = { λ hand. hand.worker };
 
     fn deal(&self, all: &mut Hand<T>, worker: u32) -> Hand<T> {
         let tasks = mem::replace(&mut all.tasks, Few::new());

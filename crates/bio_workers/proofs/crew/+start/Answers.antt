@@ -6,24 +6,24 @@ use Rattle.bio_workers.proofs.crew.+start.Goals as goal
 pub spawn_with-requires-clause-runs : goal.spawn_with-requires-clause-runs
 spawn_with-requires-clause-runs g t c κs within =
     let keys = g.J.Job.keys in
-    hand_can (g.J.Job.can c.args.job.now) (keys c.args.all) (keys c.deal-hand.result) (keys c.deal-hand.new.all) c.deal-hand.ensures c.requires.can
+    hand_can (g.J.Job.can c.args.job.now) (keys c.args.all) (keys c.deal-hand.result) (keys c.deal-hand.new.all) c.deal-hand.ensures.whole c.requires.can
 
 pub start-rest-requires-clause-can : goal.start-rest-requires-clause-can
 start-rest-requires-clause-can g t c κs within =
     let keys = g.J.Job.keys in
-    rest_can (g.J.Job.can c.args.job.now) (keys c.args.all) (keys c.deal-hand.result) (keys c.deal-hand.new.all) c.deal-hand.ensures c.requires.can
+    rest_can (g.J.Job.can c.args.job.now) (keys c.args.all) (keys c.deal-hand.result) (keys c.deal-hand.new.all) c.deal-hand.ensures.whole c.requires.can
 
 pub start-rest-requires-clause-few : goal.start-rest-requires-clause-few
 start-rest-requires-clause-few g t c κs within =
     let keys = g.J.Job.keys in
-    let whole = in_all (keys c.args.all) (keys c.deal-hand.result) (keys c.deal-hand.new.all) c.deal-hand.ensures in
+    let whole = in_all (keys c.args.all) (keys c.deal-hand.result) (keys c.deal-hand.new.all) c.deal-hand.ensures.whole in
     let few = c.requires.few in
     omega arith
 
 pub absorb-requires : goal.absorb-requires
 absorb-requires g t c =
     let keys = g.J.Job.keys in
-    let whole = in_all (keys c.args.all) (keys c.deal-hand.result) (keys c.deal-hand.new.all) c.deal-hand.ensures in
+    let whole = in_all (keys c.args.all) (keys c.deal-hand.result) (keys c.deal-hand.new.all) c.deal-hand.ensures.whole in
     let few = c.requires.few in
     let done = length_permutation (keys c.deal-hand.new.all) (keys c.start-rest.result) c.start-rest.ensures in
     let same = ap (λ p. p.hand.value) c.in-Ok.ensures.ok ∙ c.of-2.ensures in
@@ -33,7 +33,7 @@ absorb-requires g t c =
 pub work-back-requires : goal.work-back-requires
 work-back-requires g t c κs within =
     let keys = g.J.Job.keys in
-    let can = hand_can (g.J.Job.can c.args.job.now) (keys c.args.all) (keys c.deal-hand.result) (keys c.deal-hand.new.all) c.deal-hand.ensures c.requires.can in
+    let can = hand_can (g.J.Job.can c.args.job.now) (keys c.args.all) (keys c.deal-hand.result) (keys c.deal-hand.new.all) c.deal-hand.ensures.whole c.requires.can in
     (search rules, (search rules, (search rules, (search rules, rw (c.in-Err.ensures.err) can))))
 
 pub absorb-all-requires : goal.absorb-all-requires
@@ -41,7 +41,7 @@ absorb-all-requires g t c =
     let keys = g.J.Job.keys in
     let same = ap (λ w. w.2) c.in-Err.ensures.err in
     let few = c.requires.few in
-    let whole = back_in_all (keys c.args.all) (keys c.deal-hand.result) (keys c.deal-hand.new.all) (keys c.work-back.result) c.deal-hand.ensures
+    let whole = back_in_all (keys c.args.all) (keys c.deal-hand.result) (keys c.deal-hand.new.all) (keys c.work-back.result) c.deal-hand.ensures.whole
     (subst (λ h. IsPermutation (keys h) (keys c.work-back.result)) same c.work-back.ensures) in
     omega arith
 
@@ -49,7 +49,7 @@ pub start-requires-clause-can : goal.start-requires-clause-can
 start-requires-clause-can g t c κs within =
     let keys = g.J.Job.keys in
     let same = ap (λ w. w.2) c.in-Err.ensures.err in
-    back_can (g.J.Job.can c.args.job.now) (keys c.args.all) (keys c.deal-hand.result) (keys c.deal-hand.new.all) (keys c.work-back.result) (keys c.absorb-all.result) c.deal-hand.ensures
+    back_can (g.J.Job.can c.args.job.now) (keys c.args.all) (keys c.deal-hand.result) (keys c.deal-hand.new.all) (keys c.work-back.result) (keys c.absorb-all.result) c.deal-hand.ensures.whole
     (subst (λ h. IsPermutation (keys h) (keys c.work-back.result)) same c.work-back.ensures) c.absorb-all.ensures c.requires.can
 
 pub start-requires-clause-few : goal.start-requires-clause-few
@@ -58,7 +58,7 @@ start-requires-clause-few g t c κs within =
     let same = ap (λ w. w.2) c.in-Err.ensures.err in
     let few = c.requires.few in
     let whole = length_permutation (keys c.args.all) (keys c.absorb-all.result)
-    (comes_back (keys c.args.all) (keys c.deal-hand.result) (keys c.deal-hand.new.all) (keys c.work-back.result) (keys c.deal-hand.new.all) (keys c.absorb-all.result) c.deal-hand.ensures
+    (comes_back (keys c.args.all) (keys c.deal-hand.result) (keys c.deal-hand.new.all) (keys c.work-back.result) (keys c.deal-hand.new.all) (keys c.absorb-all.result) c.deal-hand.ensures.whole
     (subst (λ h. IsPermutation (keys h) (keys c.work-back.result)) same c.work-back.ensures) (IsPermutation-refl (keys c.deal-hand.new.all)) c.absorb-all.ensures) in
     omega arith
 
@@ -66,7 +66,7 @@ pub returns-in-Ok : goal.returns-in-Ok
 returns-in-Ok g t c =
     let keys = g.J.Job.keys in
     let same = ap (λ p. p.hand.value) c.in-Ok.ensures.ok ∙ c.of-2.ensures in
-    comes_back (keys c.args.all) (keys c.deal-hand.result) (keys c.deal-hand.new.all) (keys c.join-back.result) (keys c.start-rest.result) (keys c.absorb.result) c.deal-hand.ensures
+    comes_back (keys c.args.all) (keys c.deal-hand.result) (keys c.deal-hand.new.all) (keys c.join-back.result) (keys c.start-rest.result) (keys c.absorb.result) c.deal-hand.ensures.whole
     (subst (λ h. IsPermutation (keys h) (keys c.join-back.result)) same c.join-back.ensures) c.start-rest.ensures c.absorb.ensures
 
 pub returns-in-Err : goal.returns-in-Err
@@ -74,5 +74,5 @@ returns-in-Err g t c =
     let keys = g.J.Job.keys in
     let same = ap (λ w. w.2) c.in-Err.ensures.err in
     IsPermutation-trans (keys c.args.all) (keys c.absorb-all.result) (keys c.start.result)
-    (comes_back (keys c.args.all) (keys c.deal-hand.result) (keys c.deal-hand.new.all) (keys c.work-back.result) (keys c.deal-hand.new.all) (keys c.absorb-all.result) c.deal-hand.ensures
+    (comes_back (keys c.args.all) (keys c.deal-hand.result) (keys c.deal-hand.new.all) (keys c.work-back.result) (keys c.deal-hand.new.all) (keys c.absorb-all.result) c.deal-hand.ensures.whole
     (subst (λ h. IsPermutation (keys h) (keys c.work-back.result)) same c.work-back.ensures) (IsPermutation-refl (keys c.deal-hand.new.all)) c.absorb-all.ensures) c.start.ensures

@@ -1,0 +1,55 @@
+//! Who looks on while tasks are stepped.
+ghost use Rattle.std.specs.Prelude.{◌≡◌, None};
+ghost use Rattle.bio_workers.specs.Gates.{shown_by};
+
+use shared_objects::Closed;
+use std::snapshot::Snapshot;
+use task_steps::TaskId;
+
+/// Who looks on while tasks are stepped, and is shown what they leave. All workers share it.
+pub trait Gate {
+    ghost use Rattle.std.specs.Prelude.{◌≡◌, Option, Some};
+    ghost use Rattle.bio_workers.specs.Gates.{Showing, showing};
+
+    /// What it was shown last; nothing so far is `None`.
+    ghost shown: { Self → Option Showing };
+
+    /// Called before each step of a task, by the worker that steps it. The step begins once it returns.
+    fn before(&self, task: TaskId);
+
+    /// Called behind each step of a task.
+    fn after(&self, task: TaskId);
+
+    /// Is shown what is left of shared objects.
+    fn closed(&mut self, closed: &Closed)
+        ensures { shown self.new ≡ Some (showing closed.now) };
+}
+
+/// A gate that lets every step pass. It keeps what it is shown, which has no bytes.
+#[derive(Drop)]
+pub struct NoGate {
+    seen: Option<Snapshot<Closed>>,
+}
+
+impl NoGate {
+    /// A gate that was shown nothing.
+    pub fn new() -> NoGate
+        ensures { ⟦<NoGate as Gate>⟧.shown result ≡ None }
+    {
+        NoGate { seen: None }
+    }
+}
+
+impl Gate for NoGate {
+    ghost use Rattle.bio_workers.specs.Gates.{shown_by};
+
+    ghost shown = { λ gate. shown_by gate.seen };
+
+    fn before(&self, _task: TaskId) {}
+
+    fn after(&self, _task: TaskId) {}
+
+    fn closed(&mut self, closed: &Closed) {
+        self.seen = Some(Snapshot::of(closed));
+    }
+}
