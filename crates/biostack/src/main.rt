@@ -1,6 +1,7 @@
 //! The program `biostack`: its top call over the standard streams.
 #![tactic(auto)]
 
+use bio_workers::NoGate;
 use biostack_top::{Ending, biostack};
 use outside_io::{StdSink, StdSource};
 use std::alloc::AllocError;
@@ -26,6 +27,15 @@ fn main(rt: HostRuntime) -> ExitCode {
     };
     let mut source = StdSource::new(rt.stdin());
     let mut out = StdSink::new(rt.stdout());
-    let exit = biostack(rt.alloc(), &words, &mut source, &mut out, &mut errors);
+    let mut gate = NoGate::new();
+    let exit = biostack(
+        &rt,
+        rt.alloc(),
+        &words,
+        &mut source,
+        &mut out,
+        &mut errors,
+        &mut gate,
+    );
     ExitCode::from(exit.0)
 }

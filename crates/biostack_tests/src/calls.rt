@@ -1,8 +1,12 @@
-//! Calls of the program, and what they answer.
+//! Calls of the program without threads, and what they answer.
+ghost use Rattle.std.specs.Prelude.{◌≡◌};
+ghost use Rattle.biostack_top.specs.Orders.{is_alone};
+
 use crate::asks::Case;
 use crate::texts::{MIRRORED, ONE_SECTOR, ONE_SECTOR_TRACE, ZEROS};
-use biostack_top::biostack;
-use outside_io::{Failed, MemSink, MemSource, Source};
+use biostack_top::{Ending, Exit, Order, serve_alone};
+use biostack_words::{WordFault, read_words};
+use outside_io::{Failed, MemSink, MemSource, Sink, Source};
 use std::process::Abort;
 
 /// More than any report or line here has.
@@ -41,9 +45,51 @@ pub struct Done {
     pub left: Result<usize, Failed>,
 }
 
-// A sink with room for so many bytes.
-fn sink(rt: &(impl Abort + AllocGlobal), room: usize) -> MemSink {
+/// A sink with room for so many bytes.
+pub fn sink(rt: &(impl Abort + AllocGlobal), room: usize) -> MemSink {
     MemSink::new(rt.alloc(), room).expect(rt, "no sink")
+}
+
+// Whether an order needs no threads.
+fn is_alone(order: Order) -> bool
+    ensures { result ≡ is_alone order }
+{
+    match order {
+        Order::Run { .. }
+        | Order::Check
+        | Order::Layout
+        | Order::Gen { .. }
+        | Order::Replay
+        | Order::Scrub { .. } => { true }
+        Order::Workers { .. } => false,
+    }
+}
+
+// Tells an ending, as a call does.
+fn ends<E: Sink>(ending: Ending, errors: &mut E) -> Exit {
+    let _told = ending.tell(errors);
+    ending.exit()
+}
+
+/// Carries words out as the program does. A run by workers is none of them: what the words ask of it here is refused.
+pub fn carry_out<S: Source, K: Sink, E: Sink>(
+    rt: &impl AllocGlobal,
+    words: &[String],
+    source: &mut S,
+    out: &mut K,
+    errors: &mut E,
+) -> Exit {
+    match read_words(rt.alloc(), words) {
+        Ok(order) => {
+            if is_alone(order) {
+                serve_alone(rt.alloc(), &order, source, out, errors)
+            } else {
+                ends(Ending::Usage, errors)
+            }
+        }
+        Err(WordFault::Refused) => ends(Ending::Usage, errors),
+        Err(WordFault::Memory) => ends(Ending::Memory, errors),
+    }
 }
 
 /// Makes a call, with room for so many bytes of output.
@@ -57,7 +103,7 @@ pub fn make_call(
     let mut source = MemSource::new(owned(rt, text));
     let mut output = sink(rt, room);
     let mut errors = sink(rt, ROOM);
-    let exit = biostack(rt.alloc(), &words, &mut source, &mut output, &mut errors);
+    let exit = carry_out(rt, &words, &mut source, &mut output, &mut errors);
     let left = source.take(&mut [0; 1000]);
     Done {
         status: exit.0,
@@ -67,8 +113,8 @@ pub fn make_call(
     }
 }
 
-// Whether bytes are these parts, one after the other.
-fn is_made_of(bytes: &[u8], parts: &[&str]) -> bool {
+/// Whether bytes are these parts, one after the other.
+pub fn is_made_of(bytes: &[u8], parts: &[&str]) -> bool {
     let mut left = bytes;
     for part in parts {
         match left.strip_prefix(part.as_bytes()) {

@@ -1,10 +1,9 @@
 //! A fault of the source or of a sink at every call that small runs, a trace, a check, a layout and generated texts make.
-use crate::calls::{ROOM, make_call, owned, words_of};
+use crate::calls::{ROOM, carry_out, make_call, owned, words_of};
 use crate::texts::{
     BAD_SECTOR, BAD_SECTOR_REPORT, ONE_SECTOR, ONE_SECTOR_REPORT, ONE_SECTOR_TRACE, STRIPED,
     STRIPED_CHECK, STRIPED_LAYOUT,
 };
-use biostack_top::biostack;
 use outside_io::{FailSink, FailSource, Sink};
 use std::process::Abort;
 
@@ -117,7 +116,7 @@ fn outcome(rt: &(impl Abort + AllocGlobal), call: Call<'_>, faults: Faults) -> O
     let mut source = source(rt, call.text, faults.source);
     let mut out = sink(rt, faults.room, faults.out, faults.most);
     let mut errors = sink(rt, ROOM, faults.errors, 1);
-    let status = biostack(rt.alloc(), &words, &mut source, &mut out, &mut errors).0;
+    let status = carry_out(rt, &words, &mut source, &mut out, &mut errors).0;
     let output = front_of(call.output.as_bytes(), out.held());
     let line = front_of(line_of(status), errors.held());
     (status, output, line)

@@ -9,7 +9,7 @@ use std::process::Abort;
 use work_text::generate;
 
 /// More than the report of 200 writes has.
-const MORE_ROOM: usize = 16_384;
+pub const MORE_ROOM: usize = 16_384;
 
 /// A number of a schedule of the mirrored text.
 #[derive(Clone, Copy)]
@@ -44,7 +44,7 @@ const ORDINARY: &str =
     pool m.records reserve 2 ordinary 200 spare 0\npool m.bios reserve 2 ordinary 400 spare 0\n";
 
 /// The same without memory.
-const SPARE: &str =
+pub const SPARE: &str =
     "pool fs.bios reserve 2 ordinary 0 spare 200\npool fs.vecs reserve 2 ordinary 0 spare 120\n\
     pool l0.bios reserve 2 ordinary 0 spare 0\npool l1.bios reserve 2 ordinary 0 spare 0\n\
     pool l2.bios reserve 2 ordinary 0 spare 0\npool l3.bios reserve 2 ordinary 0 spare 0\n\
@@ -60,14 +60,14 @@ fn report(text: &mut String, pools: &str) -> Result<(), AllocError> {
 }
 
 // The report of the 200 writes, up to the number of steps.
-fn report_of(rt: &(impl Abort + AllocGlobal), pools: &str) -> String {
+pub fn report_of(rt: &(impl Abort + AllocGlobal), pools: &str) -> String {
     let mut text = String::new(rt.alloc());
     report(&mut text, pools).expect(rt, "no report");
     text
 }
 
 // The number behind a front of a report, whose last words are those of the bound.
-fn steps_of(report: &[u8], front: &str) -> Option<u64> {
+pub fn steps_of(report: &[u8], front: &str) -> Option<u64> {
     let digits = report
         .strip_prefix(front.as_bytes())?
         .strip_suffix(b" of 17700\n")?;
@@ -102,7 +102,7 @@ impl Case for Storage {
 }
 
 // Whether there is a number, and it lies between these.
-fn is_between(number: Option<u64>, least: u64, most: u64) -> bool {
+pub fn is_between(number: Option<u64>, least: u64, most: u64) -> bool {
     match number {
         Some(number) => least <= number && number <= most,
         None => false,

@@ -14,6 +14,8 @@ mod disks;
 #[cfg(test)]
 mod faults;
 #[cfg(test)]
+mod gates;
+#[cfg(test)]
 mod generated;
 #[cfg(test)]
 mod layouts;
@@ -40,3 +42,5 @@ pub mod slow;
 mod stacks;
 #[cfg(test)]
 mod texts;
+#[cfg(test)]
+mod workers;

@@ -1,14 +1,15 @@
 -- A call that ends with status 3 has read a text that is refused; and none writes behind a fault.
-use Rattle.std.proofs.Common.{◌≡◌, ◌∙◌, ℕ, List, true, true≢false, Some, is_some, refl, sym, ap, arith}
+use Rattle.std.proofs.Common.{◌≡◌, ◌∙◌, ℕ, List, true, false, true≢false, Option, None, Some, is_some, refl, sym, ap, arith}
 use Rattle.std.proofs.KnownBytes.{Keeps-refl}
 use Rattle.outside_io.specs.Reading.{IsRead}
 use Rattle.outside_io.specs.Saying.{StopsAtFault}
 use Rattle.biostack_words.specs.declared.order.Order.{Order}
 use Rattle.biostack_words.specs.declared.order.Order.TheVariants.{Run, Workers, Check, Layout, Gen, Replay, Scrub}
 use Rattle.work_text.proofs.GeneratedTexts.{never_refused}
+use Rattle.bio_workers.specs.Gates.{Showing}
 use Rattle.biostack_top.specs.declared.ending.Ending.{Ending}
 use Rattle.biostack_top.specs.declared.ending.Ending.TheVariants.{Usage, ReadFault, Memory, Refused, WriteFault, Done, NotAllWell}
-use Rattle.biostack_top.specs.Ending.{HadRefusedText, OrderEndsBy, exit_of, refusal_for}
+use Rattle.biostack_top.specs.Ending.{HadRefusedText, OrderEndsBy, SharedEndsBy, WorkersEndBy, exit_of, refusal_for}
 use Rattle.biostack_top.specs.Input.{IsInput, limit, made_by}
 use Rattle.biostack_top.specs.Streams.{Call, Stays, Stream}
 
@@ -44,3 +45,30 @@ stops_at_fault order c (Refused refusal) ends = stays_stops c.out ends.2.1
 stops_at_fault order c WriteFault ends = ends.2.1
 stops_at_fault order c Done ends = (c.out.new, ends.2.0, Keeps-refl (c.out.bytes c.out.new))
 stops_at_fault order c NotAllWell ends = (c.out.new, ends.2.0, Keeps-refl (c.out.bytes c.out.new))
+
+-- a text that was read and run by threads ends the call
+pub over_shared_text : {S K : Type 0} (ending : Ending) (shown : Option Showing) (text : List ℕ) (c : Call S K) → IsInput None c.source text
+    → SharedEndsBy ending shown text c.out → WorkersEndBy ending shown c
+over_shared_text Usage shown text c input ends = ends
+over_shared_text ReadFault shown text c input ends = absurd ends
+over_shared_text Memory shown text c input ends = (((text, input.1, input.2), input.3), ends.0, ends.1)
+over_shared_text (Refused refusal) shown text c input ends = (text, input, ends)
+over_shared_text WriteFault shown text c input ends = (text, input, ends)
+over_shared_text Done shown text c input ends = (text, input, ends)
+over_shared_text NotAllWell shown text c input ends = (text, input, ends)
+
+-- the same of a run by threads
+pub refused_workers : {S K : Type 0} (n : ℕ) (shown : Option Showing) (c : Call S K) (ending : Ending) → WorkersEndBy ending shown c → exit_of ending ≡ 3
+    → HadRefusedText (Workers n false) (c.source.bytes c.source.old)
+refused_workers n shown c (Refused refusal) ends is = (ends.0, ends.1.0, ap is_some ends.2.0.0)
+refused_workers n shown c _ ends is = absurd (omega arith)
+
+pub stops_with_workers : {S K : Type 0} (shown : Option Showing) (c : Call S K) (ending : Ending) → WorkersEndBy ending shown c
+    → StopsAtFault c.out.bytes c.out.faults c.out.old c.out.new
+stops_with_workers shown c Usage ends = absurd ends
+stops_with_workers shown c ReadFault ends = stays_stops c.out ends.1
+stops_with_workers shown c Memory ends = stays_stops c.out ends.1
+stops_with_workers shown c (Refused refusal) ends = stays_stops c.out ends.2.0.1
+stops_with_workers shown c WriteFault ends = ends.2.1
+stops_with_workers shown c Done ends = (c.out.new, ends.2.0, Keeps-refl (c.out.bytes c.out.new))
+stops_with_workers shown c NotAllWell ends = (c.out.new, ends.2.0, Keeps-refl (c.out.bytes c.out.new))

@@ -9,3 +9,4 @@ pub mod LaidLemmas
 pub mod LeftDisks
 pub mod ScrubLemmas
 pub mod ReplayLemmas
+pub mod OrderLemmas

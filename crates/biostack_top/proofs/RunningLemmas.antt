@@ -27,8 +27,13 @@ use Rattle.serial_run.proofs.Follows.{turns_are_a_run}
 use Rattle.report_text.specs.CheckText.{most_steps}
 use Rattle.report_text.specs.Views.{IsOf, told_of}
 use Rattle.report_text.proofs.LeftLemmas.{left_of, told_is}
+use Rattle.shared_objects.specs.declared.closed.Closed.{Closed}
+use Rattle.shared_objects.specs.Left.{HasClosed}
+use Rattle.bio_workers.specs.Gates.{Showing, showing}
+use Rattle.run_merge.specs.Outcomes.{IsMerged, state_in}
+use Rattle.run_merge.specs.declared.outcome.Outcome.{Outcome}
 use Rattle.biostack_top.specs.Scene.{Says}
-use Rattle.biostack_top.specs.Running.{EveryRunIsAsClaimed, HasRun, IsTold, sectors, stream_of}
+use Rattle.biostack_top.specs.Running.{EveryRunIsAsClaimed, HasMerged, HasRun, IsTold, IsToldMerged, ledger_in, sectors, stream_of}
 
 module _ (text : List ℕ) (accepted : Accepted) (work : Work) (says : Says text accepted work) where
   pub read_behind : IsReadBehind accepted work
@@ -65,11 +70,34 @@ module _ (text : List ℕ) (accepted : Accepted) (work : Work) (says : Says text
             run = run;
             ends = has.ends;
             named = has.named;
-            fits = has.fits;
             claimed = claimed.0;
             bounded = claimed.1;
             told = told_is has.state.objects has.disks accepted.stack (length events) (most_steps work.bound) ended has.left;
           };
+          fits = has.fits;
+        }
+
+  -- the same of what a gate was shown
+  module _ (shown : Showing) (events : List Event) (ended : Ended) (has : HasMerged (scenario_of accepted work) shown events ended) where
+    pub is_of_merged : IsOf accepted.stack ended
+    is_of_merged = left_of has.state.objects has.disks accepted.stack (length events) ended has.left
+
+    pub is_told_merged : IsToldMerged accepted work shown events (told_of ended (most_steps work.bound))
+    is_told_merged =
+        let claimed = every_run (ledger_in shown) events has.state has.naming has.run in
+        record {
+          of = record { opened = has.opened; of = has.of };
+          state = has.state;
+          ended = record {
+            naming = has.naming;
+            run = has.run;
+            ends = has.ends;
+            named = has.named;
+            claimed = claimed.0;
+            bounded = claimed.1;
+            told = told_is has.state.objects has.disks accepted.stack (length events) (most_steps work.bound) ended has.left;
+          };
+          merged = has.merged;
         }
 
 -- writes of up to 2,048 sectors, each of which needs an element
@@ -111,3 +139,19 @@ has_run happens opened number stream before after now ended is same ran =
       named = ran.named;
       fits = ran.fits;
     }
+
+-- what a gate is shown of what threads have left, and the merge of that
+pub has_merged : (closed : Closed) (outcome : Outcome) → HasClosed closed → (is : IsMerged closed outcome)
+    → HasMerged (scenario_in closed.told.value) (showing closed) is.events outcome.ended
+has_merged closed outcome held is = record {
+  opened = held.opened;
+  of = refl;
+  naming = is.naming;
+  state = state_in closed;
+  run = is.run;
+  merged = is.merges;
+  ends = is.ends;
+  left = is.left;
+  disks = is.disks;
+  named = is.named;
+}

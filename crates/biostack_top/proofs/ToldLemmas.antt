@@ -1,5 +1,5 @@
 -- What is told of the run of a text.
-use Rattle.std.proofs.Common.{◌≡◌, ◌++◌, ℕ, Bool, true, false, List, length, refl}
+use Rattle.std.proofs.Common.{◌≡◌, ◌++◌, ℕ, Bool, true, false, List, Option, Some, length, refl, subst, sym}
 use Rattle.biostack_words.specs.declared.order.Order.TheVariants.{Run, Gen}
 use Rattle.decl_text.specs.declared.accepted.Accepted.{Accepted}
 use Rattle.work_text.specs.declared.Work.{Work}
@@ -9,11 +9,12 @@ use Rattle.run_machine.specs.Scenario.{scenario_of}
 use Rattle.report_text.specs.CheckText.{most_steps}
 use Rattle.report_text.specs.Report.{gen_text, report}
 use Rattle.report_text.specs.Views.{told_of}
+use Rattle.bio_workers.specs.Gates.{Showing}
 use Rattle.biostack_top.specs.Scene.{Says}
-use Rattle.biostack_top.specs.Running.{HasRun, sectors}
+use Rattle.biostack_top.specs.Running.{HasMerged, HasRun, sectors}
 use Rattle.biostack_top.specs.Tracing.{traced}
-use Rattle.biostack_top.specs.Ending.{Tells, all_well}
-use Rattle.biostack_top.proofs.RunningLemmas.{every_run, is_told}
+use Rattle.biostack_top.specs.Ending.{Tells, TellsShown, all_well}
+use Rattle.biostack_top.proofs.RunningLemmas.{every_run, is_told, is_told_merged}
 
 module _ (text : List ℕ) (accepted : Accepted) (work : Work) (says : Says text accepted work) (number : ℕ) (events : List Event) (ended : Ended)
     (has : HasRun (scenario_of accepted work) number events ended) where
@@ -44,3 +45,21 @@ module _ (text : List ℕ) (accepted : Accepted) (work : Work) (says : Says text
     (λ k. gen_text number (counted k) (summed k) accepted.stack (told_of ended (most_steps work.bound))),
     refl,
   )
+
+module _ (text : List ℕ) (accepted : Accepted) (work : Work) (says : Says text accepted work) (shown : Showing) (events : List Event) (ended : Ended)
+    (has : HasMerged (scenario_of accepted work) shown events ended) where
+  pub tells_shown : (now : Option Showing) → now ≡ Some shown
+      → TellsShown now text (report accepted.stack (told_of ended (most_steps work.bound))) (all_well ended.statuses.items)
+  tells_shown now is =
+      let told : TellsShown (Some shown) text (report accepted.stack (told_of ended (most_steps work.bound))) (all_well ended.statuses.items) = (
+        accepted,
+        work,
+        events,
+        told_of ended (most_steps work.bound),
+        says,
+        every_run text accepted work says,
+        is_told_merged text accepted work says shown events ended has,
+        refl,
+        refl,
+      ) in
+      subst (λ (o : Option Showing). TellsShown o text (report accepted.stack (told_of ended (most_steps work.bound))) (all_well ended.statuses.items)) (sym is) told

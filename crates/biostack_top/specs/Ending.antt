@@ -17,6 +17,7 @@ use Rattle.work_text.specs.declared.Work.{Work}
 use Rattle.work_text.specs.Whole.{text_refusal}
 use Rattle.report_text.specs.Report.{Told, gen_text, report, steps_line}
 use Rattle.run_machine.specs.Scenario.{scenario_of}
+use Rattle.bio_workers.specs.Gates.{Showing}
 use Rattle.mirror_scrub.specs.Seen.{images_of}
 use Rattle.mirror_scrub.specs.Text.{all_alike, scrub_text}
 use Rattle.biostack_top.specs.Scrubbed.{AreLaidImages}
@@ -26,9 +27,9 @@ use Rattle.biostack_words.specs.declared.order.Order.{Order}
 use Rattle.biostack_words.specs.declared.order.Order.TheVariants.{Run, Workers, Check, Layout, Gen, Replay, Scrub}
 use Rattle.biostack_top.specs.Input.{HasNoInput, IsGiven, IsInput, limit, made_by}
 use Rattle.biostack_top.specs.LayoutText.{AreLaid}
-use Rattle.biostack_top.specs.Orders.{is_served, order_of}
+use Rattle.biostack_top.specs.Orders.{is_alone, is_served, order_of}
 use Rattle.biostack_top.specs.Replaying.{TellsReplay, replay_refusal}
-use Rattle.biostack_top.specs.Running.{EveryRunIsAsClaimed, IsTold, sectors}
+use Rattle.biostack_top.specs.Running.{EveryRunIsAsClaimed, IsTold, IsToldMerged, sectors}
 use Rattle.biostack_top.specs.Scene.{Says}
 use Rattle.biostack_top.specs.Streams.{Call, Fails, Stays, Stream}
 use Rattle.biostack_top.specs.Tracing.{traced}
@@ -134,6 +135,36 @@ OrderEndsBy WriteFault order c = OfText WriteFault order c
 OrderEndsBy Done order c = OfText Done order c
 OrderEndsBy NotAllWell order c = OfText NotAllWell order c
 
+-- This is told of a text that threads have run, by what a gate was shown of it: the report of what the merge of these
+-- histories left. Where it was shown nothing, nothing is told.
+abbrev pub TellsShown : Option Showing → List ℕ → List ℕ → Bool → Type 0
+TellsShown None text told well = ⊥
+TellsShown (Some shown) text told well =
+    (accepted : Accepted) × (work : Work) × (events : List Event) × (left : Told)
+    × Says text accepted work × EveryRunIsAsClaimed accepted work × IsToldMerged accepted work shown events left
+    × (told ≡ report accepted.stack left) × (well ≡ all_well left.statuses)
+
+-- A text that threads are to run ends so, and this is what the gate was shown then: nothing where the text is refused or
+-- memory was wanting. So memory is not wanting once it was shown what the run left.
+abbrev pub SharedEndsBy : {K : Type 0} → Ending → Option Showing → List ℕ → Stream K → Type 0
+SharedEndsBy Memory shown text out = Stays out × (shown ≡ None)
+SharedEndsBy (Refused refusal) shown text out = EndsWith (Refused refusal) (text_refusal text) (TellsShown shown text) out × (shown ≡ None)
+SharedEndsBy ending shown text out = EndsWith ending (text_refusal text) (TellsShown shown text) out
+
+-- there was a text, and it ends the call so
+abbrev pub OfSharedText : {S K : Type 0} → Ending → Option Showing → Call S K → Type 0
+OfSharedText ending shown c = (text : List ℕ) × IsInput None c.source text × SharedEndsBy ending shown text c.out
+
+-- a call with an order for threads ends so only where this holds
+abbrev pub WorkersEndBy : {S K : Type 0} → Ending → Option Showing → Call S K → Type 0
+WorkersEndBy Usage shown c = ⊥
+WorkersEndBy ReadFault shown c = HasNoInput ReadFault None c.source × Stays c.out × (shown ≡ None)
+WorkersEndBy Memory shown c = HasNoInput Memory None c.source × Stays c.out × (shown ≡ None)
+WorkersEndBy (Refused refusal) shown c = OfSharedText (Refused refusal) shown c
+WorkersEndBy WriteFault shown c = OfSharedText WriteFault shown c
+WorkersEndBy Done shown c = OfSharedText Done shown c
+WorkersEndBy NotAllWell shown c = OfSharedText NotAllWell shown c
+
 -- words end a call so: they give no order that is carried out, or there was no memory to read them
 abbrev pub WordsEndBy : Ending → List (List ℕ) → Type 0
 WordsEndBy Usage words = order_of words ≡ None
@@ -145,10 +176,16 @@ abbrev pub IsAsked : List (List ℕ) → Result Order Ending → Type 0
 IsAsked words (Ok order) = (order_of words ≡ Some order) × (is_served order ≡ true)
 IsAsked words (Err ending) = WordsEndBy ending words
 
+-- An order ends a call so, whose gate was shown this: one without threads shows it nothing.
+abbrev pub AskedEndsBy : {S K : Type 0} → Ending → Order → Option Showing → Call S K → Type 0
+AskedEndsBy ending order shown c =
+    ((is_alone order ≡ true) × OrderEndsBy ending order c × (shown ≡ None)) ⊎ ((is_alone order ≡ false) × WorkersEndBy ending shown c)
+
 -- words that a call was given ended it so and nothing was done, or they are an order that ends so
-abbrev pub EndsBy : {S K : Type 0} → Ending → List (List ℕ) → Call S K → Type 0
-EndsBy ending words c =
-    (WordsEndBy ending words × Stays c.source × Stays c.out) ⊎ ((order : Order) × (order_of words ≡ Some order) × OrderEndsBy ending order c)
+abbrev pub EndsBy : {S K : Type 0} → Ending → List (List ℕ) → Option Showing → Call S K → Type 0
+EndsBy ending words shown c =
+    (WordsEndBy ending words × Stays c.source × Stays c.out × (shown ≡ None))
+    ⊎ ((order : Order) × (order_of words ≡ Some order) × AskedEndsBy ending order shown c)
 
 -- errors got the line of an ending, or a front of it where they failed
 abbrev pub IsToldTo : {E : Type 0} → Ending → Stream E → Type 0

@@ -1,25 +1,39 @@
 -- Which orders are carried out, and the words that give them.
-use Rattle.std.specs.Prelude.{if◌then◌else◌, Bool, true, false, List, ℕ, Option, None, Some}
+use Rattle.std.specs.Prelude.{if◌then◌else◌, not, Bool, true, false, List, ℕ, Option, None, Some, is_none}
 use Rattle.std.specs.Option.{option_and_then}
 use Rattle.biostack_words.specs.Grammar.{meaning}
 use Rattle.biostack_words.specs.declared.order.Order.{Order}
 use Rattle.biostack_words.specs.declared.order.Order.TheVariants.{Run, Workers, Check, Layout, Gen, Replay, Scrub}
 
--- whether an order is carried out: runs in threads are not yet
+-- whether an order is carried out: runs by threads have no trace yet
 abbrev pub is_served : Order → Bool
 is_served (Run number trace) = true
-is_served (Workers n trace) = false
+is_served (Workers n trace) = not trace
 is_served Check = true
 is_served Layout = true
 is_served (Gen number shown) = true
 is_served Replay = true
 is_served (Scrub number) = true
 
+-- how many threads an order is for, where it is one for threads
+abbrev pub workers_in : Order → Option ℕ
+workers_in (Workers n trace) = Some n
+workers_in (Run number trace) = None
+workers_in Check = None
+workers_in Layout = None
+workers_in (Gen number shown) = None
+workers_in Replay = None
+workers_in (Scrub number) = None
+
+-- whether an order is carried out without threads
+abbrev pub is_alone : Order → Bool
+is_alone order = is_none (workers_in order)
+
 -- whether an order may find that not all is well: a run of the text that is read, of which a write did not end well, a
 -- scrub with a sector that is unlike, or a replay with a bad line
 abbrev pub may_be_unwell : Order → Bool
 may_be_unwell (Run number trace) = true
-may_be_unwell (Workers n trace) = false
+may_be_unwell (Workers n trace) = true
 may_be_unwell Check = false
 may_be_unwell Layout = false
 may_be_unwell (Gen number shown) = false

@@ -27,8 +27,12 @@ fn made_by(order: Order) -> Option<u64>
     }
 }
 
-// The text of a source.
-fn read<S: Source>(alloc: Global, source: &mut S) -> Result<Vec<u8>, Ending>
+/// The text of a source, to its end or to one byte more than a text may have.
+///
+/// # Errors
+///
+/// How the call ends without a text: `ReadFault` where the source failed, and `Memory` where there was none.
+pub(crate) fn read<S: Source>(alloc: Global, source: &mut S) -> Result<Vec<u8>, Ending>
     ensures { HasInput None (stream S.left S.faults source.old source.new) result }
 {
     match read_up_to(alloc, source, LIMIT) {

@@ -1,14 +1,15 @@
 //! The top call of `biostack`: all that the program does, over any source and sinks.
 #![tactic(auto)]
 
-ghost use Rattle.std.specs.Prelude.{◌≡◌, ◌⊎◌, List, ℕ, map, true, None, Some};
+ghost use Rattle.std.specs.Prelude.{◌≡◌, ◌⊎◌, ◌≤◌, List, ℕ, is_some, map, false, true, None};
 ghost use Rattle.std.specs.String.{string_bytes};
 ghost use Rattle.outside_io.specs.Causes.{Rose};
 ghost use Rattle.outside_io.specs.Saying.{StopsAtFault};
 ghost use Rattle.biostack_words.specs.declared.order.Order.{Order as Orders};
 ghost use Rattle.biostack_top.specs.declared.ending.Ending.{Ending as Endings};
-ghost use Rattle.biostack_top.specs.Ending.{EndsBy, HadRefusedText, IsToldTo, MeetsNoFault, OrderEndsBy, exit_of};
-ghost use Rattle.biostack_top.specs.Orders.{is_served, may_be_unwell, order_of};
+ghost use Rattle.biostack_words.specs.declared.order.Order.TheVariants as orders;
+ghost use Rattle.biostack_top.specs.Ending.{EndsBy, HadRefusedText, IsToldTo, MeetsNoFault, OrderEndsBy, WorkersEndBy, exit_of};
+ghost use Rattle.biostack_top.specs.Orders.{is_alone, may_be_unwell, order_of};
 ghost use Rattle.biostack_top.specs.Streams.{stream};
 
 mod ending;
@@ -22,11 +23,15 @@ mod scene;
 mod scrub;
 mod serve;
 mod trace;
+mod workers;
 
+use bio_workers::Gate;
 pub use biostack_words::Order;
 pub use ending::{Ending, Exit};
 use outside_io::{Sink, Source};
 use std::alloc::Global;
+use std::sync::Wait;
+use std::thread::Threads;
 
 // Tells an ending to errors, and answers its status.
 fn end<E: Sink>(ending: Ending, errors: &mut E) -> Exit
@@ -37,12 +42,12 @@ fn end<E: Sink>(ending: Ending, errors: &mut E) -> Exit
     ending.exit()
 }
 
-/// Carries out an order: reads a scenario from the source and checks it, and then runs it to its end by the schedule of a
+/// Carries out an order without threads: reads a scenario from the source and checks it, and then runs it to its end by the schedule of a
 /// number and writes its report, with the line of each event before it where there is to be a trace (`Run`), or where the
 /// members of its mirrors differ in what such a run left (`Scrub`); or writes its devices and what its writes need
 /// (`Check`), or where its writes go (`Layout`); or makes a scenario of a number, and shows it, or runs it and writes what
 /// it had and left (`Gen`); or reads a scenario with a trace behind it, and writes how far that is a run of it (`Replay`).
-/// Orders that are not carried out yet are not handed in.
+/// A run by threads (`Workers`) is not handed in.
 ///
 /// The status is 0 where the whole text was written, 1 where it was but some write that `Run` ran did not end well,
 /// `Scrub` found a sector that is unlike or `Replay` a bad line, 3 where the scenario is refused, 4 where the source
@@ -56,7 +61,7 @@ pub fn serve_alone<S: Source, K: Sink, E: Sink>(
     out: &mut K,
     errors: &mut E,
 ) -> Exit
-    requires { is_served order.now ≡ true }
+    requires { is_alone order.now ≡ true }
 
     // How it ended is one of the causes, and what the output and the errors hold is what goes with it.
     ensures whole { (ending : Endings) × (result.0 ≡ exit_of ending)
@@ -89,20 +94,66 @@ pub fn serve_alone<S: Source, K: Sink, E: Sink>(
     end(ending, errors)
 }
 
+// Runs the text of the source by so many threads, as `biostack` does with such an order.
+fn serve_shared<R: Threads + Wait + Sync, S: Source, K: Sink, E: Sink, G: Gate + Sync>(
+    rt: &R,
+    alloc: Global,
+    workers: u32,
+    source: &mut S,
+    out: &mut K,
+    errors: &mut E,
+    gate: &mut G,
+) -> Exit
+    requires workers { (1 ≤ workers) × (workers ≤ 16) }
+    requires unshown { G.shown gate.old ≡ None }
+    ensures whole { (ending : Endings) × (result.0 ≡ exit_of ending)
+        × WorkersEndBy ending (G.shown gate.new) record {
+          source = stream S.left S.faults source.old source.new;
+          out = stream K.held K.faults out.old out.new;
+        }
+        × IsToldTo ending (stream E.held E.faults errors.old errors.new) }
+    ensures no_usage { (result.0 ≡ 2) → ⊥ }
+    ensures refused { result.0 ≡ 3 → HadRefusedText (orders.Workers workers false) (S.left source.old) }
+    ensures read_fault { result.0 ≡ 4 → Rose (S.faults source.old) (S.faults source.new) }
+    ensures no_read_fault { (result.0 ≡ 4) ⊎ (S.faults source.new ≡ S.faults source.old) }
+    ensures write_fault { result.0 ≡ 5 → Rose (K.faults out.old) (K.faults out.new) }
+    ensures no_write_fault { (result.0 ≡ 5) ⊎ (K.faults out.new ≡ K.faults out.old) }
+    ensures stops { StopsAtFault K.held K.faults out.old out.new }
+    ensures shown { is_some (G.shown gate.new) ≡ true → (result.0 ≡ 0) ⊎ (result.0 ≡ 1) ⊎ (result.0 ≡ 5) }
+    ensures complete { (text : List ℕ)
+        → MeetsNoFault (orders.Workers workers false) text record {
+          source = stream S.left S.faults source.old source.new;
+          out = stream K.held K.faults out.old out.new;
+        }
+        → (result.0 ≡ 0) ⊎ (result.0 ≡ 1) ⊎ (result.0 ≡ 6) }
+{
+    let ending = workers::serve_workers(rt, alloc, workers, source, out, gate);
+    end(ending, errors)
+}
+
 /// Carries out the words after the program's name, as `serve_alone` does with an order.
 ///
 /// The status is as there; 2 where the words give no order that is carried out, and 6 also where there was no memory to read them. Nothing
 /// is read or written then.
-pub fn biostack<S: Source, K: Sink, E: Sink>(
+///
+/// A run by threads has 1 to 16 workers, of which the caller is one. The gate is told of their steps, and once all have ended it is shown what
+/// they left: the history of each object. The report is that of the run which the merge of these histories is, and memory is not wanting any
+/// more then. Nothing else shows the gate anything. Such a run waits for its threads, so all here holds where the call returns; any other order
+/// is carried out by `serve_alone`, which does.
+pub fn biostack<R: Threads + Wait + Sync, S: Source, K: Sink, E: Sink, G: Gate + Sync>(
+    rt: &R,
     alloc: Global,
     words: &[String],
     source: &mut S,
     out: &mut K,
     errors: &mut E,
+    gate: &mut G,
 ) -> Exit
+    requires { G.shown gate.old ≡ None }
+
     // How it ended is one of the causes, and what the output and the errors hold is what goes with it.
     ensures whole { (ending : Endings) × (result.0 ≡ exit_of ending)
-        × EndsBy ending (map string_bytes words.now) record {
+        × EndsBy ending (map string_bytes words.now) (G.shown gate.new) record {
           source = stream S.left S.faults source.old source.new;
           out = stream K.held K.faults out.old out.new;
         }
@@ -119,6 +170,9 @@ pub fn biostack<S: Source, K: Sink, E: Sink>(
     ensures write_fault { result.0 ≡ 5 → Rose (K.faults out.old) (K.faults out.new) }
     ensures no_write_fault { (result.0 ≡ 5) ⊎ (K.faults out.new ≡ K.faults out.old) }
 
+    // A gate is shown something by a run alone, which then was reported, but for a fault of the output: no memory was wanting.
+    ensures shown { is_some (G.shown gate.new) ≡ true → (result.0 ≡ 0) ⊎ (result.0 ≡ 1) ⊎ (result.0 ≡ 5) }
+
     // What the output holds by now it held before any fault.
     ensures stops { StopsAtFault K.held K.faults out.old out.new }
 
@@ -131,7 +185,10 @@ pub fn biostack<S: Source, K: Sink, E: Sink>(
         → (result.0 ≡ 0) ⊎ (result.0 ≡ 1) ⊎ (result.0 ≡ 6) }
 {
     match order::order_of(alloc, words) {
-        Ok(order) => serve_alone(alloc, &order, source, out, errors),
+        Ok(order) => match order::workers_in(order) {
+            Some(workers) => serve_shared(rt, alloc, workers, source, out, errors, gate),
+            None => serve_alone(alloc, &order, source, out, errors),
+        },
         Err(ending) => end(ending, errors),
     }
 }

@@ -1,7 +1,7 @@
 //! What the words ask for.
 ghost use Rattle.std.specs.Prelude.{◌≡◌, map};
 ghost use Rattle.std.specs.String.{string_bytes};
-ghost use Rattle.biostack_top.specs.Orders.{is_replay, is_served, is_shown};
+ghost use Rattle.biostack_top.specs.Orders.{is_replay, is_served, is_shown, workers_in};
 ghost use Rattle.biostack_top.specs.Ending.{IsAsked};
 
 use crate::ending::Ending;
@@ -19,7 +19,22 @@ fn is_served(order: Order) -> bool
         | Order::Gen { .. }
         | Order::Replay
         | Order::Scrub { .. } => { true }
-        Order::Workers { .. } => false,
+        Order::Workers { trace, .. } => !trace,
+    }
+}
+
+/// How many threads an order is for, where it is one for threads.
+pub(crate) fn workers_in(order: Order) -> Option<u32>
+    ensures { result ≡ workers_in order }
+{
+    match order {
+        Order::Workers { n, .. } => Some(n),
+        Order::Run { .. } => None,
+        Order::Check => None,
+        Order::Layout => None,
+        Order::Gen { .. } => None,
+        Order::Replay => None,
+        Order::Scrub { .. } => None,
     }
 }
 

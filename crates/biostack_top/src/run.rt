@@ -91,8 +91,8 @@ fn is_well(end: Status) -> bool
     matches!(end, Status::Ok)
 }
 
-// Whether each write did.
-fn all_well(statuses: &[Status]) -> bool
+/// Whether each write ended well.
+pub(crate) fn all_well(statuses: &[Status]) -> bool
     ensures { result ≡ all_well statuses.now }
 {
     statuses.iter().all(|end| is_well(*end))

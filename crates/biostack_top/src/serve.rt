@@ -3,7 +3,7 @@ ghost use Rattle.std.specs.Prelude.{◌≡◌, true};
 ghost use Rattle.outside_io.specs.Saying.{Writes};
 ghost use Rattle.biostack_words.specs.declared.order.Order.TheVariants as order;
 ghost use Rattle.biostack_top.specs.Scene.{IsSaid};
-ghost use Rattle.biostack_top.specs.Orders.{is_served, is_shown};
+ghost use Rattle.biostack_top.specs.Orders.{is_alone, is_shown};
 ghost use Rattle.biostack_top.specs.Ending.{OrderEndsBy, TextEndsBy};
 ghost use Rattle.biostack_top.specs.Input.{IsMade, made_by};
 ghost use Rattle.biostack_top.specs.Streams.{stream};
@@ -70,7 +70,7 @@ fn tell_text<K: Sink>(order: Order, text: &[u8], out: &mut K) -> Ending
 
 // Carries out an order over its text.
 fn serve_text<K: Sink>(alloc: Global, order: Order, text: &[u8], out: &mut K) -> Ending
-    requires served { is_served order ≡ true }
+    requires alone { is_alone order ≡ true }
     requires made { IsMade (made_by order) text.now }
     ensures { TextEndsBy result order text.now (stream K.held K.faults out.old out.new) }
 {
@@ -97,7 +97,7 @@ fn serve_text<K: Sink>(alloc: Global, order: Order, text: &[u8], out: &mut K) ->
 
 /// Carries out an order, and tells how that ended.
 pub fn serve<S: Source, K: Sink>(alloc: Global, order: Order, source: &mut S, out: &mut K) -> Ending
-    requires { is_served order ≡ true }
+    requires { is_alone order ≡ true }
     ensures { OrderEndsBy result order record {
       source = stream S.left S.faults source.old source.new;
       out = stream K.held K.faults out.old out.new;

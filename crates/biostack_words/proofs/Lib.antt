@@ -6,4 +6,5 @@ pub mod Standing
 pub mod Walks
 pub mod Rows
 pub mod Wholes
+pub mod Few
 mod Examples

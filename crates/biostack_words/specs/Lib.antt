@@ -2,3 +2,4 @@ pub mod Numbers
 pub mod Grammar
 pub mod Parser
 pub mod Reading
+pub mod Laws

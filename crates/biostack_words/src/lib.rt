@@ -11,6 +11,7 @@ ghost use Rattle.biostack_words.specs.Grammar.{ReadsWords};
 mod command;
 mod given;
 mod grammar;
+pub mod laws;
 mod number;
 mod order;
 

@@ -1,0 +1,25 @@
+-- The gate was shown the histories whose merge this is.
+use Rattle.std.proofs.Common.{sym, subst}
+use Rattle.stack_base.specs.Stack.{HasRescuers}
+use Rattle.task_core.specs.declared.opening.Opened.{Opened}
+use Rattle.task_core.specs.opened.OfOne.{scenario_in}
+use Rattle.bio_workers.specs.Gates.{showing}
+use Rattle.biostack_top.specs.Running.{HasMerged}
+use Rattle.biostack_top.proofs.RunningLemmas.{has_merged}
+use Rattle.biostack_top.proofs.workers.run_shown.Goals as goal
+
+pub merge-requires-clause-rescuers : goal.merge-requires-clause-rescuers
+merge-requires-clause-rescuers g c =
+    subst (λ (o : Opened). HasRescuers (scenario_in o).stack) (sym c.run_workers-closed.ensures.told) c.requires.rescuers
+
+pub returns : goal.returns
+returns g c =
+    let closed = c.run_workers-closed.result in
+    let is = c.in-Ok.ensures.merged in
+    let ended = c.in-Ok.outcome.ended in (
+      showing closed,
+      c.closed.ensures,
+      is.events,
+      subst (λ (o : Opened). HasMerged (scenario_in o) (showing closed) is.events ended) c.run_workers-closed.ensures.told
+          (has_merged closed c.in-Ok.outcome c.run_workers-closed.ensures.closed is),
+    )
