@@ -1,9 +1,10 @@
 #!/usr/bin/env python3
 """Times calls of crates of this repository, and prints nanoseconds a call beside those of a twin in plain Rust. It is no test.
 
-usage: bench/beside.py [NAME ..]      a NAME is a folder beside this script (pools, lists, books, lanes, disks, locks, pieces, cores, steps); each of them if left out
+usage: bench/beside.py [NAME ..]      a NAME is a folder beside this script (pools, lists, books, lanes, disks, scrubs, locks, pieces, cores, steps); each of them if left out
 
-It needs `rt`, which proves and builds each measured program in a throw-away repository, and `rustc`. That takes a few minutes a program.
+It needs `rt`, which proves and builds each measured program in a throw-away repository, and `rustc`. That takes a few minutes a program. Libraries that
+are built (`rt lib`, `./biostack prove`) are taken along.
 A folder has the program in main.rt.txt and the twin in twin.rs, perhaps others in twin_*.rs, and of the program's proof the invariants of a
 function F in F.antt.txt, or what else there is in proofs/ or specs/, each file with .txt behind its name. Each program gets a number of calls as its argument, and
 writes a line for each row: its name, the nanoseconds that all calls took, and how many of the calls were served.
@@ -26,8 +27,8 @@ import run  # noqa: E402
 
 ROUNDS = 9
 CALLS = 1000000
-# in place of that number; of disks a call is a sector, and each of their disks has as many as a disk may have
-CALLS_OF = {"disks": 4 * 262144, "steps": 10000000}
+# in place of that number; of disks and scrubs a call is a sector: each disk has as many as a disk may have, each member of a mirror 65,536
+CALLS_OF = {"disks": 4 * 262144, "scrubs": 16 * 65536, "steps": 10000000}
 
 TEXTS = {
     "single": run.writes(131072),
@@ -90,6 +91,13 @@ def with_below(crates, needs):
     return found
 
 
+def left_out(folder, inside):
+    """What is not copied of a crate: its wrong bodies, and of what rt has made all but the library."""
+    if os.path.basename(folder) == "out":
+        return [name for name in inside if name != "rlib"]
+    return [name for name in inside if name == "must-fail"]
+
+
 def build_measured(name, folder):
     """Builds the measured program in a repository of its own, and answers its path."""
     files, needs = kept(os.path.join(BENCH, name)), declared()
@@ -98,7 +106,6 @@ def build_measured(name, folder):
     copied = with_below(stands_on, needs)
     of_kit = [crate for crate in stands_on if crate not in needs]
     for crate in copied:
-        left_out = shutil.ignore_patterns("out", "must-fail")
         shutil.copytree(os.path.join(TOP, "crates", crate), os.path.join(crates, crate), ignore=left_out)
     for at, path in files.items():
         place = os.path.join(measure, at)

@@ -826,7 +826,11 @@ fn got_of(word: &str) -> Got {
 }
 
 fn event_of(text: &Text, line: &str) -> Event {
-    let words: Vec<&str> = line.split(' ').collect();
+    // no line has more, and a list of them would take memory for each
+    let mut words = [""; 9];
+    for (place, word) in words.iter_mut().zip(line.split(' ')) {
+        *place = word;
+    }
     let number = |at: usize| words[at].parse::<u64>().unwrap();
     let short = |at: usize| number(at) as u32;
     let task = match words[1] {
