@@ -182,6 +182,14 @@ class Examples(unittest.TestCase):
         for name, path, output in examples():
             self.assertEqual(program("run", "--trace", data=read(path).encode())[1], output, name)
 
+    @needs_program
+    def test_report_of_threads(self):
+        """Of this text every schedule has the same events, so its report is one, by a seed or by threads."""
+        path = f"{EXAMPLES}/four-writers.txt"
+        text, report = read(path).encode(), read(f"{path}.stdout")
+        for words in (["--seed", "7"], *(["--workers", str(n)] for n in (1, 2, 4, 16))):
+            self.assertEqual(program("run", *words, data=text), (0, report, ""), words)
+
     def test_pictures(self):
         for name, path, output in examples():
             into = io.StringIO()
