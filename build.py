@@ -6,9 +6,9 @@ crates/biostack/out/work/NAME, over hard links to what is built already, and wha
 own out/. rt itself finds what has changed and what has not. The log of each crate is crates/biostack/out/logs/NAME.
 
 Every crate that can be built is started, as far as processors and memory go, those first that the longest chain of
-others waits for; those behind the first have a lower priority. The crates that are ready share the processors that
-are idle: the first gets two jobs at least, and one that is ready alone gets them all. But each job reads the
-libraries below anew, so a crate whose own code is small beside what is below it gets one.
+others waits for. The first of all starts at once, with two jobs at least, and those behind it have a lower priority.
+The crates that are ready share the processors that are idle, and one that is ready alone gets them all. But each job
+reads the libraries below anew, so a crate whose own code is small beside what is below it gets one.
 """
 import fcntl
 import os
@@ -30,6 +30,9 @@ OUT = f"{TOP}/crates/{LAST}/out"
 WORK, LOGS = f"{OUT}/work", f"{OUT}/logs"
 PARTS = ("src", "specs", "proofs")
 GIB = 1 << 30
+# minutes of one processor that the dear crates take: what they read or drop counts more than their code
+MINUTES = {"object_things": 3.5, "shared_objects": 9, "bio_workers": 6, "run_merge": 5, "biostack_top": 5, "biostack": 5}
+BYTES_A_MINUTE = 20_000
 START, BEGAN = time.monotonic(), time.time()
 running, stopping = set(), threading.Event()
 
@@ -87,9 +90,14 @@ def read_crates():
 
 
 def size_of(name):
-    """Returns the bytes of its code, by which the time of a check goes more or less, whatever its proofs."""
+    """Returns the bytes of its code."""
     walked = os.walk(f"{TOP}/crates/{name}/src")
     return sum(os.path.getsize(f"{at}/{it}") for at, _, files in walked for it in files)
+
+
+def minutes_of(name):
+    """Returns how long a check of it takes, more or less: by its code, whatever its proofs, where it is none of the dear ones."""
+    return MINUTES.get(name) or size_of(name) / BYTES_A_MINUTE
 
 
 def small_ones(crates):
@@ -179,7 +187,7 @@ def stop():
 
 def build_all(crates):
     """Builds all crates, and returns the first that failed with its status, or nothing."""
-    behind = {it: size_of(it) for it in crates}
+    behind = {it: minutes_of(it) for it in crates}
     for it in reversed([*crates]):
         above = [behind[other] for other in crates if it in crates[other][1]]
         behind[it] += max(above, default=0)
@@ -191,7 +199,7 @@ def build_all(crates):
         for at, name in enumerate(ready):
             is_first = all(behind[name] > behind[it] for it, *_ in now.values())
             idle = count - sum(jobs for _, jobs, *_ in now.values())
-            if now and idle < 1:
+            if now and idle < 1 and not is_first:
                 break
             others = ready[at + 1 :]
             few = sum(it in small for it in others)
@@ -204,7 +212,7 @@ def build_all(crates):
                 left.remove(name)
                 now[pool.submit(build, name, crates, jobs, is_first)] = name, jobs, needs, time.monotonic()
 
-    with ThreadPoolExecutor(count) as pool:
+    with ThreadPoolExecutor(len(crates)) as pool:
         try:
             while left or now:
                 start_all(pool)
