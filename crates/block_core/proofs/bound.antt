@@ -1,5 +1,6 @@
 pub mod RunCharges
 pub mod DeviceCharges
+pub mod TaskCharges
 pub mod EventCharges
 pub mod ChargesAtStart
 pub mod Bounded

@@ -14,6 +14,7 @@ pub mod OfOneWrite
 pub mod Present
 pub mod Payers
 pub mod Charges
+pub mod Paying
 pub mod Bounded
 pub mod Rooms
 pub mod Breaks

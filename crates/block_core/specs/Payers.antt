@@ -1,5 +1,5 @@
 -- Which events are paid for by what: the table behind the charges.
-use Rattle.std.specs.Prelude.{ℕ, List, [], ◌∷◌, length}
+use Rattle.std.specs.Prelude.{◌+◌, ℕ, List, [], ◌∷◌, sum_by}
 
 pub data Payer : Type 0 where
   -- the bio of a write, and its vector, where it has one
@@ -43,6 +43,10 @@ pays_for ScriptEntry = MissesWaiting ∷ []
 pays_for LaterRound = Starts ∷ []
 pays_for ReserveChange = Resizes ∷ []
 
--- so this is what each is charged at first: the charges of a state are what is left of these
-abbrev pub charge_of : Payer → ℕ
-charge_of payer = length (pays_for payer)
+-- so this is what each is charged at first, where the kinds of event have these prices: the charges of a state are what is left of these
+abbrev pub cost : (Paid → ℕ) → Payer → ℕ
+cost price payer = sum_by price (pays_for payer)
+
+-- where each event costs one, it is how many events that are
+abbrev pub unit_price : Paid → ℕ
+unit_price paid = 1

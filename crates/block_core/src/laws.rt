@@ -12,6 +12,7 @@ ghost use Rattle.block_core.specs.Fragments.{EachIsCompletedOnce, FragmentsAddUp
 ghost use Rattle.block_core.specs.Images.{EndedRunsLeaveTheSame, ImagesAreLaidOut, ImagesAreOfCompleted, LaidIsOne, OneFragmentARound, RoundsComeInOrder};
 ghost use Rattle.block_core.specs.Present.{WorkIsPresent};
 ghost use Rattle.block_core.specs.OfOneWrite.{AllAreOfOneWrite};
+ghost use Rattle.block_core.specs.Paying.{EachHasItsCharge};
 ghost use Rattle.block_core.specs.Replies.{RepliesAreEvents};
 ghost use Rattle.block_core.specs.Rooms.{BooksHaveRoom};
 ghost use Rattle.block_core.specs.Runnable.{AcceptedTextsAreRunnable, StepsAreFew};
@@ -76,6 +77,12 @@ pub fn runs_are_bounded()
     ensures opened { OpenedRankIsBounded }
     ensures bounded { RunsAreBounded }
     ensures outs { OutsAreBounded }
+{}
+
+/// However the kinds of event are priced, the events of no run of any scenario cost more than all that pays for them, by the table of what each bio,
+/// vector, record, fragment, entry, round and change pays for: so no charge is used twice.
+pub fn events_have_charges()
+    ensures { EachHasItsCharge }
 {}
 
 /// Where no take of a run misses, the layout alone fixes how many events it has once it has ended: each element is taken and given back, each node

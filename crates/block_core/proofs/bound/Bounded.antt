@@ -1,5 +1,5 @@
--- Every event of every run lowers the rank, so no run has more events than the rank at its start.
-use Rattle.std.proofs.Common.{◌+◌, ◌*◌, ◌≤◌, ℕ, List, [], ◌∷◌, length, inl, inr, refl, sym, ap, subst, arith}
+-- Every event of every run lowers what is charged by its price, so no run has more events than the rank at its start.
+use Rattle.std.proofs.Common.{◌≡◌, ◌+◌, ◌*◌, ◌≤◌, ℕ, List, [], ◌∷◌, length, inl, inr, refl, sym, ap, subst, arith}
 use Rattle.elem_ledger.specs.Ledger.{LedgerId}
 use Rattle.run_machine.specs.declared.event.Event.{Event}
 use Rattle.mempool_core.specs.Move.{PoolState, Move as PoolMove, after_move, takes_ordinary, takes_spare, misses, gives, resizes}
@@ -10,6 +10,8 @@ use Rattle.run_machine.specs.Opened.{Scenario, scene, start, setup as setup_in}
 use Rattle.run_machine.specs.Runs.{State, Steps, IsRun}
 use Rattle.block_core.specs.Charges.{charged, spent, rank, EventsLowerRank}
 use Rattle.block_core.specs.Scenarios.{IsScenario, IsNaming}
+use Rattle.block_core.specs.Payers.{Paid, unit_price}
+use Rattle.block_core.specs.Paying.{brings, paid_as, costs, all_costs, EachHasItsCharge}
 use Rattle.block_core.specs.Bounded.{most_steps, OpenedRankIsBounded, OutsAreBounded, RunsAreBounded}
 use Rattle.block_core.proofs.moves.Moves.{Move, after}
 use Rattle.block_core.proofs.moves.Moves as moves
@@ -20,7 +22,7 @@ use Rattle.block_core.proofs.moves.Devices.{ground}
 use Rattle.block_core.proofs.moves.StepMoves.{step_is_move}
 use Rattle.block_core.proofs.bound.DeviceCharges.{Priced, priced}
 use Rattle.block_core.proofs.bound.EventCharges.{lowers, covers}
-use Rattle.block_core.proofs.bound.ChargesAtStart.{start_charge}
+use Rattle.block_core.proofs.bound.ChargesAtStart.{few_costs, start_charge, start_spent}
 use Rattle.block_core.proofs.sound.Wholes.{Whole, runs_whole, start_whole}
 
 -- an event takes one element out of a pool at most
@@ -60,21 +62,43 @@ event_out scene s (moves.Closes place disk carried writer key status part node) 
 event_out scene s (moves.Ends place disk writer closed) q = omega arith
 event_out scene s (moves.Started place round later duties) q = omega arith
 
-module _ (scene : Scene) (f : Fair scene) (g : Ground scene.setup) (p : Priced scene.setup) where
+module _ (scene : Scene) (f : Fair scene) (g : Ground scene.setup) (p : (price : Paid → ℕ) → Priced price scene.setup) where
   -- one event
-  step_lowers : (s : State) (place : ℕ) (event : Event) (new : State) → Whole scene s → Whole scene new → Steps scene s place event new → rank scene new + 1 ≤ rank scene s
-  step_lowers s place event new i j steps =
+  step_costs : (price : Paid → ℕ) (s : State) (place : ℕ) (event : Event) (new : State) → Whole scene s → Steps scene s place event new
+      → price (paid_as (brings (s.task place)) event.what) + charged price scene new + spent price scene s ≤ charged price scene s + spent price scene new
+  step_costs price s place event new i steps =
       let moved = step_is_move scene s f i.kept place event new steps in
-      let low = lowers scene s g p i.kept i.placed moved.move moved.can in
-      let charges = ap (charged scene) moved.is in
-      let spends = ap (spent scene) moved.is in
-      omega (arith, low, charges, spends, covers scene new g p j.kept j.placed)
+      let low = lowers price scene s g (p price) i.kept i.placed moved.move moved.can in
+      let charges = ap (charged price scene) moved.is in
+      let spends = ap (spent price scene) moved.is in
+      let pays = ap price moved.pays in
+      omega (arith, low, charges, spends, pays)
 
-  pub runs_lower : (s : State) (events : List Event) (new : State) → Whole scene s → IsRun scene s events new → length events + rank scene new ≤ rank scene s
-  runs_lower s [] new i run = let same = ap (rank scene) run in omega (arith, same)
-  runs_lower s (event ∷ events) new i (next, (place, steps), run) =
+  -- and all of them
+  pub runs_cost : (price : Paid → ℕ) (s : State) (events : List Event) (new : State) → Whole scene s → (run : IsRun scene s events new)
+      → costs price scene s events new run + charged price scene new + spent price scene s ≤ charged price scene s + spent price scene new
+  runs_cost price s [] new i run =
+      let charges = ap (charged price scene) run in
+      let spends = ap (spent price scene) run in
+      omega (arith, charges, spends)
+  runs_cost price s (event ∷ events) new i (next, (place, steps), run) =
       let j = runs_whole scene f g s (event ∷ []) next i (next, (place, steps), refl) in
-      omega (arith, step_lowers s place event next i j steps, runs_lower next events new j run)
+      omega (arith, step_costs price s place event next i steps, runs_cost price next events new j run)
+
+  -- where each costs one, they cost as much as there are
+  costs_length : (s : State) (events : List Event) (new : State) (run : IsRun scene s events new) → costs unit_price scene s events new run ≡ length events
+  costs_length s [] new run = refl
+  costs_length s (event ∷ events) new (next, step, run) = omega (arith, costs_length next events new run)
+
+  pub runs_lower : (s : State) (events : List Event) (new : State) → Whole scene s → Whole scene new → IsRun scene s events new → length events + rank scene new ≤ rank scene s
+  runs_lower s events new i j run =
+      omega (
+        arith,
+        costs_length s events new run,
+        runs_cost unit_price s events new i run,
+        covers unit_price scene new g (p unit_price) j.kept j.placed,
+        covers unit_price scene s g (p unit_price) i.kept i.placed,
+      )
 
   pub runs_out : (q : ℕ) (s : State) (events : List Event) (new : State) → Whole scene s → IsRun scene s events new
       → (new.objects.pool q).facts.out ≤ (s.objects.pool q).facts.out + length events
@@ -93,18 +117,35 @@ module _ (s : Scenario) (ledger : ℕ → LedgerId) (good : IsScenario s) (namin
       → length later + rank (scene s ledger) new ≤ rank (scene s ledger) old
   run_lowers before later old new first second =
       let g = ground s.stack good.stack (setup_in s).places in
-      let p = priced s.stack good.stack (setup_in s).places in
+      let p : (price : Paid → ℕ) → Priced price (setup_in s) = λ price. priced price s.stack good.stack (setup_in s).places in
       let i = runs_whole (scene s ledger) fair g (start s) before old (start_whole s ledger good naming) first in
-      runs_lower (scene s ledger) fair g p old later new i second
+      let j = runs_whole (scene s ledger) fair g old later new i second in
+      runs_lower (scene s ledger) fair g p old later new i j second
 
   run_bounded : (events : List Event) (state : State) → IsRun (scene s ledger) (start s) events state → length events ≤ most_steps s
-  run_bounded events state run = omega (arith, run_lowers [] events (start s) state refl run, start_charge s good ledger)
+  run_bounded events state run = omega (arith, run_lowers [] events (start s) state refl run, start_charge s good ledger unit_price, few_costs s good ledger)
+
+  -- whatever events cost, the events of a run cost no more than all that pays for them
+  run_paid : (events : List Event) (state : State) (run : IsRun (scene s ledger) (start s) events state) (price : Paid → ℕ)
+      → costs price (scene s ledger) (start s) events state run ≤ all_costs price s
+  run_paid events state run price =
+      let i = start_whole s ledger good naming in
+      let g = ground s.stack good.stack (setup_in s).places in
+      let p : (price : Paid → ℕ) → Priced price (setup_in s) = λ price. priced price s.stack good.stack (setup_in s).places in
+      let j = runs_whole (scene s ledger) fair g (start s) events state i run in
+      omega (
+        arith,
+        runs_cost (scene s ledger) fair g p price (start s) events state i run,
+        covers price (scene s ledger) state g (p price) j.kept j.placed,
+        start_charge s good ledger price,
+        start_spent s good ledger price,
+      )
 
   run_out : (events : List Event) (state : State) → IsRun (scene s ledger) (start s) events state → (q : ℕ) → (state.objects.pool q).facts.out ≤ most_steps s
   run_out events state run q =
       let i = start_whole s ledger good naming in
       let g = ground s.stack good.stack (setup_in s).places in
-      let p = priced s.stack good.stack (setup_in s).places in
+      let p : (price : Paid → ℕ) → Priced price (setup_in s) = λ price. priced price s.stack good.stack (setup_in s).places in
       omega (arith, runs_out (scene s ledger) fair g p q (start s) events state i run, run_bounded events state run)
 
 pub events_lower_rank : EventsLowerRank
@@ -114,7 +155,10 @@ pub runs_are_bounded : RunsAreBounded
 runs_are_bounded s ledger events state good naming run = run_bounded s ledger good naming events state run
 
 pub opened_rank_is_bounded : OpenedRankIsBounded
-opened_rank_is_bounded s ledger good naming = omega (arith, start_charge s good ledger)
+opened_rank_is_bounded s ledger good naming = omega (arith, start_charge s good ledger unit_price, few_costs s good ledger)
 
 pub outs_are_bounded : OutsAreBounded
 outs_are_bounded s ledger events state good naming run number = run_out s ledger good naming events state run number
+
+pub each_has_its_charge : EachHasItsCharge
+each_has_its_charge s ledger events state good naming run price = run_paid s ledger good naming events state run price

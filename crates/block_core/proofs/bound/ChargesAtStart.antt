@@ -1,4 +1,4 @@
--- At the start no more is charged than a run may have events.
+-- At the start no more is charged than all that pays, and so no more than a run may have events, where each costs one.
 use Rattle.std.proofs.Common.{◌≡◌, ◌≢◌, ◌+◌, ◌-◌, ◌*◌, ◌<◌, ◌≤◌, ◌==◌, ◌⊎◌, ◌++◌, not, if◌then◌else◌, ℕ, zero, suc, Bool, true, false, List, [], ◌∷◌, length, map, filter, Some, inl, inr, refl, sym, ◌∙◌, ap, subst, arith, cond}
 use Rattle.std.specs.Prelude.{sum_by}
 use Rattle.std.specs.List.{range_with_len}
@@ -9,19 +9,21 @@ use Rattle.stack_base.specs.declared.ids.PoolId.{PoolId}
 use Rattle.stack_base.specs.PoolId.{pool_number}
 use Rattle.elem_ledger.specs.Ledger.{LedgerId}
 use Rattle.layout_model.specs.Need.{vectors}
+use Rattle.block_core.specs.Payers.{Paid, WriteVector, ScriptEntry, LaterRound, ReserveChange, cost, unit_price}
+use Rattle.block_core.specs.Paying.{write_cost, all_costs}
 use Rattle.layout_model.proofs.RangeSums.{sum_next}
 use Rattle.model_disks.specs.Disks.{DiskState}
 use Rattle.run_machine.specs.Scene.{tree_at}
 use Rattle.run_machine.specs.Lines.{rests}
-use Rattle.run_machine.specs.Tasks.{TaskState, Writer, Rescuer, Completer, Duty, Resizes, Starts, Todo, NoBio, Empty}
+use Rattle.run_machine.specs.Tasks.{TaskState, Writer, Rescuer, Completer, Duty, Resizes, Starts, Keeps, Keeper, Todo, NoBio, Empty, needs_vector}
 use Rattle.block_core.specs.Weights.{Pending, Rescued, total, sum_at, task_weight, book_weight}
-use Rattle.block_core.specs.Charges.{run_charge, write_charge, todo_charge, charge, task_duties, entries_left, charged}
+use Rattle.block_core.specs.Charges.{run_charge, vector_charge, write_charge, todo_charge, charge, duty_charge, task_charge, task_spent, entries_left, charged, spent}
 use Rattle.block_core.proofs.moves.Sums.{same_or_not}
 use Rattle.std.specs.Prelude.{zip, find}
-use Rattle.std.specs.List.{list_any}
+use Rattle.std.specs.List.{list_any, flat_map}
 use Rattle.std.specs.Option.{option_map_or}
-use Rattle.std.proofs.lemmas.List.{length-map, length-append, take_all}
-use Rattle.std.proofs.lemmas.List.Concat.{length-flat_map}
+use Rattle.std.proofs.lemmas.List.{take_all}
+use Rattle.std.proofs.Math.Nat.{mul-le-mul_left}
 use Rattle.fail_script.specs.Script.{Answers, entries_of, only_tail}
 use Rattle.layout_model.specs.declared.write.Write.{Write}
 use Rattle.layout_model.specs.Needs.{elements, parts}
@@ -35,7 +37,7 @@ use Rattle.block_core.proofs.start.FactsAtStart.{start_opened, nodes_zero, sum_a
 use Rattle.block_core.proofs.start.StagesAtStart.{places_sum}
 use Rattle.std.proofs.Math.Numerals.{add-one}
 use Rattle.std.proofs.lemmas.List.FromFn.{length-range_with_len}
-use Rattle.block_core.proofs.bound.EventCharges.{later_charge}
+use Rattle.block_core.proofs.bound.TaskCharges.{later_charge}
 use Rattle.block_core.proofs.bound.RunCharges.{charge_enough}
 
 -- sums over numbers
@@ -113,6 +115,11 @@ zip_sum h [] xs = omega arith
 zip_sum h (n ∷ ns) [] = omega arith
 zip_sum {A = A} {B = B} h (n ∷ ns) (x ∷ xs) = omega (arith, sum_by-cons (λ (x : A × B). h x.1) (n, x) (zip ns xs), sum_by-cons h x xs, zip_sum h ns xs)
 
+-- a sum over what is joined
+joined_sum : {X Y : Type 0} (g : Y → ℕ) (f : X → List Y) (xs : List X) → sum_by g (flat_map f xs) ≡ sum_by (λ x. sum_by g (f x)) xs
+joined_sum g f [] = refl
+joined_sum g f (x ∷ xs) = omega (arith, sum_by-append g (f x) (flat_map f xs), sum_by-cons (λ x. sum_by g (f x)) x xs, joined_sum g f xs)
+
 bound_sum : {X : Type 0} (h e f : X → ℕ) (xs : List X) → ((x : X) → h x ≤ 8 * e x + 2 * f x) → sum_by h xs ≤ 8 * sum_by e xs + 2 * sum_by f xs
 bound_sum h e f [] le = omega arith
 bound_sum h e f (x ∷ xs) le = omega (arith, sum_by-cons h x xs, sum_by-cons e x xs, sum_by-cons f x xs, le x, bound_sum h e f xs le)
@@ -155,51 +162,48 @@ module _ (s : Scenario) (good : IsScenario s) (ledger : ℕ → LedgerId) where
   pub placed_sum : (G : TaskState → ℕ) → sum_at (λ place x. G x) (length (opened_tasks s)) (start s).task ≡ sum_by G (opened_tasks s)
   placed_sum G = places_sum G (opened_tasks s) no_task (length (opened_tasks s)) (omega arith) ∙ ap (sum_by G) (take_all (length (opened_tasks s)) (opened_tasks s) (omega arith))
 
-  -- what the writers have to begin
-  abbrev write_cost : Write → ℕ
-  write_cost write = 5 + 2 * vectors write.count + run_charge (tree_at (setup_in s) write.dev) write.start write.count
+  module _ (price : Paid → ℕ) where
+    -- what the writers have to begin
+    todos_charge : sum_by (write_charge price (setup_in s)) (todos s) ≤ sum_by (write_cost price s.stack) s.writes
+    todos_charge =
+        let ns = range_with_len 0 (length s.writes) in
+        let a = map_sum (write_charge price (setup_in s)) (λ x. record { number = x.0; round = x.1.0; write = x.1.1 }) (zip ns (zip s.rounds s.writes)) in
+        let b = zip_sum (λ (x : ℕ × Write). write_cost price s.stack x.1) ns (zip s.rounds s.writes) in
+        let c = zip_sum (write_cost price s.stack) s.rounds s.writes in
+        omega (arith, a, b, c)
 
-  todos_charge : sum_by (write_charge (setup_in s)) (todos s) ≤ 8 * all_elements s.stack s.writes + 2 * all_parts s.stack s.writes
-  todos_charge =
-      let ns = range_with_len 0 (length s.writes) in
-      let a = map_sum (write_charge (setup_in s)) (λ x. record { number = x.0; round = x.1.0; write = x.1.1 }) (zip ns (zip s.rounds s.writes)) in
-      let b = zip_sum (λ (x : ℕ × Write). write_cost x.1) ns (zip s.rounds s.writes) in
-      let c = zip_sum write_cost s.rounds s.writes in
-      let d = bound_sum write_cost (λ write. elements s.stack write) (λ write. parts s.stack write) s.writes
-      (λ write. omega (arith, charge_enough (tree_at (setup_in s) write.dev) write.start write.count)) in
-      omega (arith, a, b, c, d)
+    writers_charge : sum_by (λ writer. todo_charge price (setup_in s) (todos_of s writer) NoBio) (writers s) ≤ sum_by (write_cost price s.stack) s.writes
+    writers_charge =
+        let of : ℕ → ℕ = λ writer. sum_by (write_charge price (setup_in s)) (todos_of s writer) in
+        let a = same_sum (λ writer. todo_charge price (setup_in s) (todos_of s writer) NoBio) of (writers s) (λ writer. later_charge price (setup_in s) (todos_of s writer)) in
+        let b = filter_sum of (λ writer. list_any (is_by writer) (todos s)) (range_with_len 0 8) in
+        let c = range_part of 0 8 in
+        let d : sum_at (λ v (x : ℕ). of v) 8 (λ v. v) ≤ sum_by (write_charge price (setup_in s)) (todos s) =
+        grouped (λ (todo : Todo). todo.write.task) (write_charge price (setup_in s)) 8 (todos s) in
+        omega (arith, a, b, c, d, todos_charge)
 
-  writers_charge : sum_by (λ writer. todo_charge (setup_in s) (todos_of s writer) NoBio) (writers s) ≤ 8 * all_elements s.stack s.writes + 2 * all_parts s.stack s.writes
-  writers_charge =
-      let of : ℕ → ℕ = λ writer. sum_by (write_charge (setup_in s)) (todos_of s writer) in
-      let a = same_sum (λ writer. todo_charge (setup_in s) (todos_of s writer) NoBio) of (writers s) (λ writer. later_charge (setup_in s) (todos_of s writer)) in
-      let b = filter_sum of (λ writer. list_any (is_by writer) (todos s)) (range_with_len 0 8) in
-      let c = range_part of 0 8 in
-      let d : sum_at (λ v (x : ℕ). of v) 8 (λ v. v) ≤ sum_by (write_charge (setup_in s)) (todos s) = grouped (λ (todo : Todo). todo.write.task) (write_charge (setup_in s)) 8 (todos s) in
-      omega (arith, a, b, c, d, todos_charge)
+    tasks_charge : sum_at (task_weight (charge price (setup_in s))) (length (opened_tasks s)) (start s).task ≤ sum_by (write_cost price s.stack) s.writes
+    tasks_charge =
+        let G : TaskState → ℕ = λ x. task_weight (charge price (setup_in s)) 0 x in
+        let same : sum_at (task_weight (charge price (setup_in s))) (length (opened_tasks s)) (start s).task ≡ sum_at (λ place x. G x) (length (opened_tasks s)) (start s).task = refl in
+        let writer_same = same_sum (λ writer. G (Writer writer (todos_of s writer) NoBio rests)) (λ writer. todo_charge price (setup_in s) (todos_of s writer) NoBio) (writers s) (λ writer. omega arith) in
+        omega (arith, same, placed_sum G, opened_sum G (λ dev. refl) (λ dev. refl), writer_same, writers_charge, keeper_charge (duties s))
+      where
+        keeper_charge : (ds : List Duty) → sum_by (λ x. task_weight (charge price (setup_in s)) 0 x) (keepers ds) ≡ 0
+        keeper_charge [] = refl
+        keeper_charge (duty ∷ ds) = refl
 
-  tasks_charge : sum_at (task_weight (charge (setup_in s))) (length (opened_tasks s)) (start s).task ≤ 8 * all_elements s.stack s.writes + 2 * all_parts s.stack s.writes
-  tasks_charge =
-      let G : TaskState → ℕ = λ x. task_weight (charge (setup_in s)) 0 x in
-      let same : sum_at (task_weight (charge (setup_in s))) (length (opened_tasks s)) (start s).task ≡ sum_at (λ place x. G x) (length (opened_tasks s)) (start s).task = refl in
-      let writer_same = same_sum (λ writer. G (Writer writer (todos_of s writer) NoBio rests)) (λ writer. todo_charge (setup_in s) (todos_of s writer) NoBio) (writers s) (λ writer. omega arith) in
-      omega (arith, same, placed_sum G, opened_sum G (λ dev. refl) (λ dev. refl), writer_same, writers_charge, keeper_charge (duties s))
-    where
-      keeper_charge : (ds : List Duty) → sum_by (λ x. task_weight (charge (setup_in s)) 0 x) (keepers ds) ≡ 0
-      keeper_charge [] = refl
-      keeper_charge (duty ∷ ds) = refl
-
-  total_charge : total (scene s ledger) (charge (setup_in s)) (start s) ≤ 8 * all_elements s.stack s.writes + 2 * all_parts s.stack s.writes
-  total_charge =
-      let o = start_opened s good ledger in
-      let w = charge (setup_in s) in
-      omega (
-        arith,
-        tasks_charge,
-        sum_at-zero (λ dev bios. sum_by (w.bio Rescued) bios) (scene s ledger).setup.count (start s).objects.rescue (λ dev. refl),
-        sum_at-zero (λ dev (disk : DiskState). sum_by (w.bio Pending) disk.pending) (scene s ledger).setup.count (start s).objects.disk (λ dev. refl),
-        sum_at-zero (book_weight w) (scene s ledger).books (start s).objects.book (λ writer. nodes_zero w writer ((start s).objects.book writer) (o.books writer)),
-      )
+    total_charge : total (scene s ledger) (charge price (setup_in s)) (start s) ≤ sum_by (write_cost price s.stack) s.writes
+    total_charge =
+        let o = start_opened s good ledger in
+        let w = charge price (setup_in s) in
+        omega (
+          arith,
+          tasks_charge,
+          sum_at-zero (λ dev bios. sum_by (w.bio Rescued) bios) (scene s ledger).setup.count (start s).objects.rescue (λ dev. refl),
+          sum_at-zero (λ dev (disk : DiskState). sum_by (w.bio Pending) disk.pending) (scene s ledger).setup.count (start s).objects.disk (λ dev. refl),
+          sum_at-zero (book_weight w) (scene s ledger).books (start s).objects.book (λ writer. nodes_zero w writer ((start s).objects.book writer) (o.books writer)),
+        )
 
   -- the entries of all scripts
   entries_charge : sum_at (λ number pool. entries_left pool) 66 (start s).objects.pool ≤ sum_by (λ (script : PoolId × Answers). entries_of script.1) s.scripts
@@ -210,35 +214,66 @@ module _ (s : Scenario) (good : IsScenario s) (ledger : ℕ → LedgerId) where
       omega (arith, a, b)
 
   -- what the keeper has to do
-  changes_part : (n : ℕ) → sum_by (λ round. length (filter (λ (change : Change). change.round == round) s.changes)) (range_with_len 1 n) ≤ length s.changes
-  changes_part n =
+  changes_part : (each n : ℕ) → sum_by (λ round. sum_by (λ (change : Change). each) (filter (λ (change : Change). change.round == round) s.changes)) (range_with_len 1 n)
+      ≤ sum_by (λ (change : Change). each) s.changes
+  changes_part each n =
       let at : ℕ → List Change = λ round. filter (λ (change : Change). change.round == round) s.changes in
-      let ones : ℕ → ℕ = λ round. sum_by (λ (change : Change). 1) (at round) in
-      let a = same_sum (λ round. length (at round)) ones (range_with_len 1 n) (λ round. sym (sum_of_one (at round))) in
-      let b = range_part ones 1 n in
-      let c = grouped (λ (change : Change). change.round) (λ (change : Change). 1) (1 + n) s.changes in
-      omega (arith, a, b, c, sum_of_one s.changes)
+      let b = range_part (λ round. sum_by (λ (change : Change). each) (at round)) 1 n in
+      let c = grouped (λ (change : Change). change.round) (λ (change : Change). each) (1 + n) s.changes in
+      omega (arith, b, c)
 
-  duties_count : length (duties s) ≤ length s.changes + (round_count s - 1)
-  duties_count =
+  module _ (price : Paid → ℕ) where
+    abbrev rounds_cost : ℕ
+    rounds_cost = sum_by (λ round. cost price LaterRound) (range_with_len 1 (round_count s - 1))
+
+    abbrev changes_cost : ℕ
+    changes_cost = sum_by (λ (change : Change). cost price ReserveChange) s.changes
+
+    duties_cost : sum_by (duty_charge price) (duties s) ≤ rounds_cost + changes_cost
+    duties_cost =
+        let n = round_count s - 1 in
+        let rounds = range_with_len 1 n in
+        let at : ℕ → List Change = λ round. filter (λ (change : Change). change.round == round) s.changes in
+        let each : ℕ → ℕ = λ round. sum_by (λ (change : Change). cost price ReserveChange) (at round) in
+        let a = joined_sum (duty_charge price) (duties_of s) rounds in
+        let b = same_sum (λ round. sum_by (duty_charge price) (duties_of s round)) (λ round. each round + cost price LaterRound) rounds (λ round.
+        let resizes_of : Change → Duty = λ change. Resizes change.pool change.min (writes_from s round) in
+        let last : Duty = Starts round (writes_from s round) in
+        omega (arith, sum_by-append (duty_charge price) (map resizes_of (at round)) (last ∷ []), sum_by-cons (duty_charge price) last [], map_sum (duty_charge price) resizes_of (at round))) in
+        let c = sum_of_two each (λ round. cost price LaterRound) rounds in
+        omega (arith, a, b, c, changes_part (cost price ReserveChange) n)
+
+    duties_charge : sum_at (λ place x. task_charge price x) (length (opened_tasks s)) (start s).task ≤ rounds_cost + changes_cost
+    duties_charge =
+        omega (arith, placed_sum (task_charge price), opened_sum (task_charge price) (λ dev. refl) (λ dev. refl), sum_of_zero (writers s), keeper_duties (duties s), duties_cost)
+      where
+        keeper_duties : (ds : List Duty) → sum_by (task_charge price) (keepers ds) ≡ sum_by (duty_charge price) ds
+        keeper_duties [] = refl
+        keeper_duties (duty ∷ ds) = omega (arith, sum_by-cons (task_charge price) (Keeper (Keeps (duty ∷ ds))) [])
+
+    -- at the start no more is charged than all that pays, and nothing is spent
+    pub start_charge : charged price (scene s ledger) (start s) ≤ all_costs price s
+    start_charge = omega (arith, total_charge price, mul-le-mul_left (cost price ScriptEntry) entries_charge, duties_charge)
+
+    pub start_spent : spent price (scene s ledger) (start s) ≡ 0
+    start_spent =
+        let keeper_spent : (ds : List Duty) → sum_by (task_spent price) (keepers ds) ≡ 0 = none_spent in
+        omega (arith, placed_sum (task_spent price), opened_sum (task_spent price) (λ dev. refl) (λ dev. refl), sum_of_zero (writers s), keeper_spent (duties s))
+      where
+        none_spent : (ds : List Duty) → sum_by (task_spent price) (keepers ds) ≡ 0
+        none_spent [] = refl
+        none_spent (duty ∷ ds) = refl
+
+  -- where each event costs one, that is no more than a run may have events
+  vector_twice : (b : Bool) → cond b 2 0 ≡ 2 * cond b 1 0
+  vector_twice true = omega arith
+  vector_twice false = omega arith
+
+  pub few_costs : all_costs unit_price s ≤ most_steps s
+  few_costs =
       let n = round_count s - 1 in
-      let rounds = range_with_len 1 n in
-      let at : ℕ → List Change = λ round. filter (λ (change : Change). change.round == round) s.changes in
-      let a = length-flat_map (duties_of s) rounds in
-      let b = same_sum (λ round. length (duties_of s round)) (λ round. length (at round) + 1) rounds (λ round.
-      let resizes_of : Change → Duty = λ change. Resizes change.pool change.min (writes_from s round) in
-      let last : List Duty = Starts round (writes_from s round) ∷ [] in
-      omega (arith, length-append (map resizes_of (at round)) last, length-map (at round) resizes_of)) in
-      let c = sum_of_two (λ round. length (at round)) (λ round. 1) rounds in
-      omega (arith, a, b, c, sum_of_one rounds, length-range_with_len 1 n, changes_part n)
-
-  duties_charge : sum_at (λ place x. task_duties x) (length (opened_tasks s)) (start s).task ≤ length s.changes + (round_count s - 1)
-  duties_charge = omega (arith, placed_sum task_duties, opened_sum task_duties (λ dev. refl) (λ dev. refl), sum_of_zero (writers s), keeper_duties (duties s), duties_count)
-    where
-      keeper_duties : (ds : List Duty) → sum_by task_duties (keepers ds) ≡ length ds
-      keeper_duties [] = refl
-      keeper_duties (duty ∷ ds) = omega arith
-
-  -- at the start no more is charged than a run may have events
-  pub start_charge : charged (scene s ledger) (start s) ≤ most_steps s
-  start_charge = omega (arith, total_charge, entries_charge, duties_charge)
+      let a = bound_sum (write_cost unit_price s.stack) (λ write. elements s.stack write) (λ write. parts s.stack write) s.writes
+      (λ write.
+      let both : vector_charge unit_price write ≡ 2 * vectors write.count = vector_twice (needs_vector write) in
+      omega (arith, both, charge_enough (tree_at (setup_in s) write.dev) write.start write.count)) in
+      omega (arith, a, sum_of_one (range_with_len 1 n), length-range_with_len 1 n, sum_of_one s.changes)

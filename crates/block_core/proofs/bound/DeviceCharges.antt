@@ -8,7 +8,7 @@ use Rattle.stack_base.specs.declared.stack.Stack.{Stack}
 use Rattle.stack_base.specs.declared.stack.Kind.{Kind}
 use Rattle.stack_base.specs.Stack.{IsStack}
 use Rattle.stack_base.specs.Tree.{Tree, Leaf, Split, Mirrored, tree}
-use Rattle.layout_model.proofs.RangeSums.{sum_next}
+use Rattle.layout_model.proofs.RangeSums.{sum_next, sum_of_two}
 use Rattle.layout_model.proofs.Over.{can_cut}
 use Rattle.stack_base.proofs.KindCuts.{kind_cuts}
 use Rattle.stack_base.specs.Cutting.{next, IsCut}
@@ -22,6 +22,7 @@ use Rattle.bio_books.specs.Books.{SlipItem}
 use Rattle.run_machine.specs.Scene.{Setup, tree_at, number_of, setup_of}
 use Rattle.run_machine.specs.Lines.{Want, ToPush, ToCut, ToMaster, first_length, landed, legs_of, leg_at}
 use Rattle.block_core.specs.Charges.{run_charge, run_at, leg_charge}
+use Rattle.block_core.specs.Payers.{Record, PieceBio, Fragment, Paid, cost}
 use Rattle.block_core.proofs.moves.Moves.{piece}
 use Rattle.block_core.proofs.moves.Geometry.{IsThere, IsWhole, is_cut, falls, goes, number_of_tree, members_at, sizes_at}
 use Rattle.block_core.proofs.moves.LegTrees.{GoesDown, legs_go_down}
@@ -31,68 +32,65 @@ use Rattle.stack_base.specs.Tree.{Shape, Keeps as Keeping_, Cuts, Copies as Copy
 use Rattle.layout_model.proofs.ByShape.{cuts_is, copies_is, keeps_is}
 
 -- what is known of charges at the devices of a stack
-pub record Priced (setup : Setup) : Type 0 where
-  pub lands : (bio : Bio) → IsThere setup bio → run_at setup (landed (tree_at setup bio.dev) bio) ≡ run_at setup bio
+pub record Priced (price : Paid → ℕ) (setup : Setup) : Type 0 where
+  pub lands : (bio : Bio) → IsThere setup bio → run_at price setup (landed (tree_at setup bio.dev) bio) ≡ run_at price setup bio
   pub cut : (bio hand : Item Pad) (key number : ℕ) (kind : Kind) (sizes : List ℕ) (members : ℕ → Tree) → IsThere setup bio.bio
       → tree_at setup bio.bio.dev ≡ Split number kind sizes members → IsTrue (is_cut (Split number kind sizes members) bio.bio.range)
-      → run_at setup bio.bio ≡ 8 + run_at setup (piece bio hand (first_length kind sizes bio.bio.range) key kind sizes members).bio
-      + run_at setup (split_rest bio (first_length kind sizes bio.bio.range)).bio
+      → run_at price setup bio.bio ≡ cost price PieceBio + run_at price setup (piece bio hand (first_length kind sizes bio.bio.range) key kind sizes members).bio
+      + run_at price setup (split_rest bio (first_length kind sizes bio.bio.range)).bio
   pub leg : (bio : Bio) (hand : Item Pad) (leg key : ℕ) → IsThere setup bio → leg < legs_of (tree_at setup bio.dev)
-      → 8 + run_at setup (leg_at bio hand leg key (tree_at setup bio.dev)).bio ≡ leg_charge (tree_at setup bio.dev) bio.range leg
+      → cost price PieceBio + run_at price setup (leg_at bio hand leg key (tree_at setup bio.dev)).bio ≡ leg_charge price (tree_at setup bio.dev) bio.range leg
 
--- a bio at a disk has a fragment
-pub leaf_charge : (t : Tree) (range : Range) (dev : ℕ) → AskFits t range dev ToPush → 1 ≤ range.len → 2 ≤ run_charge t range.start range.len
-leaf_charge (Leaf number sectors) range dev fits some = omega (arith, charge_disk number sectors range.start range.len some)
-leaf_charge (Split number kind sizes members) range dev fits some = absurd fits
-leaf_charge (Mirrored number sizes members) range dev fits some = absurd fits
+module _ (price : Paid → ℕ) where
+  -- a bio at a disk has a fragment
+  pub leaf_charge : (t : Tree) (range : Range) (dev : ℕ) → AskFits t range dev ToPush → 1 ≤ range.len → run_charge price t range.start range.len ≡ cost price Fragment
+  leaf_charge (Leaf number sectors) range dev fits some = charge_disk price number sectors range.start range.len some
+  leaf_charge (Split number kind sizes members) range dev fits some = absurd fits
+  leaf_charge (Mirrored number sizes members) range dev fits some = absurd fits
 
--- each leg has its eight
-eight_each : (f : ℕ → ℕ) (a n : ℕ) → sum_by (λ k. 8 + f k) (range_with_len a n) ≡ 8 * n + sum_by f (range_with_len a n)
-eight_each f a zero = refl
-eight_each f a (suc n) = omega (arith, sum_next (λ k. 8 + f k) a n, sum_next f a n, eight_each f (a + 1) n)
+  -- a bio at a mirror needs a record beside its legs
+  pub mirror_charge : (t : Tree) (range : Range) (dev : ℕ) (slip : SlipItem) → AskFits t range dev (ToMaster slip) → 1 ≤ range.len
+      → cost price Record + sum_by (leg_charge price t range) (range_with_len 0 (legs_of t - 0)) ≡ run_charge price t range.start range.len
+  mirror_charge (Mirrored number sizes members) range dev slip fits some =
+      let f : ℕ → ℕ = λ k. run_charge price (members k) range.start range.len in
+      let all : length sizes - 0 ≡ length sizes = omega arith in
+      let same : sum_by (leg_charge price (Mirrored number sizes members) range) (range_with_len 0 (length sizes - 0)) ≡ sum_by (λ k. cost price PieceBio + f k) (range_with_len 0 (length sizes)) =
+      ap (λ n. sum_by (leg_charge price (Mirrored number sizes members) range) (range_with_len 0 n)) all in
+      omega (arith, same, charge_legs price number sizes members range.start range.len some, sum_of_two (λ (k : ℕ). cost price PieceBio) f (range_with_len 0 (length sizes)))
+  mirror_charge (Leaf number sectors) range dev slip fits some = absurd fits
+  mirror_charge (Split number kind sizes members) range dev slip fits some = absurd fits
 
--- a bio at a mirror needs a record beside its legs
-pub mirror_charge : (t : Tree) (range : Range) (dev : ℕ) (slip : SlipItem) → AskFits t range dev (ToMaster slip) → 1 ≤ range.len
-    → 4 + sum_by (leg_charge t range) (range_with_len 0 (legs_of t - 0)) ≡ run_charge t range.start range.len
-mirror_charge (Mirrored number sizes members) range dev slip fits some =
-    let f : ℕ → ℕ = λ k. run_charge (members k) range.start range.len in
-    let all : length sizes - 0 ≡ length sizes = omega arith in
-    let same : sum_by (leg_charge (Mirrored number sizes members) range) (range_with_len 0 (length sizes - 0)) ≡ sum_by (λ k. 8 + f k) (range_with_len 0 (length sizes)) =
-    ap (λ n. sum_by (leg_charge (Mirrored number sizes members) range) (range_with_len 0 n)) all in
-    omega (arith, same, charge_legs number sizes members range.start range.len some, eight_each f 0 (length sizes))
-mirror_charge (Leaf number sectors) range dev slip fits some = absurd fits
-mirror_charge (Split number kind sizes members) range dev slip fits some = absurd fits
+  -- a cut needs an element
+  pub cut_needs : (setup : Setup) → Priced price setup → (bio : Item Pad) (want : Want) (t : Tree) → tree_at setup bio.bio.dev ≡ t → IsThere setup bio.bio → AskFits t bio.bio.range bio.bio.dev.0 (ToCut want)
+      → cost price PieceBio ≤ run_at price setup bio.bio
+  cut_needs setup p bio want (Split number kind sizes members) same is fits = omega (arith, p.cut bio bio 0 number kind sizes members is same fits.0)
+  cut_needs setup p bio want (Leaf number sectors) same is fits = absurd fits
+  cut_needs setup p bio want (Mirrored number sizes members) same is fits = absurd fits
 
--- a cut needs an element
-pub cut_needs : (setup : Setup) → Priced setup → (bio : Item Pad) (want : Want) (t : Tree) → tree_at setup bio.bio.dev ≡ t → IsThere setup bio.bio → AskFits t bio.bio.range bio.bio.dev.0 (ToCut want)
-    → 8 ≤ run_at setup bio.bio
-cut_needs setup p bio want (Split number kind sizes members) same is fits = omega (arith, p.cut bio bio 0 number kind sizes members is same fits.0)
-cut_needs setup p bio want (Leaf number sectors) same is fits = absurd fits
-cut_needs setup p bio want (Mirrored number sizes members) same is fits = absurd fits
+  -- the first of the legs that are left
+  pub legs_next : (t : Tree) (range : Range) (leg : ℕ) → leg < legs_of t
+      → sum_by (leg_charge price t range) (range_with_len leg (legs_of t - leg))
+      ≡ leg_charge price t range leg + sum_by (leg_charge price t range) (range_with_len (leg + 1) (legs_of t - (leg + 1)))
+  legs_next t range leg lt =
+      let one_more : legs_of t - leg ≡ suc (legs_of t - (leg + 1)) = omega arith in
+      ap (λ n. sum_by (leg_charge price t range) (range_with_len leg n)) one_more ∙ sum_next (leg_charge price t range) leg (legs_of t - (leg + 1))
 
--- the first of the legs that are left
-pub legs_next : (t : Tree) (range : Range) (leg : ℕ) → leg < legs_of t
-    → sum_by (leg_charge t range) (range_with_len leg (legs_of t - leg)) ≡ leg_charge t range leg + sum_by (leg_charge t range) (range_with_len (leg + 1) (legs_of t - (leg + 1)))
-legs_next t range leg lt =
-    let one_more : legs_of t - leg ≡ suc (legs_of t - (leg + 1)) = omega arith in
-    ap (λ n. sum_by (leg_charge t range) (range_with_len leg n)) one_more ∙ sum_next (leg_charge t range) leg (legs_of t - (leg + 1))
+  -- no leg has less than its bio
+  pub leg_some : (t : Tree) (range : Range) (leg : ℕ) → leg < legs_of t → cost price PieceBio ≤ leg_charge price t range leg
+  leg_some (Mirrored number sizes members) range leg lt = omega arith
+  leg_some (Leaf number sectors) range leg lt = absurd (omega arith)
+  leg_some (Split number kind sizes members) range leg lt = absurd (omega arith)
 
--- no leg has fewer
-pub leg_some : (t : Tree) (range : Range) (leg : ℕ) → leg < legs_of t → 8 ≤ leg_charge t range leg
-leg_some (Mirrored number sizes members) range leg lt = omega arith
-leg_some (Leaf number sectors) range leg lt = absurd (omega arith)
-leg_some (Split number kind sizes members) range leg lt = absurd (omega arith)
-
-module _ (stack : Stack) (good : IsStack stack) (places : ℕ → ℕ) where
+module _ (price : Paid → ℕ) (stack : Stack) (good : IsStack stack) (places : ℕ → ℕ) where
   abbrev setup : Setup
   setup = setup_of stack places
 
   leg_of : (bio : Bio) (hand : Item Pad) (leg key : ℕ) → IsThere setup bio → leg < legs_of (tree stack bio.dev.0)
-      → 8 + run_at setup (leg_at bio hand leg key (tree stack bio.dev.0)).bio ≡ leg_charge (tree stack bio.dev.0) bio.range leg
+      → cost price PieceBio + run_at price setup (leg_at bio hand leg key (tree stack bio.dev.0)).bio ≡ leg_charge price (tree stack bio.dev.0) bio.range leg
   leg_of bio hand leg key is lt = by_tree (tree stack bio.dev.0) (legs_go_down stack good bio.dev.0 leg is.device) lt
     where
-      by_tree : (t : Tree) → GoesDown stack t leg → leg < legs_of t → 8 + run_at setup (leg_at bio hand leg key t).bio ≡ leg_charge t bio.range leg
-      by_tree (Mirrored number sizes members) goes lt = ap (λ t. 8 + run_charge t bio.range.start bio.range.len) (goes lt)
+      by_tree : (t : Tree) → GoesDown stack t leg → leg < legs_of t → cost price PieceBio + run_at price setup (leg_at bio hand leg key t).bio ≡ leg_charge price t bio.range leg
+      by_tree (Mirrored number sizes members) goes lt = ap (λ t. cost price PieceBio + run_charge price t bio.range.start bio.range.len) (goes lt)
       by_tree (Leaf number sectors) goes lt = absurd (omega arith)
       by_tree (Split number kind sizes members) goes lt = absurd (omega arith)
 
@@ -102,19 +100,19 @@ module _ (stack : Stack) (good : IsStack stack) (places : ℕ → ℕ) where
   is_cut_of number device found cuts_it =
       kind_cuts device.kind (sizes_at stack device) (can_cut device.kind (length device.members.items) (good.each number device found).shape cuts_it)
 
-  whole_run : IsWhole stack good places (run_at setup)
+  whole_run : IsWhole stack good places (run_at price setup)
   whole_run bio device found cuts_it to whole =
       let range = bio.range in
       let members = members_at stack bio.dev.0 device in
-      let piece = charge_piece bio.dev.0 device.kind (sizes_at stack device) members range.start range.len (first_length device.kind (sizes_at stack device) range) (is_cut_of bio.dev.0 device found cuts_it) refl whole in
+      let piece = charge_piece price bio.dev.0 device.kind (sizes_at stack device) members range.start range.len (first_length device.kind (sizes_at stack device) range) (is_cut_of bio.dev.0 device found cuts_it) refl whole in
       let at : ℕ = (slot device.kind (sizes_at stack device) range.start).at in
-      ap (λ t. run_charge t at range.len) (sym to.is) ∙ sym piece ∙ ap (λ t. run_charge t range.start range.len) (sym (cuts_is stack good bio.dev.0 device found cuts_it))
+      ap (λ t. run_charge price t at range.len) (sym to.is) ∙ sym piece ∙ ap (λ t. run_charge price t range.start range.len) (sym (cuts_is stack good bio.dev.0 device found cuts_it))
 
   CutOf : Item Pad → Item Pad → ℕ → Tree → Type 0
   CutOf bio hand key (Split number kind sizes members) = IsTrue (is_cut (Split number kind sizes members) bio.bio.range)
-      → run_charge (Split number kind sizes members) bio.bio.range.start bio.bio.range.len
-      ≡ 8 + run_at setup (piece bio hand (first_length kind sizes bio.bio.range) key kind sizes members).bio
-      + run_charge (Split number kind sizes members) (bio.bio.range.start + first_length kind sizes bio.bio.range) (bio.bio.range.len - first_length kind sizes bio.bio.range)
+      → run_charge price (Split number kind sizes members) bio.bio.range.start bio.bio.range.len
+      ≡ cost price PieceBio + run_at price setup (piece bio hand (first_length kind sizes bio.bio.range) key kind sizes members).bio
+      + run_charge price (Split number kind sizes members) (bio.bio.range.start + first_length kind sizes bio.bio.range) (bio.bio.range.len - first_length kind sizes bio.bio.range)
   CutOf bio hand key (Leaf number sectors) = Unit {0}
   CutOf bio hand key (Mirrored number sizes members) = Unit {0}
 
@@ -141,21 +139,21 @@ module _ (stack : Stack) (good : IsStack stack) (places : ℕ → ℕ) where
           let dev : number_of (members (slot device.kind sizes range.start).member) ≡ to.dev.0 = ap number_of to.is ∙ number_of_tree stack to.dev.0 in
           let same : tree stack (number_of (members (slot device.kind sizes range.start).member)) ≡ members (slot device.kind sizes range.start).member = ap (tree stack) dev ∙ sym to.is in
           let at : ℕ = (slot device.kind sizes range.start).at in
-          let child : run_charge (tree stack (number_of (members (slot device.kind sizes range.start).member))) at n ≡ run_charge (members (slot device.kind sizes range.start).member) at n =
-          ap (λ t. run_charge t at n) same in
-          let both = charge_more bio.bio.dev.0 device.kind sizes members range.start range.len n (is_cut_of bio.bio.dev.0 device found e) refl fewer in
+          let child : run_charge price (tree stack (number_of (members (slot device.kind sizes range.start).member))) at n ≡ run_charge price (members (slot device.kind sizes range.start).member) at n =
+          ap (λ t. run_charge price t at n) same in
+          let both = charge_more price bio.bio.dev.0 device.kind sizes members range.start range.len n (is_cut_of bio.bio.dev.0 device found e) refl fewer in
           omega (arith, child, both))
 
-  pub priced : Priced setup
+  pub priced : Priced price setup
   unfolding CutOf
   priced = record {
-    lands = λ bio is. (falls stack good places (run_at setup) whole_run (bio.dev.0 + 1) bio (omega arith) is).same;
+    lands = λ bio is. (falls stack good places (run_at price setup) whole_run (bio.dev.0 + 1) bio (omega arith) is).same;
     cut = λ bio hand key number kind sizes members is at many.
         let a : CutOf bio hand key (Split number kind sizes members) = subst (CutOf bio hand key) at (cut_of bio hand key is) in
-        let b : run_at setup bio.bio ≡ run_charge (Split number kind sizes members) bio.bio.range.start bio.bio.range.len = ap (λ t. run_charge t bio.bio.range.start bio.bio.range.len) at in
+        let b : run_at price setup bio.bio ≡ run_charge price (Split number kind sizes members) bio.bio.range.start bio.bio.range.len = ap (λ t. run_charge price t bio.bio.range.start bio.bio.range.len) at in
         let n = first_length kind sizes bio.bio.range in
-        let c : run_at setup (split_rest bio n).bio ≡ run_charge (Split number kind sizes members) (bio.bio.range.start + n) (bio.bio.range.len - n) =
-        ap (λ t. run_charge t (bio.bio.range.start + n) (bio.bio.range.len - n)) at in
+        let c : run_at price setup (split_rest bio n).bio ≡ run_charge price (Split number kind sizes members) (bio.bio.range.start + n) (bio.bio.range.len - n) =
+        ap (λ t. run_charge price t (bio.bio.range.start + n) (bio.bio.range.len - n)) at in
         omega (arith, a many, b, c);
     leg = λ bio hand leg key is lt. leg_of bio hand leg key is lt;
   }

@@ -1,123 +1,40 @@
 -- What each event does to what is charged and spent.
-use Rattle.std.proofs.Common.{◌≡◌, ◌+◌, ◌*◌, ◌<◌, ◌≤◌, ◌==◌, ◌⊎◌, if◌then◌else◌, ℕ, zero, suc, Bool, true, false, List, [], ◌∷◌, length, filter, Option, None, Some, inl, inr, refl, sym, ◌∙◌, ap, subst, arith}
-use Rattle.std.specs.Prelude.{sum_by, nat_lt}
+use Rattle.std.proofs.Common.{◌≡◌, ◌+◌, ◌*◌, ◌<◌, ◌≤◌, ◌⊎◌, if◌then◌else◌, ℕ, zero, suc, Bool, true, false, List, [], ◌∷◌, length, filter, Option, None, Some, inl, inr, refl, sym, ◌∙◌, ap, subst, arith}
 use Rattle.std.proofs.lemmas.Bool.Decides.{nat_tests}
 use Rattle.std.proofs.lemmas.List.Sums.{sum_by-cons, sum_by-append, sum_by_push}
-use Rattle.stack_base.specs.declared.ids.DevId.{DevId}
-use Rattle.stack_base.specs.declared.ids.Status.{Status}
 use Rattle.stack_base.specs.PoolId.{pool_number}
 use Rattle.mempool_core.specs.Move.{PoolState, Move as PoolMove, after_move, takes_ordinary, takes_spare, misses, gives, resizes}
-use Rattle.layout_model.specs.Need.{vectors}
-use Rattle.bio_records.specs.declared.bio.Bio.{Bio}
 use Rattle.bio_records.specs.declared.bio.Pad.{Pad}
 use Rattle.bio_records.specs.declared.tasks.TaskLists.{TaskLists}
 use Rattle.bio_records.specs.Items.{Item}
 use Rattle.bio_lists.specs.Submission.{submitted}
-use Rattle.bio_books.specs.Books.{VectorItem, Holding, keeping, told, later_part}
+use Rattle.bio_books.specs.Books.{VectorItem, keeping, told}
 use Rattle.bio_books.specs.Drops.{closed_of}
 use Rattle.run_machine.specs.Maps.{upd}
-use Rattle.run_machine.specs.Scene.{Setup, Scene, tree_at}
-use Rattle.run_machine.specs.Lines.{Want, Takes, Punts as WantsPunt, Links, ToPush, ToCut, ToRecord, ToMaster, Doing, Rests, Drives, Copies, Breaks, Line, rests, settled, goes_on, copies, first_length, legs_of, leg_at, is_of, not_punted}
-use Rattle.run_machine.specs.Tasks.{TaskState, Writer, Rescuer, Completer, Keeper, Keeps, Resizes, Starts, Todo, NoBio, HasBio, HasBoth, Carried, Empty, Brings, Carries, Fails}
+use Rattle.run_machine.specs.Scene.{Scene, tree_at}
+use Rattle.run_machine.specs.Lines.{Want, Takes, Punts as WantsPunt, Links, ToPush, ToCut, ToRecord, ToMaster, Doing, Rests, Drives, Copies, Breaks, Line, rests, settled, goes_on, copies, first_length, leg_at, is_of, not_punted}
+use Rattle.run_machine.specs.Tasks.{TaskState, Writer, Rescuer, Completer, Keeper, Keeps, Resizes, Starts, Todo, NoBio, HasBio, HasBoth, Empty, Brings, Carries}
 use Rattle.run_machine.specs.Objects.{clear_bio, clear_vector, clear_slip}
 use Rattle.run_machine.specs.Runs.{State}
-use Rattle.block_core.specs.Weights.{Weight, Rescued, Lined, sum_at, doing_weight, task_weight, line_weight, carried_weight}
-use Rattle.block_core.specs.Charges.{may_pop, bio_charge, legs_charge, there, write_run, write_charge, todo_charge, charge, want_spent, doing_spent, task_spent, task_duties, entries_left, charged, spent}
-use Rattle.block_core.proofs.moves.Moves.{Move, IsTaking, place_of, Can, after, lost, gained, limit_of, with_line, HasLine, Wants, with_want, taken_of, filled_of, vector_of, cut_lists, IsTake, Tells, Hands, piece, with_pool, with_book}
+use Rattle.block_core.specs.Weights.{Weight, Rescued, Lined, sum_at, doing_weight, task_weight, line_weight}
+use Rattle.block_core.specs.Charges.{bio_charge, write_run, vector_charge, end_charge, close_charge, charge, want_spent, doing_spent, task_spent, duty_charge, task_charge, entries_left, charged, spent}
+use Rattle.block_core.specs.Payers.{Paid, WriteVector, ScriptEntry, PieceBio, cost}
+use Rattle.block_core.specs.Payers as paid
+use Rattle.block_core.proofs.moves.Moves.{Move, kind_of, Can, after, limit_of, HasLine, with_want, filled_of, cut_lists, piece}
 use Rattle.block_core.proofs.moves.Moves as moves
 use Rattle.block_core.proofs.moves.Sums.{sum_at-upd, sum_at-other}
 use Rattle.block_core.proofs.sound.Facts.{TaskFits, DoingFits, Kept}
-use Rattle.block_core.proofs.sound.Orders.{Each, IsPlaced, IsOwn, DoingPlaced, TodoThere, TaskPlaced, Placed, Ground, each_map, each_filter, of_set}
+use Rattle.block_core.proofs.sound.Orders.{Each, IsOwn, DoingPlaced, TodoThere, TaskPlaced, Placed, Ground}
 use Rattle.mempool_core.specs.Position.{uses_entry, next_pos}
+use Rattle.block_core.proofs.bound.TaskCharges.{charge_lands, copies_charge, pops_once, pops_not, punts_charge, later_charge, takes_spent, want_spends, new_spends, wants_below, on_tasks, on_line, tells_charge, later_give, hands_back}
 use Rattle.block_core.proofs.bound.DeviceCharges.{Priced, leaf_charge, mirror_charge, cut_needs, legs_next, leg_some}
 use Rattle.block_core.proofs.moves.Deltas.{delta}
 use Rattle.block_core.proofs.sound.TaskLines.{line_fits}
 use Rattle.block_core.proofs.sound.Orders.{waiting_placed}
 use Rattle.block_core.proofs.sound.OrdersKept.{line_placed}
-use Rattle.block_core.proofs.moves.Landings.{AreThere, IsLanding, settled_there, goes_there, copies_there, all_there, none_there, cut_there, leg_there}
-use Rattle.block_core.proofs.sound.Places.{cut_weight, unless_less}
-
--- bios are charged the same where they land
-charge_lands : (setup : Setup) → Priced setup → IsLanding setup (charge setup)
-charge_lands setup p limit item is = ap (λ v. 1 + may_pop limit item.share.no + v) (p.lands item.bio is)
-
-copies_charge : (setup : Setup) → Priced setup → (limit : ℕ) (lists : TaskLists) (bio : Bio) (master leg : ℕ) → AreThere setup lists.list0 → AreThere setup lists.list1
-    → line_weight (charge setup) limit (copies setup lists bio master leg)
-    ≤ legs_charge setup bio leg + sum_by (bio_charge setup (Lined limit)) lists.list0 + sum_by (bio_charge setup (Lined limit)) lists.list1
-copies_charge setup p limit lists bio master leg first second =
-    omega (arith, copies_there setup (charge setup) (charge_lands setup p) limit lists bio master leg first second, unless_less (leg == legs_of (tree_at setup bio.dev)) (legs_charge setup bio leg))
-
-pops_once : (limit number : ℕ) → may_pop limit number ≤ 1
-pops_once limit number = elim (nat_lt number (2 * limit)) as (λ v. (if v then 1 else 0) ≤ 1) [ true ↦ omega arith | false ↦ omega arith ]
-
-pops_not : (limit number : ℕ) → 2 * limit ≤ number → may_pop limit number ≡ 0
-pops_not limit number le = by_test (nat_lt number (2 * limit)) refl
-  where
-    by_test : (v : Bool) → nat_lt number (2 * limit) ≡ v → ◌≡◌ {A = ℕ} (if v then 1 else 0) 0
-    by_test true is = absurd (let lt : number < 2 * limit = grind (arith, nat_tests, is) in omega (arith, le, lt))
-    by_test false is = refl
-
-pops_yet : (limit number : ℕ) → number < 2 * limit → may_pop limit number ≡ 1
-pops_yet limit number lt = by_test (nat_lt number (2 * limit)) refl
-  where
-    by_test : (v : Bool) → nat_lt number (2 * limit) ≡ v → ◌≡◌ {A = ℕ} (if v then 1 else 0) 1
-    by_test true is = refl
-    by_test false is = absurd (let le : 2 * limit ≤ number = grind (arith, nat_tests, is) in omega (arith, le, lt))
-
-each_le : {X : Type 0} (f g : X → ℕ) (xs : List X) → Each (λ x. f x ≤ g x) xs → sum_by f xs ≤ sum_by g xs
-each_le f g [] le = omega arith
-each_le f g (x ∷ xs) le = omega (arith, le.0, sum_by-cons f x xs, sum_by-cons g x xs, each_le f g xs le.1)
-
--- a bio of a set that a task punts to was charged that it may come to the rescuer
-punts_charge : (setup : Setup) (limit : ℕ) (dev : DevId) (items : List (Item Pad)) → dev.0 < limit → Each (IsPlaced setup limit) items
-    → sum_by (bio_charge setup Rescued) (filter (is_of dev) items) ≤ sum_by (bio_charge setup (Lined limit)) (filter (is_of dev) items)
-punts_charge setup limit dev items lt placed =
-    each_le (bio_charge setup Rescued) (bio_charge setup (Lined limit)) (filter (is_of dev) items)
-    (each_map (λ item. IsPlaced setup limit item × (is_of dev item ≡ true)) (λ (item : Item Pad). bio_charge setup Rescued item ≤ bio_charge setup (Lined limit) item)
-    (λ item h.
-    let same = of_set dev item.bio.set item h.1 in
-    let here : item.share.no ≡ 2 * dev.0 = h.0.3 ∙ same in
-    let pops = pops_yet limit item.share.no (omega (arith, here, lt)) in
-    omega (arith, pops))
-    (filter (is_of dev) items) (each_filter (IsPlaced setup limit) (is_of dev) items placed))
-
--- what begins is charged as what is still to begin
-pub later_charge : (setup : Setup) (later : List Todo) → todo_charge setup later NoBio ≡ sum_by (write_charge setup) later
-later_charge setup [] = refl
-later_charge setup (todo ∷ later) = sym (sum_by-cons (write_charge setup) todo later)
-
--- what is wanted
-takes_spent : (waits : Bool) → want_spent (Takes waits) ≤ 2
-takes_spent true = omega arith
-takes_spent false = omega arith
-
-want_spends : (doing : Doing) (dev : DevId) (want : Want) → Wants doing dev want → doing_spent doing ≡ want_spent want
-want_spends (Drives bio (ToCut has)) dev want h = ap want_spent h.1
-want_spends (Copies bio master leg has) dev want h = ap want_spent h.1
-want_spends (Drives bio ToPush) dev want h = absurd h
-want_spends (Drives bio ToRecord) dev want h = absurd h
-want_spends (Drives bio (ToMaster slip)) dev want h = absurd h
-want_spends Rests dev want h = absurd h
-want_spends (Breaks breach kept) dev want h = absurd h
-
-new_spends : (doing : Doing) (dev : DevId) (old new : Want) → Wants doing dev old → doing_spent (with_want doing new) ≡ want_spent new
-new_spends (Drives bio (ToCut has)) dev old new h = refl
-new_spends (Copies bio master leg has) dev old new h = refl
-new_spends (Drives bio ToPush) dev old new h = absurd h
-new_spends (Drives bio ToRecord) dev old new h = absurd h
-new_spends (Drives bio (ToMaster slip)) dev old new h = absurd h
-new_spends Rests dev old new h = absurd h
-new_spends (Breaks breach kept) dev old new h = absurd h
-
--- the device of what is wanted is below the task's limit
-wants_below : (setup : Setup) (limit : ℕ) (doing : Doing) (dev : DevId) (want : Want) (lists : TaskLists) → Wants doing dev want → DoingPlaced setup limit doing lists → dev.0 < limit
-wants_below setup limit (Drives bio (ToCut has)) dev want lists h d = subst (λ (e : DevId). e.0 < limit) (sym h.0) d.1.0.2
-wants_below setup limit (Copies bio master leg has) dev want lists h d = subst (λ (e : DevId). e.0 < limit) (sym h.0) d.1
-wants_below setup limit (Drives bio ToPush) dev want lists h d = absurd h
-wants_below setup limit (Drives bio ToRecord) dev want lists h d = absurd h
-wants_below setup limit (Drives bio (ToMaster slip)) dev want lists h d = absurd h
-wants_below setup limit Rests dev want lists h d = absurd h
-wants_below setup limit (Breaks breach kept) dev want lists h d = absurd h
+use Rattle.block_core.proofs.moves.Landings.{IsLanding, settled_there, goes_there, all_there, none_there, cut_there, leg_there}
+use Rattle.block_core.proofs.sound.Places.{cut_weight}
+use Rattle.std.proofs.Math.Nat.{mul-le-mul_left, mul-add}
 
 -- the entries that are left of a pool's script
 next_up : (pool : PoolState) → pool.facts.pos ≤ next_pos pool.script pool.facts.pos
@@ -154,71 +71,31 @@ pools_used : (pools : ℕ → PoolState) (number : ℕ) (used : Bool) → number
 pools_used pools number used lt same told =
     omega (arith, sum_at-upd (λ number pool. entries_left pool) 66 pools number (after_move (pools number) (misses used)) lt, pool_used (pools number) used same told)
 
--- a task goes on
-pub on_tasks : (g : TaskState → ℕ) (scene : Scene) (s : State) (place : ℕ) (x y : TaskState) → place < scene.tasks → s.task place ≡ x
-    → sum_at (λ place task. g task) scene.tasks (upd s.task place y) + g x ≡ sum_at (λ place task. g task) scene.tasks s.task + g y
-on_tasks g scene s place x y lt is =
-    let here : g (s.task place) ≡ g x = ap g is in
-    omega (arith, here, sum_at-upd (λ place task. g task) scene.tasks s.task place y lt)
+-- as much more costs as much more
+costs_less : (each old new : ℕ) → new ≤ old → each * new ≤ each * old
+costs_less each old new le = mul-le-mul_left each le
 
-line_spends : (x : TaskState) (doing : Doing) (lists : TaskLists) → HasLine x doing lists → task_spent x ≡ doing_spent doing
-line_spends (Writer number todo taken line) doing lists h = ap (λ (l : Line). doing_spent l.doing) h
-line_spends (Rescuer dev line) doing lists h = ap (λ (l : Line). doing_spent l.doing) h
-line_spends (Completer disk carried) doing lists h = absurd h
-line_spends (Keeper keeping) doing lists h = absurd h
+costs_one : (each old new : ℕ) → new + 1 ≤ old → each * new + each ≤ each * old
+costs_one each old new le = let all : each * (new + 1) ≤ each * old = mul-le-mul_left each le in omega (arith, all, mul-add each new 1)
 
-pub line_goes : (x : TaskState) (doing : Doing) (lists : TaskLists) (new : Line) → HasLine x doing lists
-    → (task_spent (with_line x new) ≡ doing_spent new.doing) × (task_duties (with_line x new) ≡ 0) × (task_duties x ≡ 0)
-line_goes (Writer number todo taken line) doing lists new h = (refl, refl, refl)
-line_goes (Rescuer dev line) doing lists new h = (refl, refl, refl)
-line_goes (Completer disk carried) doing lists new h = absurd h
-line_goes (Keeper keeping) doing lists new h = absurd h
-
-abbrev pub all_duties : Scene → (ℕ → TaskState) → ℕ
-all_duties scene task = sum_at (λ place task. task_duties task) scene.tasks task
-
-abbrev pub all_spent : Scene → (ℕ → TaskState) → ℕ
-all_spent scene task = sum_at (λ place task. task_spent task) scene.tasks task
-
-pub on_line : (scene : Scene) (s : State) (place : ℕ) (x : TaskState) (doing : Doing) (lists : TaskLists) (new : Line) → place < scene.tasks → s.task place ≡ x → HasLine x doing lists
-    → (all_spent scene (upd s.task place (with_line x new)) + doing_spent doing ≡ all_spent scene s.task + doing_spent new.doing)
-    × (all_duties scene (upd s.task place (with_line x new)) ≡ all_duties scene s.task)
-on_line scene s place x doing lists new lt is h =
-    let a = line_spends x doing lists h in
-    let b = line_goes x doing lists new h in
-    (omega (arith, a, b.0, on_tasks task_spent scene s place x (with_line x new) lt is), omega (arith, b.1, b.2, on_tasks task_duties scene s place x (with_line x new) lt is))
-
--- what a completer carries has an end
-tells_charge : (setup : Setup) (place : ℕ) (carried : Carried) (writer key : ℕ) (status : Status) (part : Option (Item Pad)) → Tells carried writer key status part
-    → 1 ≤ carried_weight (charge setup) place carried
-tells_charge setup place (Brings bio ending) writer key status part t = omega arith
-tells_charge setup place (Carries of closed) writer key status part t = omega arith
-tells_charge setup place Empty writer key status part t = absurd t
-tells_charge setup place (Fails breach kept) writer key status part t = absurd t
-
-there_one : {X : Type 0} (held : Option X) → there held ≤ 1
-there_one None = omega arith
-there_one (Some x) = omega arith
-
-pub hands_charge : (number : ℕ) (old new : Holding) → Hands old number new
-    → there new.bio + there new.vector + there new.slip + 1 ≡ there old.bio + there old.vector + there old.slip
-hands_charge number old new (inl h) = rw (h.3, h.1) (omega arith)
-hands_charge number old new (inr (inl h)) = rw (h.3, h.1) (omega arith)
-hands_charge number old new (inr (inr h)) = rw (h.3, h.1) (omega arith)
-
-module _ (scene : Scene) (s : State) (g : Ground scene.setup) (p : Priced scene.setup) (i : Kept scene s) (a : Placed scene.setup s) where
+module _ (price : Paid → ℕ) (scene : Scene) (s : State) (g : Ground scene.setup) (p : Priced price scene.setup) (i : Kept scene s) (a : Placed scene.setup s) where
   abbrev w : Weight
-  w = charge scene.setup
+  w = charge price scene.setup
 
-  -- what an event does to the sums
+  -- an event lowers what is charged and not spent by its price
   abbrev Lowers : Move → Type 0
-  Lowers m = charged scene (after scene s m) + spent scene s + 1 ≤ charged scene s + spent scene (after scene s m)
+  Lowers m = charged price scene (after scene s m) + spent price scene s + price (kind_of m) ≤ charged price scene s + spent price scene (after scene s m)
 
   has : (place : ℕ) (x : TaskState) (doing : Doing) (lists : TaskLists) → s.task place ≡ x → HasLine x doing lists → DoingPlaced scene.setup (limit_of x) doing lists
   has place x doing lists is h = line_placed scene.setup x doing lists (subst (TaskPlaced scene.setup) is (a.tasks place)) h
 
   lands : IsLanding scene.setup w
-  lands = charge_lands scene.setup p
+  lands = charge_lands price scene.setup p
+
+  -- the entries that are left cost no more than before
+  fewer : (number : ℕ) (move : PoolMove)
+      → cost price ScriptEntry * all_entries (upd s.objects.pool number (after_move (s.objects.pool number) move)) ≤ cost price ScriptEntry * all_entries s.objects.pool
+  fewer number move = costs_less (cost price ScriptEntry) _ _ (pools_left s.objects.pool number move)
 
   numbered : (number : ℕ) → moves.IsNumber scene number → number < 66
   numbered number (inl low) = let few = g.few in omega arith
@@ -226,15 +103,15 @@ module _ (scene : Scene) (s : State) (g : Ground scene.setup) (p : Priced scene.
 
   begins : (place writer : ℕ) (todo : Todo) (later : List Todo) (item : Item Pad) (vector : Option VectorItem) (key : ℕ) → Can scene s (moves.Begins place writer todo later item vector key)
       → TodoThere scene.setup writer todo → item.share.no ≡ 65
-      → line_weight w 32 (settled scene.setup (filled_of writer todo item vector key ∷ [])) ≤ 1 + write_run scene.setup todo
+      → line_weight w 32 (settled scene.setup (filled_of writer todo item vector key ∷ [])) ≤ end_charge price + write_run price scene.setup todo
   begins place writer todo later item None key c fits home =
       let filled_item : Item Pad = filled_of writer todo item None key in
       let b = settled_there scene.setup w lands 32 (filled_item ∷ []) (fits key, tt) in
-      omega (arith, b, sum_by-cons (bio_charge scene.setup (Lined 32)) filled_item [], pops_not 32 item.share.no (omega (arith, home)))
+      omega (arith, b, sum_by-cons (bio_charge price scene.setup (Lined 32)) filled_item [], pops_not price 32 item.share.no (omega (arith, home)))
   begins place writer todo later item (Some vector) key c fits home =
       let filled_item : Item Pad = filled_of writer todo item (Some vector) key in
       let b = settled_there scene.setup w lands 32 (filled_item ∷ []) (fits key, tt) in
-      omega (arith, b, sum_by-cons (bio_charge scene.setup (Lined 32)) filled_item [], pops_not 32 item.share.no (omega (arith, home)))
+      omega (arith, b, sum_by-cons (bio_charge price scene.setup (Lined 32)) filled_item [], pops_not price 32 item.share.no (omega (arith, home)))
 
   pub lowers : (m : Move) → Can scene s m → Lowers m
   lowers (moves.TakesFirst place writer todo later move) c =
@@ -243,21 +120,21 @@ module _ (scene : Scene) (s : State) (g : Ground scene.setup) (p : Priced scene.
       omega (
         arith,
         delta scene w s (moves.TakesFirst place writer todo later move) c,
-        on_tasks task_spent scene s place x y c.0 c.1,
-        on_tasks task_duties scene s place x y c.0 c.1,
-        pools_left s.objects.pool 65 move,
+        on_tasks (task_spent price) scene s place x y c.0 c.1,
+        on_tasks (task_charge price) scene s place x y c.0 c.1,
+        fewer 65 move,
       )
   lowers (moves.TakesVector place writer todo later item move) c =
       let x = Writer writer (todo ∷ later) (HasBio item) rests in
       let y = Writer writer (todo ∷ later) (HasBoth item (clear_vector (scene.ledger 64))) rests in
-      let v : vectors todo.write.count ≡ 1 = ap (λ (b : Bool). if b then 1 else 0) c.4 in
+      let v : vector_charge price todo.write ≡ cost price WriteVector = ap (λ (b : Bool). if b then cost price WriteVector else 0) c.4 in
       omega (
         arith,
         v,
         delta scene w s (moves.TakesVector place writer todo later item move) c,
-        on_tasks task_spent scene s place x y c.0 c.1,
-        on_tasks task_duties scene s place x y c.0 c.1,
-        pools_left s.objects.pool 64 move,
+        on_tasks (task_spent price) scene s place x y c.0 c.1,
+        on_tasks (task_charge price) scene s place x y c.0 c.1,
+        fewer 64 move,
       )
   lowers (moves.TakesSub place x doing lists dev waits move) c =
       let new : Line = record { doing = with_want doing (Links (clear_bio (scene.ledger (2 * dev.0)))); lists = lists } in
@@ -265,24 +142,24 @@ module _ (scene : Scene) (s : State) (g : Ground scene.setup) (p : Priced scene.
       omega (
         arith,
         delta scene w s (moves.TakesSub place x doing lists dev waits move) c,
-        t.0,
-        t.1,
-        want_spends doing dev (Takes waits) c.3,
-        takes_spent waits,
-        new_spends doing dev (Takes waits) (Links (clear_bio (scene.ledger (2 * dev.0)))) c.3,
-        pools_left s.objects.pool (2 * dev.0) move,
+        (t.0 price).0,
+        (t.0 price).1,
+        want_spends price doing dev (Takes waits) c.3,
+        takes_spent price waits,
+        new_spends price doing dev (Takes waits) (Links (clear_bio (scene.ledger (2 * dev.0)))) c.3,
+        fewer (2 * dev.0) move,
       )
   lowers (moves.TakesSlip place x bio lists move) c =
       let new : Line = record { doing = Drives bio (ToMaster (clear_slip (scene.ledger (2 * bio.bio.dev.0 + 1)))); lists = lists } in
       let t = on_line scene s place x (Drives bio ToRecord) lists new c.0 c.1 c.2 in
-      omega (arith, delta scene w s (moves.TakesSlip place x bio lists move) c, t.0, t.1, pools_left s.objects.pool (2 * bio.bio.dev.0 + 1) move)
+      omega (arith, delta scene w s (moves.TakesSlip place x bio lists move) c, (t.0 price).0, (t.0 price).1, fewer (2 * bio.bio.dev.0 + 1) move)
   lowers (moves.MissesOne place x number used) c =
       omega (
         arith,
         delta scene w s (moves.MissesOne place x number used) c,
-        on_tasks task_spent scene s place x x c.0 c.1,
-        on_tasks task_duties scene s place x x c.0 c.1,
-        pools_used s.objects.pool number used (numbered number c.5) c.2.1 c.4,
+        on_tasks (task_spent price) scene s place x x c.0 c.1,
+        on_tasks (task_charge price) scene s place x x c.0 c.1,
+        costs_one (cost price ScriptEntry) _ _ (pools_used s.objects.pool number used (numbered number c.5) c.2.1 c.4),
       )
   lowers (moves.MissesTry place x doing lists dev used) c =
       let new : Line = record { doing = with_want doing WantsPunt; lists = lists } in
@@ -290,11 +167,11 @@ module _ (scene : Scene) (s : State) (g : Ground scene.setup) (p : Priced scene.
       omega (
         arith,
         delta scene w s (moves.MissesTry place x doing lists dev used) c,
-        t.0,
-        t.1,
-        want_spends doing dev (Takes false) c.3,
-        new_spends doing dev (Takes false) WantsPunt c.3,
-        pools_left s.objects.pool (2 * dev.0) (misses used),
+        (t.0 price).0,
+        (t.0 price).1,
+        want_spends price doing dev (Takes false) c.3,
+        new_spends price doing dev (Takes false) WantsPunt c.3,
+        fewer (2 * dev.0) (misses used),
       )
   lowers (moves.Punts place x doing lists dev) c =
       let new : Line = record { doing = with_want doing (Takes true); lists = not_punted dev lists } in
@@ -305,14 +182,14 @@ module _ (scene : Scene) (s : State) (g : Ground scene.setup) (p : Priced scene.
       omega (
         arith,
         delta scene w s (moves.Punts place x doing lists dev) c,
-        t.0,
-        t.1,
-        want_spends doing dev WantsPunt c.3,
-        new_spends doing dev WantsPunt (Takes true) c.3,
-        sum_by-append (bio_charge scene.setup Rescued) (filter (is_of dev) lists.list0) (filter (is_of dev) lists.list1),
-        sum_by-append (bio_charge scene.setup (Lined (limit_of x))) (filter (is_of dev) lists.list0) (filter (is_of dev) lists.list1),
-        punts_charge scene.setup (limit_of x) dev lists.list0 low at.0,
-        punts_charge scene.setup (limit_of x) dev lists.list1 low at.1,
+        (t.0 price).0,
+        (t.0 price).1,
+        want_spends price doing dev WantsPunt c.3,
+        new_spends price doing dev WantsPunt (Takes true) c.3,
+        sum_by-append (bio_charge price scene.setup Rescued) (filter (is_of dev) lists.list0) (filter (is_of dev) lists.list1),
+        sum_by-append (bio_charge price scene.setup (Lined (limit_of x))) (filter (is_of dev) lists.list0) (filter (is_of dev) lists.list1),
+        punts_charge price scene.setup (limit_of x) dev lists.list0 low at.0,
+        punts_charge price scene.setup (limit_of x) dev lists.list1 low at.1,
       )
   lowers (moves.Pops place dev bio bios) c =
       let r : Each (IsOwn scene.setup dev.0 dev.0) (bio ∷ bios) = subst (Each (IsOwn scene.setup dev.0 dev.0)) c.3 (a.rescued dev.0) in
@@ -322,11 +199,11 @@ module _ (scene : Scene) (s : State) (g : Ground scene.setup) (p : Priced scene.
       omega (
         arith,
         delta scene w s (moves.Pops place dev bio bios) c,
-        on_tasks task_spent scene s place x y c.0 c.1,
-        on_tasks task_duties scene s place x y c.0 c.1,
+        on_tasks (task_spent price) scene s place x y c.0 c.1,
+        on_tasks (task_charge price) scene s place x y c.0 c.1,
         settled_there scene.setup w lands dev.0 (bio ∷ []) (r.0.0.0, tt),
-        sum_by-cons (bio_charge scene.setup (Lined dev.0)) bio [],
-        pops_not dev.0 bio.share.no (omega (arith, own)),
+        sum_by-cons (bio_charge price scene.setup (Lined dev.0)) bio [],
+        pops_not price dev.0 bio.share.no (omega (arith, own)),
       )
   lowers (moves.Pushes place x bio lists) c =
       let d = has place x (Drives bio ToPush) lists c.1 c.2 in
@@ -336,15 +213,15 @@ module _ (scene : Scene) (s : State) (g : Ground scene.setup) (p : Priced scene.
       omega (
         arith,
         delta scene w s (moves.Pushes place x bio lists) c,
-        t.0,
-        t.1,
+        (t.0 price).0,
+        (t.0 price).1,
         b,
-        leaf_charge (tree_at scene.setup bio.bio.dev) bio.bio.range bio.bio.dev.0 d.3 is.some,
+        leaf_charge price (tree_at scene.setup bio.bio.dev) bio.bio.range bio.bio.dev.0 d.3 is.some,
       )
   lowers (moves.Completed place disk index bio status new) c =
       let x = Completer disk Empty in
       let y = Completer disk (Brings bio status) in
-      omega (arith, delta scene w s (moves.Completed place disk index bio status new) c, on_tasks task_spent scene s place x y c.0 c.1, on_tasks task_duties scene s place x y c.0 c.1)
+      omega (arith, delta scene w s (moves.Completed place disk index bio status new) c, on_tasks (task_spent price) scene s place x y c.0 c.1, on_tasks (task_charge price) scene s place x y c.0 c.1)
   lowers (moves.Begins place writer todo later item None key) c =
       let x = Writer writer (todo ∷ later) (HasBio item) rests in
       let y = Writer writer later NoBio (settled scene.setup (filled_of writer todo item None key ∷ [])) in
@@ -352,10 +229,10 @@ module _ (scene : Scene) (s : State) (g : Ground scene.setup) (p : Priced scene.
       omega (
         arith,
         delta scene w s (moves.Begins place writer todo later item None key) c,
-        on_tasks task_spent scene s place x y c.0 c.1,
-        on_tasks task_duties scene s place x y c.0 c.1,
+        on_tasks (task_spent price) scene s place x y c.0 c.1,
+        on_tasks (task_charge price) scene s place x y c.0 c.1,
         begins place writer todo later item None key c t.0.0 t.2,
-        later_charge scene.setup later,
+        later_charge price scene.setup later,
       )
   lowers (moves.Begins place writer todo later item (Some vector) key) c =
       let x = Writer writer (todo ∷ later) (HasBoth item vector) rests in
@@ -364,10 +241,10 @@ module _ (scene : Scene) (s : State) (g : Ground scene.setup) (p : Priced scene.
       omega (
         arith,
         delta scene w s (moves.Begins place writer todo later item (Some vector) key) c,
-        on_tasks task_spent scene s place x y c.0 c.1,
-        on_tasks task_duties scene s place x y c.0 c.1,
+        on_tasks (task_spent price) scene s place x y c.0 c.1,
+        on_tasks (task_charge price) scene s place x y c.0 c.1,
         begins place writer todo later item (Some vector) key c t.0.0 t.2.0,
-        later_charge scene.setup later,
+        later_charge price scene.setup later,
       )
   lowers (moves.Chained place x bio lists hand number kind sizes members key node) c =
       let n = first_length kind sizes bio.bio.range in
@@ -379,12 +256,12 @@ module _ (scene : Scene) (s : State) (g : Ground scene.setup) (p : Priced scene.
       omega (
         arith,
         delta scene w s (moves.Chained place x bio lists hand number kind sizes members key node) c,
-        t.0,
-        t.1,
+        (t.0 price).0,
+        (t.0 price).1,
         goes_there scene.setup w lands (limit_of x) bio.bio.dev (cut_lists bio lists hand n key kind sizes members) cuts.1 (all_there scene.setup (limit_of x) lists.list1 d.1.1),
-        cut_weight (bio_charge scene.setup (Lined (limit_of x))) bio lists hand n key kind sizes members,
+        cut_weight (bio_charge price scene.setup (Lined (limit_of x))) bio lists hand n key kind sizes members,
         p.cut bio hand key number kind sizes members d.1.0.0 c.3 cuts.0,
-        pops_once (limit_of x) child.share.no,
+        pops_once price (limit_of x) child.share.no,
       )
   lowers (moves.Mastered place x bio lists slip key node) c =
       let d = has place x (Drives bio (ToMaster slip)) lists c.1 c.2 in
@@ -393,10 +270,10 @@ module _ (scene : Scene) (s : State) (g : Ground scene.setup) (p : Priced scene.
       omega (
         arith,
         delta scene w s (moves.Mastered place x bio lists slip key node) c,
-        t.0,
-        t.1,
-        copies_charge scene.setup p (limit_of x) lists bio.bio key 0 (none_there scene.setup (limit_of x) lists d.0) (all_there scene.setup (limit_of x) lists.list1 d.1.1),
-        mirror_charge (tree_at scene.setup bio.bio.dev) bio.bio.range bio.bio.dev.0 slip d.3 is.some,
+        (t.0 price).0,
+        (t.0 price).1,
+        copies_charge price scene.setup p (limit_of x) lists bio.bio key 0 (none_there scene.setup (limit_of x) lists d.0) (all_there scene.setup (limit_of x) lists.list1 d.1.1),
+        mirror_charge price (tree_at scene.setup bio.bio.dev) bio.bio.range bio.bio.dev.0 slip d.3 is.some,
       )
   lowers (moves.Legged place x bio lists master leg hand key node) c =
       let d = has place x (Copies bio master leg (Links hand)) lists c.1 c.2 in
@@ -408,13 +285,13 @@ module _ (scene : Scene) (s : State) (g : Ground scene.setup) (p : Priced scene.
       omega (
         arith,
         delta scene w s (moves.Legged place x bio lists master leg hand key node) c,
-        t.0,
-        t.1,
-        copies_charge scene.setup p (limit_of x) more bio master (leg + 1) first (all_there scene.setup (limit_of x) lists.list1 d.3),
-        sum_by_push (bio_charge scene.setup (Lined (limit_of x))) lists.list0 item,
+        (t.0 price).0,
+        (t.0 price).1,
+        copies_charge price scene.setup p (limit_of x) more bio master (leg + 1) first (all_there scene.setup (limit_of x) lists.list1 d.3),
+        sum_by_push (bio_charge price scene.setup (Lined (limit_of x))) lists.list0 item,
         p.leg bio hand leg key d.0 lt,
-        legs_next (tree_at scene.setup bio.dev) bio.range leg lt,
-        pops_once (limit_of x) item.share.no,
+        legs_next price (tree_at scene.setup bio.dev) bio.range leg lt,
+        pops_once price (limit_of x) item.share.no,
       )
   lowers (moves.Told place disk carried writer key status part node) c =
       let x = Completer disk carried in
@@ -422,9 +299,10 @@ module _ (scene : Scene) (s : State) (g : Ground scene.setup) (p : Priced scene.
       omega (
         arith,
         delta scene w s (moves.Told place disk carried writer key status part node) c,
-        on_tasks task_spent scene s place x y c.0 c.1,
-        on_tasks task_duties scene s place x y c.0 c.1,
-        tells_charge scene.setup place carried writer key status part c.2,
+        on_tasks (task_spent price) scene s place x y c.0 c.1,
+        on_tasks (task_charge price) scene s place x y c.0 c.1,
+        tells_charge price scene.setup place carried writer key status part c.2,
+        later_give price node.held.bio part,
       )
   lowers (moves.Closes place disk carried writer key status part node) c =
       let x = Completer disk carried in
@@ -432,10 +310,10 @@ module _ (scene : Scene) (s : State) (g : Ground scene.setup) (p : Priced scene.
       omega (
         arith,
         delta scene w s (moves.Closes place disk carried writer key status part node) c,
-        on_tasks task_spent scene s place x y c.0 c.1,
-        on_tasks task_duties scene s place x y c.0 c.1,
-        tells_charge scene.setup place carried writer key status part c.2,
-        there_one (later_part node.held.bio part),
+        on_tasks (task_spent price) scene s place x y c.0 c.1,
+        on_tasks (task_charge price) scene s place x y c.0 c.1,
+        tells_charge price scene.setup place carried writer key status part c.2,
+        later_give price node.held.bio part,
       )
   lowers (moves.Gives place disk writer number closed held) c =
       let x = Completer disk (Carries writer closed) in
@@ -443,58 +321,72 @@ module _ (scene : Scene) (s : State) (g : Ground scene.setup) (p : Priced scene.
       omega (
         arith,
         delta scene w s (moves.Gives place disk writer number closed held) c,
-        on_tasks task_spent scene s place x y c.0 c.1,
-        on_tasks task_duties scene s place x y c.0 c.1,
-        hands_charge number closed.held held c.2,
-        pools_left s.objects.pool number gives,
+        on_tasks (task_spent price) scene s place x y c.0 c.1,
+        on_tasks (task_charge price) scene s place x y c.0 c.1,
+        hands_back price number closed.held held c.2,
+        fewer number gives,
       )
   lowers (moves.Ends place disk writer closed) c =
       let x = Completer disk (Carries writer closed) in
       let y = Completer disk Empty in
-      omega (arith, delta scene w s (moves.Ends place disk writer closed) c, on_tasks task_spent scene s place x y c.0 c.1, on_tasks task_duties scene s place x y c.0 c.1)
+      let top : close_charge price closed.parent ≡ price paid.IsDone = ap (close_charge price) c.3 in
+      omega (
+        arith,
+        top,
+        delta scene w s (moves.Ends place disk writer closed) c,
+        on_tasks (task_spent price) scene s place x y c.0 c.1,
+        on_tasks (task_charge price) scene s place x y c.0 c.1,
+      )
   lowers (moves.Resized place pool min later duties) c =
       let x = Keeper (Keeps (Resizes pool min later ∷ duties)) in
       let y = Keeper (Keeps duties) in
       omega (
         arith,
         delta scene w s (moves.Resized place pool min later duties) c,
-        on_tasks task_spent scene s place x y c.0 c.1,
-        on_tasks task_duties scene s place x y c.0 c.1,
-        pools_left s.objects.pool (pool_number pool) (resizes min),
+        on_tasks (task_spent price) scene s place x y c.0 c.1,
+        on_tasks (task_charge price) scene s place x y c.0 c.1,
+        sum_by-cons (duty_charge price) (Resizes pool min later) duties,
+        fewer (pool_number pool) (resizes min),
       )
   lowers (moves.Started place round later duties) c =
       let x = Keeper (Keeps (Starts round later ∷ duties)) in
       let y = Keeper (Keeps duties) in
-      omega (arith, delta scene w s (moves.Started place round later duties) c, on_tasks task_spent scene s place x y c.0 c.1, on_tasks task_duties scene s place x y c.0 c.1)
+      omega (
+        arith,
+        delta scene w s (moves.Started place round later duties) c,
+        on_tasks (task_spent price) scene s place x y c.0 c.1,
+        on_tasks (task_charge price) scene s place x y c.0 c.1,
+        sum_by-cons (duty_charge price) (Starts round later) duties,
+      )
 
   -- no more is spent than is charged
-  want_covers : (want : Want) → want_spent want ≤ 8
+  want_covers : (want : Want) → want_spent price want ≤ cost price PieceBio
   want_covers (Takes true) = omega arith
   want_covers (Takes false) = omega arith
   want_covers WantsPunt = omega arith
   want_covers (Links hand) = omega arith
 
-  doing_covers : (limit : ℕ) (doing : Doing) (lists : TaskLists) → DoingPlaced scene.setup limit doing lists → DoingFits scene.setup doing lists → doing_spent doing ≤ doing_weight w limit doing
+  doing_covers : (limit : ℕ) (doing : Doing) (lists : TaskLists) → DoingPlaced scene.setup limit doing lists → DoingFits scene.setup doing lists → doing_spent price doing ≤ doing_weight w limit doing
   doing_covers limit Rests lists d f = omega arith
   doing_covers limit (Breaks breach kept) lists d f = omega arith
   doing_covers limit (Drives bio ToPush) lists d f = omega arith
   doing_covers limit (Drives bio (ToCut want)) lists d f =
-      omega (arith, want_covers want, cut_needs scene.setup p bio want (tree_at scene.setup bio.bio.dev) refl d.1.0.0 d.3)
+      omega (arith, want_covers want, cut_needs price scene.setup p bio want (tree_at scene.setup bio.bio.dev) refl d.1.0.0 d.3)
   doing_covers limit (Drives bio ToRecord) lists d f = omega arith
-  doing_covers limit (Drives bio (ToMaster slip)) lists d f = omega arith
+  doing_covers limit (Drives bio (ToMaster slip)) lists d f = omega (arith, mirror_charge price (tree_at scene.setup bio.bio.dev) bio.bio.range bio.bio.dev.0 slip d.3 d.1.0.0.some)
   doing_covers limit (Copies bio master leg want) lists d f =
-      omega (arith, want_covers want, legs_next (tree_at scene.setup bio.dev) bio.range leg f, leg_some (tree_at scene.setup bio.dev) bio.range leg f)
+      omega (arith, want_covers want, legs_next price (tree_at scene.setup bio.dev) bio.range leg f, leg_some price (tree_at scene.setup bio.dev) bio.range leg f)
 
-  task_covers : (place : ℕ) (x : TaskState) → TaskPlaced scene.setup x → TaskFits scene x → task_spent x ≤ task_weight w place x
+  task_covers : (place : ℕ) (x : TaskState) → TaskPlaced scene.setup x → TaskFits scene x → task_spent price x ≤ task_weight w place x
   task_covers place (Writer number todo taken line) t f = let b = doing_covers 32 line.doing line.lists t.1 f.1 in omega arith
   task_covers place (Rescuer dev line) t f = let b = doing_covers dev.0 line.doing line.lists t f.1 in omega arith
   task_covers place (Completer disk carried) t f = omega arith
   task_covers place (Keeper keeping) t f = omega arith
 
-  tasks_cover : (n : ℕ) → sum_at (λ place task. task_spent task) n s.task ≤ sum_at (task_weight w) n s.task
+  tasks_cover : (n : ℕ) → sum_at (λ place task. task_spent price task) n s.task ≤ sum_at (task_weight w) n s.task
   unfolding sum_at
   tasks_cover zero = omega arith
   tasks_cover (suc n) = omega (arith, tasks_cover n, task_covers n (s.task n) (a.tasks n) (i.tasks n))
 
-  pub covers : spent scene s ≤ charged scene s
+  pub covers : spent price scene s ≤ charged price scene s
   covers = omega (arith, tasks_cover scene.tasks)

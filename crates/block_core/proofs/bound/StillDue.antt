@@ -34,7 +34,7 @@ use Rattle.block_core.proofs.unrefused.BioNeeds.{Worth}
 use Rattle.block_core.proofs.images.FragmentCounts.{Divided, IsCounted, mirror_worth, legs_next}
 use Rattle.block_core.proofs.moves.Misfits.{misfits, cut_fits}
 use Rattle.block_core.proofs.images.StillToCome.{over}
-use Rattle.block_core.proofs.bound.EventCharges.{on_tasks, on_line, hands_charge, all_duties}
+use Rattle.block_core.proofs.bound.TaskCharges.{on_tasks, on_line, hands_charge, all_duties}
 use Rattle.block_core.proofs.images.MasterRecords.{zeros}
 use Rattle.block_core.proofs.sound.Owns.{closing_own}
 use Rattle.block_core.proofs.bound.RoleHoldings.{odd, odd_holding}

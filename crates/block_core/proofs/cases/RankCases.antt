@@ -11,11 +11,11 @@ use Rattle.layout_model.specs.Need.{begun as begun_below, needed, ended, fragmen
 use Rattle.run_machine.specs.Tasks.{Resizes, Starts}
 use Rattle.stack_base.specs.declared.ids.PoolId.TheVariants.{FsBios}
 use Rattle.block_core.specs.Exact.{starts_round}
-use Rattle.block_core.specs.Payers.{WriteBio, WriteVector, Record, PieceBio, Fragment, pays_for}
+use Rattle.block_core.specs.Payers.{WriteBio, WriteVector, Record, PieceBio, Fragment, pays_for, unit_price}
 use Rattle.block_core.specs.Charges.{begun_charge, run_charge, rank}
 
 -- a record and two legs, of a fragment each, as the table has it
-of_a_run : run_charge mirror 0 1 ≡ length (pays_for Record) + 2 * length (pays_for PieceBio) + 2 * length (pays_for Fragment)
+of_a_run : run_charge unit_price mirror 0 1 ≡ length (pays_for Record) + 2 * length (pays_for PieceBio) + 2 * length (pays_for Fragment)
 unfolding begun_charge run_charge
 of_a_run = refl
 
@@ -27,9 +27,9 @@ module _ (some : LedgerId) where
   ranks s [] = rank scene s ∷ []
   ranks s (turn ∷ turns) = rank scene s ∷ ranks (behind scene.setup s turn) turns
 
-  -- Five of the write's bio and 24 of its run: a take, a link, a take of the record, and with the link of the master the attempt and the punt
-  -- fall away that the first leg does not need, since its first attempt waits; then the leg's take and link.
-  of_the_mirror : ranks start (begun some) ≡ 29 ∷ 28 ∷ 27 ∷ 26 ∷ 23 ∷ 22 ∷ 21 ∷ []
+  -- Five of the write's bio and 24 of its run: a take, a link, a take of the record, and with the link of the master the end of the bio falls away,
+  -- which a mirror copies, with the attempt and the punt that the first leg does not need, since its first attempt waits; then the leg's take and link.
+  of_the_mirror : ranks start (begun some) ≡ 29 ∷ 28 ∷ 27 ∷ 26 ∷ 22 ∷ 21 ∷ 20 ∷ []
   unfolding sum_at one upd begun_charge run_charge
   of_the_mirror = refl
 

@@ -23,8 +23,11 @@ use Rattle.run_machine.specs.Lines.{Want, Takes, Punts as WantsPunt, Links, ToPu
 use Rattle.run_machine.specs.Tasks.{TaskState, Writer, Rescuer, Completer, Keeper, Keeping, Keeps, Stops, Duty, Resizes, Starts, Todo, Taken, NoBio, HasBio, HasBoth, Carried, Empty, Brings, Carries, Fails}
 use Rattle.run_machine.specs.Objects.{Objects}
 use Rattle.run_machine.specs.Runs.{State}
+use Rattle.block_core.specs.Payers.{Paid}
+use Rattle.block_core.specs.Payers as paid
+use Rattle.block_core.specs.Paying.{brings, paid_as, paid_end}
 use Rattle.block_core.specs.Touches.{Touch, Passes, touch_of}
-use Rattle.block_core.proofs.moves.Moves.{Move, IsTaking, place_of, touch_by, Can, after, lost, gained, limit_of, with_line, HasLine, Wants, with_want, taken_of, filled_of, vector_of, cut_lists, IsTake, Tells, Hands, piece, with_pool, with_book}
+use Rattle.block_core.proofs.moves.Moves.{Move, IsTaking, place_of, touch_by, kind_of, Can, after, lost, gained, limit_of, with_line, HasLine, Wants, with_want, taken_of, filled_of, vector_of, cut_lists, IsTake, Tells, Hands, piece, with_pool, with_book}
 use Rattle.block_core.proofs.moves.Moves as moves
 use Rattle.block_core.proofs.sound.Facts.{Suits, TaskFits, DoingIsIn, IsIn, Fair, Kept}
 use Rattle.bio_books.specs.Links.{Made, NoRoom, Stray, ChainsAt, MastersAt, LegsAt}
@@ -49,6 +52,7 @@ pub record IsMove (scene : Scene) (s : State) (place : ℕ) (what : What) (new :
   pub is : new ≡ after scene s move
   pub at : place_of move ≡ place
   pub touches : touch_of what ≡ touch_by move
+  pub pays : paid_as (brings (s.task place)) what ≡ kind_of move
 
 -- what is told of a take touches no node
 abbrev touch_in : Option What → Touch
@@ -58,6 +62,19 @@ touch_in (Some what) = touch_of what
 take_passes : (waits : Bool) (pool : PoolId) (from : Got) → touch_of (take_of waits pool from) ≡ Passes
 take_passes true pool from = refl
 take_passes false pool from = refl
+
+-- what is paid for it
+abbrev paid_in : Bool → Option What → Paid
+paid_in brought None = paid.IsTaken
+paid_in brought (Some what) = paid_as brought what
+
+take_ordinary : (brought waits : Bool) (pool : PoolId) → paid_as brought (take_of waits pool got.Ordinary) ≡ paid.IsTaken
+take_ordinary brought true pool = refl
+take_ordinary brought false pool = refl
+
+take_spare : (brought waits : Bool) (pool : PoolId) → paid_as brought (take_of waits pool got.Spare) ≡ paid.IsTaken
+take_spare brought true pool = refl
+take_spare brought false pool = refl
 
 miss_passes : (waits used : Bool) (pool : PoolId) → touch_in (miss_of waits used pool) ≡ Passes
 miss_passes true true pool = refl
@@ -74,6 +91,10 @@ nothing_told what q = cc
 used_told : (used : Bool) (pool : PoolId) (what : What) → miss_of true used pool ≡ Some what → used ≡ true
 used_told true pool what told = refl
 used_told false pool what told = absurd (nothing_told what told)
+
+miss_pays : (brought used : Bool) (pool : PoolId) (what : What) → miss_of true used pool ≡ Some what → paid_as brought what ≡ paid.MissesWaiting
+miss_pays brought true pool what told = sym (ap (paid_in brought) told)
+miss_pays brought false pool what told = absurd (nothing_told what told)
 
 -- what is wanted is of a device of the stack
 wants_in : (setup : Setup) (doing : Doing) (dev : DevId) (want : Want) → Wants doing dev want → DoingIsIn setup doing → dev.0 < setup.count
@@ -140,6 +161,10 @@ asks_line setup (Completer disk carried) doing lists h busy = absurd h
 asks_line setup (Keeper keeping) doing lists h busy = absurd h
 
 module _ (scene : Scene) (s : State) (f : Fair scene) (i : Kept scene s) (place : ℕ) (here : place < scene.tasks) (what : What) (new : State) where
+  -- whether the task brings a bio
+  abbrev brought : Bool
+  brought = brings (s.task place)
+
   -- a book with an open node is one of the books
   in_books : (writer key : ℕ) (node : Node) → node_at (s.objects.book writer) key ≡ Some node → writer < scene.books
   in_books writer key node at = elim (below_or writer scene.books) [
@@ -180,10 +205,10 @@ module _ (scene : Scene) (s : State) (f : Fair scene) (i : Kept scene s) (place 
       → ((used : Bool) → reply ≡ requests.Missed used → Goes (with_line x (record { doing = with_want doing (after_miss waits); lists = lists }))) → IsMove scene s place what new
   takes_sub x doing lists dev waits is h wants own (requests.HadBio got.Ordinary hand) told serves had missed =
       let goes2 = had got.Ordinary hand refl ∙ ap (λ item. upd s.task place (with_line x (record { doing = with_want doing (Links item); lists = lists }))) serves.1 in
-      record { move = moves.TakesSub place x doing lists dev waits takes_ordinary; can = (here, is, h, wants, tt, serves.0.0); is = state_is new _ _ serves.0.1 goes2; at = refl; touches = sym (ap touch_in told) ∙ take_passes waits (Bios dev) got.Ordinary }
+      record { move = moves.TakesSub place x doing lists dev waits takes_ordinary; can = (here, is, h, wants, tt, serves.0.0); is = state_is new _ _ serves.0.1 goes2; at = refl; touches = sym (ap touch_in told) ∙ take_passes waits (Bios dev) got.Ordinary; pays = sym (ap (paid_in brought) told) ∙ take_ordinary brought waits (Bios dev) }
   takes_sub x doing lists dev waits is h wants own (requests.HadBio got.Spare hand) told serves had missed =
       let goes2 = had got.Spare hand refl ∙ ap (λ item. upd s.task place (with_line x (record { doing = with_want doing (Links item); lists = lists }))) serves.1 in
-      record { move = moves.TakesSub place x doing lists dev waits takes_spare; can = (here, is, h, wants, tt, serves.0.0); is = state_is new _ _ serves.0.1 goes2; at = refl; touches = sym (ap touch_in told) ∙ take_passes waits (Bios dev) got.Spare }
+      record { move = moves.TakesSub place x doing lists dev waits takes_spare; can = (here, is, h, wants, tt, serves.0.0); is = state_is new _ _ serves.0.1 goes2; at = refl; touches = sym (ap touch_in told) ∙ take_passes waits (Bios dev) got.Spare; pays = sym (ap (paid_in brought) told) ∙ take_spare brought waits (Bios dev) }
   takes_sub x doing lists dev waits is h wants own (requests.HadBio got.Missed hand) told serves had missed = absurd serves.0
   takes_sub x doing lists dev true is h wants own (requests.Missed used) told serves had missed =
       let stays = ap (λ d. with_line x (record { doing = d; lists = lists })) own ∙ same_line x doing lists h in
@@ -200,23 +225,24 @@ module _ (scene : Scene) (s : State) (f : Fair scene) (i : Kept scene s) (place 
         is = state_is new _ _ serves.1 (missed used refl ∙ ap (upd s.task place) stays);
         at = refl;
         touches = sym (ap touch_in told) ∙ miss_passes true used (Bios dev);
+        pays = miss_pays brought used (Bios dev) what told;
       }
   takes_sub x doing lists dev false is h wants own (requests.Missed used) told serves had missed =
-      record { move = moves.MissesTry place x doing lists dev used; can = (here, is, h, wants, serves.0); is = state_is new _ _ serves.1 (missed used refl); at = refl; touches = sym (ap touch_in told) ∙ miss_passes false used (Bios dev) }
+      record { move = moves.MissesTry place x doing lists dev used; can = (here, is, h, wants, serves.0); is = state_is new _ _ serves.1 (missed used refl); at = refl; touches = sym (ap touch_in told) ∙ miss_passes false used (Bios dev); pays = sym (ap (paid_in brought) told) }
   takes_sub x doing lists dev waits is h wants own _ told serves had missed = absurd serves
 
   punts : (x : TaskState) (doing : Doing) (lists : TaskLists) (dev : DevId) → s.task place ≡ x → HasLine x doing lists → Wants doing dev WantsPunt → dev.0 < scene.setup.count → (reply : Reply)
       → what_of (requests.Punt dev (punted dev lists)) reply ≡ Some what → Serves scene.ledger s.objects (requests.Punt dev (punted dev lists)) reply new.objects
       → (reply ≡ requests.Did → Goes (with_line x (record { doing = with_want doing (Takes true); lists = not_punted dev lists }))) → IsMove scene s place what new
   punts x doing lists dev is h wants there requests.Did told serves goes =
-      record { move = moves.Punts place x doing lists dev; can = (here, is, h, wants, there); is = state_is new _ _ serves (goes refl); at = refl; touches = sym (ap touch_in told) }
+      record { move = moves.Punts place x doing lists dev; can = (here, is, h, wants, there); is = state_is new _ _ serves (goes refl); at = refl; touches = sym (ap touch_in told); pays = sym (ap (paid_in brought) told) }
   punts x doing lists dev is h wants there _ told serves goes = absurd serves
 
   pushes : (x : TaskState) (bio : Item Pad) (lists : TaskLists) → s.task place ≡ x → HasLine x (Drives bio ToPush) lists → (reply : Reply)
       → what_of (requests.Push bio) reply ≡ Some what → Serves scene.ledger s.objects (requests.Push bio) reply new.objects
       → Goes (with_line x (line_answered scene.setup (Drives bio ToPush) lists reply)) → IsMove scene s place what new
   pushes x bio lists is h requests.Did told serves goes =
-      record { move = moves.Pushes place x bio lists; can = (here, is, h, there x (Drives bio ToPush) lists is h); is = state_is new _ _ serves goes; at = refl; touches = sym (ap touch_in told) }
+      record { move = moves.Pushes place x bio lists; can = (here, is, h, there x (Drives bio ToPush) lists is h); is = state_is new _ _ serves goes; at = refl; touches = sym (ap touch_in told); pays = sym (ap (paid_in brought) told) }
   pushes x bio lists is h _ told serves goes = absurd serves
 
   takes_slip : (x : TaskState) (bio : Item Pad) (lists : TaskLists) → s.task place ≡ x → HasLine x (Drives bio ToRecord) lists → (reply : Reply)
@@ -224,10 +250,10 @@ module _ (scene : Scene) (s : State) (f : Fair scene) (i : Kept scene s) (place 
       → Goes (with_line x (line_answered scene.setup (Drives bio ToRecord) lists reply)) → what_of (requests.TakeSlip bio.bio.dev) reply ≡ Some what → IsMove scene s place what new
   takes_slip x bio lists is h (requests.HadSlip got.Ordinary slip) serves goes told =
       let goes2 = goes ∙ ap (λ r. upd s.task place (with_line x (record { doing = Drives bio (ToMaster r); lists = lists }))) serves.1 in
-      record { move = moves.TakesSlip place x bio lists takes_ordinary; can = (here, is, h, tt, serves.0.0); is = state_is new _ _ serves.0.1 goes2; at = refl; touches = sym (ap touch_in told) }
+      record { move = moves.TakesSlip place x bio lists takes_ordinary; can = (here, is, h, tt, serves.0.0); is = state_is new _ _ serves.0.1 goes2; at = refl; touches = sym (ap touch_in told); pays = sym (ap (paid_in brought) told) }
   takes_slip x bio lists is h (requests.HadSlip got.Spare slip) serves goes told =
       let goes2 = goes ∙ ap (λ r. upd s.task place (with_line x (record { doing = Drives bio (ToMaster r); lists = lists }))) serves.1 in
-      record { move = moves.TakesSlip place x bio lists takes_spare; can = (here, is, h, tt, serves.0.0); is = state_is new _ _ serves.0.1 goes2; at = refl; touches = sym (ap touch_in told) }
+      record { move = moves.TakesSlip place x bio lists takes_spare; can = (here, is, h, tt, serves.0.0); is = state_is new _ _ serves.0.1 goes2; at = refl; touches = sym (ap touch_in told); pays = sym (ap (paid_in brought) told) }
   takes_slip x bio lists is h (requests.HadSlip got.Missed slip) serves goes told = absurd serves.0
   takes_slip x bio lists is h (requests.Missed used) serves goes told =
       record {
@@ -243,6 +269,7 @@ module _ (scene : Scene) (s : State) (f : Fair scene) (i : Kept scene s) (place 
         is = state_is new _ _ serves.1 (goes ∙ ap (upd s.task place) (same_line x (Drives bio ToRecord) lists h));
         at = refl;
         touches = sym (ap touch_in told) ∙ miss_passes true used (Records bio.bio.dev);
+        pays = miss_pays brought used (Records bio.bio.dev) what told;
       }
   takes_slip x bio lists is h _ serves goes told = absurd serves
 
@@ -268,6 +295,7 @@ module _ (scene : Scene) (s : State) (f : Fair scene) (i : Kept scene s) (place 
             is = state_is new _ _ objects goes2;
             at = refl;
             touches = sym (ap touch_in told);
+            pays = sym (ap (paid_in brought) told);
           }
   chains x bio lists hand is h fits (requests.LinkedTo (NoRoom back)) told serves goes = absurd (nothing_told what told)
   chains x bio lists hand is h fits (requests.LinkedTo (Stray back)) told serves goes = absurd (nothing_told what told)
@@ -290,6 +318,7 @@ module _ (scene : Scene) (s : State) (f : Fair scene) (i : Kept scene s) (place 
             is = state_is new _ _ (serves.1 ∙ ap (λ b. record s.objects { book = upd s.objects.book bio.bio.writer b }) c.1) goes;
             at = refl;
             touches = sym (ap touch_in told);
+            pays = sym (ap (paid_in brought) told);
           }
   masters x bio lists slip is h (requests.LinkedTo (NoRoom back)) told serves goes = absurd (nothing_told what told)
   masters x bio lists slip is h (requests.LinkedTo (Stray back)) told serves goes = absurd (nothing_told what told)
@@ -312,6 +341,7 @@ module _ (scene : Scene) (s : State) (f : Fair scene) (i : Kept scene s) (place 
             is = state_is new _ _ (serves.1 ∙ ap (λ b. record s.objects { book = upd s.objects.book bio.writer b }) c.1) goes;
             at = refl;
             touches = sym (ap touch_in told);
+            pays = sym (ap (paid_in brought) told);
           }
   legs x bio master leg lists hand is h (requests.LinkedTo (NoRoom back)) told serves goes = absurd (nothing_told what told)
   legs x bio master leg lists hand is h (requests.LinkedTo (Stray back)) told serves goes = absurd (nothing_told what told)
@@ -369,6 +399,7 @@ module _ (scene : Scene) (s : State) (f : Fair scene) (i : Kept scene s) (place 
         is = state_is new _ _ serves.0.1 (goes ∙ ap (λ item. upd s.task place (Writer number (todo ∷ later) (HasBio item) rests)) serves.1);
         at = refl;
         touches = sym (ap touch_in told);
+        pays = sym (ap (paid_in brought) told);
       }
   takes_first number todo later is now (requests.HadBio got.Spare hand) told serves goes =
       record {
@@ -377,10 +408,11 @@ module _ (scene : Scene) (s : State) (f : Fair scene) (i : Kept scene s) (place 
         is = state_is new _ _ serves.0.1 (goes ∙ ap (λ item. upd s.task place (Writer number (todo ∷ later) (HasBio item) rests)) serves.1);
         at = refl;
         touches = sym (ap touch_in told);
+        pays = sym (ap (paid_in brought) told);
       }
   takes_first number todo later is now (requests.HadBio got.Missed hand) told serves goes = absurd serves.0
   takes_first number todo later is now (requests.Missed used) told serves goes =
-      record { move = moves.MissesOne place (Writer number (todo ∷ later) NoBio rests) 65 used; can = (here, is, serves.0, tt, used_told used FsBios what told, inr (omega arith)); is = state_is new _ _ serves.1 goes; at = refl; touches = sym (ap touch_in told) ∙ miss_passes true used FsBios }
+      record { move = moves.MissesOne place (Writer number (todo ∷ later) NoBio rests) 65 used; can = (here, is, serves.0, tt, used_told used FsBios what told, inr (omega arith)); is = state_is new _ _ serves.1 goes; at = refl; touches = sym (ap touch_in told) ∙ miss_passes true used FsBios; pays = miss_pays brought used FsBios what told }
   takes_first number todo later is now _ told serves goes = absurd serves
 
   -- its vector, or the write's node
@@ -395,6 +427,7 @@ module _ (scene : Scene) (s : State) (f : Fair scene) (i : Kept scene s) (place 
         is = state_is new _ _ serves.0.1 (goes ∙ ap (λ v. upd s.task place (Writer number (todo ∷ later) (HasBoth item v) rests)) serves.1);
         at = refl;
         touches = sym (ap touch_in told);
+        pays = sym (ap (paid_in brought) told);
       }
   goes_with true number todo later item needs is lt (requests.HadVec got.Spare vector) told serves goes =
       record {
@@ -403,14 +436,15 @@ module _ (scene : Scene) (s : State) (f : Fair scene) (i : Kept scene s) (place 
         is = state_is new _ _ serves.0.1 (goes ∙ ap (λ v. upd s.task place (Writer number (todo ∷ later) (HasBoth item v) rests)) serves.1);
         at = refl;
         touches = sym (ap touch_in told);
+        pays = sym (ap (paid_in brought) told);
       }
   goes_with true number todo later item needs is lt (requests.HadVec got.Missed vector) told serves goes = absurd serves.0
   goes_with true number todo later item needs is lt (requests.Missed used) told serves goes =
-      record { move = moves.MissesOne place (Writer number (todo ∷ later) (HasBio item) rests) 64 used; can = (here, is, serves.0, subst (λ b. IsTaking (with_bio number b todo)) (sym needs) tt, used_told used FsVecs what told, inr (omega arith)); is = state_is new _ _ serves.1 goes; at = refl; touches = sym (ap touch_in told) ∙ miss_passes true used FsVecs }
+      record { move = moves.MissesOne place (Writer number (todo ∷ later) (HasBio item) rests) 64 used; can = (here, is, serves.0, subst (λ b. IsTaking (with_bio number b todo)) (sym needs) tt, used_told used FsVecs what told, inr (omega arith)); is = state_is new _ _ serves.1 goes; at = refl; touches = sym (ap touch_in told) ∙ miss_passes true used FsVecs; pays = miss_pays brought used FsVecs what told }
   goes_with true number todo later item needs is lt _ told serves goes = absurd serves
   goes_with false number todo later item needs is lt (requests.LinkedTo (Made key)) told serves goes =
       let objects = serves.1 ∙ ap (λ b. record s.objects { book = upd s.objects.book number b }) serves.0.1 in
-      record { move = moves.Begins place number todo later item None key; can = (here, is, lt, serves.0.0, needs); is = state_is new _ _ objects goes; at = refl; touches = sym (ap touch_in told) }
+      record { move = moves.Begins place number todo later item None key; can = (here, is, lt, serves.0.0, needs); is = state_is new _ _ objects goes; at = refl; touches = sym (ap touch_in told); pays = sym (ap (paid_in brought) told) }
   goes_with false number todo later item needs is lt (requests.LinkedTo (NoRoom back)) told serves goes = absurd (nothing_told what told)
   goes_with false number todo later item needs is lt (requests.LinkedTo (Stray back)) told serves goes = absurd (nothing_told what told)
   goes_with false number todo later item needs is lt _ told serves goes = absurd serves
@@ -421,7 +455,7 @@ module _ (scene : Scene) (s : State) (f : Fair scene) (i : Kept scene s) (place 
       → Goes (answered scene.setup (Writer number (todo ∷ later) (HasBoth item vector) rests) reply) → IsMove scene s place what new
   begins_both number todo later item vector is lt (requests.LinkedTo (Made key)) told serves goes =
       let objects = serves.1 ∙ ap (λ b. record s.objects { book = upd s.objects.book number b }) serves.0.1 in
-      record { move = moves.Begins place number todo later item (Some vector) key; can = (here, is, lt, serves.0.0, tt); is = state_is new _ _ objects goes; at = refl; touches = sym (ap touch_in told) }
+      record { move = moves.Begins place number todo later item (Some vector) key; can = (here, is, lt, serves.0.0, tt); is = state_is new _ _ objects goes; at = refl; touches = sym (ap touch_in told); pays = sym (ap (paid_in brought) told) }
   begins_both number todo later item vector is lt (requests.LinkedTo (NoRoom back)) told serves goes = absurd (nothing_told what told)
   begins_both number todo later item vector is lt (requests.LinkedTo (Stray back)) told serves goes = absurd (nothing_told what told)
   begins_both number todo later item vector is lt _ told serves goes = absurd serves
@@ -463,7 +497,7 @@ module _ (scene : Scene) (s : State) (f : Fair scene) (i : Kept scene s) (place 
 
   pops : (dev : DevId) → s.task place ≡ Rescuer dev rests → dev.0 < scene.setup.count → (reply : Reply) → Moved (Rescuer dev rests) reply
   pops dev is lt (requests.Popped bio) told serves goes =
-      record { move = moves.Pops place dev bio (new.objects.rescue dev.0); can = (here, is, lt, serves.0); is = state_is new _ _ serves.1 goes; at = refl; touches = sym (ap touch_in told) }
+      record { move = moves.Pops place dev bio (new.objects.rescue dev.0); can = (here, is, lt, serves.0); is = state_is new _ _ serves.1 goes; at = refl; touches = sym (ap touch_in told); pays = sym (ap (paid_in brought) told) }
   pops dev is lt requests.Nothing told serves goes = absurd (nothing_told what told)
   pops dev is lt _ told serves goes = absurd serves
 
@@ -498,6 +532,7 @@ module _ (scene : Scene) (s : State) (f : Fair scene) (i : Kept scene s) (place 
             is = state_is new _ _ (objects ∙ ap (λ b. record s.objects { book = upd s.objects.book writer b }) drops.1) goes;
             at = refl;
             touches = sym (ap touch_in told_it);
+            pays = sym (ap (paid_in brought) told_it) ∙ ap (λ x. paid_end (brings x)) is;
           }
       at_node (Some node) at (end.Up closed) told_it drops objects goes =
           record {
@@ -507,6 +542,7 @@ module _ (scene : Scene) (s : State) (f : Fair scene) (i : Kept scene s) (place 
                 (goes ∙ ap (λ c. upd s.task place (Completer disk (Carries writer c))) drops.2);
             at = refl;
             touches = sym (ap touch_in told_it);
+            pays = sym (ap (paid_in brought) told_it) ∙ ap (λ x. paid_end (brings x)) is;
           }
       at_node (Some node) at (end.Top closed) told_it drops objects goes =
           record {
@@ -516,6 +552,7 @@ module _ (scene : Scene) (s : State) (f : Fair scene) (i : Kept scene s) (place 
                 (goes ∙ ap (λ c. upd s.task place (Completer disk (Carries writer c))) drops.2);
             at = refl;
             touches = sym (ap touch_in told_it);
+            pays = sym (ap (paid_in brought) told_it) ∙ ap (λ x. paid_end (brings x)) is;
           }
       at_node found at (end.Stray back) told_it drops objects goes = absurd (nothing_told what told_it)
       at_node None at end.Left told_it drops objects goes = absurd drops
@@ -524,14 +561,14 @@ module _ (scene : Scene) (s : State) (f : Fair scene) (i : Kept scene s) (place 
 
   completes : (disk : DevId) → s.task place ≡ Completer disk Empty → TaskFits scene (Completer disk Empty) → (reply : Reply) → Moved (Completer disk Empty) reply
   completes disk is fits (requests.Completed index bio status) told serves goes =
-      record { move = moves.Completed place disk index bio status (new.objects.disk disk.0); can = (here, is, fits, serves.0); is = state_is new _ _ serves.1 goes; at = refl; touches = sym (ap touch_in told) }
+      record { move = moves.Completed place disk index bio status (new.objects.disk disk.0); can = (here, is, fits, serves.0); is = state_is new _ _ serves.1 goes; at = refl; touches = sym (ap touch_in told); pays = sym (ap (paid_in brought) told) }
   completes disk is fits requests.Nothing told serves goes = absurd (nothing_told what told)
   completes disk is fits _ told serves goes = absurd serves
 
-  brings : (disk : DevId) (bio : Item Pad) (status : Status) → s.task place ≡ Completer disk (Brings bio status) → (reply : Reply) → Moved (Completer disk (Brings bio status)) reply
-  brings disk bio status is (requests.DroppedTo ended) told_it serves goes =
+  ends_bio : (disk : DevId) (bio : Item Pad) (status : Status) → s.task place ≡ Completer disk (Brings bio status) → (reply : Reply) → Moved (Completer disk (Brings bio status)) reply
+  ends_bio disk bio status is (requests.DroppedTo ended) told_it serves goes =
       tells disk (Brings bio status) bio.bio.writer bio.bio.node status (Some bio) ended is (refl, refl, refl, refl) told_it serves goes
-  brings disk bio status is _ told_it serves goes = absurd serves
+  ends_bio disk bio status is _ told_it serves goes = absurd serves
 
   carries : (disk : DevId) (writer : ℕ) (vector : Option VectorItem) (bio : Option (Item Pad)) (slip : Option SlipItem) (parent : Option ℕ) (write : ℕ) (status : Status)
       → s.task place ≡ Completer disk (Carries writer (record { held = record { bio = bio; vector = vector; slip = slip }; parent = parent; write = write; status = status }))
@@ -543,6 +580,7 @@ module _ (scene : Scene) (s : State) (f : Fair scene) (i : Kept scene s) (place 
         is = state_is new _ _ serves.1 goes;
         at = refl;
         touches = sym (ap touch_in told_it);
+        pays = sym (ap (paid_in brought) told_it);
       }
   carries disk writer None (Some b) slip parent write status is requests.Did told_it serves goes =
       record {
@@ -551,6 +589,7 @@ module _ (scene : Scene) (s : State) (f : Fair scene) (i : Kept scene s) (place 
         is = state_is new _ _ serves.1 goes;
         at = refl;
         touches = sym (ap touch_in told_it);
+        pays = sym (ap (paid_in brought) told_it);
       }
   carries disk writer None None (Some r) parent write status is requests.Did told_it serves goes =
       record {
@@ -559,6 +598,7 @@ module _ (scene : Scene) (s : State) (f : Fair scene) (i : Kept scene s) (place 
         is = state_is new _ _ serves.1 goes;
         at = refl;
         touches = sym (ap touch_in told_it);
+        pays = sym (ap (paid_in brought) told_it);
       }
   carries disk writer None None None (Some parent) write status is (requests.DroppedTo ended) told_it serves goes =
       tells disk (Carries writer (record { held = record { bio = None; vector = None; slip = None }; parent = Some parent; write = write; status = status })) writer parent status None ended is
@@ -570,6 +610,7 @@ module _ (scene : Scene) (s : State) (f : Fair scene) (i : Kept scene s) (place 
         is = state_is new _ _ serves goes;
         at = refl;
         touches = sym (ap touch_in told_it);
+        pays = sym (ap (paid_in brought) told_it);
       }
   carries disk writer (Some v) bio slip parent write status is _ told_it serves goes = absurd serves
   carries disk writer None (Some b) slip parent write status is _ told_it serves goes = absurd serves
@@ -587,7 +628,7 @@ module _ (scene : Scene) (s : State) (f : Fair scene) (i : Kept scene s) (place 
       → Goes (Keeper (after_resize none pool out duties)) → IsMove scene s place what new
   keeps_pool pool min later duties is done out true zero_out told out_is objects goes =
       let z : out ≡ 0 = search (zero_out, arith) in
-      record { move = moves.Resized place pool min later duties; can = (here, is, sym out_is ∙ z, done); is = state_is new _ _ objects goes; at = refl; touches = sym (ap touch_in told) }
+      record { move = moves.Resized place pool min later duties; can = (here, is, sym out_is ∙ z, done); is = state_is new _ _ objects goes; at = refl; touches = sym (ap touch_in told); pays = sym (ap (paid_in brought) told) }
   keeps_pool pool min later duties is done out false some told out_is objects goes = absurd (nothing_told what told)
 
   keeps_on : (keeping : Keeping) → s.task place ≡ Keeper keeping → TaskFits scene (Keeper keeping) → IsLet scene.ledger s.objects (Keeper keeping) (look_of (Keeper keeping)) → (reply : Reply) → Moved (Keeper keeping) reply
@@ -596,7 +637,7 @@ module _ (scene : Scene) (s : State) (f : Fair scene) (i : Kept scene s) (place 
       keeps_pool pool min later duties is (seen_left (Resizes pool min later) duties see) out (out == 0) refl told serves.0 serves.1 goes
   keeps_on (Keeps (Resizes pool min later ∷ duties)) is fits see _ told serves goes = absurd serves
   keeps_on (Keeps (Starts round later ∷ duties)) is fits see requests.Did told serves goes =
-      record { move = moves.Started place round later duties; can = (here, is, serves.0, seen_left (Starts round later) duties see); is = state_is new _ _ serves.1 goes; at = refl; touches = sym (ap touch_in told) }
+      record { move = moves.Started place round later duties; can = (here, is, serves.0, seen_left (Starts round later) duties see); is = state_is new _ _ serves.1 goes; at = refl; touches = sym (ap touch_in told); pays = sym (ap (paid_in brought) told) }
   keeps_on (Keeps (Starts round later ∷ duties)) is fits see _ told serves goes = absurd serves
   keeps_on (Stops breach) is fits see reply told serves goes = absurd fits
 
@@ -604,7 +645,7 @@ module _ (scene : Scene) (s : State) (f : Fair scene) (i : Kept scene s) (place 
   moved (Writer number todo taken line) is fits see reply told serves goes = writes number todo taken line.doing line.lists is fits see reply told serves goes
   moved (Rescuer dev line) is fits see reply told serves goes = rescues dev line.doing line.lists is fits reply told serves goes
   moved (Completer disk Empty) is fits see reply told serves goes = completes disk is fits reply told serves goes
-  moved (Completer disk (Brings bio status)) is fits see reply told serves goes = brings disk bio status is reply told serves goes
+  moved (Completer disk (Brings bio status)) is fits see reply told serves goes = ends_bio disk bio status is reply told serves goes
   moved (Completer disk (Carries writer closed)) is fits see reply told serves goes =
       carries disk writer closed.held.vector closed.held.bio closed.held.slip closed.parent closed.write closed.status is reply told serves goes
   moved (Completer disk (Fails breach kept)) is fits see reply told serves goes = absurd serves

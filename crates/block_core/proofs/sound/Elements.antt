@@ -30,7 +30,7 @@ use Rattle.block_core.proofs.sound.OrdersKept.{line_placed}
 use Rattle.block_core.proofs.sound.Places.{cut_weight, unless_less}
 use Rattle.block_core.proofs.unrefused.NodeNeeds.{Needs, mirror_need, cut_need, legs_on, legs_few}
 use Rattle.block_core.proofs.moves.Landings.{AreThere, IsLanding, settled_there, goes_there, copies_there, all_there, none_there, cut_there, leg_there}
-use Rattle.block_core.proofs.bound.EventCharges.{hands_charge}
+use Rattle.block_core.proofs.bound.TaskCharges.{hands_charge}
 use Rattle.block_core.proofs.moves.Totals.{some_of}
 use Rattle.std.proofs.lemmas.List.Sums.{sum_by-le-sum_by}
 

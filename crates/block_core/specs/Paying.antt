@@ -1,0 +1,79 @@
+-- How the events of a run are paid for: each by a charge of its own.
+use Rattle.std.specs.Prelude.{◌+◌, ◌-◌, ◌*◌, ◌≤◌, ℕ, Bool, true, false, List, [], ◌∷◌, sum_by}
+use Rattle.std.specs.List.{range_with_len}
+use Rattle.elem_ledger.specs.Ledger.{LedgerId}
+use Rattle.fail_script.specs.Script.{Answers, entries_of}
+use Rattle.stack_base.specs.declared.ids.PoolId.{PoolId}
+use Rattle.stack_base.specs.declared.stack.Stack.{Stack}
+use Rattle.stack_base.specs.Tree.{tree}
+use Rattle.layout_model.specs.declared.write.Write.{Write}
+use Rattle.run_machine.specs.declared.event.Event.{Event}
+use Rattle.run_machine.specs.declared.event.Got.TheVariants as got
+use Rattle.run_machine.specs.declared.event.What.{What}
+use Rattle.run_machine.specs.declared.event.What.TheVariants as what
+use Rattle.run_machine.specs.Opened.{Change, Scenario, round_count, scene, start}
+use Rattle.run_machine.specs.Runs.{State, IsRun}
+use Rattle.run_machine.specs.Scene.{Scene}
+use Rattle.run_machine.specs.Tasks.{Carried, Empty, Brings, Carries, Fails, TaskState, Writer, Rescuer, Completer, Keeper}
+use Rattle.block_core.specs.Charges.{run_charge, vector_charge}
+use Rattle.block_core.specs.Payers.{WriteBio, ScriptEntry, LaterRound, ReserveChange, Paid, cost}
+use Rattle.block_core.specs.Payers as paid
+use Rattle.block_core.specs.Scenarios.{IsScenario, IsNaming}
+
+-- whether what a task tells next is the end of a bio that it brings
+abbrev pub is_brought : Carried → Bool
+is_brought Empty = false
+is_brought (Brings bio status) = true
+is_brought (Carries writer closed) = false
+is_brought (Fails breach kept) = false
+
+abbrev pub brings : TaskState → Bool
+brings (Writer number todo taken line) = false
+brings (Rescuer dev line) = false
+brings (Completer disk carried) = is_brought carried
+brings (Keeper keeping) = false
+
+-- an end is told of a bio, or of a node
+abbrev pub paid_end : Bool → Paid
+paid_end true = paid.EndsItself
+paid_end false = paid.EndsForParent
+
+-- the kind of event that is paid for, by whether its task brings a bio
+abbrev pub paid_as : Bool → What → Paid
+paid_as brought (what.Take pool got.Missed) = paid.MissesWaiting
+paid_as brought (what.Take pool got) = paid.IsTaken
+paid_as brought (what.Try pool got.Missed) = paid.MissesAtOnce
+paid_as brought (what.Try pool got) = paid.IsTaken
+paid_as brought (what.Give pool) = paid.IsGiven
+paid_as brought (what.Punt dev moved) = paid.IsPunted
+paid_as brought (what.Pop dev) = paid.IsPopped
+paid_as brought (what.Push disk at len leg) = paid.IsPushed
+paid_as brought (what.Complete disk index status) = paid.IsCompleted
+paid_as brought (what.Link writer how node) = paid.IsLinked
+paid_as brought (what.Drop writer node status end) = paid_end brought
+paid_as brought (what.Done write status) = paid.IsDone
+paid_as brought (what.Resize pool min) = paid.Resizes
+paid_as brought (what.Round round) = paid.Starts
+
+-- what the events of a run cost together
+abbrev pub costs : (Paid → ℕ) → (scene : Scene) (old : State) (events : List Event) (new : State) → IsRun scene old events new → ℕ
+costs price scene old [] new run = 0
+costs price scene old (event ∷ events) new (next, (place, steps), run) =
+    price (paid_as (brings (old.task place)) event.what) + costs price scene next events new run
+
+-- what all that pays is charged: the writes, with the bios, the records and the fragments that they come to, the entries of scripts, the rounds behind
+-- the first, and the changes of reserves
+abbrev pub write_cost : (Paid → ℕ) → Stack → Write → ℕ
+write_cost price stack write = cost price WriteBio + vector_charge price write + run_charge price (tree stack write.dev.0) write.start write.count
+
+abbrev pub all_costs : (Paid → ℕ) → Scenario → ℕ
+all_costs price s =
+    sum_by (write_cost price s.stack) s.writes
+    + cost price ScriptEntry * sum_by (λ (script : PoolId × Answers). entries_of script.1) s.scripts
+    + sum_by (λ round. cost price LaterRound) (range_with_len 1 (round_count s - 1)) + sum_by (λ (change : Change). cost price ReserveChange) s.changes
+
+-- However the kinds of event are priced, the events of a run cost no more than all that pays for them, each once for each of its events. So of each kind
+-- no more events come than there are charges for it, and no two events need the same.
+abbrev pub EachHasItsCharge : Type 0
+EachHasItsCharge = (s : Scenario) (ledger : ℕ → LedgerId) (events : List Event) (state : State) → IsScenario s → IsNaming ledger
+    → (run : IsRun (scene s ledger) (start s) events state) → (price : Paid → ℕ) → costs price (scene s ledger) (start s) events state run ≤ all_costs price s
