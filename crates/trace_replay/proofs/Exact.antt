@@ -29,7 +29,7 @@ pub record GoesOn (scene : Scene) (stack : Stack) (names : Names) (state : State
   pub run : IsRun scene state events final
 
 -- a line tells one event
-one_told : (stack : Stack) (names : Names) (line : List ℕ) (first second : Event) (next again : Names) → EventsAreApart → IsNamed stack
+pub one_told : (stack : Stack) (names : Names) (line : List ℕ) (first second : Event) (next again : Names) → EventsAreApart → IsNamed stack
     → Tells stack names line first next → Tells stack names line second again → (second ≡ first) × (again ≡ next)
 one_told stack names line first second next again apart named a b =
     let same = apart stack line b.told a.told named b.said a.said in
@@ -77,7 +77,7 @@ none_bad scene stack names state (line ∷ lines) (Some bad) stops on = by on.ev
     by (event ∷ events) (next, tells, said) (middle, happens, run) = absurd (stops.1 event next tells (middle, happens))
 
 -- and none is left where none is bad
-none_left : (scene : Scene) (stack : Stack) (names : Names) (state : State) (rest : List (ℕ × List ℕ)) (bad : Option ℕ) → StopsAt scene stack names state rest bad
+pub none_left : (scene : Scene) (stack : Stack) (names : Names) (state : State) (rest : List (ℕ × List ℕ)) (bad : Option ℕ) → StopsAt scene stack names state rest bad
     → bad ≡ None → rest ≡ []
 none_left scene stack names state [] bad stops none = refl
 none_left scene stack names state (line ∷ lines) None stops none = absurd stops

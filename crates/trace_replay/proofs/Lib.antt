@@ -7,3 +7,6 @@ pub mod Exact
 pub mod NoneStuck
 mod Examples
 mod NameExamples
+pub mod renaming
+pub mod TextLines
+pub mod Traced

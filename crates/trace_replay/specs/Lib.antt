@@ -6,3 +6,4 @@ pub mod Replay
 pub mod Walks
 pub mod Exact
 pub mod Answer
+pub mod Traces

@@ -1,7 +1,8 @@
 //! What holds of every replay, as functions that do nothing.
 ghost use Rattle.trace_replay.specs.Exact.{NoneIsStuck, RunsHaveNoBadLine};
+ghost use Rattle.trace_replay.specs.Traces.{RunsAreReadByNames, TracesReplay};
 
-use trace_text::laws::events_are_apart;
+use trace_text::laws::{events_are_apart, lines_are_text};
 
 /// A replay from the start of a scenario has no bad line exactly where its lines are those of a run.
 pub fn runs_have_no_bad_line()
@@ -14,3 +15,18 @@ pub fn runs_have_no_bad_line()
 pub fn none_is_stuck()
     ensures { NoneIsStuck }
 {}
+
+/// The events of every run of every scenario, read by names, are a run too, in which each new node has the next place of
+/// its writer's book. It leaves the same in pools, tally and images.
+pub fn runs_are_read_by_names()
+    ensures { RunsAreReadByNames }
+{}
+
+/// So the trace of every run of every scenario, between the scenario and a report, is replayed to its end: no line is bad,
+/// all events are counted, and the replay has ended where the run has. The scenario ends where the trace begins.
+pub fn traces_replay()
+    ensures { TracesReplay }
+{
+    events_are_apart();
+    lines_are_text();
+}

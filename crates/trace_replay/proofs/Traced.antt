@@ -1,0 +1,184 @@
+-- The trace of a run is replayed to its end.
+use Rattle.std.proofs.Common.{◌≡◌, ◌<◌, ℕ, true, List, [], ◌∷◌, ◌++◌, length, filter, map, inl, inr, refl, sym, ap, ◌∙◌, subst, arith}
+use Rattle.std.specs.Prelude.{All, sum, drop, slice_index_or}
+use Rattle.std.specs.List.{before_first}
+use Rattle.std.proofs.lemmas.List.{append_assoc, append-nil, length-map}
+use Rattle.std.proofs.lemmas.List.Concat.{flat_map-cons}
+use Rattle.std.proofs.lemmas.List.Elements.{All-head, All-tail, filter-append}
+use Rattle.elem_ledger.specs.Ledger.{LedgerId}
+use Rattle.stack_base.specs.declared.stack.Stack.{Stack}
+use Rattle.decl_text.specs.Steps.{Begins}
+use Rattle.decl_text.specs.Text.{lines}
+use Rattle.decl_text.proofs.Cuts.{before_is}
+use Rattle.run_machine.specs.declared.event.Event.{Event}
+use Rattle.run_machine.specs.Named.{Fits, IsEventOf}
+use Rattle.run_machine.specs.Opened.{Scenario, scene, start}
+use Rattle.run_machine.specs.Runs.{State, IsRun, HasEnded}
+use Rattle.run_machine.proofs.Apart.{runs_lead_to_one_state}
+use Rattle.block_core.specs.Scenarios.{IsScenario, IsNaming}
+use Rattle.trace_text.specs.Laws.{IsLineOf, EventsAreApart, LinesAreText}
+use Rattle.trace_text.specs.Lines.{line_of}
+use Rattle.trace_text.specs.Names.{IsNamed}
+use Rattle.plain_core.specs.Ledgers.{ledger_of}
+use Rattle.trace_replay.specs.Exact.{IsReplayOf, TellRun, RunsHaveNoBadLine}
+use Rattle.trace_replay.specs.Lines.{is_told, told_in}
+use Rattle.trace_replay.specs.Names.{Names, no_names, after}
+use Rattle.trace_replay.specs.Replay.{AreLinesOf, IsFinish}
+use Rattle.trace_replay.specs.Traces.{AreRead, IsReadAsRun, trace_of, IsOfWholeLines, HasTrace, IsReplayable, IsReplayedWhole, TracesReplay}
+use Rattle.trace_replay.specs.declared.walk.Finish.{Finish}
+use Rattle.trace_replay.specs.declared.walk.Finish.TheVariants.{Ended, Open, Stuck}
+use Rattle.trace_replay.specs.declared.walk.Replayed.{Replayed}
+use Rattle.trace_replay.proofs.Exact.{no_bad_line, none_left, one_told}
+use Rattle.trace_replay.proofs.TextLines.{no_lines, line_first, lines_of_two, told_are, none_told}
+use Rattle.trace_replay.proofs.renaming.Runs.{runs_are_read_by_names}
+
+-- a line of an event begins with its word
+is_event : (stack : Stack) (event : Event) → is_told (line_of stack event) ≡ true
+is_event stack event = refl
+
+-- the lines of a trace are its events'
+module _ (stack : Stack) (named : IsNamed stack) (text_lines : LinesAreText) where
+  line_is : (event : Event) → IsEventOf stack event → Fits event → IsLineOf stack (line_of stack event) event
+  line_is event of fits = record { said = refl; named = of; fits = fits }
+
+  pub trace_lines : (events : List Event) (report : List ℕ) → All (IsEventOf stack) events → All Fits events
+      → lines (trace_of stack events ++ report) ≡ map (line_of stack) events ++ lines report
+  trace_lines [] report of fits = refl
+  trace_lines (event ∷ events) report of fits =
+      let line = line_of stack event in
+      let plain = text_lines stack line event named (line_is event (All-head (IsEventOf stack) event events of) (All-head Fits event events fits)) in
+      let rest = trace_of stack events ++ report in
+      ap lines (
+      ap (λ bytes. bytes ++ report) (flat_map-cons (λ e. line_of stack e ++ 10 ∷ []) event events)
+      ∙ append_assoc (line ++ 10 ∷ []) (trace_of stack events) report
+      ∙ append_assoc line (10 ∷ []) rest
+      )
+      ∙ line_first line rest plain
+      ∙ ap (λ all. line ∷ all) (trace_lines events report (All-tail (IsEventOf stack) event events of) (All-tail Fits event events fits))
+
+  all_told : (events : List Event) → filter is_told (map (line_of stack) events) ≡ map (line_of stack) events
+  all_told [] = refl
+  all_told (event ∷ events) = ap (λ all. line_of stack event ∷ all) (all_told events)
+
+  scenario_first : (scenario back : List ℕ) → IsOfWholeLines scenario → lines (scenario ++ back) ≡ lines scenario ++ lines back
+  scenario_first scenario back (inl none) = subst (λ text. lines (text ++ back) ≡ lines text ++ lines back) (sym none) (ap (λ all. all ++ lines back) (sym no_lines))
+  scenario_first scenario back (inr (body, is)) = subst (λ text. lines (text ++ back) ≡ lines text ++ lines back) (sym is) (lines_of_two body back)
+
+  module _ (events : List Event) (text scenario report : List ℕ) (has : HasTrace stack events text scenario report) where
+    all_lines : lines text ≡ lines scenario ++ (map (line_of stack) events ++ lines report)
+    all_lines =
+        ap lines has.is ∙ scenario_first scenario (trace_of stack events ++ report) has.whole
+        ∙ ap (λ all. lines scenario ++ all) (trace_lines events report has.named has.fits)
+
+    pub told_are_its : map (λ (line : ℕ × List ℕ). line.1) (told_in 1 text) ≡ map (line_of stack) events
+    told_are_its =
+        told_are 1 (lines text)
+        ∙ ap (filter is_told) all_lines
+        ∙ filter-append is_told (lines scenario) (map (line_of stack) events ++ lines report)
+        ∙ ap (λ all. all ++ filter is_told (map (line_of stack) events ++ lines report)) (none_told (lines scenario) has.before)
+        ∙ filter-append is_told (map (line_of stack) events) (lines report)
+        ∙ ap (λ all. filter is_told (map (line_of stack) events) ++ all) (none_told (lines report) has.behind)
+        ∙ append-nil (filter is_told (map (line_of stack) events))
+        ∙ all_told events
+
+    begins : (events : List Event) → 0 < length events → Begins is_told (map (line_of stack) events ++ lines report)
+    begins [] some = absurd (omega (arith, some))
+    begins (event ∷ events) some = refl
+
+    pub scenario_ends : 0 < length events → before_first is_told (lines text) ≡ lines scenario
+    scenario_ends some =
+        ap (before_first is_told) all_lines ∙ before_is is_told (lines scenario) (map (line_of stack) events ++ lines report) has.before (begins events some)
+
+  -- these lines tell what the events are read as
+  pub read_lines : (names last : Names) (events read : List Event) (told : List (ℕ × List ℕ)) → All (IsEventOf stack) events → All Fits events
+      → map (λ (line : ℕ × List ℕ). line.1) told ≡ map (line_of stack) events → AreRead names events read last → AreLinesOf stack names told read last
+  read_lines names last [] [] [] of fits lines_are is = is
+  read_lines names last [] [] (line ∷ told) of fits lines_are is = absurd cc
+  read_lines names last [] (event ∷ read) told of fits lines_are is = absurd is
+  read_lines names last (event ∷ events) [] told of fits lines_are is = absurd is
+  read_lines names last (event ∷ events) (one ∷ read) [] of fits lines_are is = absurd cc
+  read_lines names last (event ∷ events) (one ∷ read) (line ∷ told) of fits lines_are is =
+      let said : line.1 ≡ line_of stack event = ap (λ (all : List (List ℕ)). slice_index_or all 0 []) lines_are in
+      let more = ap (λ (all : List (List ℕ)). drop 1 all) lines_are in (
+        after names event.what,
+        record {
+          told = event;
+          said = record { said = said; named = All-head (IsEventOf stack) event events of; fits = All-head Fits event events fits };
+          placed = is.0;
+          next_is = refl;
+        },
+        read_lines (after names event.what) last events read told (All-tail (IsEventOf stack) event events of) (All-tail Fits event events fits) more is.1,
+      )
+
+-- the same lines tell the same events
+same_events : (stack : Stack) (names first second : Names) (told : List (ℕ × List ℕ)) (one other : List Event) → EventsAreApart → IsNamed stack
+    → AreLinesOf stack names told one first → AreLinesOf stack names told other second → other ≡ one
+same_events stack names first second [] [] [] apart named a b = refl
+same_events stack names first second [] [] (event ∷ other) apart named a b = absurd b
+same_events stack names first second [] (event ∷ one) other apart named a b = absurd a
+same_events stack names first second (line ∷ told) [] other apart named a b = absurd a
+same_events stack names first second (line ∷ told) (event ∷ one) [] apart named a b = absurd b
+same_events stack names first second (line ∷ told) (event ∷ one) (like ∷ other) apart named (next, tells, a) (again, too, b) =
+    let same = one_told stack names line.1 event like next again apart named tells too in
+    let rest = same_events stack next first second told one other apart named a (subst (λ (n : Names). AreLinesOf stack n told other second) same.1 b) in
+    λ k. same.0 k ∷ rest k
+
+-- as many as there are lines
+count_lines : (stack : Stack) (names last : Names) (told : List (ℕ × List ℕ)) (events : List Event) → AreLinesOf stack names told events last → length events ≡ length told
+count_lines stack names last [] [] said = refl
+count_lines stack names last [] (event ∷ events) said = absurd said
+count_lines stack names last (line ∷ told) [] said = absurd said
+count_lines stack names last (line ∷ told) (event ∷ events) (next, tells, said) =
+    let rest = count_lines stack next last told events said in omega (arith, rest)
+
+-- a state that has ended is left so
+ends_so : (s : Scenario) (state : State) (finish : Finish) → IsFinish (scene s ledger_of) state finish → HasEnded state → finish ≡ Ended
+ends_so s state Ended is ended = refl
+ends_so s state Open is ended = absurd (is.0 ended)
+ends_so s state Stuck is ended = let none = ended.writes in let some = is.0 in absurd (omega (arith, none, some))
+
+module _ (apart : EventsAreApart) (text_lines : LinesAreText) (s : Scenario) (ledger : ℕ → LedgerId) (events : List Event) (state : State) (text scenario report : List ℕ)
+    (good : IsScenario s) (naming : IsNaming ledger) (named : IsNamed s.stack) (run : IsRun (scene s ledger) (start s) events state) (has : HasTrace s.stack events text scenario report) where
+  abbrev as_run : IsReadAsRun s events state
+  as_run = runs_are_read_by_names s ledger events state good naming run
+
+  lines_tell : AreLinesOf s.stack no_names (told_in 1 text) as_run.events as_run.names
+  lines_tell =
+      read_lines s.stack named text_lines no_names as_run.names events as_run.events (told_in 1 text) has.named has.fits (told_are_its s.stack named text_lines events text scenario report has)
+      as_run.read
+
+  tell_run : TellRun s (told_in 1 text)
+  tell_run = record { events = as_run.events; names = as_run.names; said = lines_tell; state = as_run.other; run = as_run.run }
+
+  pub replayable : IsReplayable s events text scenario
+  replayable = record { scenario_is = scenario_ends s.stack named text_lines events text scenario report has; tells = tell_run }
+
+  pub replayed_whole : (replayed : Replayed) → IsReplayOf s (told_in 1 text) replayed → IsReplayedWhole events state replayed
+  replayed_whole replayed is =
+      let exact : RunsHaveNoBadLine = no_bad_line apart in
+      let bad = exact.run s (told_in 1 text) replayed named is tell_run in
+      let end = none_left (scene s ledger_of) s.stack is.names is.state is.rest replayed.bad is.stops bad in
+      let all : is.front ≡ told_in 1 text = sym (is.cut ∙ ap (λ (rest : List (ℕ × List ℕ)). is.front ++ rest) end ∙ append-nil is.front) in
+      let said : AreLinesOf s.stack no_names (told_in 1 text) is.events is.names = subst (λ (told : List (ℕ × List ℕ)). AreLinesOf s.stack no_names told is.events is.names) all is.said in
+      let same : is.events ≡ as_run.events = same_events s.stack no_names as_run.names is.names (told_in 1 text) as_run.events is.events apart named lines_tell said in
+      let left : is.state ≡ as_run.other =
+      runs_lead_to_one_state.one s ledger_of as_run.events is.state as_run.other (subst (λ (es : List Event). IsRun (scene s ledger_of) (start s) es is.state) same is.run) as_run.run in
+      let told = ap length (told_are_its s.stack named text_lines events text scenario report has) in
+      let long = length-map (told_in 1 text) (λ (line : ℕ × List ℕ). line.1) in
+      let many = length-map events (line_of s.stack) in
+      record {
+        bad = bad;
+        count = is.count ∙ count_lines s.stack no_names is.names (told_in 1 text) is.events said ∙ sym long ∙ told ∙ many;
+        ended = λ ended. ends_so s is.state replayed.finish is.finish (subst HasEnded (sym left) (record {
+          writes = ap (λ t. sum t.left) as_run.same.tally ∙ ended.writes;
+          pools = λ number. ap (λ f. (f number).facts.out) as_run.same.pools ∙ ended.pools number;
+        }));
+      }
+
+pub traces_replay : EventsAreApart → LinesAreText → TracesReplay
+traces_replay apart text_lines = record {
+  text = λ s events state text scenario t.
+      replayable apart text_lines s t.ledger events state text scenario t.report t.good t.naming t.stack t.run t.trace;
+  whole = λ s events state text scenario replayed t is.
+      replayed_whole apart text_lines s t.ledger events state text scenario t.report t.good t.naming t.stack t.run t.trace replayed is;
+}

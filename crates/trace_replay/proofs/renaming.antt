@@ -1,0 +1,12 @@
+pub mod Renaming
+pub mod Lists
+pub mod Requests
+pub mod Replies
+pub mod Books
+pub mod Told
+pub mod Objects
+pub mod Serving
+pub mod Stepping
+pub mod Marking
+pub mod Room
+pub mod Runs

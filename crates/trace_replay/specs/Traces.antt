@@ -1,0 +1,93 @@
+-- That the trace of a run is replayed to its end, at whatever places the run had its nodes.
+use Rattle.std.specs.Prelude.{◌≡◌, ◌⊎◌, ◌<◌, ◌++◌, ℕ, All, List, [], ◌∷◌, length, None, Some}
+use Rattle.std.specs.List.{flat_map}
+use Rattle.elem_ledger.specs.Ledger.{LedgerId}
+use Rattle.stack_base.specs.declared.stack.Stack.{Stack}
+use Rattle.decl_text.specs.Reading.{NonePass}
+use Rattle.decl_text.specs.Text.{lines}
+use Rattle.run_machine.specs.declared.event.Event.{Event}
+use Rattle.run_machine.specs.Named.{Fits, IsEventOf}
+use Rattle.run_machine.specs.Opened.{Scenario, scene, start}
+use Rattle.run_machine.specs.Runs.{State, IsRun, HasEnded}
+use Rattle.block_core.specs.Scenarios.{IsScenario, IsNaming}
+use Rattle.trace_text.specs.Lines.{line_of}
+use Rattle.trace_text.specs.Names.{IsNamed}
+use Rattle.plain_core.specs.Ledgers.{ledger_of}
+use Rattle.trace_replay.specs.Exact.{IsReplayOf, TellRun}
+use Rattle.trace_replay.specs.Lines.{is_told, told_in}
+use Rattle.trace_replay.specs.Names.{Names, after, event_placed, no_names}
+use Rattle.trace_replay.specs.Parts.{scenario_lines}
+use Rattle.trace_replay.specs.declared.walk.Finish.TheVariants.{Ended}
+use Rattle.trace_replay.specs.declared.walk.Replayed.{Replayed}
+
+-- read by names, one after the other, these events are those of the machine
+abbrev pub AreRead : Names → List Event → List Event → Names → Type 0
+AreRead names [] [] last = last ≡ names
+AreRead names (told ∷ more) (event ∷ events) last = (event_placed names told ≡ Some event) × AreRead (after names told.what) more events last
+AreRead names told events last = ⊥
+
+-- two states have the same in pools, in the tally and on the disks of a stack
+pub record HaveTheSame (s : Scenario) (one other : State) : Type 0 where
+  pub pools : other.objects.pool ≡ one.objects.pool
+  pub tally : other.objects.tally ≡ one.objects.tally
+  pub images : (disk : ℕ) → disk < length s.stack.devices.items → (other.objects.disk disk).image ≡ (one.objects.disk disk).image
+
+-- The events of a run, read by names, are a run too, and it leaves the same.
+pub record IsReadAsRun (s : Scenario) (told : List Event) (state : State) : Type 0 where
+  pub events : List Event
+  pub names : Names
+  pub read : AreRead no_names told events names
+  pub other : State
+  pub run : IsRun (scene s ledger_of) (start s) events other
+  pub same : HaveTheSame s state other
+
+-- So it is with every run of every scenario, in which a new node had whatever place of its writer's book was vacant.
+abbrev pub RunsAreReadByNames : Type 0
+RunsAreReadByNames = (s : Scenario) (ledger : ℕ → LedgerId) (told : List Event) (state : State) → IsScenario s → IsNaming ledger
+    → IsRun (scene s ledger) (start s) told state → IsReadAsRun s told state
+
+-- the lines of events, each with the byte 10 that ends it
+abbrev pub trace_of : Stack → List Event → List ℕ
+trace_of stack events = flat_map (λ event. line_of stack event ++ 10 ∷ []) events
+
+-- a text without a byte, or one whose last line has its byte 10
+abbrev pub IsOfWholeLines : List ℕ → Type 0
+IsOfWholeLines text = (text ≡ []) ⊎ ((body : List ℕ) × (text ≡ body ++ 10 ∷ []))
+
+-- A scenario, the trace of a run of it and a report: only the trace has lines whose first word is `event`.
+pub record HasTrace (stack : Stack) (events : List Event) (text scenario report : List ℕ) : Type 0 where
+  pub is : text ≡ scenario ++ (trace_of stack events ++ report)
+  pub whole : IsOfWholeLines scenario
+  pub before : NonePass is_told (lines scenario)
+  pub behind : NonePass is_told (lines report)
+  -- each event names what the stack has, by numbers that fit its fields
+  pub named : All (IsEventOf stack) events
+  pub fits : All Fits events
+
+-- The scenario of such a text ends where its trace begins, and the lines of its trace are those of a run.
+pub record IsReplayable (s : Scenario) (events : List Event) (text scenario : List ℕ) : Type 0 where
+  pub scenario_is : 0 < length events → scenario_lines text ≡ lines scenario
+  pub tells : TellRun s (told_in 1 text)
+
+-- A replay of it has no bad line, counts all events of the run, and has ended where the run has.
+pub record IsReplayedWhole (events : List Event) (state : State) (replayed : Replayed) : Type 0 where
+  pub bad : replayed.bad ≡ None
+  pub count : replayed.events ≡ length events
+  pub ended : HasEnded state → replayed.finish ≡ Ended
+
+-- This text has the trace of a run of a scenario, of whose devices no two have one name.
+pub record TracesRun (s : Scenario) (events : List Event) (state : State) (text scenario : List ℕ) : Type 0 where
+  pub good : IsScenario s
+  pub stack : IsNamed s.stack
+  pub ledger : ℕ → LedgerId
+  pub naming : IsNaming ledger
+  pub run : IsRun (scene s ledger) (start s) events state
+  pub report : List ℕ
+  pub trace : HasTrace s.stack events text scenario report
+
+-- So it is with the trace of every run of every scenario.
+pub record TracesReplay : Type 0 where
+  pub text : (s : Scenario) (events : List Event) (state : State) (text scenario : List ℕ) → TracesRun s events state text scenario
+      → IsReplayable s events text scenario
+  pub whole : (s : Scenario) (events : List Event) (state : State) (text scenario : List ℕ) (replayed : Replayed) → TracesRun s events state text scenario
+      → IsReplayOf s (told_in 1 text) replayed → IsReplayedWhole events state replayed
