@@ -6,9 +6,9 @@ crates/biostack/out/work/NAME, over hard links to what is built already, and wha
 own out/. rt itself finds what has changed and what has not. The log of each crate is crates/biostack/out/logs/NAME.
 
 Every crate that can be built is started, as far as processors and memory go, those first that the longest chain of
-others waits for. The first of all starts at once, with two jobs at least, and those behind it have a lower priority.
-The crates that are ready share the processors that are idle, and one that is ready alone gets them all. But each job
-reads the libraries below anew, so a crate whose own code is small beside what is below it gets one.
+others waits for. The first of all starts at once, with two jobs, and those behind it have a lower priority, and two
+jobs only where processors would be idle. Each job reads the libraries below anew, so none gets more, and a crate whose
+own code is small beside what is below it gets one.
 """
 import fcntl
 import os
@@ -203,7 +203,8 @@ def build_all(crates):
                 break
             others = ready[at + 1 :]
             few = sum(it in small for it in others)
-            jobs = 1 if name in small else max((idle - few) // (1 + len(others) - few), 1 + is_first)
+            share = (idle - few) // (1 + len(others) - few)
+            jobs = 2 if name not in small and (is_first or share > 1) else 1
             # a run takes up to 2 GiB, and a further job up to 1
             free = room - sum(needs for _, _, needs, _ in now.values())
             jobs = max(1, min(jobs, count, free // GIB - 1))
