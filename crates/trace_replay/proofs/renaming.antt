@@ -10,3 +10,4 @@ pub mod Stepping
 pub mod Marking
 pub mod Room
 pub mod Runs
+pub mod NextPlaces

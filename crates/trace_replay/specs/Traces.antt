@@ -5,10 +5,13 @@ use Rattle.elem_ledger.specs.Ledger.{LedgerId}
 use Rattle.stack_base.specs.declared.stack.Stack.{Stack}
 use Rattle.decl_text.specs.Reading.{NonePass}
 use Rattle.decl_text.specs.Text.{lines}
+use Rattle.bio_books.specs.Links.{IsVacant}
 use Rattle.run_machine.specs.declared.event.Event.{Event}
+use Rattle.run_machine.specs.declared.event.How.{How}
+use Rattle.run_machine.specs.declared.event.What.TheVariants as what
 use Rattle.run_machine.specs.Named.{Fits, IsEventOf}
 use Rattle.run_machine.specs.Opened.{Scenario, scene, start}
-use Rattle.run_machine.specs.Runs.{State, IsRun, HasEnded}
+use Rattle.run_machine.specs.Runs.{State, IsRun, IsEnabled, HasEnded}
 use Rattle.block_core.specs.Scenarios.{IsScenario, IsNaming}
 use Rattle.trace_text.specs.Lines.{line_of}
 use Rattle.trace_text.specs.Names.{IsNamed}
@@ -45,6 +48,13 @@ pub record IsReadAsRun (s : Scenario) (told : List Event) (state : State) : Type
 abbrev pub RunsAreReadByNames : Type 0
 RunsAreReadByNames = (s : Scenario) (ledger : ℕ → LedgerId) (told : List Event) (state : State) → IsScenario s → IsNaming ledger
     → IsRun (scene s ledger) (start s) told state → IsReadAsRun s told state
+
+-- Where a new node of a writer can come in a run that is read by names, its place is vacant: the next one of the writer's book.
+abbrev pub NextPlacesAreVacant : Type 0
+NextPlacesAreVacant = (s : Scenario) (ledger : ℕ → LedgerId) (told events : List Event) (names : Names) (state : State) → IsScenario s → IsNaming ledger
+    → AreRead no_names told events names → IsRun (scene s ledger) (start s) events state
+    → (event : Event) (writer : ℕ) (how : How) (node : ℕ) → event.what ≡ what.Link writer how node → IsEnabled (scene s ledger) state event
+    → IsVacant (state.objects.book writer) (names.opened writer)
 
 -- the lines of events, each with the byte 10 that ends it
 abbrev pub trace_of : Stack → List Event → List ℕ

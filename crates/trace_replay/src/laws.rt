@@ -1,6 +1,6 @@
 //! What holds of every replay, as functions that do nothing.
 ghost use Rattle.trace_replay.specs.Exact.{NoneIsStuck, RunsHaveNoBadLine};
-ghost use Rattle.trace_replay.specs.Traces.{RunsAreReadByNames, TracesReplay};
+ghost use Rattle.trace_replay.specs.Traces.{NextPlacesAreVacant, RunsAreReadByNames, TracesReplay};
 
 use trace_text::laws::{events_are_apart, lines_are_text};
 
@@ -20,6 +20,11 @@ pub fn none_is_stuck()
 /// its writer's book. It leaves the same in pools, tally and images.
 pub fn runs_are_read_by_names()
     ensures { RunsAreReadByNames }
+{}
+
+/// In a run that is read so, wherever a node of a writer can be opened, the next place of the writer's book is vacant.
+pub fn next_places_are_vacant()
+    ensures { NextPlacesAreVacant }
 {}
 
 /// So the trace of every run of every scenario, between the scenario and a report, is replayed to its end: no line is bad,
