@@ -1,5 +1,5 @@
 -- What the kernels answer, of whole lists of words.
-use Rattle.std.specs.Prelude.{ℕ, zero, suc, ◌+◌, ◌/◌, ◌%◌, ◌^◌, ◌==◌, Bool, not, List, [], ◌∷◌, map, zip, length, take, drop, sum}
+use Rattle.std.specs.Prelude.{◌≡◌, ℕ, zero, suc, ◌+◌, ◌*◌, ◌/◌, ◌%◌, ◌^◌, ◌==◌, ◌<◌, ◌≤◌, Bool, not, List, [], ◌∷◌, map, zip, length, take, drop, sum}
 use Rattle.std.specs.List.{range_with_len, count_by}
 use Rattle.std.specs.Cmp.Lexicographic.{pointwise}
 
@@ -27,3 +27,14 @@ unlike_of count one other = count_by (λ pair. not (is_same pair.0 pair.1)) (zip
 -- how many sectors differ
 abbrev pub unlike : List ℕ → List ℕ → ℕ
 unlike one other = unlike_of (length one / 64) one other
+
+-- whether the sectors at a place differ
+abbrev pub sectors_differ : List ℕ → List ℕ → ℕ → Bool
+sectors_differ one other place = not (is_same (take 64 (drop (64 * place) one)) (take 64 (drop (64 * place) other)))
+
+-- the first place at or behind `from` at which sectors differ, or at which they do not, or how many there are where there is none
+pub record IsFirstSector (one other : List ℕ) (from : ℕ) (differing : Bool) (place : ℕ) : Type 0 where
+  pub behind : from ≤ place
+  pub within : place ≤ length one / 64
+  pub others : (i : ℕ) → from ≤ i → i < place → sectors_differ one other i ≡ not differing
+  pub here : place < length one / 64 → sectors_differ one other place ≡ differing

@@ -1,7 +1,7 @@
 //! Which words are the same.
-ghost use Rattle.std.specs.Prelude.{◌≡◌, ◌+◌, ◌*◌, ◌%◌, ◌≤◌, not, length, drop, take};
+ghost use Rattle.std.specs.Prelude.{◌≡◌, ◌+◌, ◌*◌, ◌/◌, ◌%◌, ◌≤◌, not, length, drop, take};
 ghost use Rattle.std.specs.Bool.{Decides};
-ghost use Rattle.image_lanes.specs.Lanes.{is_same, unlike};
+ghost use Rattle.image_lanes.specs.Lanes.{is_same, unlike, IsFirstSector};
 
 use crate::lanes::group;
 use std::simd::prelude::*;
@@ -50,6 +50,23 @@ pub fn count_unlike(a: &[u64], b: &[u64]) -> u64
     let mut count: u64 = 0;
     'counting: for place in 0..a.len() / 64 {
         count += u64::from(is_unlike(a, b, place));
+    }
+    count
+}
+
+/// The place of the first sector of 64 words, at or behind `from`, that differs, or of the first that does not, of two lists as above, or how many
+/// sectors they have where there is none.
+pub fn first_sector(a: &[u64], b: &[u64], from: usize, differing: bool) -> usize
+    requires lengths { length a.now ≡ length b.now }
+    requires whole { length a.now % 64 ≡ 0 }
+    requires from { from ≤ length a.now / 64 }
+    ensures { IsFirstSector a.now b.now from differing result }
+{
+    let count = a.len() / 64;
+    'looking: for place in from..count {
+        if is_unlike(a, b, place) == differing {
+            return place;
+        }
     }
     count
 }

@@ -10,5 +10,5 @@ mod filling;
 mod lanes;
 
 pub use adding::sum_words;
-pub use comparing::{count_unlike, same};
+pub use comparing::{count_unlike, first_sector, same};
 pub use filling::fill;

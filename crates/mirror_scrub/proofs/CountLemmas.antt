@@ -1,7 +1,9 @@
 -- Counting over ranges and over flags.
-use Rattle.std.proofs.Common.{◌≡◌, ◌+◌, ◌-◌, ◌++◌, ◌<◌, ◌≤◌, ◌&&◌, ℕ, zero, suc, Bool, true, false, List, [], ◌∷◌, length, map, cond, refl, ap, ◌∙◌, arith}
+use Rattle.std.proofs.Common.{◌≡◌, ◌+◌, ◌-◌, ◌++◌, ◌<◌, ◌≤◌, ◌&&◌, ℕ, zero, suc, Bool, true, false, List, [], ◌∷◌, length, map, cond, refl, sym, ap, ◌∙◌, arith}
 use Rattle.std.specs.List.{count_by, list_all, range_with_len}
 use Rattle.std.proofs.lemmas.List.Sums.{sum_by_push, sum_by-append, sum_by-cons}
+use Rattle.image_lanes.specs.Lanes.{sectors, sectors_differ, unlike_of}
+use Rattle.image_lanes.proofs.SectorLemmas.{unlike_more}
 use Rattle.model_disks.specs.Runs.{flag, runs_from}
 use Rattle.model_disks.proofs.WrittenLemmas.{no_runs, range_append}
 
@@ -86,3 +88,15 @@ none_counted flags none = no_runs flags 0 (omega arith) (λ x le lt. unset x (fl
   unset : (x : ℕ) (b : Bool) → flag flags x ≡ b → flag flags x ≡ false
   unset x true is = absurd (omega (arith, none, count_some flags x is))
   unset x false is = is
+
+-- the sectors that differ are counted one by one
+pub unlike_counts : (n : ℕ) (one other : List ℕ) → unlike_of n one other ≡ count_by (sectors_differ one other) (range_with_len 0 n)
+unfolding unlike_of sectors
+unlike_counts zero one other = refl
+unlike_counts (suc n) one other =
+    let next : suc n ≡ n + 1 = omega arith in
+    ap (λ k. unlike_of k one other) next
+    ∙ unlike_more n one other
+    ∙ ap (λ (c : ℕ). c + cond (sectors_differ one other n) 1 0) (unlike_counts n one other)
+    ∙ sym (count_more (sectors_differ one other) n)
+    ∙ ap (λ k. count_by (sectors_differ one other) (range_with_len 0 k)) (sym next)

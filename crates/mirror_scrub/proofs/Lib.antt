@@ -1,5 +1,6 @@
 pub mod CountLemmas
 pub mod SeenLemmas
+pub mod StretchLemmas
 pub mod LegLemmas
 pub mod PairLemmas
 pub mod LineLemmas

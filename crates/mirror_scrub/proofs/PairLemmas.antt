@@ -1,14 +1,17 @@
 -- The flags of a pair, sector by sector.
-use Rattle.std.proofs.Common.{◌≡◌, ◌==◌, ◌+◌, ◌-◌, ◌<◌, ◌≤◌, inl, inr, ℕ, Bool, true, false, List, length, not, sym, ap, ◌∙◌, arith}
+use Rattle.std.proofs.Common.{◌≡◌, ◌==◌, ◌+◌, ◌-◌, ◌<◌, ◌≤◌, inl, inr, ℕ, Bool, true, false, List, [], ◌∷◌, Option, None, Some, length, not, sym, ap, ◌∙◌, subst, arith}
+use Rattle.std.specs.Prelude.{MatchOption}
 use Rattle.std.specs.List.{count_by, range_with_len}
 use Rattle.std.proofs.lemmas.Bool.{cases_eq, cases_lt}
 use Rattle.std.proofs.lemmas.Bool.Decides.{nat_tests}
 use Rattle.std.proofs.lemmas.List.FromFn.{get_or-map-range_with_len, length-map-range_with_len}
-use Rattle.model_disks.specs.Runs.{IsApart, IsFirst, flag}
+use Rattle.stack_base.specs.declared.ids.Range.{Range}
+use Rattle.model_disks.specs.Runs.{IsApart, IsFirst, flag, runs_from}
+use Rattle.model_disks.proofs.WrittenLemmas.{no_runs, next_run_is, run_has_sectors, unset_at}
 use Rattle.mirror_scrub.specs.declared.pair.Pair.{Pair}
 use Rattle.mirror_scrub.specs.declared.stretch.Stretch.{Stretch}
 use Rattle.mirror_scrub.specs.Seen.{differing}
-use Rattle.mirror_scrub.specs.Stretches.{IsStretchOf, differ_at, differ_in, flags_in}
+use Rattle.mirror_scrub.specs.Stretches.{IsFirstRunOf, IsStretchOf, differ_at, differ_in, flags_in}
 use Rattle.mirror_scrub.proofs.CountLemmas.{count_flags, count_none, count_on, count_some, counts_along}
 
 module _ (p : Pair) where
@@ -35,6 +38,28 @@ module _ (p : Pair) where
         let inside : x - at < n = omega (arith, behind, lt) in
         ap (differ_in p) (sym place) ∙ sym (is.same (x - at) (omega (arith, inside, most))) ∙ here (x - at) inside
   ]
+
+  -- the same from a place in the stretch on
+  pub others_in : (s : Stretch) (so : Bool) (from at n : ℕ) → IsStretchOf p at s → n ≤ s.len → at ≤ from
+      → ((i : ℕ) → from - at ≤ i → i < n → differ_at s i ≡ not so)
+      → (x : ℕ) → from ≤ x → x < at + n → differ_in p x ≡ not so
+  others_in s so from at n is most behind here x le lt =
+      let place : at + (x - at) ≡ x = omega (arith, behind, le) in
+      let inside : x - at < n = omega (arith, behind, le, lt) in
+      ap (differ_in p) (sym place) ∙ sym (is.same (x - at) (omega (arith, inside, most))) ∙ here (x - at) (omega (arith, behind, le)) inside
+
+  -- the first one behind sectors that are not so
+  pub first_behind : (so : Bool) (from at place : ℕ) → from ≤ at → at ≤ p.size → ((x : ℕ) → from ≤ x → x < at → differ_in p x ≡ not so)
+      → IsFirst (flags_in p) at so place → IsFirst (flags_in p) from so place
+  first_behind so from at place behind within before first = record {
+    behind = omega (arith, behind, first.behind);
+    within = first.within;
+    others = λ x le lt. elim (cases_lt x at) [
+      | inl near ↦ flag_in x (omega (arith, near, within)) ∙ before x le near
+      | inr far ↦ first.others x far lt
+    ];
+    here = first.here;
+  }
 
   -- the first that is so, from what holds of the sectors
   pub first_is : (from : ℕ) (so : Bool) (place : ℕ) → from ≤ place → place ≤ p.size → ((x : ℕ) → from ≤ x → x < place → differ_in p x ≡ not so)
@@ -72,3 +97,42 @@ none_set flags size place long first = elim (cases_eq place size) [
       let some = count_some flags place (first.here (omega (arith, other, first.within, long))) in
       grind (arith, nat_tests, other, some)
 ]
+
+-- the end of a run is looked for behind its first place
+pub end_behind : (flags : List Bool) (start stop : ℕ) → flag flags start ≡ true → IsFirst flags (start + 1) false stop
+    → IsFirst flags start false (start + (stop - start))
+end_behind flags start stop set first =
+    let whole : stop ≡ start + (stop - start) = omega (arith, first.behind) in
+    subst (IsFirst flags start false) whole (record {
+      behind = omega (arith, first.behind);
+      within = first.within;
+      others = λ x le lt. elim (cases_eq x start) [
+        | inl same ↦ ap (flag flags) same ∙ set
+        | inr other ↦ first.others x (omega (arith, le, other)) lt
+      ];
+      here = first.here;
+    })
+
+-- The first run of flags, from a place that is not inside one.
+module _ (flags : List Bool) (from : ℕ) where
+  pub runs_first : (run : Option Range) → from ≤ length flags → IsApart flags from → IsFirstRunOf flags from run
+      → MatchOption run (runs_from flags from ≡ []) (λ run. runs_from flags from ≡ run ∷ runs_from flags (run.start + run.len))
+  runs_first None within apart first = no_runs flags from within (λ x le lt. first.others x le lt)
+  runs_first (Some run) within apart first =
+      let stop = run.start + run.len in
+      let len : stop - run.start ≡ run.len = omega arith in
+      let some = run_has_sectors flags from run.start stop first.start first.end first.inside in
+      next_run_is flags from run.start stop first.start.behind some first.end.within apart first.start.others first.end.others
+      (unset_at flags run.start stop first.end)
+      ∙ ap (λ n. record { start = run.start; len = n } ∷ runs_from flags stop) len
+
+  pub place_first : (run : Option Range) (size : ℕ) → length flags ≡ size → IsFirstRunOf flags from run
+      → MatchOption run (Unit {0}) (λ run. (from < run.start + run.len) × (run.start + run.len ≤ size))
+  place_first None size long first = tt
+  place_first (Some run) size long first =
+      let some = run_has_sectors flags from run.start (run.start + run.len) first.start first.end first.inside in
+      (omega (arith, first.start.behind, some), omega (arith, first.end.within, long))
+
+  pub apart_first : (run : Option Range) → IsFirstRunOf flags from run → MatchOption run (Unit {0}) (λ run. IsApart flags (run.start + run.len))
+  apart_first None first = tt
+  apart_first (Some run) first = apart_unset flags (run.start + run.len) (unset_at flags run.start (run.start + run.len) first.end)

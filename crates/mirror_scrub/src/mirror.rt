@@ -93,15 +93,7 @@ pub fn next_unlike(
     if from >= pair.size {
         return None;
     }
-    let start = pair.first(from, true);
-    if start == pair.size {
-        return None;
-    }
-    let end = pair.first(start, false);
-    Some(Range {
-        start,
-        len: end - start,
-    })
+    pair.next_differing(from)
 }
 
 // Whether no sector of a mirror is unlike on its member at a place.

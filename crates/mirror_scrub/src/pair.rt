@@ -1,14 +1,14 @@
 //! Two devices of a stack, side by side.
-ghost use Rattle.std.specs.Prelude.{◌≡◌, ◌==◌, ◌<◌, ◌≤◌, Bool, length, find, Some, IsSomeAnd};
+ghost use Rattle.std.specs.Prelude.{◌≡◌, ◌==◌, ◌+◌, ◌<◌, ◌≤◌, Bool, false, length, find, Some, IsSomeAnd};
 ghost use Rattle.std.specs.List.{count_by};
 ghost use Rattle.model_disks.specs.Disks.{DiskState};
 ghost use Rattle.model_disks.specs.Runs.{IsFirst};
-ghost use Rattle.mirror_scrub.specs.Stretches.{IsPair, IsStretchOf, flags_in};
+ghost use Rattle.mirror_scrub.specs.Stretches.{IsFirstRunOf, IsPair, IsStretchOf, flags_in};
 
 use crate::stretch::Stretch;
 use layout_model::first_stretch;
 use model_disks::Disk;
-use stack_base::{DevId, Stack};
+use stack_base::{DevId, Range, Stack};
 
 /// The sectors of two devices of a stack, side by side.
 #[derive(Drop)]
@@ -81,12 +81,51 @@ impl<'d> Pair<'d> {
         let mut at = from;
         while at < self.size {
             let stretch = self.stretch(at);
-            let place = stretch.first(differing);
+            let place = stretch.first(0, differing);
             if place < stretch.len {
                 return at + place;
             }
             at += stretch.len;
         }
         self.size
+    }
+
+    // The first sector at or behind `from` that they show with the same words, or the size where there is none. `from` is in the stretch, which begins at
+    // `at`, or right behind it.
+    fn end(&self, at: u64, stretch: &Stretch, from: u64) -> u64
+        requires pair { IsPair self.now }
+        requires stretch { IsStretchOf self.now at stretch.now }
+        requires behind { at ≤ from }
+        requires within { from ≤ at + stretch.now.len }
+        ensures { IsFirst (flags_in self.now) from false result }
+    {
+        let place = stretch.first(from - at, false);
+        if place < stretch.len {
+            return at + place;
+        }
+        self.first(at + stretch.len, false)
+    }
+
+    /// The first sectors at or behind `from`, as many as follow one another, that they show with different words.
+    pub fn next_differing(&self, from: u64) -> Option<Range>
+        requires pair { IsPair self.now }
+        requires from { from ≤ self.now.size }
+        ensures { IsFirstRunOf (flags_in self.now) from result }
+    {
+        let mut at = from;
+        while at < self.size {
+            let stretch = self.stretch(at);
+            let place = stretch.first(0, true);
+            if place < stretch.len {
+                let start = at + place;
+                let end = self.end(at, &stretch, start + 1);
+                return Some(Range {
+                    start,
+                    len: end - start,
+                });
+            }
+            at += stretch.len;
+        }
+        None
     }
 }

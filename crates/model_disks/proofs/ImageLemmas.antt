@@ -1,12 +1,14 @@
 -- An image: the words of its sectors, and their flags.
-use Rattle.std.proofs.Common.{◌≡◌, ◌+◌, ◌*◌, ◌%◌, ◌^◌, ◌-◌, ◌<◌, ◌≤◌, ◌++◌, ℕ, zero, suc, Bool, true, false, List, [], get_or, map, length, take, drop, replicate, sum, sum_by, refl, sym, ap, subst, ◌∙◌, arith, length-append, length-drop}
+use Rattle.std.proofs.Common.{◌≡◌, ◌+◌, ◌*◌, ◌%◌, ◌^◌, ◌-◌, ◌<◌, ◌≤◌, ◌++◌, ℕ, zero, suc, Bool, true, false, List, [], get_or, map, length, take, drop, replicate, sum, sum_by, refl, sym, ap, subst, ◌∙◌, arith, length-append, length-drop, ◌/◌, inl, inr}
 use Rattle.std.specs.List.{concat}
-use Rattle.std.proofs.lemmas.List.{length-replicate, get_or-map, get_or_append_left, get_or-append_right, get_or-replicate, length-take-le, take_all, drop_all, append-nil, map-append}
+use Rattle.std.proofs.lemmas.List.{length-replicate, get_or-map, get_or_append_left, get_or-append_right, get_or-replicate, length-take-le, take_all, drop_all, drop-drop, append-nil, map-append}
+use Rattle.std.proofs.lemmas.Bool.{cases_lt}
 use Rattle.std.proofs.lemmas.List.Sums.{sum_by_push, sum_by-append}
 use Rattle.stack_base.specs.Words.{zero_sector, is_written}
 use Rattle.stack_base.specs.declared.ids.Range.{Range}
 use Rattle.bio_records.specs.declared.bio.Bio.{Bio}
 use Rattle.image_lanes.specs.Lanes.{sum_mod, sectors}
+use Rattle.image_lanes.proofs.WholeLemmas.{rest_is}
 use Rattle.model_disks.specs.Disks.{sum_of_words}
 use Rattle.model_disks.specs.Kept.{IsNoted, IsFront, grown, padded, filled, marked}
 use Rattle.model_disks.specs.Moves.{written}
@@ -258,3 +260,53 @@ sector_behind count words_room flags_room front zeros flags image at kept is non
     ∙ sym (get_or-replicate (count - n) (at - n) zero_sector [] (omega (arith, lt, many, past)))
     ∙ sym (get_or-append_right (sectors n front) (replicate (count - n) zero_sector) n at [] (length_sectors n front) past)
     ∙ ap (λ (sectors : List (List ℕ)). get_or sectors at []) (sym (padded_sectors count front flags kept.noted kept.within) ∙ is)
+
+-- the words from a sector on, of which the front keeps those up to its end
+pub rest_size : (count words_room flags_room : ℕ) (front lent : List ℕ) (flags : List Bool) (start : ℕ)
+    → IsFront count words_room flags_room front flags → lent ≡ front → start ≤ length flags
+    → length (take (length lent - 64 * start) (drop (64 * start) lent)) ≡ 64 * (length flags - start)
+rest_size count words_room flags_room front lent flags start kept lends short =
+    omega (
+      arith,
+      short,
+      ap length (rest_is lent (64 * start) (length lent - 64 * start) refl),
+      length-drop (64 * start) lent,
+      ap length lends,
+      kept.noted.size,
+    )
+
+pub rest_sector : (count words_room flags_room : ℕ) (front lent : List ℕ) (flags : List Bool) (image : List (List ℕ)) (at start : ℕ)
+    → IsFront count words_room flags_room front flags → sectors count (padded count front) ≡ image → lent ≡ front
+    → start ≤ length flags → (start < length flags → start ≡ at)
+    → (i : ℕ) → i < length (take (length lent - 64 * start) (drop (64 * start) lent)) / 64
+    → take 64 (drop (64 * i) (take (length lent - 64 * start) (drop (64 * start) lent))) ≡ get_or image (at + i) []
+rest_sector count words_room flags_room front lent flags image at start kept is lends short only i lt =
+    let size = rest_size count words_room flags_room front lent flags start kept lends short in
+    let inside : start + i < length flags = omega (arith, size, lt, short) in
+    let begins : start ≡ at = only (omega (arith, inside)) in
+    let place : 64 * start + 64 * i ≡ 64 * (at + i) = omega (arith, begins) in
+    let one : 64 * (at + i) + 64 - 64 * (at + i) ≡ 64 = omega arith in
+    ap (λ (ws : List ℕ). take 64 (drop (64 * i) ws)) (rest_is lent (64 * start) (length lent - 64 * start) refl)
+    ∙ ap (take 64) (drop-drop (64 * i) (64 * start) lent ∙ ap (λ n. drop n lent) place)
+    ∙ ap (λ n. take n (drop (64 * (at + i)) lent)) (sym one)
+    ∙ sector_within count words_room flags_room front lent flags image (at + i) kept is lends (omega (arith, inside, begins))
+
+pub rest_zeros : (count words_room flags_room : ℕ) (front lent : List ℕ) (flags : List Bool) (image : List (List ℕ)) (at start : ℕ)
+    → IsFront count words_room flags_room front flags → sectors count (padded count front) ≡ image → lent ≡ front
+    → start ≤ length flags → start ≤ at
+    → (x : ℕ) → at + length (take (length lent - 64 * start) (drop (64 * start) lent)) / 64 ≤ x → x < length image → get_or image x [] ≡ zero_sector
+rest_zeros count words_room flags_room front lent flags image at start kept is lends short low x past lt =
+    let size = rest_size count words_room flags_room front lent flags start kept lends short in
+    sym (sector_behind count words_room flags_room front zero_sector flags image x kept is refl (omega (arith, size, past, low, short)) lt)
+
+pub rest_within : (count words_room flags_room : ℕ) (front lent : List ℕ) (flags : List Bool) (image : List (List ℕ)) (at start : ℕ)
+    → IsFront count words_room flags_room front flags → sectors count (padded count front) ≡ image → lent ≡ front
+    → start ≤ length flags → (start < length flags → start ≡ at) → at ≤ length image
+    → 64 * at + length (take (length lent - 64 * start) (drop (64 * start) lent)) ≤ 64 * length image
+rest_within count words_room flags_room front lent flags image at start kept is lends short only within =
+    let size = rest_size count words_room flags_room front lent flags start kept lends short in
+    let many : count ≡ length image = sym (length_sectors count (padded count front)) ∙ ap length is in
+    elim (cases_lt start (length flags)) [
+      | inl inside ↦ omega (arith, size, many, kept.within, only inside)
+      | inr past ↦ omega (arith, size, past, within)
+    ]

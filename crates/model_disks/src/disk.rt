@@ -40,11 +40,11 @@ pub struct Done {
 }
 
 impl Disk {
-    ghost use Rattle.std.specs.Prelude.{◌≡◌, ◌+◌, ◌-◌, ◌*◌, ◌%◌, ◌^◌, ◌<◌, ◌≤◌, [], ◌∷◌, ◌++◌, length, map, min, replicate, reverse, slice_index_or, All, IfOk, MatchOption};
+    ghost use Rattle.std.specs.Prelude.{◌≡◌, ◌+◌, ◌-◌, ◌*◌, ◌/◌, ◌%◌, ◌^◌, ◌<◌, ◌≤◌, ℕ, [], ◌∷◌, ◌++◌, length, take, drop, map, min, replicate, reverse, slice_index_or, All, IfOk, MatchOption};
     ghost use Rattle.std.specs.Borrow.{sem};
     ghost use Rattle.std.specs.Io.BufRead.{Rests};
     ghost use Rattle.std.specs.List.{concat};
-    ghost use Rattle.stack_base.specs.Words.{is_written};
+    ghost use Rattle.stack_base.specs.Words.{is_written, zero_sector};
     ghost use Rattle.bio_records.specs.Items.{item_of, plain_of, IsAlone};
     ghost use Rattle.model_disks.specs.Disks.{IsBadRange, sum_of_words};
     ghost use Rattle.model_disks.specs.Moves.{opened, pushed, Completes};
@@ -107,6 +107,20 @@ impl Disk {
         ensures within { length result.now ≤ 64 * length self.now.image }
     {
         self.image.front()
+    }
+
+    /// The words of its sectors from one on, each of 64 words, one sector behind the other, at least up to the last sector that was ever written: all
+    /// words behind them are zeros.
+    pub fn front_from(&self, at: u64) -> &[u64]
+        requires { at ≤ length self.now.image }
+        ensures sectors { (i : ℕ) → i < length result.now / 64
+            → take 64 (drop (64 * i) result.now) ≡ slice_index_or self.now.image (at + i) [] }
+        ensures zeros { (x : ℕ) → at + length result.now / 64 ≤ x → x < length self.now.image
+            → slice_index_or self.now.image x [] ≡ zero_sector }
+        ensures whole { length result.now % 64 ≡ 0 }
+        ensures within { 64 * at + length result.now ≤ 64 * length self.now.image }
+    {
+        self.image.front_from(at)
     }
 
     /// The words of one of its sectors, 64 of them.

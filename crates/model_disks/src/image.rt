@@ -105,7 +105,7 @@ fn sum_of_written(front: &[u64], flags: &[bool]) -> u64
 }
 
 impl Image {
-    ghost use Rattle.std.specs.Prelude.{◌≡◌, ◌+◌, ◌*◌, ◌-◌, ◌%◌, ◌^◌, ◌<◌, ◌≤◌, [], ◌∷◌, ◌++◌, length, map, replicate, slice_index_or, IfOk, MatchOption};
+    ghost use Rattle.std.specs.Prelude.{◌≡◌, ◌+◌, ◌*◌, ◌/◌, ◌-◌, ◌%◌, ◌^◌, ◌<◌, ◌≤◌, ℕ, [], ◌∷◌, ◌++◌, length, take, drop, map, replicate, slice_index_or, IfOk, MatchOption};
     ghost use Rattle.std.specs.Borrow.{sem};
     ghost use Rattle.std.specs.Io.BufRead.{Rests};
     ghost use Rattle.std.specs.List.{concat};
@@ -160,6 +160,18 @@ impl Image {
         }
         let start = 64 * at as usize;
         &self.front[start..start + 64]
+    }
+
+    /// The words of the sectors from one on, at least up to the last one that was ever written: all words behind them are zeros.
+    pub fn front_from(&self, at: u64) -> &[u64]
+        requires { at ≤ length self.now }
+        ensures sectors { (i : ℕ) → i < length result.now / 64 → take 64 (drop (64 * i) result.now) ≡ slice_index_or self.now (at + i) [] }
+        ensures zeros { (x : ℕ) → at + length result.now / 64 ≤ x → x < length self.now → slice_index_or self.now x [] ≡ zero_sector }
+        ensures whole { length result.now % 64 ≡ 0 }
+        ensures within { 64 * at + length result.now ≤ 64 * length self.now }
+    {
+        let start = at.min(self.flags.len() as u64) as usize;
+        &self.front[64 * start..]
     }
 
     /// The words of all sectors, one sector behind the other. The front grows up to the last one, and the image stays as it is.

@@ -12,7 +12,7 @@ returns-then-place-stretch c =
     let found = c.first-place in
     let inside = c.if-place-stretch.true in
     first_is p c.args.from c.args.differing (at + found.result) (omega (arith, inv.behind)) (omega (arith, inside, s.ensures.short))
-    (others_on p s.result c.args.differing c.args.from at found.result s.ensures found.ensures.within inv.others found.ensures.others)
+    (others_on p s.result c.args.differing c.args.from at found.result s.ensures found.ensures.within inv.others (λ i lt. found.ensures.others i (omega arith) lt))
     (λ _. sym (s.ensures.same found.result inside) ∙ found.ensures.here inside)
 
 pub loop-at-preserved : goal.loop-at-preserved
@@ -24,7 +24,7 @@ loop-at-preserved c =
       behind = omega (arith, inv.behind);
       within = s.ensures.short;
       others = others_on c.args.self.now s.result c.args.differing c.args.from c.loop-at.at s.result.len s.ensures (omega arith) inv.others
-          (λ i lt. found.others i (omega (arith, lt, found.within, c.if-place-stretch.false)));
+          (λ i lt. found.others i (omega arith) (omega (arith, lt, found.within, c.if-place-stretch.false)));
     }
 
 pub returns : goal.returns
