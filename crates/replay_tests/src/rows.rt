@@ -53,6 +53,23 @@ const SIX_OPEN: &str =
     "replay events 6\nend open\npool fs.bios lowest 1 most 1\npool fs.vecs lowest 2 most 0\n\
     pool m.records lowest 0 most 1\npool m.bios lowest 0 most 1\n";
 
+/// A mirror of three without a rescuer, and such a one with two bios. The one waits for the second leg's bio, the other for
+/// the third's: each is one that only the same task could give back.
+const THREE: &str =
+    "disk a 8\ndisk b 8\ndisk c 8\nmirror m a b c reserve=1 records=1 rescuer=no\nmemory none\nwrite 0 m 0 1 0\n";
+
+const THREE_WITH_TWO: &str =
+    "disk a 8\ndisk b 8\ndisk c 8\nmirror m a b c reserve=2 records=1 rescuer=no\nmemory none\nwrite 0 m 0 1 0\n";
+
+const EIGHT: &str =
+    "event w0 take fs.bios spare\nevent w0 link 0 write 0\nevent w0 take m.records spare\n\
+    event w0 link 0 master 1\nevent w0 take m.bios spare\nevent w0 link 0 leg 2\n\
+    event w0 take m.bios spare\nevent w0 link 0 leg 3\n";
+
+const EIGHT_STUCK: &str =
+    "replay events 8\nend stuck\npool fs.bios lowest 1 most 1\npool fs.vecs lowest 2 most 0\n\
+    pool m.records lowest 0 most 1\npool m.bios lowest 0 most 2\n";
+
 /// A run of the single write.
 const SEVEN: &str =
     "event w0 take fs.bios ordinary\nevent w0 link 0 write 0\nevent w0 push a 0 1 leg 0\n\
@@ -70,6 +87,8 @@ const ROWS: &[Row] = &[
     (MIRROR, 6, MIRRORED, ALL_OF_IT),
     (MIRROR, 6, RENAMED, ALL_OF_IT),
     (UNHELPED, 6, SIX, SIX_STUCK),
+    (THREE, 7, SIX, SIX_STUCK),
+    (THREE_WITH_TWO, 7, EIGHT, EIGHT_STUCK),
     // A bio from ordinary memory could come, but nothing that needs none.
     (UNHELPED_WITH_MEMORY, 5, SIX, SIX_STUCK),
     // With a rescuer the task tries for the next bio, and misses.

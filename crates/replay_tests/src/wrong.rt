@@ -40,6 +40,16 @@ const WRONG: &[Wrong] = &[
     // Another end of a node.
     (11, "event c:a drop 0 2 ok top\n", 11),
     (13, "event c:a drop 0 1 ok up\n", 13),
+    (20, "event c:b drop 0 1 ok left\n", 20),
+    (22, "event c:b drop 0 0 ok up\n", 22),
+    // Another way to open one, and another open node.
+    (3, "event w0 link 0 chain 1\n", 3),
+    (5, "event w0 link 0 master 2\n", 5),
+    (11, "event c:a drop 0 1 ok left\n", 11),
+    // Another write, and events of a keeper where there is one round.
+    (24, "event c:b done 1 ok\n", 24),
+    (24, "event k round 1\n", 24),
+    (0, "event k resize fs.bios 1\n", 0),
     // The name of an open node, and a node of no name.
     (5, "event w0 link 0 leg 1\n", 5),
     (15, "event w0 link 0 leg 1\n", 15),
