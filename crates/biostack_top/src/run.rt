@@ -2,7 +2,6 @@
 ghost use Rattle.std.specs.Prelude.{◌≡◌, ◌^◌, ◌<◌, List, false, IsErr, OnErr, OnOk};
 ghost use Rattle.stack_base.specs.declared.ids.Status.TheVariants.{Ok as no_error};
 ghost use Rattle.stack_base.specs.Fault.{status_eq};
-ghost use Rattle.stack_base.specs.Stack.{HasRescuers};
 ghost use Rattle.outside_io.specs.Saying.{Writes};
 ghost use Rattle.run_machine.specs.declared.event.Event.{Event as Told};
 ghost use Rattle.task_core.specs.opened.OfOne.{IsOpened, scenario_in};
@@ -40,7 +39,6 @@ impl Events for Silence {
 /// Runs what was opened, and tells nothing of it.
 pub(crate) fn run_quiet(opened: Opened, number: u64) -> Ended
     requires opened { IsOpened opened }
-    requires rescuers { HasRescuers (scenario_in opened).stack }
     ensures { (events : List Told) × HasRun (scenario_in opened) number events result }
 {
     let mut schedule = Schedule::new(number);
@@ -56,7 +54,6 @@ fn run_opened<K: Sink>(
     out: &mut K,
 ) -> (Ended, Result<(), Failed>)
     requires opened { IsOpened opened }
-    requires rescuers { HasRescuers (scenario_in opened).stack }
     ensures { (events : List Told) × HasRun (scenario_in opened) number events result.0
         × Writes K.held K.faults out.old out.new result.1 (traced trace stack.now events) }
 {

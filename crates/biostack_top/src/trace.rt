@@ -1,6 +1,5 @@
 //! Tells a pen the line of each event as it happens.
 ghost use Rattle.std.specs.Prelude.{◌≡◌, List, [], false, true, MatchResult};
-ghost use Rattle.stack_base.specs.Stack.{HasRescuers};
 ghost use Rattle.outside_io.specs.Saying.{Says, Writes};
 ghost use Rattle.run_machine.specs.declared.event.Event.{Event as Told};
 ghost use Rattle.task_core.specs.opened.OfOne.{IsOpened, scenario_in};
@@ -74,7 +73,6 @@ pub(crate) fn run_traced<K: Sink>(
     out: &mut K,
 ) -> (Ended, Result<(), Failed>)
     requires opened { IsOpened opened }
-    requires rescuers { HasRescuers (scenario_in opened).stack }
     ensures { (events : List Told) × HasRun (scenario_in opened) number events result.0
         × Writes K.held K.faults out.old out.new result.1 (event_lines stack.now events) }
 {

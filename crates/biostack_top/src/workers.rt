@@ -1,6 +1,5 @@
 //! Runs a text by threads.
 ghost use Rattle.std.specs.Prelude.{◌≡◌, ◌^◌, ◌<◌, ◌≤◌, List, None, false, Some, IfOk};
-ghost use Rattle.stack_base.specs.Stack.{HasRescuers};
 ghost use Rattle.outside_io.specs.Saying.{Writes};
 ghost use Rattle.run_machine.specs.declared.event.Event.{Event as Told};
 ghost use Rattle.task_core.specs.opened.OfOne.{scenario_in};
@@ -41,7 +40,6 @@ fn run_shown<R: Threads + Wait + Sync, G: Gate + Sync>(
     requires untaken { shared.next ≡ 0 }
     requires untraced { shared.locks.trace ≡ false }
     requires workers { (1 ≤ workers) × (workers ≤ 16) }
-    requires rescuers { HasRescuers (scenario_in shared.told.value).stack }
     ensures { (shown : Showing) × (G.shown gate.new ≡ Some shown)
         × (events : List Told) × HasMerged (scenario_in shared.told.value) shown events result }
 {

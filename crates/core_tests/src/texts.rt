@@ -1,7 +1,7 @@
 //! States as a test writes them, as texts, and events as lines.
 ghost use Rattle.std.specs.Prelude.{◌≡◌, ◌+◌, ◌<◌, ◌≤◌, ◌↔◌, ◌^◌, All, IfOk, IsTrue, length};
 ghost use Rattle.fail_script.specs.Script.{Answers};
-ghost use Rattle.stack_base.specs.Stack.{IsStack};
+ghost use Rattle.stack_base.specs.Stack.{HasRescuers, IsStack};
 ghost use Rattle.stack_base.specs.PoolId.{IsOfStack};
 ghost use Rattle.stack_base.specs.declared.ids.PoolId.{PoolId as Pools};
 ghost use Rattle.layout_model.specs.declared.write.Write.{Write as Writes};
@@ -139,6 +139,7 @@ pub struct Opened {
 fn read(alloc: Global, text: &[u8]) -> Result<Scene, ReadFault>
     ensures stack { IfOk result (λ scene. IsStack scene.accepted.stack) }
     ensures read { IfOk result (λ scene. IsReadBehind scene.accepted scene.work) }
+    ensures rescuers { IfOk result (λ scene. HasRescuers scene.accepted.stack) }
 {
     let decl = read_decl(alloc, text)?;
     let accepted = accept(alloc, decl)?;
@@ -151,6 +152,7 @@ pub fn scene_of(alloc: Global, text: &str) -> Result<Scene, Fail>
     ensures named { IfOk result (λ scene. IsNamed scene.accepted.stack) }
     ensures stack { IfOk result (λ scene. IsStack scene.accepted.stack) }
     ensures read { IfOk result (λ scene. IsReadBehind scene.accepted scene.work) }
+    ensures rescuers { IfOk result (λ scene. HasRescuers scene.accepted.stack) }
 {
     let scene = read(alloc, text.as_bytes())?;
     accepted_stacks_are_named();

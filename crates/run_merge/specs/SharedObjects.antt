@@ -1,6 +1,5 @@
 -- What is left of objects that were shared, as histories of entries and as a state of runs.
 use Rattle.std.specs.Prelude.{◌≡◌, ◌-◌, ◌≤◌, ℕ, List, All, map, slice_index_or}
-use Rattle.stack_base.specs.Stack.{HasRescuers}
 use Rattle.tick_clock.specs.declared.ticking.Ticket.{Ticket}
 use Rattle.tick_clock.specs.Tickets.{PassState}
 use Rattle.run_machine.specs.Laws.{Object, OfPool, OfRescuer, OfDisk, OfBook, OfTally, OfNone}
@@ -53,11 +52,11 @@ state_left left tasks =
 abbrev pub numbers_of : List Ticket → List ℕ
 numbers_of tickets = map (λ (ticket : Ticket). ticket.number) tickets
 
--- What a close shows of objects and tasks as they were opened of a text whose mirrors have rescuers, where the first pass has found what those
+-- What a close shows of objects and tasks as they were opened of a text, where the first pass has found what those
 -- of the tasks have: the merge of the histories is a run that has ended and leaves what is left.
 abbrev pub ClosesAreRuns : Type 0
 ClosesAreRuns = (opened : Opened) (names : List Object) (history : Object → List Call) (left : (name : Object) → ThingState (ThingAt name))
-    (tasks : List Returned) (pass : PassState) → IsOpened opened → HasRescuers (scenario_in opened).stack
+    (tasks : List Returned) (pass : PassState) → IsOpened opened
     → map (λ (task : Returned). task.first) tasks ≡ states opened.tasks.items
     → ClosesAs (setup (stage_of opened.objects).routing) opened.objects names history left tasks pass
     → All (λ (task : Returned). found_by task.desk.pass ≤ pass.known) tasks

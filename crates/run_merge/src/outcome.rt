@@ -1,8 +1,7 @@
 //! What a run leaves whose objects were shared.
 ghost use Rattle.std.specs.Prelude.{◌≡◌, IfOk, IsOk, false};
-ghost use Rattle.stack_base.specs.Stack.{HasRescuers};
 ghost use Rattle.shared_objects.specs.Left.{HasClosed};
-ghost use Rattle.run_merge.specs.Outcomes.{IsMerged, scenario_of};
+ghost use Rattle.run_merge.specs.Outcomes.{IsMerged};
 
 use crate::left::{disks_of, events_of, pools_of, statuses_of};
 use crate::trace::trace_of;
@@ -29,7 +28,6 @@ pub struct Outcome {
 /// With a trace: where there was no memory for a task to note one of its events, or there is none to join what all tasks noted.
 pub fn merge(alloc: Global, closed: Closed) -> Result<Outcome, AllocError>
     requires closed { HasClosed closed }
-    requires rescuers { HasRescuers (scenario_of closed).stack }
     ensures merged { IfOk result (IsMerged closed) }
     ensures untraced { closed.trace ≡ false → IsOk result }
 {

@@ -4,7 +4,6 @@ use Rattle.std.proofs.lemmas.List.{length-append}
 use Rattle.std.proofs.lemmas.List.Elements.{All-nil, All-push}
 use Rattle.elem_ledger.specs.Ledger.{LedgerId}
 use Rattle.rand_pcg.specs.Lcg.{Lcg}
-use Rattle.stack_base.specs.Stack.{HasRescuers}
 use Rattle.task_core.specs.declared.ended.Ended.{Ended}
 use Rattle.run_machine.specs.declared.event.Event.{Event}
 use Rattle.task_core.specs.declared.opening.Opened.{Opened}
@@ -76,7 +75,7 @@ module _ {V : Type 0} (happens : V → Event → V → Type 0) (o : Opened) (ope
   pub runnable : IsRunnable s
   runnable = (accepted_texts_are_runnable o.accepted.value o.work.value opened.read).0
 
-  module _ (rescuers : HasRescuers s.stack) (objects : Plain) (tasks : List TaskOf) (between : Lcg) (now : V) (steps : ℕ)
+  module _ (objects : Plain) (tasks : List TaskOf) (between : Lcg) (now : V) (steps : ℕ)
       (way : UnderWay objects tasks between now steps) where
     naming : IsNaming ledger
     naming = opened.one.holds.numbered
@@ -110,7 +109,7 @@ module _ {V : Type 0} (happens : V → Event → V → Type 0) (o : Opened) (ope
     pub free : 1 ≤ unfinished (run_state objects tasks) → HasFree (scene_of objects (length tasks)) (run_state objects tasks)
     free some =
         subst (λ scene. HasFree scene (run_state objects tasks)) (sym scene_now)
-        (no_allowed_state_is_stuck s ledger way.events (run_state objects tasks) runnable.scenario runnable.allowed rescuers runnable.reserves runnable.ordered naming run some)
+        (no_allowed_state_is_stuck s ledger way.events (run_state objects tasks) runnable.scenario runnable.allowed opened.rescuers runnable.reserves runnable.ordered naming run some)
 
     -- there are no more events than the bound
     pub few : steps ≤ most_steps s

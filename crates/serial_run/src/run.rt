@@ -1,6 +1,5 @@
 //! The run of a scenario by one thread.
-ghost use Rattle.stack_base.specs.Stack.{HasRescuers};
-ghost use Rattle.task_core.specs.opened.OfOne.{IsOpened, scenario_in};
+ghost use Rattle.task_core.specs.opened.OfOne.{IsOpened};
 ghost use Rattle.serial_run.specs.Serial.{IsSerialRun};
 
 use crate::events::Events;
@@ -12,10 +11,9 @@ use task_core::{Ended, Opened, drop_tasks};
 /// Runs a scenario to its end: turn by turn in the order of the schedule's words, until no write is unfinished. Each event is handed on as it
 /// happens. It takes no memory but for ordinary elements, and where these are refused the run goes on with spares and misses.
 ///
-/// It is what an accepted text was opened as, and mirrors of two members or more have rescuers.
+/// It is what an accepted text was opened as.
 pub fn run_serial<V: Events>(opened: Opened, schedule: &mut Schedule, events: &mut V) -> Ended
     requires opened { IsOpened opened }
-    requires rescuers { HasRescuers (scenario_in opened).stack }
     ensures ran { IsSerialRun V.happens opened schedule.old events.old schedule.new events.new result }
 {
     let mut objects = opened.objects;

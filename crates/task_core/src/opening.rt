@@ -1,7 +1,7 @@
 //! What is opened of an accepted text.
 ghost use Rattle.std.specs.Prelude.{◌≡◌, ◌≤◌, ◌^◌, IfOk, OnOk, length, sum};
 ghost use Rattle.std.specs.List.{range_with_len};
-ghost use Rattle.stack_base.specs.Stack.{IsStack};
+ghost use Rattle.stack_base.specs.Stack.{HasRescuers, IsStack};
 ghost use Rattle.task_core.specs.Leaving.{HasRoom};
 ghost use Rattle.task_core.specs.opened.NewTasks.{left_in, others_in, reserves_in, rounds_in, tally_in, writers_of, Adds, ArePlaced};
 ghost use Rattle.task_core.specs.opened.OfOne.{scenario_in, IsOpened};
@@ -159,12 +159,14 @@ pub fn drop_tasks(tasks: Vec<Task>) {
     drop(tasks);
 }
 
-/// The objects and the tasks of an accepted text, as its runs begin, and room for what a run leaves.
+/// The objects and the tasks of an accepted text, as its runs begin, and room for what a run leaves. Its mirrors of two members or more have
+/// rescuers, without which a run may hang.
 ///
 /// # Errors
 /// Where there is no memory for all of them.
 pub fn open(alloc: Global, accepted: &Accepted, work: &Work) -> Result<Opened, AllocError>
     requires read { IsReadBehind accepted.now work.now }
+    requires rescuers { HasRescuers accepted.now.stack }
     ensures opened { IfOk result IsOpened }
     ensures of { IfOk result (λ o. scenario_in o ≡ scenario_of accepted.now work.now) }
 {

@@ -1,5 +1,6 @@
 //! Texts that a test writes, and the names of their tasks.
 ghost use Rattle.std.specs.Prelude.{IfOk};
+ghost use Rattle.stack_base.specs.Stack.{HasRescuers};
 ghost use Rattle.run_machine.specs.ReadBehind.{IsReadBehind};
 ghost use Rattle.trace_text.specs.Names.{IsNamed};
 
@@ -21,7 +22,8 @@ pub struct Scene {
 
 // What a text says.
 fn read(alloc: Global, text: &[u8]) -> Result<Scene, ReadFault>
-    ensures { IfOk result (λ scene. IsReadBehind scene.accepted scene.work) }
+    ensures read { IfOk result (λ scene. IsReadBehind scene.accepted scene.work) }
+    ensures rescuers { IfOk result (λ scene. HasRescuers scene.accepted.stack) }
 {
     let decl = read_decl(alloc, text)?;
     let accepted = accept(alloc, decl)?;
@@ -33,6 +35,7 @@ fn read(alloc: Global, text: &[u8]) -> Result<Scene, ReadFault>
 pub fn scene_of(alloc: Global, text: &str) -> Result<Scene, Fail>
     ensures named { IfOk result (λ scene. IsNamed scene.accepted.stack) }
     ensures read { IfOk result (λ scene. IsReadBehind scene.accepted scene.work) }
+    ensures rescuers { IfOk result (λ scene. HasRescuers scene.accepted.stack) }
 {
     let scene = read(alloc, text.as_bytes())?;
     accepted_stacks_are_named();

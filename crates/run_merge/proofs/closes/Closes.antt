@@ -275,9 +275,9 @@ module _ (s : Scenario) (plain : Plain) (names : List Object) (history : Object 
   }
 
 pub closes_are_runs : ClosesAreRuns
-closes_are_runs opened names history left tasks pass is rescuers firsts c found =
+closes_are_runs opened names history left tasks pass is firsts c found =
     let s = scenario_in opened in
     let runnable = (accepted_texts_are_runnable opened.accepted.value opened.work.value is.read).0 in
-    closed_runs_end s (stage_of opened.objects).ledger (merged_histories names history) (numbers_of pass.drawn) (state_left left tasks) runnable rescuers is.one.holds.numbered
+    closed_runs_end s (stage_of opened.objects).ledger (merged_histories names history) (numbers_of pass.drawn) (state_left left tasks) runnable is.rescuers is.one.holds.numbered
     (is_closed s opened.objects names history left tasks pass (subst (λ setup. ClosesAs setup opened.objects names history left tasks pass) is.setup c) (firsts ∙ is.tasks)
     (λ name. ap (λ (o : Objects). get o name) (sym is.objects) ∙ opened_is opened.objects name) found)

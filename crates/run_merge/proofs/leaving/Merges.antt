@@ -4,7 +4,6 @@ use Rattle.std.specs.Prelude.{All, min, slice_get, slice_index_or, sum_by}
 use Rattle.std.proofs.lemmas.List.Elements.{All-weaker, filter-append}
 use Rattle.std.proofs.lemmas.Option.{IfSome_then, slice_get_cases, slice_get_within, get_or_from_slice_get}
 use Rattle.stack_base.specs.declared.ids.PoolId.TheVariants.{FsBios, FsVecs}
-use Rattle.stack_base.specs.Stack.{HasRescuers}
 use Rattle.run_machine.specs.Laws.{Object}
 use Rattle.run_machine.specs.Opened.{Scenario, no_task, scene, setup as setup_in, start}
 use Rattle.run_machine.specs.Opened as opened
@@ -127,51 +126,50 @@ module _ (closed : Closed) (has : HasClosed closed) where
     pub task_shows : done_by place (histories_in closed) ≡ sorted (all_of (histories_by closed task.seats.value))
     task_shows = ap sorted (picked (names_in closed))
 
-  module _ (rescuers : HasRescuers (scenario_of closed).stack) where
-    runnable : IsRunnable (scenario_of closed)
-    runnable = (accepted_texts_are_runnable closed.told.value.accepted.value closed.told.value.work.value has.opened.read).0
+  runnable : IsRunnable (scenario_of closed)
+  runnable = (accepted_texts_are_runnable closed.told.value.accepted.value closed.told.value.work.value has.opened.read).0
 
-    merged : HasMerged (scenario_of closed) (ledger_of closed) (histories_in closed) (numbers_of closed.pass.value.drawn) (state_in closed)
-    merged =
-        subst (HasMerged (scenario_of closed) (ledger_of closed) (histories_in closed) (numbers_of closed.pass.value.drawn)) state_is
-        (closes_are_runs closed.told.value (names_in closed) (history_in closed) (left_in closed closed.told.value.objects) has.returned closed.pass.value
-        has.opened rescuers has.firsts has.closes has.found)
+  merged : HasMerged (scenario_of closed) (ledger_of closed) (histories_in closed) (numbers_of closed.pass.value.drawn) (state_in closed)
+  merged =
+      subst (HasMerged (scenario_of closed) (ledger_of closed) (histories_in closed) (numbers_of closed.pass.value.drawn)) state_is
+      (closes_are_runs closed.told.value (names_in closed) (history_in closed) (left_in closed closed.told.value.objects) has.returned closed.pass.value
+      has.opened has.firsts has.closes has.found)
 
-    -- as many events as the tasks had together
-    counted : min (sum_by (λ (task : ClosedTask). task.events) closed.tasks.items) (2 ^ 64 - 1) ≡ length merged.run.0
-    counted =
-        let all = all_tasks (scenario_of closed) closed.told.value.objects (names_in closed) (history_in closed) (left_in closed closed.told.value.objects) has.returned closed.pass.value closes_in firsts_in in
-        let long = merge_length (scenario_of closed) (ledger_of closed) (all_of (histories_in closed)) (state_in closed) merged.run in
-        let bounded = runs_are_bounded (scenario_of closed) (ledger_of closed) merged.run.0 (state_in closed) runnable.scenario has.opened.one.holds.numbered merged.run.1 in
-        let few = steps_are_few (scenario_of closed) runnable in
-        let sums = sums_stop (λ (task : ClosedTask). task.events) (λ (task : Returned). length (events_in task.log)) (2 ^ 64 - 1) closed.tasks.items has.returned
-        (abreast_weaker (IsReturned now) (λ (task : ClosedTask) (returned : Returned). task.events ≡ min (length (events_in returned.log)) (2 ^ 64 - 1)) closed.tasks.items has.returned
-        (λ task returned is. is.events) has.tasks) (omega (arith, all, long, bounded, few)) in
-        omega (arith, sums, all, long, bounded, few)
+  -- as many events as the tasks had together
+  counted : min (sum_by (λ (task : ClosedTask). task.events) closed.tasks.items) (2 ^ 64 - 1) ≡ length merged.run.0
+  counted =
+      let all = all_tasks (scenario_of closed) closed.told.value.objects (names_in closed) (history_in closed) (left_in closed closed.told.value.objects) has.returned closed.pass.value closes_in firsts_in in
+      let long = merge_length (scenario_of closed) (ledger_of closed) (all_of (histories_in closed)) (state_in closed) merged.run in
+      let bounded = runs_are_bounded (scenario_of closed) (ledger_of closed) merged.run.0 (state_in closed) runnable.scenario has.opened.one.holds.numbered merged.run.1 in
+      let few = steps_are_few (scenario_of closed) runnable in
+      let sums = sums_stop (λ (task : ClosedTask). task.events) (λ (task : Returned). length (events_in task.log)) (2 ^ 64 - 1) closed.tasks.items has.returned
+      (abreast_weaker (IsReturned now) (λ (task : ClosedTask) (returned : Returned). task.events ≡ min (length (events_in returned.log)) (2 ^ 64 - 1)) closed.tasks.items has.returned
+      (λ task returned is. is.events) has.tasks) (omega (arith, all, long, bounded, few)) in
+      omega (arith, sums, all, long, bounded, few)
 
-    pub is_merged : (outcome : Outcome) → outcome.ended.statuses.items ≡ closed.tally.thing.object.statuses
-        → outcome.ended.disks.items ≡ map (λ disk. disk.thing.object) closed.disks.items
-        → outcome.ended.pools.items ≡ with_facts (pools_in closed has) FsBios ∷ with_facts (pools_in closed has) FsVecs ∷ falling_below (pools_in closed has) 32
-        → outcome.ended.steps ≡ min (sum_by (λ (task : ClosedTask). task.events) closed.tasks.items) (2 ^ 64 - 1)
-        → IsTrace closed.trace closed.tasks.items outcome.events → IsMerged closed outcome
-    is_merged outcome statuses disks pools steps trace =
-        let named = run_named closed.told.value has.opened merged.run.0 (state_in closed) merged.run.1 in
-        record {
-          events = merged.run.0;
-          run = merged.run.1;
-          merges = merged.run.2;
-          shows = task_shows;
-          ends = merged.ended;
-          unbroken = merged.unbroken;
-          left = record {
-            statuses = statuses;
-            disks = disks ∙ disks_are closed has;
-            pools = pools ∙ pools_are closed has;
-            steps = steps ∙ counted;
-          };
-          naming = has.opened.one.holds.numbered;
-          disks = λ number. (named.1.disk number).dev_is;
-          named = named.0;
-          traced = trace.some;
-          trace = IfSome_then outcome.events trace.joined (λ list is. trace_is closed has list.items (state_in closed) is.0 is.1 merged.run);
-        }
+  pub is_merged : (outcome : Outcome) → outcome.ended.statuses.items ≡ closed.tally.thing.object.statuses
+      → outcome.ended.disks.items ≡ map (λ disk. disk.thing.object) closed.disks.items
+      → outcome.ended.pools.items ≡ with_facts (pools_in closed has) FsBios ∷ with_facts (pools_in closed has) FsVecs ∷ falling_below (pools_in closed has) 32
+      → outcome.ended.steps ≡ min (sum_by (λ (task : ClosedTask). task.events) closed.tasks.items) (2 ^ 64 - 1)
+      → IsTrace closed.trace closed.tasks.items outcome.events → IsMerged closed outcome
+  is_merged outcome statuses disks pools steps trace =
+      let named = run_named closed.told.value has.opened merged.run.0 (state_in closed) merged.run.1 in
+      record {
+        events = merged.run.0;
+        run = merged.run.1;
+        merges = merged.run.2;
+        shows = task_shows;
+        ends = merged.ended;
+        unbroken = merged.unbroken;
+        left = record {
+          statuses = statuses;
+          disks = disks ∙ disks_are closed has;
+          pools = pools ∙ pools_are closed has;
+          steps = steps ∙ counted;
+        };
+        naming = has.opened.one.holds.numbered;
+        disks = λ number. (named.1.disk number).dev_is;
+        named = named.0;
+        traced = trace.some;
+        trace = IfSome_then outcome.events trace.joined (λ list is. trace_is closed has list.items (state_in closed) is.0 is.1 merged.run);
+      }

@@ -11,7 +11,7 @@ use Rattle.fail_script.specs.Script.{Answers}
 use Rattle.stack_base.specs.declared.ids.PoolId.{PoolId}
 use Rattle.stack_base.specs.declared.stack.Stack.{Stack}
 use Rattle.stack_base.specs.PoolId.{pool_number}
-use Rattle.stack_base.specs.Stack.{IsStack}
+use Rattle.stack_base.specs.Stack.{HasRescuers, IsStack}
 use Rattle.stack_base.specs.Tree.{size, tree}
 use Rattle.layout_model.specs.declared.write.Write.{Write}
 use Rattle.layout_model.specs.May.{bads_of}
@@ -188,6 +188,7 @@ shown_states routing [] = refl
 shown_states routing (task ∷ tasks) = ap (λ more. task ∷ more) (shown_states routing tasks)
 
 module _ (o : Opened) (kinds : List Kind) (routing : Routing) (read : IsReadBehind o.accepted.value o.work.value)
+    (rescuers : HasRescuers o.accepted.value.stack)
     (same : routing.stack ≡ o.accepted.value.stack)
     (placed : ArePlaced o.accepted.value.stack o.work.value.rounds.items o.work.value.writes.items 8 routing.places)
     (objects : AreOpened routing o.accepted.value.scripts.items (reserves_in o.work.value.resizes.items)
@@ -289,6 +290,7 @@ module _ (o : Opened) (kinds : List Kind) (routing : Routing) (read : IsReadBehi
   pub is_opened : IsOpened o
   is_opened = record {
     read = read;
+    rescuers = rescuers;
     one = of_one;
     routes = shared_are ∙ sym objects.routing_is;
     stack = stack_here;
@@ -304,7 +306,7 @@ module _ (o : Opened) (kinds : List Kind) (routing : Routing) (read : IsReadBehi
 module _ (o : Opened) (kinds : List Kind) (routing : Routing) where
   abbrev Facts : Accepted → Work → Type 0
   Facts accepted work =
-      IsReadBehind accepted work × (routing.stack ≡ accepted.stack) × ArePlaced accepted.stack work.rounds.items work.writes.items 8 routing.places
+      IsReadBehind accepted work × HasRescuers accepted.stack × (routing.stack ≡ accepted.stack) × ArePlaced accepted.stack work.rounds.items work.writes.items 8 routing.places
       × AreOpened routing accepted.scripts.items (reserves_in work.resizes.items) (tally_in work.rounds.items work.writes.items) o.objects
       × (shown kinds ≡ writers_of work.rounds.items work.writes.items (range_with_len 0 8) ++ others_in (setup routing) work.rounds.items work.resizes.items)
       × HasRoom accepted.stack (length work.writes.items) o.room
@@ -313,4 +315,4 @@ module _ (o : Opened) (kinds : List Kind) (routing : Routing) where
       → o.routes.value ≡ routing → Facts accepted work → IsOpened o
   opened_of accepted work is also tasks_are shared_are given =
       let facts : Facts o.accepted.value o.work.value = subst (λ a. Facts a o.work.value) (sym is) (subst (Facts accepted) (sym also) given) in
-      is_opened o kinds routing facts.0 facts.1 facts.2 facts.3 tasks_are shared_are facts.4 facts.5
+      is_opened o kinds routing facts.0 facts.1 facts.2 facts.3 facts.4 tasks_are shared_are facts.5 facts.6

@@ -1,5 +1,6 @@
 -- Objects and tasks of one scenario, and what was opened of an accepted text.
 use Rattle.std.specs.Prelude.{◌≡◌, ℕ, List, All, map, length, slice_index_or}
+use Rattle.stack_base.specs.Stack.{HasRescuers}
 use Rattle.task_core.specs.declared.opening.Opened.{Opened}
 use Rattle.task_core.specs.declared.plain.Plain.{Plain}
 use Rattle.task_steps.specs.Homes.{IsTaskOf}
@@ -37,9 +38,10 @@ pub record AreOfOne (plain : Plain) (tasks : List TaskOf) : Type 0 where
 abbrev pub scenario_in : Opened → Scenario
 scenario_in o = scenario_of o.accepted.value o.work.value
 
--- These are the objects and the tasks in which the runs of an accepted text begin.
+-- These are the objects and the tasks in which the runs of an accepted text begin, whose mirrors have rescuers: so none of its runs can hang.
 pub record IsOpened (o : Opened) : Type 0 where
   pub read : IsReadBehind o.accepted.value o.work.value
+  pub rescuers : HasRescuers o.accepted.value.stack
   pub one : AreOfOne o.objects o.tasks.items
   pub routes : o.routes.value ≡ (stage_of o.objects).routing
   pub stack : (stage_of o.objects).routing.stack ≡ (scenario_in o).stack

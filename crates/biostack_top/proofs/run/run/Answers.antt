@@ -1,6 +1,5 @@
 -- What was said are the lines of the run, where there is a trace, and the report of what it left.
 use Rattle.std.proofs.Common.{◌++◌, sym, ap, subst, ◌∙◌}
-use Rattle.stack_base.specs.Stack.{HasRescuers}
 use Rattle.run_machine.specs.Opened.{Scenario}
 use Rattle.report_text.specs.CheckText.{most_steps}
 use Rattle.report_text.specs.Report.{report}
@@ -14,9 +13,6 @@ use Rattle.biostack_top.proofs.ServeLemmas.{written_front, written_whole}
 use Rattle.biostack_top.proofs.ToldLemmas.{tells_run}
 use Rattle.biostack_top.proofs.TraceLemmas.{writes_then}
 use Rattle.biostack_top.proofs.run.run.Goals as goal
-
-pub run_opened-ended-requires-clause-rescuers : goal.run_opened-ended-requires-clause-rescuers
-run_opened-ended-requires-clause-rescuers g c = subst (λ (s : Scenario). HasRescuers s.stack) (sym c.in-Ok.ensures.of) c.requires.rescuers
 
 pub report_behind-requires-clause-ended : goal.report_behind-requires-clause-ended
 report_behind-requires-clause-ended g c =

@@ -1,7 +1,6 @@
 -- What was said is what a run of the text had and left.
 use Rattle.std.proofs.Common.{◌^◌, ◌<◌, List, length, true, sym, subst, ap, ◌∙◌, arith}
 use Rattle.layout_model.specs.declared.write.Write.{Write}
-use Rattle.stack_base.specs.Stack.{HasRescuers}
 use Rattle.run_machine.specs.Opened.{Scenario}
 use Rattle.report_text.specs.CheckText.{most_steps}
 use Rattle.report_text.specs.Report.{gen_text}
@@ -10,9 +9,6 @@ use Rattle.biostack_top.specs.Running.{HasRun, sectors}
 use Rattle.biostack_top.proofs.RunningLemmas.{few_sectors, few_steps, is_of, runnable}
 use Rattle.biostack_top.proofs.ToldLemmas.{tells_made}
 use Rattle.biostack_top.proofs.run.run_made.Goals as goal
-
-pub run_quiet-ended-requires-clause-rescuers : goal.run_quiet-ended-requires-clause-rescuers
-run_quiet-ended-requires-clause-rescuers g c = subst (λ (s : Scenario). HasRescuers s.stack) (sym c.in-Ok.ensures.of) c.requires.rescuers
 
 pub sectors-requires : goal.sectors-requires
 sectors-requires g c =

@@ -1,7 +1,6 @@
 -- What was written are the lines of the members in what the run left, and of its steps.
 use Rattle.std.proofs.Common.{◌++◌, List, sym, ap, subst, ◌∙◌}
 use Rattle.std.specs.Io.KnownBytes.{Appends}
-use Rattle.stack_base.specs.Stack.{HasRescuers}
 use Rattle.outside_io.specs.Saying.{AppendsFront}
 use Rattle.model_disks.specs.Disks.{DiskState}
 use Rattle.run_machine.specs.Opened.{Scenario}
@@ -17,9 +16,6 @@ use Rattle.biostack_top.proofs.ScrubLemmas.{are_disks, tells_scrub}
 use Rattle.biostack_top.proofs.ServeLemmas.{written_front, written_whole}
 use Rattle.biostack_top.proofs.TraceLemmas.{writes_then}
 use Rattle.biostack_top.proofs.scrub.scrub.Goals as goal
-
-pub run_quiet-ended-requires-clause-rescuers : goal.run_quiet-ended-requires-clause-rescuers
-run_quiet-ended-requires-clause-rescuers g c = subst (λ (s : Scenario). HasRescuers s.stack) (sym c.in-Ok.ensures.of) c.requires.rescuers
 
 pub scrub-told-requires-clause-disks : goal.scrub-told-requires-clause-disks
 scrub-told-requires-clause-disks g c =

@@ -1,6 +1,5 @@
 -- What was said is the report of what the merge left, which the gate was shown.
 use Rattle.std.proofs.Common.{sym, subst, ◌∙◌}
-use Rattle.stack_base.specs.Stack.{HasRescuers}
 use Rattle.run_machine.specs.Opened.{Scenario}
 use Rattle.task_core.specs.declared.opening.Opened.{Opened}
 use Rattle.task_core.specs.opened.OfOne.{scenario_in}
@@ -13,11 +12,6 @@ use Rattle.biostack_top.proofs.RunningLemmas.{few_steps, is_of_merged}
 use Rattle.biostack_top.proofs.ServeLemmas.{written_front, written_whole}
 use Rattle.biostack_top.proofs.ToldLemmas.{tells_shown}
 use Rattle.biostack_top.proofs.workers.run_scene.Goals as goal
-
-pub run_shown-ended-requires-clause-rescuers : goal.run_shown-ended-requires-clause-rescuers
-run_shown-ended-requires-clause-rescuers g c κs within =
-    subst (λ (o : Opened). HasRescuers (scenario_in o).stack) (sym c.in-Ok-share.ensures.told)
-    (subst (λ (s : Scenario). HasRescuers s.stack) (sym c.in-Ok.ensures.of) c.requires.said.rescuers)
 
 pub report-requires-clause-ended : goal.report-requires-clause-ended
 report-requires-clause-ended g c =

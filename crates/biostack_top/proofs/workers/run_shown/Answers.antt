@@ -1,16 +1,11 @@
 -- The gate was shown the histories whose merge this is.
 use Rattle.std.proofs.Common.{sym, subst}
-use Rattle.stack_base.specs.Stack.{HasRescuers}
 use Rattle.task_core.specs.declared.opening.Opened.{Opened}
 use Rattle.task_core.specs.opened.OfOne.{scenario_in}
 use Rattle.bio_workers.specs.Gates.{showing}
 use Rattle.biostack_top.specs.Running.{HasMerged}
 use Rattle.biostack_top.proofs.RunningLemmas.{has_merged}
 use Rattle.biostack_top.proofs.workers.run_shown.Goals as goal
-
-pub merge-requires-clause-rescuers : goal.merge-requires-clause-rescuers
-merge-requires-clause-rescuers g c =
-    subst (λ (o : Opened). HasRescuers (scenario_in o).stack) (sym c.run_workers-closed.ensures.told) c.requires.rescuers
 
 pub returns : goal.returns
 returns g c =

@@ -34,7 +34,7 @@ returns c =
     let parts = c.parts-bios.ensures in
     record {
       merged =
-          is_merged closed has c.requires.rescuers _ (c.statuses_of-statuses.ensures ∙ ap (λ tally. tally.thing.object.statuses) parts.tally)
+          is_merged closed has _ (c.statuses_of-statuses.ensures ∙ ap (λ tally. tally.thing.object.statuses) parts.tally)
           (c.disks_of-disks.ensures ∙ ap (λ disks. map (λ disk. disk.thing.object) disks.items) parts.disks)
           (c.pools_of-pools.ensures (pools_in closed has)
           (ap (λ bios. row_of (λ shut. shut.thing.object.state.facts) bios.items) parts.bios ∙ bios_row closed has)

@@ -29,4 +29,4 @@ returns-clause-opened c =
     (c.deref-3.ensures ∙ shared) c.in_ok-open_plain.ensures in
     let room = subst (λ writes. HasRoom c.args.accepted.now.stack writes c.in_ok-room.room) many c.in_ok-room.ensures in
     opened_of _ c.open_others.new.kinds.items routing c.args.accepted.now work c.of.ensures c.of-2.ensures (c.in_ok-tasks.ensures ∙ ap (λ r. with_routing r (shown c.open_others.new.kinds.items)) shared) shared
-    (c.requires.read, c.in_ok-routes.ensures.routes.0, c.in_ok-routes.ensures.routes.1, objects, kinds, room)
+    (c.requires.read, c.requires.rescuers, c.in_ok-routes.ensures.routes.0, c.in_ok-routes.ensures.routes.1, objects, kinds, room)

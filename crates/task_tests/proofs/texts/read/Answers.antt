@@ -12,8 +12,8 @@ read_work-requires-clause-work c =
     ap (λ n. declarations (lines (drop n c.args.text.now))) accepted.3
     ∙ (rest_decides {loose = false} (record { short = read.0; is = read.1; none = accepted.0; means = accepted.1 })).begins
 
-pub returns : goal.returns
-returns c =
+pub returns-clause-read : goal.returns-clause-read
+returns-clause-read c =
     let read = c.in_ok-decl.ensures in
     let accepted = c.in_ok-accepted.ensures in
     record {
