@@ -1,12 +1,12 @@
 -- The flags of a pair, sector by sector.
-use Rattle.std.proofs.Common.{◌≡◌, ◌==◌, ◌+◌, ◌-◌, ◌<◌, ◌≤◌, inl, inr, ℕ, Bool, true, false, List, [], ◌∷◌, Option, None, Some, length, not, sym, ap, ◌∙◌, subst, arith}
+use Rattle.std.proofs.Common.{◌≡◌, ◌==◌, ◌+◌, ◌-◌, ◌<◌, ◌≤◌, inl, inr, ℕ, Bool, true, false, List, [], ◌∷◌, Option, None, Some, length, not, sym, ap, ◌∙◌, subst, refl, arith}
 use Rattle.std.specs.Prelude.{MatchOption}
 use Rattle.std.specs.List.{count_by, range_with_len}
 use Rattle.std.proofs.lemmas.Bool.{cases_eq, cases_lt}
 use Rattle.std.proofs.lemmas.Bool.Decides.{nat_tests}
 use Rattle.std.proofs.lemmas.List.FromFn.{get_or-map-range_with_len, length-map-range_with_len}
 use Rattle.stack_base.specs.declared.ids.Range.{Range}
-use Rattle.model_disks.specs.Runs.{IsApart, IsFirst, flag, runs_from}
+use Rattle.model_disks.specs.Runs.{IsApart, IsFirst, flag, runs_from, starts_run}
 use Rattle.model_disks.proofs.WrittenLemmas.{no_runs, next_run_is, run_has_sectors, unset_at}
 use Rattle.mirror_scrub.specs.declared.pair.Pair.{Pair}
 use Rattle.mirror_scrub.specs.declared.stretch.Stretch.{Stretch}
@@ -98,20 +98,41 @@ none_set flags size place long first = elim (cases_eq place size) [
       grind (arith, nat_tests, other, some)
 ]
 
+-- the first flag that is so, behind others that are not
+pub first_after : (flags : List Bool) (so : Bool) (from next place : ℕ) → from ≤ next → ((x : ℕ) → from ≤ x → x < next → flag flags x ≡ not so)
+    → IsFirst flags next so place → IsFirst flags from so place
+first_after flags so from next place behind before first = record {
+  behind = omega (arith, behind, first.behind);
+  within = first.within;
+  others = λ x le lt. elim (cases_lt x next) [ inl near ↦ before x le near | inr far ↦ first.others x far lt ];
+  here = first.here;
+}
+
 -- the end of a run is looked for behind its first place
 pub end_behind : (flags : List Bool) (start stop : ℕ) → flag flags start ≡ true → IsFirst flags (start + 1) false stop
     → IsFirst flags start false (start + (stop - start))
 end_behind flags start stop set first =
     let whole : stop ≡ start + (stop - start) = omega (arith, first.behind) in
-    subst (IsFirst flags start false) whole (record {
-      behind = omega (arith, first.behind);
-      within = first.within;
-      others = λ x le lt. elim (cases_eq x start) [
-        | inl same ↦ ap (flag flags) same ∙ set
-        | inr other ↦ first.others x (omega (arith, le, other)) lt
-      ];
-      here = first.here;
-    })
+    subst (IsFirst flags start false) whole
+    (first_after flags false start (start + 1) stop (omega arith) (λ x le lt. ap (flag flags) (omega (arith, le, lt)) ∙ set) first)
+
+-- the first run behind flags of which none is set
+pub run_after : (flags : List Bool) (from next : ℕ) (run : Option Range) → from ≤ next → ((x : ℕ) → from ≤ x → x < next → flag flags x ≡ false)
+    → IsFirstRunOf flags next run → IsFirstRunOf flags from run
+run_after flags from next None behind none first = first_after flags true from next (length flags) behind none first
+run_after flags from next (Some run) behind none first =
+    record { start = first_after flags true from next run.start behind none first.start; inside = first.inside; end = first.end }
+
+no_start_inside : (flags : List Bool) (x : ℕ) → 0 < x → flag flags (x - 1) ≡ true → starts_run flags x ≡ false
+unfolding starts_run
+no_start_inside flags x some set = grind (arith, nat_tests)
+
+-- a place that is not inside a run is not set where it is behind one that is
+pub unset_behind : (flags : List Bool) (from : ℕ) → IsApart flags from → 0 < from → flag flags (from - 1) ≡ true → flag flags from ≡ false
+unset_behind flags from apart some set = by_flag (flag flags from) refl where
+  by_flag : (b : Bool) → flag flags from ≡ b → flag flags from ≡ false
+  by_flag true is = cc (apart is, no_start_inside flags from some set)
+  by_flag false is = is
 
 -- The first run of flags, from a place that is not inside one.
 module _ (flags : List Bool) (from : ℕ) where

@@ -2,7 +2,7 @@
 ghost use Rattle.std.specs.Prelude.{◌≡◌, ◌==◌, ◌+◌, ◌<◌, ◌≤◌, Bool, false, length, find, Some, IsSomeAnd};
 ghost use Rattle.std.specs.List.{count_by};
 ghost use Rattle.model_disks.specs.Disks.{DiskState};
-ghost use Rattle.model_disks.specs.Runs.{IsFirst};
+ghost use Rattle.model_disks.specs.Runs.{IsApart, IsFirst};
 ghost use Rattle.mirror_scrub.specs.Stretches.{IsFirstRunOf, IsPair, IsStretchOf, flags_in};
 
 use crate::stretch::Stretch;
@@ -92,6 +92,7 @@ impl<'d> Pair<'d> {
 
     // The first sector at or behind `from` that they show with the same words, or the size where there is none. `from` is in the stretch, which begins at
     // `at`, or right behind it.
+    #[inline(always)]
     fn end(&self, at: u64, stretch: &Stretch, from: u64) -> u64
         requires pair { IsPair self.now }
         requires stretch { IsStretchOf self.now at stretch.now }
@@ -106,26 +107,57 @@ impl<'d> Pair<'d> {
         self.first(at + stretch.len, false)
     }
 
-    /// The first sectors at or behind `from`, as many as follow one another, that they show with different words.
-    pub fn next_differing(&self, from: u64) -> Option<Range>
+    // The first sectors at or behind `from`, as many as follow one another, that they show with different words.
+    fn next_from(&self, from: u64) -> Option<Range>
         requires pair { IsPair self.now }
         requires from { from ≤ self.now.size }
         ensures { IsFirstRunOf (flags_in self.now) from result }
     {
-        let mut at = from;
-        while at < self.size {
-            let stretch = self.stretch(at);
-            let place = stretch.first(0, true);
-            if place < stretch.len {
-                let start = at + place;
-                let end = self.end(at, &stretch, start + 1);
-                return Some(Range {
-                    start,
-                    len: end - start,
-                });
-            }
-            at += stretch.len;
+        let start = self.first(from, true);
+        if start == self.size {
+            return None;
         }
-        None
+        let end = self.first(start, false);
+        Some(Range {
+            start,
+            len: end - start,
+        })
+    }
+
+    // The same, where `from` is in the stretch, which begins at `at`, or right behind it.
+    #[inline(always)]
+    fn next_on(&self, at: u64, stretch: &Stretch, from: u64) -> Option<Range>
+        requires pair { IsPair self.now }
+        requires stretch { IsStretchOf self.now at stretch.now }
+        requires behind { at ≤ from }
+        requires within { from ≤ at + stretch.now.len }
+        ensures { IsFirstRunOf (flags_in self.now) from result }
+    {
+        let place = stretch.first(from - at, true);
+        if place == stretch.len {
+            return self.next_from(at + stretch.len);
+        }
+        let start = at + place;
+        let end = self.end(at, stretch, start + 1);
+        Some(Range {
+            start,
+            len: end - start,
+        })
+    }
+
+    /// The first sectors at or behind `from`, as many as follow one another, that they show with different words. `from` is not inside such a run, so
+    /// behind a sector that differs it is one that does not, and is not read.
+    pub fn next_differing(&self, from: u64) -> Option<Range>
+        requires pair { IsPair self.now }
+        requires from { from < self.now.size }
+        requires apart { IsApart (flags_in self.now) from }
+        ensures { IsFirstRunOf (flags_in self.now) from result }
+    {
+        let at = from.saturating_sub(1);
+        let stretch = self.stretch(at);
+        if from > 0 && stretch.len > 1 && stretch.differ_at(0) {
+            return self.next_on(at, &stretch, from + 1);
+        }
+        self.next_on(at, &stretch, from)
     }
 }

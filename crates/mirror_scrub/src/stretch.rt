@@ -22,8 +22,8 @@ pub struct Stretch<'d> {
 }
 
 impl<'d> Stretch<'d> {
-    // Whether the words of the sectors at this place differ.
-    fn differ_at(&self, place: u64) -> bool
+    /// Whether the words of the sectors at this place differ.
+    pub fn differ_at(&self, place: u64) -> bool
         requires within { LiesInDisks self.now }
         requires here { place < self.now.len }
         ensures { result ≡ differ_at self.now place }
@@ -73,6 +73,7 @@ impl<'d> Stretch<'d> {
     }
 
     /// The place of the first sector, at or behind `from`, that differs, or of the first that does not, or the length where there is none.
+    #[inline(always)]
     pub fn first(&self, from: u64, differing: bool) -> u64
         requires within { LiesInDisks self.now }
         requires from { from ≤ self.now.len }

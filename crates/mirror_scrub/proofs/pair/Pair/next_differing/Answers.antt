@@ -1,45 +1,19 @@
--- Stretch by stretch, up to the first sector that differs, and from there to the first that does not.
-use Rattle.std.proofs.Common.{◌+◌, ◌<◌, true, sym, subst, ◌∙◌, arith}
-use Rattle.model_disks.specs.Runs.{IsFirst}
-use Rattle.mirror_scrub.specs.Stretches.{flags_in}
-use Rattle.mirror_scrub.proofs.PairLemmas.{end_behind, first_is, flag_in, flags_long, others_on}
+-- Behind a sector that differs, the next is not inside a run, and so does not differ.
+use Rattle.std.proofs.Common.{◌≡◌, ◌+◌, ◌-◌, ◌<◌, true, sym, ap, ◌∙◌, arith}
+use Rattle.model_disks.specs.Runs.{flag}
+use Rattle.mirror_scrub.specs.Stretches.{differ_in, flags_in}
+use Rattle.mirror_scrub.proofs.PairLemmas.{flag_in, run_after, unset_behind}
 use Rattle.mirror_scrub.proofs.pair.Pair.next_differing.Goals as goal
 
-pub returns-then-place-stretch : goal.returns-then-place-stretch
-returns-then-place-stretch c =
+pub returns-then-differ_at : goal.returns-then-differ_at
+returns-then-differ_at c =
     let p = c.args.self.now in
-    let s = c.stretch-stretch in
-    let at = c.loop-at.at in
-    let inv = c.loop-at.invariant in
-    let found = c.first-place in
-    let inside = c.if-place-stretch.true in
-    let start = at + found.result in
-    let within : start < p.size = omega (arith, inside, s.ensures.short) in
-    let differs = sym (s.ensures.same found.result inside) ∙ found.ensures.here inside in
-    record {
-      start = first_is p c.args.from true start (omega (arith, inv.behind)) (omega (arith, within))
-          (others_on p s.result true c.args.from at found.result s.ensures found.ensures.within inv.others (λ i lt. found.ensures.others i (omega arith) lt))
-          (λ _. differs);
-      inside = omega (arith, within, flags_long p);
-      end = end_behind (flags_in p) start c.end-end.result (flag_in p start within ∙ differs) c.end-end.ensures;
-    }
-
-pub loop-at-preserved : goal.loop-at-preserved
-loop-at-preserved c =
-    let s = c.stretch-stretch in
-    let inv = c.loop-at.invariant in
-    let found = c.first-place.ensures in
-    record {
-      behind = omega (arith, inv.behind);
-      within = s.ensures.short;
-      others = others_on c.args.self.now s.result true c.args.from c.loop-at.at s.result.len s.ensures (omega arith) inv.others
-          (λ i lt. found.others i (omega arith) (omega (arith, lt, found.within, c.if-place-stretch.false)));
-    }
-
-pub returns : goal.returns
-returns c =
-    let p = c.args.self.now in
-    let inv = c.loop-at.invariant in
-    subst (λ n. IsFirst (flags_in p) c.args.from true n) (sym (flags_long p))
-    (first_is p c.args.from true p.size c.requires.from (omega arith)
-    (λ x le lt. inv.others x le (omega (arith, lt, c.loop-at-test.false))) (λ lt. absurd (omega (arith, lt))))
+    let flags = flags_in p in
+    let from = c.args.from in
+    let some : 0 < from = omega (arith, c.if-from-gt0.true) in
+    let before : c.saturating_sub-at.result ≡ from - 1 = omega (arith, c.saturating_sub-at.ensures) in
+    let differs = sym (c.stretch-stretch.ensures.same 0 (omega (arith, c.if-stretch-gt1.true))) ∙ sym c.differ_at.ensures ∙ c.if-differ_at.true in
+    let set : flag flags (from - 1) ≡ true =
+    flag_in p (from - 1) (omega (arith, some, c.requires.from)) ∙ ap (differ_in p) (omega (arith, before)) ∙ differs in
+    run_after flags from (from + 1) c.next_on.result (omega arith)
+    (λ x le lt. ap (flag flags) (omega (arith, le, lt)) ∙ unset_behind flags from c.requires.apart some set) c.next_on.ensures
