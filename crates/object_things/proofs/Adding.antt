@@ -1,5 +1,5 @@
 -- Histories, and the lock that keeps one, add up where each call does.
-use Rattle.std.proofs.Common.{◌≡◌, ◌+◌, ◌++◌, ◌-◌, ◌≤◌, ℕ, zero, suc, ⊎_elim, List, [], ◌∷◌, Option, Some, None, length, get_or, set, refl, sym, ◌∙◌, ap, subst, arith}
+use Rattle.std.proofs.Common.{◌≡◌, ◌+◌, ◌++◌, ◌-◌, ◌≤◌, ℕ, zero, suc, ⊎_elim, inl, inr, List, [], ◌∷◌, Option, Some, None, length, get_or, set, refl, sym, ◌∙◌, ap, subst, arith}
 use Rattle.std.specs.Prelude.{sum}
 use Rattle.std.specs.List.{flat_map}
 use Rattle.std.specs.declared.snapshot.Snapshot.{Snapshot}
@@ -75,7 +75,8 @@ resized : (old : LedgerPool) (min out : ℕ) (new : LedgerPool) → Resizes old 
 resized old min out new r = ⊎_elim (λ a. moved [] a.1) (λ b. same_pool b.1) r.1
 
 undone : (old new : LedgerPool) → Undone old new → PoolAddsUp old [] new
-undone old new u = ⊎_elim (λ e. then [] [] [] (moved [] u.2) (same_pool e)) (λ g. then [] [] [] (moved [] u.2) (moved [] g)) u.3
+undone old new (inl (used, missed)) = moved [] missed
+undone old new (inr (from, between, taken, back)) = then [] [] [] (had old from between taken) (moved [] back)
 
 pool_served : (old : LedgerPool) (asked : Request) (reply : Reply) (new : LedgerPool) → PoolServes old asked reply new → PoolAddsUp old [] new
 pool_served old (TakeBio set waits) (HadBio from bio) new s = had old from new s.0

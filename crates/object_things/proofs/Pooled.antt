@@ -1,5 +1,5 @@
 -- Calls of a pool by its name.
-use Rattle.std.proofs.Common.{◌≡◌, ◌⊎◌, ◌&&◌, Bool, true, false, not, Ok, refl, sym, ap, subst, ◌∙◌}
+use Rattle.std.proofs.Common.{◌≡◌, ◌&&◌, Bool, true, false, not, Ok, inl, inr, refl, sym, ap, subst, ◌∙◌}
 use Rattle.elem_ledger.specs.Ledger.{LedgerId}
 use Rattle.stack_base.specs.declared.ids.PoolId.{PoolId}
 use Rattle.stack_base.specs.declared.ids.PoolId.TheVariants.{FsBios, FsVecs, Bios, Records}
@@ -11,9 +11,9 @@ use Rattle.mempool_core.specs.declared.Taken.TheVariants.{Ordinary, Spare, Miss}
 use Rattle.run_machine.specs.Requests.{Did, Missed, Spent}
 use Rattle.run_machine.specs.Objects.{clear_bio, clear_vector, clear_slip}
 use Rattle.task_steps.specs.Stage.{Stage}
-use Rattle.task_core.proofs.own.PlainLemmas.{take_moves}
+use Rattle.run_machine.specs.declared.event.Got.TheVariants as got
 use Rattle.object_things.specs.Stamps.{StampState, ThingState, FindsNone, thing_state}
-use Rattle.object_things.specs.Pools.{PoolServes, PoolLooks, TakeFindsNone, TookFrom, Undone, WaitsAt, IsPoolOf, take_of, give_of, took, is_look}
+use Rattle.object_things.specs.Pools.{PoolServes, PoolLooks, TakeFindsNone, TookFrom, GoesBack, Undone, WaitsAt, IsPoolOf, take_of, give_of, took, is_look}
 
 told_so : (waits used : Bool) → (waits && not used) ≡ false → waits ≡ true → used ≡ true
 told_so true true e h = refl
@@ -54,8 +54,10 @@ module _ {P : Type 0} (is_clear : P → Type 0) where
   miss_looks name waits old new stamp (Spare el) w look takes = absurd (cc look)
   miss_looks name waits old new stamp (Miss used) w look takes = looks_by name waits used old new stamp w (looks_at waits used look) takes
 
-  pub undone : (old between new : LedgerPool) (taken : Taken P) → TakeOf is_clear old taken between → (new ≡ between) ⊎ PoolMoves between gives new → Undone old new
-  undone old between new taken takes after = let m = take_moves is_clear old between taken takes in (m.0, between, m.1, after)
+  pub undone : (old between new : LedgerPool) (taken : Taken P) → TakeOf is_clear old taken between → GoesBack taken between new → Undone old new
+  undone old between new (Ordinary el) takes back = inr (got.Ordinary, between, takes.0, back)
+  undone old between new (Spare el) takes back = inr (got.Spare, between, takes.0, back)
+  undone old between new (Miss used) takes back = inl (used, subst (PoolMoves old (misses used)) (sym back) takes)
 
   pub took_from : (old new : LedgerPool) (taken : Taken P) → TakeOf is_clear old taken new → TookFrom is_clear old.ledger (Ok taken)
   took_from old new (Ordinary el) takes = takes.1

@@ -6,7 +6,7 @@ use Rattle.stack_base.specs.declared.ids.PoolId.{PoolId}
 use Rattle.stack_base.specs.declared.ids.PoolId.TheVariants.{FsBios, FsVecs, Bios, Records}
 use Rattle.stack_base.specs.declared.ids.SetId.TheVariants.{Fs, Of}
 use Rattle.stack_base.specs.PoolId.{pool_number}
-use Rattle.mempool_core.specs.Move.{Move, takes_ordinary, takes_spare, misses, gives}
+use Rattle.mempool_core.specs.Move.{takes_ordinary, takes_spare, misses, gives}
 use Rattle.mempool_core.specs.Pool.{LedgerPool, PoolMoves}
 use Rattle.mempool_core.specs.Taken.{IsHandedOut}
 use Rattle.mempool_core.specs.declared.Taken.{Taken}
@@ -100,9 +100,16 @@ PoolServes old (GiveSlip slip) Did new = PoolMoves old gives new × (slip.share 
 PoolServes old (Resize pool min) (OutIs out) new = Resizes old min out new
 PoolServes old request reply new = ⊥
 
--- what a take that found no ticket may leave: its move, and a give behind it
+-- what a take that found no ticket leaves: it missed, or gave back what it had
 abbrev pub Undone : LedgerPool → LedgerPool → Type 0
-Undone old new = (move : Move) × (between : LedgerPool) × PoolMoves old move between × ((new ≡ between) ⊎ PoolMoves between gives new)
+Undone old new = ((used : Bool) × PoolMoves old (misses used) new) ⊎ ((from : Got) × (between : LedgerPool) × HasOne old from between × PoolMoves between gives new)
+
+module _ {P : Type 0} where
+  -- what was taken goes back
+  abbrev pub GoesBack : Taken P → LedgerPool → LedgerPool → Type 0
+  GoesBack (taken.Ordinary el) old new = PoolMoves old gives new
+  GoesBack (taken.Spare el) old new = PoolMoves old gives new
+  GoesBack (taken.Miss used) old new = new ≡ old
 
 abbrev pub TakeFindsNone : ThingState LedgerPool → ThingState LedgerPool → Type 0
 TakeFindsNone old new = Undone old.object new.object × (new.spent ≡ true)

@@ -53,6 +53,10 @@ PassBy pass note spent drew (Some n) after = (max pass.seen note < n) × (pass.k
 PassBy pass note true drew None after = (after ≡ record pass { known = after.known }) × (pass.known ≤ after.known) × (drew ≡ true → IsOver pass note after)
 PassBy pass note false drew None after = after ≡ record pass { seen = max pass.seen note }
 
+-- a ticket above all that the note had seen was drawn, where no draw had failed
+abbrev pub HasDrawn : StampState → ℕ → StampState → Type 0
+HasDrawn old ticket new = (old.spent ≡ false) × (old.note < ticket) × (new ≡ record old { note = ticket })
+
 -- what the history keeps of a reply: the reply, what the note had seen, whether no draw had failed before, and the ticket that was drawn
 pub record Told : Type 0 where
   pub reply : Reply

@@ -57,10 +57,18 @@ impl Model for BookData {
 }
 
 /// A book with its note.
-#[derive(Drop)]
 pub struct BookThing {
     book: Book,
     stamp: Stamp,
+}
+
+// A drop by hand is proved here, once. A derived one every crate above would prove anew that drops a thing, or hands one to what may.
+impl Drop for BookThing {
+    fn drop(self) {
+        let BookThing { book, stamp } = self;
+        drop(book);
+        drop(stamp);
+    }
 }
 
 impl Model for BookThing {
@@ -154,13 +162,7 @@ impl Thing for BookThing {
 }
 
 // Opens a node, with a ticket.
-fn link(
-    book: &mut Book,
-    stamp: &mut Stamp,
-    mut pass: Pass,
-    writer: u32,
-    what: Ask,
-) -> Replied<BookSaid>
+fn link(book: &mut Book, stamp: &mut Stamp, pass: Pass, writer: u32, what: Ask) -> Replied<BookSaid>
     requires clock { pass.clock ≡ stamp.old.common.clock }
     requires own { writer ≡ book.old.writer }
     requires alone { IsAskAlone what }
@@ -173,23 +175,10 @@ fn link(
     ensures same { (stamp.new.common ≡ stamp.old.common) × (book.new.writer ≡ book.old.writer) }
     ensures of { IsBookOf (stage_in stamp.old.common) book.old.writer book.new }
 {
-    let note = stamp.seen();
-    let drew = stamp.can_draw();
-    match stamp.draw(&mut pass) {
-        Some(ticket) => Replied {
-            pass,
-            said: BookSaid::Linked(Ok(link_in(book, what))),
-            note,
-            drew,
-            ticket: Some(ticket),
-        },
-        None => Replied {
-            pass,
-            said: BookSaid::Linked(Err(Unmade::Ask(what))),
-            note,
-            drew,
-            ticket: None,
-        },
+    let (turn, drawn) = stamp.turn(pass);
+    match drawn {
+        Some(ticket) => turn.reply(Some(ticket), BookSaid::Linked(Ok(link_in(book, what)))),
+        None => turn.reply(None, BookSaid::Linked(Err(Unmade::Ask(what)))),
     }
 }
 
@@ -197,7 +186,7 @@ fn link(
 fn drop_one(
     book: &mut Book,
     stamp: &mut Stamp,
-    mut pass: Pass,
+    pass: Pass,
     writer: u32,
     node: u32,
     status: Status,
@@ -215,23 +204,13 @@ fn drop_one(
     ensures same { (stamp.new.common ≡ stamp.old.common) × (book.new.writer ≡ book.old.writer) }
     ensures of { IsBookOf (stage_in stamp.old.common) book.old.writer book.new }
 {
-    let note = stamp.seen();
-    let drew = stamp.can_draw();
-    match stamp.draw(&mut pass) {
-        Some(ticket) => Replied {
-            pass,
-            said: BookSaid::Dropped(Ok(book.drop_one(node, status, part))),
-            note,
-            drew,
-            ticket: Some(ticket),
-        },
-        None => Replied {
-            pass,
-            said: BookSaid::Dropped(Err(unmade_part(part))),
-            note,
-            drew,
-            ticket: None,
-        },
+    let (turn, drawn) = stamp.turn(pass);
+    match drawn {
+        Some(ticket) => turn.reply(
+            Some(ticket),
+            BookSaid::Dropped(Ok(book.drop_one(node, status, part))),
+        ),
+        None => turn.reply(None, BookSaid::Dropped(Err(unmade_part(part)))),
     }
 }
 

@@ -49,10 +49,18 @@ impl Model for DiskData {
 }
 
 /// A disk with its note.
-#[derive(Drop)]
 pub struct DiskThing {
     disk: Disk,
     stamp: Stamp,
+}
+
+// A drop by hand is proved here, once. A derived one every crate above would prove anew that drops a thing, or hands one to what may.
+impl Drop for DiskThing {
+    fn drop(self) {
+        let DiskThing { disk, stamp } = self;
+        drop(disk);
+        drop(stamp);
+    }
 }
 
 impl Model for DiskThing {
@@ -120,7 +128,9 @@ impl Thing for DiskThing {
         let Asking { pass, ask } = asking;
         match ask {
             DiskAsk::Push { el } => push(&mut self.disk, &mut self.stamp, pass, el),
-            DiskAsk::Look { disk } => look(&self.disk, &self.stamp, pass, disk),
+            DiskAsk::Look { disk: _ } => self
+                .stamp
+                .look(pass, DiskSaid::Waiting(self.disk.pending())),
             DiskAsk::Complete { disk, index } => complete(
                 &mut self.disk,
                 &mut self.stamp,
@@ -132,25 +142,8 @@ impl Thing for DiskThing {
     }
 }
 
-// How many bios wait.
-fn look(disk: &Disk, stamp: &Stamp, mut pass: Pass, dev: DevId) -> Replied<DiskSaid>
-    ensures answers { DiskAnswers (thing_state disk.now stamp.now) (CompleteOf dev) (disk_told result) (thing_state disk.now stamp.now) }
-    ensures pass { PassBy pass result.note (is_spent (disk_replied result.said)) result.drew result.ticket result.pass }
-    ensures says { DiskSays (stage_in stamp.now.common) (ask.Look dev) result.said }
-{
-    let note = stamp.meet(&mut pass);
-    let drew = stamp.can_draw();
-    Replied {
-        pass,
-        said: DiskSaid::Waiting(disk.pending()),
-        note,
-        drew,
-        ticket: None,
-    }
-}
-
 // A bio comes to the disk.
-fn push(disk: &mut Disk, stamp: &mut Stamp, mut pass: Pass, el: BioElement) -> Replied<DiskSaid>
+fn push(disk: &mut Disk, stamp: &mut Stamp, pass: Pass, el: BioElement) -> Replied<DiskSaid>
     requires clock { pass.clock ≡ stamp.old.common.clock }
     requires own { (item_of el).bio.dev.0 ≡ disk.old.dev.0 }
     requires alone { IsAlone el }
@@ -162,26 +155,13 @@ fn push(disk: &mut Disk, stamp: &mut Stamp, mut pass: Pass, el: BioElement) -> R
     ensures same { (stamp.new.common ≡ stamp.old.common) × (disk.new.dev ≡ disk.old.dev) }
     ensures of { IsDiskOf (stage_in stamp.old.common) disk.old.dev.0 disk.new }
 {
-    let note = stamp.seen();
-    let drew = stamp.can_draw();
-    match stamp.draw(&mut pass) {
+    let (turn, drawn) = stamp.turn(pass);
+    match drawn {
         Some(ticket) => {
             disk.push(el);
-            Replied {
-                pass,
-                said: DiskSaid::Pushed(Ok(())),
-                note,
-                drew,
-                ticket: Some(ticket),
-            }
+            turn.reply(Some(ticket), DiskSaid::Pushed(Ok(())))
         }
-        None => Replied {
-            pass,
-            said: DiskSaid::Pushed(Err(Unmade::Bio(el))),
-            note,
-            drew,
-            ticket: None,
-        },
+        None => turn.reply(None, DiskSaid::Pushed(Err(Unmade::Bio(el)))),
     }
 }
 
@@ -189,7 +169,7 @@ fn push(disk: &mut Disk, stamp: &mut Stamp, mut pass: Pass, el: BioElement) -> R
 fn complete(
     disk: &mut Disk,
     stamp: &mut Stamp,
-    mut pass: Pass,
+    pass: Pass,
     dev: DevId,
     index: u64,
 ) -> Replied<DiskSaid>
@@ -203,34 +183,14 @@ fn complete(
     ensures of { IsDiskOf (stage_in stamp.old.common) disk.old.dev.0 disk.new }
 {
     let pending = disk.pending();
-    let drew = stamp.can_draw();
     if pending == 0 {
-        let note = stamp.meet(&mut pass);
-        return Replied {
-            pass,
-            said: DiskSaid::Completed(Ok(None)),
-            note,
-            drew,
-            ticket: None,
-        };
+        return stamp.look(pass, DiskSaid::Completed(Ok(None)));
     }
-    let note = stamp.seen();
-    let Some(ticket) = stamp.draw(&mut pass) else {
-        return Replied {
-            pass,
-            said: DiskSaid::Completed(Err(Unmade::Nothing)),
-            note,
-            drew,
-            ticket: None,
-        };
+    let (turn, drawn) = stamp.turn(pass);
+    let Some(ticket) = drawn else {
+        return turn.reply(None, DiskSaid::Completed(Err(Unmade::Nothing)));
     };
     let at = index.min(pending - 1);
     let done = disk.complete(at);
-    Replied {
-        pass,
-        said: DiskSaid::Completed(Ok(Some((at, done)))),
-        note,
-        drew,
-        ticket: Some(ticket),
-    }
+    turn.reply(Some(ticket), DiskSaid::Completed(Ok(Some((at, done)))))
 }

@@ -43,10 +43,18 @@ impl Model for ListData {
 }
 
 /// The list of a rescuer with its note.
-#[derive(Drop)]
 pub struct ListThing {
     list: RescueList,
     stamp: Stamp,
+}
+
+// A drop by hand is proved here, once. A derived one every crate above would prove anew that drops a thing, or hands one to what may.
+impl Drop for ListThing {
+    fn drop(self) {
+        let ListThing { list, stamp } = self;
+        drop(list);
+        drop(stamp);
+    }
 }
 
 impl Model for ListThing {
@@ -123,7 +131,7 @@ impl Thing for ListThing {
 fn punt(
     list: &mut RescueList,
     stamp: &mut Stamp,
-    mut pass: Pass,
+    pass: Pass,
     dev: DevId,
     moved: BioList,
 ) -> Replied<ListSaid>
@@ -138,31 +146,18 @@ fn punt(
     ensures same { (stamp.new.common ≡ stamp.old.common) × (list.new.dev ≡ list.old.dev) }
     ensures of { AreServed (stage_in stamp.old.common) list.new.bios }
 {
-    let note = stamp.seen();
-    let drew = stamp.can_draw();
-    match stamp.draw(&mut pass) {
+    let (turn, drawn) = stamp.turn(pass);
+    match drawn {
         Some(ticket) => {
             list.add(moved);
-            Replied {
-                pass,
-                said: ListSaid::Punted(Ok(())),
-                note,
-                drew,
-                ticket: Some(ticket),
-            }
+            turn.reply(Some(ticket), ListSaid::Punted(Ok(())))
         }
-        None => Replied {
-            pass,
-            said: ListSaid::Punted(Err(Unmade::List(moved))),
-            note,
-            drew,
-            ticket: None,
-        },
+        None => turn.reply(None, ListSaid::Punted(Err(Unmade::List(moved)))),
     }
 }
 
 // The first bio leaves the list, if there is one.
-fn pop(list: &mut RescueList, stamp: &mut Stamp, mut pass: Pass, dev: DevId) -> Replied<ListSaid>
+fn pop(list: &mut RescueList, stamp: &mut Stamp, pass: Pass, dev: DevId) -> Replied<ListSaid>
     requires clock { pass.clock ≡ stamp.old.common.clock }
     requires own { dev.0 ≡ list.old.dev.0 }
     requires of { AreServed (stage_in stamp.old.common) list.old.bios }
@@ -173,33 +168,13 @@ fn pop(list: &mut RescueList, stamp: &mut Stamp, mut pass: Pass, dev: DevId) -> 
     ensures same { (stamp.new.common ≡ stamp.old.common) × (list.new.dev ≡ list.old.dev) }
     ensures of { AreServed (stage_in stamp.old.common) list.new.bios }
 {
-    let drew = stamp.can_draw();
     if list.is_empty() {
-        let note = stamp.meet(&mut pass);
-        return Replied {
-            pass,
-            said: ListSaid::Popped(Ok(None)),
-            note,
-            drew,
-            ticket: None,
-        };
+        return stamp.look(pass, ListSaid::Popped(Ok(None)));
     }
-    let note = stamp.seen();
-    let Some(ticket) = stamp.draw(&mut pass) else {
-        return Replied {
-            pass,
-            said: ListSaid::Popped(Err(Unmade::Nothing)),
-            note,
-            drew,
-            ticket: None,
-        };
+    let (turn, drawn) = stamp.turn(pass);
+    let Some(ticket) = drawn else {
+        return turn.reply(None, ListSaid::Popped(Err(Unmade::Nothing)));
     };
     let Some(el) = list.pop() else { unreachable!() };
-    Replied {
-        pass,
-        said: ListSaid::Popped(Ok(Some(el))),
-        note,
-        drew,
-        ticket: Some(ticket),
-    }
+    turn.reply(Some(ticket), ListSaid::Popped(Ok(Some(el))))
 }

@@ -1,13 +1,10 @@
 //! A pool as a thing.
-ghost use Rattle.std.specs.Prelude.{◌≡◌, ◌⊎◌, ◌≤◌, max, not, None, false, Ok};
-ghost use Rattle.mempool_core.specs.declared.Taken.TheVariants.{Miss};
-ghost use Rattle.mempool_core.specs.Move.{gives};
-ghost use Rattle.mempool_core.specs.Pool.{PoolMoves};
+ghost use Rattle.std.specs.Prelude.{◌≡◌, ◌≤◌};
 ghost use Rattle.run_machine.specs.Requests.{Resize};
 ghost use Rattle.object_things.specs.declared.pool.PoolAsk.TheVariants as ask;
 ghost use Rattle.object_things.specs.declared.pool.PoolSaid.TheVariants as said;
 ghost use Rattle.object_things.specs.Stamps.{PassBy, thing_state, is_spent, stage_in};
-ghost use Rattle.object_things.specs.Pools.{IsPoolOf, PoolAnswers, PoolSays, WaitsAt, TakenOf, is_look, take_of, give_of, pool_told, pool_replied};
+ghost use Rattle.object_things.specs.Pools.{GoesBack, IsPoolOf, PoolAnswers, PoolSays, WaitsAt, TakenOf, is_look, take_of, give_of, pool_told, pool_replied};
 
 use crate::stamp::{Asked, Asking, Mark, Replied, Stamp, Told};
 use elem_ledger::{Element, Fresh};
@@ -53,10 +50,18 @@ impl<P: Fresh + Drop> Model for PoolData<P> {
 }
 
 /// A pool with its note.
-#[derive(Drop)]
 pub struct PoolThing<P: Fresh + Drop> {
     pool: Pool<P>,
     stamp: Stamp,
+}
+
+// A drop by hand is proved here, once. A derived one every crate above would prove anew that drops a thing, or hands one to what may.
+impl<P: Fresh + Drop> Drop for PoolThing<P> {
+    fn drop(self) {
+        let PoolThing { pool, stamp } = self;
+        drop(pool);
+        drop(stamp);
+    }
 }
 
 impl<P: Fresh + Drop> Model for PoolThing<P> {
@@ -145,7 +150,7 @@ impl<P: Fresh + Drop> Thing for PoolThing<P> {
 // Puts back what a take has had that gets no ticket.
 fn undo<P: Fresh + Drop>(pool: &mut Pool<P>, taken: Taken<P>)
     requires { TakenOf taken pool.old.ledger }
-    ensures { (pool.new ≡ pool.old) ⊎ PoolMoves pool.old gives pool.new }
+    ensures { GoesBack taken pool.old pool.new }
 {
     match taken {
         Taken::Ordinary(el) | Taken::Spare(el) => pool.give(el),
@@ -163,21 +168,11 @@ fn is_look<P: Fresh + Drop>(taken: &Taken<P>, waits: bool) -> bool
     }
 }
 
-// A look: nothing has changed, and the pass meets the note.
-fn looked<P: Fresh + Drop>(stamp: &Stamp, mut pass: Pass, name: PoolId) -> Replied<PoolSaid<P>>
-    ensures { result ≡ record { pass = record pass { seen = max pass.seen stamp.now.note }; said = said.Took name (Ok (Miss false)); note = stamp.now.note; drew = not stamp.now.spent; ticket = None } }
+// What a take says.
+fn took<P: Fresh + Drop>(pool: PoolId, of: Result<Taken<P>, Unmade>) -> PoolSaid<P>
+    ensures { result ≡ said.Took pool of }
 {
-    let note = stamp.meet(&mut pass);
-    Replied {
-        pass,
-        said: PoolSaid::Took {
-            pool: name,
-            result: Ok(Taken::Miss { used: false }),
-        },
-        note,
-        drew: stamp.can_draw(),
-        ticket: None,
-    }
+    PoolSaid::Took { pool, result: of }
 }
 
 // A take, with its ticket.
@@ -185,7 +180,7 @@ fn looked<P: Fresh + Drop>(stamp: &Stamp, mut pass: Pass, name: PoolId) -> Repli
 fn take<P: Fresh + Drop>(
     pool: &mut Pool<P>,
     stamp: &mut Stamp,
-    mut pass: Pass,
+    pass: Pass,
     name: PoolId,
     waits: bool,
 ) -> Replied<PoolSaid<P>>
@@ -197,35 +192,16 @@ fn take<P: Fresh + Drop>(
     ensures pool { (pool.new.ledger ≡ pool.old.ledger) × (pool.new.most ≡ pool.old.most) }
     ensures same { stamp.new.common ≡ stamp.old.common }
 {
-    let note = stamp.seen();
-    let drew = stamp.can_draw();
     let taken = pool.take();
     if is_look(&taken, waits) {
-        return looked(stamp, pass, name);
+        return stamp.look(pass, took(name, Ok(Taken::Miss { used: false })));
     }
-    match stamp.draw(&mut pass) {
-        Some(ticket) => Replied {
-            pass,
-            said: PoolSaid::Took {
-                pool: name,
-                result: Ok(taken),
-            },
-            note,
-            drew,
-            ticket: Some(ticket),
-        },
+    let (turn, drawn) = stamp.turn(pass);
+    match drawn {
+        Some(ticket) => turn.reply(Some(ticket), took(name, Ok(taken))),
         None => {
             undo(pool, taken);
-            Replied {
-                pass,
-                said: PoolSaid::Took {
-                    pool: name,
-                    result: Err(Unmade::Nothing),
-                },
-                note,
-                drew,
-                ticket: None,
-            }
+            turn.reply(None, took(name, Err(Unmade::Nothing)))
         }
     }
 }
@@ -235,7 +211,7 @@ fn take<P: Fresh + Drop>(
 fn give<P: Fresh + Drop>(
     pool: &mut Pool<P>,
     stamp: &mut Stamp,
-    mut pass: Pass,
+    pass: Pass,
     name: PoolId,
     el: Element<P>,
 ) -> Replied<PoolSaid<P>>
@@ -247,26 +223,13 @@ fn give<P: Fresh + Drop>(
     ensures pool { (pool.new.ledger ≡ pool.old.ledger) × (pool.new.most ≡ pool.old.most) }
     ensures same { stamp.new.common ≡ stamp.old.common }
 {
-    let note = stamp.seen();
-    let drew = stamp.can_draw();
-    match stamp.draw(&mut pass) {
+    let (turn, drawn) = stamp.turn(pass);
+    match drawn {
         Some(ticket) => {
             pool.give(el);
-            Replied {
-                pass,
-                said: PoolSaid::Gave(Ok(())),
-                note,
-                drew,
-                ticket: Some(ticket),
-            }
+            turn.reply(Some(ticket), PoolSaid::Gave(Ok(())))
         }
-        None => Replied {
-            pass,
-            said: PoolSaid::Gave(Err(el)),
-            note,
-            drew,
-            ticket: None,
-        },
+        None => turn.reply(None, PoolSaid::Gave(Err(el))),
     }
 }
 
@@ -274,7 +237,7 @@ fn give<P: Fresh + Drop>(
 fn resize<P: Fresh + Drop>(
     pool: &mut Pool<P>,
     stamp: &mut Stamp,
-    mut pass: Pass,
+    pass: Pass,
     name: PoolId,
     min: u32,
 ) -> Replied<PoolSaid<P>>
@@ -286,22 +249,9 @@ fn resize<P: Fresh + Drop>(
     ensures pool { (pool.new.ledger ≡ pool.old.ledger) × (pool.new.most ≡ pool.old.most) }
     ensures same { stamp.new.common ≡ stamp.old.common }
 {
-    let note = stamp.seen();
-    let drew = stamp.can_draw();
-    match stamp.draw(&mut pass) {
-        Some(ticket) => Replied {
-            pass,
-            said: PoolSaid::Resized(Ok(resize_home(pool, min))),
-            note,
-            drew,
-            ticket: Some(ticket),
-        },
-        None => Replied {
-            pass,
-            said: PoolSaid::Resized(Err(Unmade::Nothing)),
-            note,
-            drew,
-            ticket: None,
-        },
+    let (turn, drawn) = stamp.turn(pass);
+    match drawn {
+        Some(ticket) => turn.reply(Some(ticket), PoolSaid::Resized(Ok(resize_home(pool, min)))),
+        None => turn.reply(None, PoolSaid::Resized(Err(Unmade::Nothing))),
     }
 }

@@ -1,7 +1,7 @@
 //! What each thing has beside its object.
 ghost use Rattle.std.specs.Prelude.{◌≡◌, ◌<◌, ◌≤◌, max, not, None, true, false, IfSome};
 ghost use Rattle.tick_clock.specs.Tickets.{drawn_with};
-ghost use Rattle.object_things.specs.Stamps.{IsOver};
+ghost use Rattle.object_things.specs.Stamps.{HasDrawn, IsOver, PassBy};
 
 use std::alloc::Global;
 use std::marker::Model;
@@ -86,6 +86,13 @@ pub struct Asking<Q> {
     pub ask: Q,
 }
 
+/// What a call found of an object's note before it drew, and the pass behind that draw.
+pub(crate) struct Turn {
+    pass: Pass,
+    note: u64,
+    drew: bool,
+}
+
 /// What a thing replies.
 pub struct Replied<S> {
     pub pass: Pass,
@@ -133,31 +140,36 @@ impl Stamp {
         self.note
     }
 
-    /// What the note has seen.
-    pub(crate) fn seen(&self) -> u64
-        ensures { result ≡ self.now.note }
-    {
-        self.note.seen()
-    }
-
-    /// Whether no draw has failed.
-    pub(crate) fn can_draw(&self) -> bool
-        ensures { result ≡ not self.now.spent }
-    {
-        !self.spent
-    }
-
-    /// The pass meets the note. Answers what the note has seen.
-    pub(crate) fn meet(&self, pass: &mut Pass) -> u64
-        ensures pass { pass.new ≡ record pass.old { seen = max pass.old.seen self.now.note } }
-        ensures note { result ≡ self.now.note }
+    /// What a call says that only looks: the pass meets the note, and nothing is drawn.
+    pub(crate) fn look<S>(&self, mut pass: Pass, said: S) -> Replied<S>
+        ensures { result ≡ record { pass = record pass { seen = max pass.seen self.now.note }; said = said; note = self.now.note; drew = not self.now.spent; ticket = None } }
     {
         pass.meet(&self.note);
-        self.note.seen()
+        Replied {
+            pass,
+            said,
+            note: self.note.seen(),
+            drew: !self.spent,
+            ticket: None,
+        }
     }
 
-    /// Draws a ticket, if there is one.
-    pub(crate) fn draw(&mut self, pass: &mut Pass) -> Option<u64>
+    /// The turn of a call that draws a ticket, and the ticket, if there was one.
+    pub(crate) fn turn(&mut self, mut pass: Pass) -> (Turn, Option<u64>)
+        requires { pass.clock ≡ self.old.common.clock }
+        ensures found { (result.0.note ≡ self.old.note) × (result.0.drew ≡ not self.old.spent) }
+        ensures some { IfSome result.1 (λ n. HasDrawn self.old n self.new) }
+        ensures none { result.1 ≡ None → self.new ≡ record self.old { spent = true } }
+        ensures pass { PassBy pass self.old.note true (not self.old.spent) result.1 result.0.pass }
+    {
+        let note = self.note.seen();
+        let drew = !self.spent;
+        let ticket = self.draw(&mut pass);
+        (Turn { pass, note, drew }, ticket)
+    }
+
+    // Draws a ticket, if there is one.
+    fn draw(&mut self, pass: &mut Pass) -> Option<u64>
         requires { pass.old.clock ≡ self.old.common.clock }
         ensures ready { IfSome result (λ _. self.old.spent ≡ false) }
         ensures above { IfSome result (λ n. (max pass.old.seen self.old.note < n) × (pass.old.known < n)) }
@@ -173,5 +185,21 @@ impl Stamp {
         let drawn = self.common.clock.draw(pass, &mut self.note);
         self.spent = drawn.is_none();
         drawn
+    }
+}
+
+impl Turn {
+    /// What a call says, with the ticket that it drew.
+    pub(crate) fn reply<S>(self, ticket: Option<u64>, said: S) -> Replied<S>
+        ensures { result ≡ record { pass = self.pass; said = said; note = self.note; drew = self.drew; ticket = ticket } }
+    {
+        let Turn { pass, note, drew } = self;
+        Replied {
+            pass,
+            said,
+            note,
+            drew,
+            ticket,
+        }
     }
 }

@@ -1,5 +1,5 @@
 //! The tally as a thing.
-ghost use Rattle.std.specs.Prelude.{◌≡◌, ◌<◌, max, not, None};
+ghost use Rattle.std.specs.Prelude.{◌≡◌, ◌<◌};
 ghost use Rattle.task_core.specs.ObjectsOf.{IsTallyOf};
 ghost use Rattle.task_core.specs.Plains.{tally_of};
 ghost use Rattle.run_machine.specs.Requests.{Done as DoneOf, NextRound};
@@ -49,10 +49,18 @@ impl Model for TallyData {
 }
 
 /// The tally with its note.
-#[derive(Drop)]
 pub struct TallyThing {
     tally: Tally,
     stamp: Stamp,
+}
+
+// A drop by hand is proved here, once. A derived one every crate above would prove anew that drops a thing, or hands one to what may.
+impl Drop for TallyThing {
+    fn drop(self) {
+        let TallyThing { tally, stamp } = self;
+        drop(tally);
+        drop(stamp);
+    }
 }
 
 impl Model for TallyThing {
@@ -130,24 +138,9 @@ impl Thing for TallyThing {
                 status,
             ),
             TallyAsk::Next => next(&mut self.tally, &mut self.stamp, pass),
-            TallyAsk::Round => looked(&self.stamp, pass, TallySaid::Round(self.tally.round)),
-            TallyAsk::Left => looked(&self.stamp, pass, TallySaid::Left(self.tally.left())),
+            TallyAsk::Round => self.stamp.look(pass, TallySaid::Round(self.tally.round)),
+            TallyAsk::Left => self.stamp.look(pass, TallySaid::Left(self.tally.left())),
         }
-    }
-}
-
-// A look: the pass meets the note.
-fn looked(stamp: &Stamp, mut pass: Pass, said: TallySaid) -> Replied<TallySaid>
-    ensures { result ≡ record { pass = record pass { seen = max pass.seen stamp.now.note }; said = said; note = stamp.now.note; drew = not stamp.now.spent; ticket = None } }
-{
-    let note = stamp.meet(&mut pass);
-    let drew = stamp.can_draw();
-    Replied {
-        pass,
-        said,
-        note,
-        drew,
-        ticket: None,
     }
 }
 
@@ -155,7 +148,7 @@ fn looked(stamp: &Stamp, mut pass: Pass, said: TallySaid) -> Replied<TallySaid>
 fn done(
     tally: &mut Tally,
     stamp: &mut Stamp,
-    mut pass: Pass,
+    pass: Pass,
     write: u32,
     status: Status,
 ) -> Replied<TallySaid>
@@ -169,31 +162,18 @@ fn done(
     ensures same { stamp.new.common ≡ stamp.old.common }
     ensures of { IsTallyOf (stage_in stamp.old.common) (tally_of tally.new) × IsLater (tally_in stamp.old.common) (tally_of tally.new) }
 {
-    let note = stamp.seen();
-    let drew = stamp.can_draw();
-    match stamp.draw(&mut pass) {
+    let (turn, drawn) = stamp.turn(pass);
+    match drawn {
         Some(ticket) => {
             tally.done(write, status);
-            Replied {
-                pass,
-                said: TallySaid::Did(Ok(())),
-                note,
-                drew,
-                ticket: Some(ticket),
-            }
+            turn.reply(Some(ticket), TallySaid::Did(Ok(())))
         }
-        None => Replied {
-            pass,
-            said: TallySaid::Did(Err(Unmade::Nothing)),
-            note,
-            drew,
-            ticket: None,
-        },
+        None => turn.reply(None, TallySaid::Did(Err(Unmade::Nothing))),
     }
 }
 
 // The next round.
-fn next(tally: &mut Tally, stamp: &mut Stamp, mut pass: Pass) -> Replied<TallySaid>
+fn next(tally: &mut Tally, stamp: &mut Stamp, pass: Pass) -> Replied<TallySaid>
     requires clock { pass.clock ≡ stamp.old.common.clock }
     requires of { IsTallyOf (stage_in stamp.old.common) (tally_of tally.old) × IsLater (tally_in stamp.old.common) (tally_of tally.old) }
     ensures answers { TallyAnswers (thing_state (tally_of tally.old) stamp.old) (NextRound 0) (tally_told result) (thing_state (tally_of tally.new) stamp.new) }
@@ -203,25 +183,12 @@ fn next(tally: &mut Tally, stamp: &mut Stamp, mut pass: Pass) -> Replied<TallySa
     ensures same { stamp.new.common ≡ stamp.old.common }
     ensures of { IsTallyOf (stage_in stamp.old.common) (tally_of tally.new) × IsLater (tally_in stamp.old.common) (tally_of tally.new) }
 {
-    let note = stamp.seen();
-    let drew = stamp.can_draw();
-    match stamp.draw(&mut pass) {
+    let (turn, drawn) = stamp.turn(pass);
+    match drawn {
         Some(ticket) => {
             tally.next_round();
-            Replied {
-                pass,
-                said: TallySaid::Did(Ok(())),
-                note,
-                drew,
-                ticket: Some(ticket),
-            }
+            turn.reply(Some(ticket), TallySaid::Did(Ok(())))
         }
-        None => Replied {
-            pass,
-            said: TallySaid::Did(Err(Unmade::Nothing)),
-            note,
-            drew,
-            ticket: None,
-        },
+        None => turn.reply(None, TallySaid::Did(Err(Unmade::Nothing))),
     }
 }
