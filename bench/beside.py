@@ -1,7 +1,8 @@
 #!/usr/bin/env python3
 """Times calls of crates of this repository, and prints nanoseconds a call beside those of a twin in plain Rust. It is no test.
 
-usage: bench/beside.py [NAME ..]      a NAME is a folder beside this script (pools, lists, books, lanes, disks, scrubs, locks, pieces, cores, steps); each of them if left out
+usage: bench/beside.py [NAME ..]      a NAME is a folder beside this script (pools, lists, books, lanes, disks, scrubs, locks, pieces, joins, cores, steps, desks); each of them
+                                      if left out
 
 It needs `rt`, which proves and builds each measured program in a throw-away repository, and `rustc`. That takes a few minutes a program. Libraries that
 are built (`rt lib`, `./biostack prove`) are taken along.
@@ -9,8 +10,8 @@ A folder has the program in main.rt.txt and the twin in twin.rs, perhaps others 
 function F in F.antt.txt, or what else there is in proofs/ or specs/, each file with .txt behind its name. Each program gets a number of calls as its argument, and
 writes a line for each row: its name, the nanoseconds that all calls took, and how many of the calls were served.
 
-The programs of cores and steps read the text of a run, and write one line. There the rows are texts, a call is an event, and both go on to
-the end of the run in which the number is reached.
+The programs of cores, steps and desks read the text of a run. There the rows are texts, with the name of the line where there are several, a call is
+an event, and both go on to the end of the run in which the number is reached.
 """
 import os
 import re
@@ -28,7 +29,7 @@ import run  # noqa: E402
 ROUNDS = 9
 CALLS = 1000000
 # in place of that number; of disks and scrubs a call is a sector: each disk has as many as a disk may have, each member of a mirror 65,536
-CALLS_OF = {"disks": 4 * 262144, "scrubs": 16 * 65536, "steps": 10000000}
+CALLS_OF = {"disks": 4 * 262144, "scrubs": 16 * 65536, "steps": 10000000, "desks": 2000000}
 
 TEXTS = {
     "single": run.writes(131072),
@@ -149,7 +150,7 @@ def with_events(text, program):
 
 def inputs(name, folder):
     """What the programs of a folder read, by rows, if they read anything."""
-    if name == "steps":
+    if name in ("steps", "desks"):
         return TEXTS
     if name == "cores":
         program = build_machine(folder)
@@ -173,7 +174,11 @@ def all_rows(program, calls, texts):
     """The same, with a row for each text, if there are any."""
     if not texts:
         return once(program, calls)
-    return {row: min(once(program, calls, text).values()) for row, text in texts.items()}
+    rows = {}
+    for row, text in texts.items():
+        lines = once(program, calls, text)
+        rows.update({f"{row} {line}" if len(lines) > 1 else row: took for line, took in lines.items()})
+    return rows
 
 
 def measure(name):
@@ -187,9 +192,9 @@ def measure(name):
         programs = {"": measured, **twins}
         runs = [{file: all_rows(program, calls, texts) for file, program in programs.items()} for _ in range(ROUNDS)]
     for file in twins:
-        print(f"{name:10} {'Rattle ns':>10} {'Rust ns':>10} {'ratio':>6} {'Rattle mid':>10} {'Rust mid':>10} {'ratio':>6} {file}")
+        print(f"{name:14} {'Rattle ns':>10} {'Rust ns':>10} {'ratio':>6} {'Rattle mid':>10} {'Rust mid':>10} {'ratio':>6} {file}")
         for row in runs[0][""]:
-            words = [f"{row:10}"]
+            words = [f"{row:14}"]
             for pick in (min, statistics.median):
                 ours = pick(run[""][row] for run in runs)
                 theirs = pick(run[file][row] for run in runs)

@@ -5,6 +5,8 @@ use std::env;
 use std::io::{self, BufWriter, Read, Write as _};
 use std::time::Instant;
 
+pub mod shared;
+
 #[derive(Clone, Copy, PartialEq, Eq)]
 pub enum Status {
     Ok,
@@ -1524,7 +1526,7 @@ pub fn time_runs(text: &str, count: u64) -> (u128, u64) {
 fn main() {
     let words: Vec<String> = env::args().skip(1).collect();
     let mut seed = 0;
-    let (mut trace, mut made) = (false, None);
+    let (mut trace, mut made, mut workers) = (false, None, 0);
     let mut i = 1;
     if words[0] == "gen" {
         let n = words[1].parse().unwrap();
@@ -1538,6 +1540,9 @@ fn main() {
         } else if words[i] == "--seed" {
             i += 1;
             seed = words[i].parse().unwrap();
+        } else if words[i] == "--workers" {
+            i += 1;
+            workers = words[i].parse().unwrap();
         } else if let Some(v) = words[i].strip_prefix("--seed=") {
             seed = v.parse().unwrap();
         }
@@ -1565,7 +1570,14 @@ fn main() {
     }
     let count = t.devices.len();
     let (mut o, mut tasks) = open(&t, &places, trace);
-    let steps = run(&mut o, &mut tasks, seed);
+    let steps = if workers == 0 {
+        run(&mut o, &mut tasks, seed)
+    } else {
+        let shared = shared::Shared::new(o);
+        let steps = shared::run_workers(&shared, tasks, workers);
+        o = shared.into_objects();
+        steps
+    };
     let stdout = io::stdout();
     let mut out = o
         .trace
