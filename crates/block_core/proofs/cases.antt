@@ -2,3 +2,4 @@ pub mod RankCases
 pub mod FragmentCases
 pub mod ValueCases
 pub mod HandCases
+pub mod RoleCases
