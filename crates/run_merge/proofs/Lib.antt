@@ -5,3 +5,4 @@ pub mod cases
 pub mod tracing
 pub mod closes
 pub mod leaving
+pub mod tournament

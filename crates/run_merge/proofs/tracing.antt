@@ -3,3 +3,4 @@ pub mod Climbing
 pub mod Numbers
 pub mod Walking
 pub mod Notes
+pub mod Lists

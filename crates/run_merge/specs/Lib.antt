@@ -6,6 +6,7 @@ pub mod Numbers
 pub mod Merging
 pub mod Closing
 pub mod Joining
+pub mod Heads
 pub mod Listing
 pub mod Tracing
 pub mod SharedObjects

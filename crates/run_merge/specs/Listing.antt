@@ -1,6 +1,7 @@
 -- The lists of what tasks noted, joined.
 use Rattle.std.specs.Prelude.{◌≡◌, ℕ, Bool, true, List, [], All, Option, None, Some, IfSome}
 use Rattle.std.specs.List.{flat_map}
+use Rattle.std.specs.List.Sorted.{IsNonDecreasingBy}
 use Rattle.std.specs.Option.{is_some}
 use Rattle.std.specs.Global.{Vec}
 use Rattle.run_machine.specs.declared.event.Event.{Event}
@@ -12,6 +13,10 @@ use Rattle.run_merge.specs.Joining.{IsJoined, all_in}
 abbrev pub IsList : Option Noted → List (ℕ × Event) → Type 0
 IsList None list = ⊥
 IsList (Some noted) list = (noted.whole ≡ true) × (list ≡ noted.events.items)
+
+-- along it tickets rise, where it is all that the task had
+abbrev pub WholeRises : Option Noted → Type 0
+WholeRises noted = (list : List (ℕ × Event)) → IsList noted list → IsNonDecreasingBy (λ (e : ℕ × Event). e.0) list
 
 -- what a task noted
 abbrev pub list_in : Option Noted → List (ℕ × Event)

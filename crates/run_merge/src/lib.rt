@@ -1,6 +1,7 @@
 //! Runs as products of what each object and each task does, and the merge of the histories of objects that were shared.
 #![tactic(auto)]
 
+pub(crate) mod heads;
 pub mod joining;
 pub mod laws;
 pub(crate) mod left;

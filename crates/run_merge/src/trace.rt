@@ -1,6 +1,7 @@
 //! What tasks noted of their events, as the events of their run.
-ghost use Rattle.std.specs.Prelude.{◌≡◌, IfOk, IsOk, false};
-ghost use Rattle.run_merge.specs.Listing.{AreLists, IsList, IsTrace};
+ghost use Rattle.std.specs.Prelude.{◌≡◌, All, IfOk, IsOk, false};
+ghost use Rattle.std.specs.List.Sorted.{IsNonDecreasingBy};
+ghost use Rattle.run_merge.specs.Listing.{AreLists, IsList, IsTrace, WholeRises};
 
 use crate::joining::join_by_ticket;
 use run_machine::Event;
@@ -20,11 +21,14 @@ fn list_of(task: ClosedTask) -> Result<Vec<(u64, Event)>, AllocError>
 
 // The lists of all tasks, where each is whole.
 fn lists_of(alloc: Global, tasks: Vec<ClosedTask>) -> Result<Vec<Vec<(u64, Event)>>, AllocError>
-    ensures { IfOk result (λ lists. AreLists tasks.items lists.items) }
+    requires rising { All (λ task. WholeRises task.noted) tasks.items }
+    ensures lists { IfOk result (λ lists. AreLists tasks.items lists.items) }
+    ensures rising { IfOk result (λ lists. All (λ list. IsNonDecreasingBy (λ e. e.0) list.items) lists.items) }
 {
     let mut lists = Vec::with_capacity(alloc, tasks.len())?;
     'listing: for task in tasks {
-        lists.push(list_of(task)?)?;
+        let list = list_of(task)?;
+        lists.push(list)?;
     }
     Ok(lists)
 }
@@ -39,6 +43,7 @@ pub(crate) fn trace_of(
     trace: bool,
     tasks: Vec<ClosedTask>,
 ) -> Result<Option<Vec<Event>>, AllocError>
+    requires rising { All (λ task. WholeRises task.noted) tasks.items }
     ensures traced { IfOk result (IsTrace trace tasks.items) }
     ensures untraced { trace ≡ false → IsOk result }
 {

@@ -2,6 +2,7 @@
 use Rattle.std.proofs.Common.{◌≡◌, ◌⊎◌, ◌<◌, ◌≤◌, ◌++◌, ℕ, suc, List, [], ◌∷◌, Option, None, Some, length, get_or, inl, inr, refl, sym, ◌∙◌, subst, arith}
 use Rattle.std.specs.Prelude.{All, slice_get, slice_index_or}
 use Rattle.std.specs.List.{flat_map}
+use Rattle.std.specs.List.Sorted.{IsNonDecreasingBy}
 use Rattle.std.proofs.lemmas.Option.{slice_get_cases, get_or_from_slice_get}
 use Rattle.run_machine.specs.declared.event.Event.{Event}
 use Rattle.run_machine.specs.Opened.{setup as setup_in}
@@ -18,13 +19,13 @@ use Rattle.shared_objects.specs.declared.closed.Closed.{Closed}
 use Rattle.shared_objects.specs.declared.closed.ClosedTask.{ClosedTask}
 use Rattle.shared_objects.specs.declared.noted.Noted.{Noted}
 use Rattle.run_merge.specs.Joining.{IsJoined}
-use Rattle.run_merge.specs.Listing.{IsList, list_in, AreWhole, noted_in}
+use Rattle.run_merge.specs.Listing.{IsList, WholeRises, list_in, AreWhole, noted_in}
 use Rattle.run_merge.specs.Merging.{entries_of, sorted, all_of}
 use Rattle.run_merge.specs.Outcomes.{scenario_of, ledger_of, histories_in}
 use Rattle.run_merge.specs.Products.{AreOfRun}
 use Rattle.run_merge.specs.Tracing.{notes_in}
 use Rattle.run_merge.proofs.closes.Counting.{log_drew}
-use Rattle.run_merge.proofs.tracing.Notes.{notes_are_runs}
+use Rattle.run_merge.proofs.tracing.Notes.{notes_are_runs, notes_rise}
 
 -- rows of which this is the same at each place
 flats_same : {X Y Z : Type 0} (f : X → List Z) (g : Y → List Z) (xs : List X) (ys : List Y) → Abreast (λ x y. f x ≡ g y) xs ys → flat_map f xs ≡ flat_map g ys
@@ -38,23 +39,23 @@ flats_same f g (x ∷ xs) (y ∷ ys) are =
     λ i. here i ++ rest i
 
 -- a whole list has all notes
-whole_is : (notes : List (ℕ × Event)) (noted : Option Noted) → AreNoted notes noted → IsList noted (list_in noted) → list_in noted ≡ notes
-whole_is notes None are whole = absurd whole
-whole_is notes (Some noted) are whole = are whole.0
+list_is : (notes : List (ℕ × Event)) (noted : Option Noted) (list : List (ℕ × Event)) → AreNoted notes noted → IsList noted list → list ≡ notes
+list_is notes None list are whole = absurd whole
+list_is notes (Some noted) list are whole = whole.1 ∙ are whole.0
 
 module _ (closed : Closed) (has : HasClosed closed) where
   abbrev now : Setup
   now = setup (stage_of closed.told.value.objects).routing
 
+  in_scenario : ClosesAs (setup_in (scenario_of closed)) closed.told.value.objects (names_in closed) (history_in closed) (left_in closed closed.told.value.objects) has.returned closed.pass.value
+  in_scenario =
+      subst (λ setup. ClosesAs setup closed.told.value.objects (names_in closed) (history_in closed) (left_in closed closed.told.value.objects) has.returned closed.pass.value)
+      has.opened.setup has.closes
+
   -- each event of a task drew a ticket
   have_tickets : All (λ (task : Returned). HaveTickets task.log) has.returned
   have_tickets place task less = by_two (slice_get_cases has.returned place).1
     where
-      in_scenario : ClosesAs (setup_in (scenario_of closed)) closed.told.value.objects (names_in closed) (history_in closed) (left_in closed closed.told.value.objects) has.returned closed.pass.value
-      in_scenario =
-          subst (λ setup. ClosesAs setup closed.told.value.objects (names_in closed) (history_in closed) (left_in closed closed.told.value.objects) has.returned closed.pass.value)
-          has.opened.setup has.closes
-
       by_two : ((x : Returned) × (place < length has.returned) × (slice_get has.returned place ≡ Some x) × (get_or has.returned place x ≡ x))
           ⊎ ((length has.returned ≤ place) × (slice_get has.returned place ≡ None)) → HaveTickets (get_or has.returned place task).log
       by_two (inl (x, lt, is, same)) =
@@ -63,14 +64,30 @@ module _ (closed : Closed) (has : HasClosed closed) where
           in_scenario (has.firsts ∙ has.opened.tasks) place x is)
       by_two (inr (le, none)) = absurd (omega (arith, le, less))
 
+  -- and so tickets rise along what it noted, where that is whole
+  pub lists_rise : All (λ (task : ClosedTask). WholeRises task.noted) closed.tasks.items
+  lists_rise place task less list whole = by_two (slice_get_cases has.returned place).1
+    where
+      by_two : ((x : Returned) × (place < length has.returned) × (slice_get has.returned place ≡ Some x) × (get_or has.returned place x ≡ x))
+          ⊎ ((length has.returned ≤ place) × (slice_get has.returned place ≡ None)) → IsNonDecreasingBy (λ (e : ℕ × Event). e.0) list
+      by_two (inl (x, lt, is, same)) =
+          let noted = (has.tasks.each place task x less).notes (have_tickets place x lt) in
+          let all = list_is (notes_of now (slice_index_or has.returned place x).first (slice_index_or has.returned place x).log) (slice_index_or closed.tasks.items place task).noted list noted whole in
+          subst (IsNonDecreasingBy (λ (e : ℕ × Event). e.0)) (sym all)
+          (subst (λ (r : Returned). IsNonDecreasingBy (λ (e : ℕ × Event). e.0) (notes_of now r.first r.log)) (sym same)
+          (subst (λ setup. IsNonDecreasingBy (λ (e : ℕ × Event). e.0) (notes_of setup x.first x.log)) (sym has.opened.setup)
+          (notes_rise (scenario_of closed) (ledger_of closed) closed.told.value.objects (names_in closed) (history_in closed) (left_in closed closed.told.value.objects) has.returned closed.pass.value
+          in_scenario (has.firsts ∙ has.opened.tasks) place x is)))
+      by_two (inr (le, none)) = let long = has.tasks.lens in absurd (omega (arith, le, less, long))
+
   -- what tasks noted are the notes of their calls
   noted_is : AreWhole closed.tasks.items → noted_in closed.tasks.items ≡ notes_in now has.returned
   noted_is whole = flats_same (λ (task : ClosedTask). list_in task.noted) (λ (task : Returned). notes_of now task.first task.log) closed.tasks.items has.returned (record {
     lens = has.tasks.lens;
     each = λ place task returned lt.
         let long = has.tasks.lens in
-        whole_is (notes_of now (slice_index_or has.returned place returned).first (slice_index_or has.returned place returned).log)
-        (slice_index_or closed.tasks.items place task).noted
+        list_is (notes_of now (slice_index_or has.returned place returned).first (slice_index_or has.returned place returned).log)
+        (slice_index_or closed.tasks.items place task).noted (list_in (slice_index_or closed.tasks.items place task).noted)
         ((has.tasks.each place task returned lt).notes (have_tickets place returned (omega (arith, long, lt)))) (whole place task lt);
   })
 

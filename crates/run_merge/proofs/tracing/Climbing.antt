@@ -1,5 +1,5 @@
 -- Lists whose keys rise, each of which there is once.
-use Rattle.std.proofs.Common.{◌≡◌, ◌⊎◌, ◌<◌, ◌≤◌, ◌==◌, cond, ℕ, zero, suc, Bool, true, false, List, [], ◌∷◌, map, inl, inr, refl, sym, ap, arith}
+use Rattle.std.proofs.Common.{◌≡◌, ◌⊎◌, ◌<◌, ◌≤◌, ◌==◌, cond, ℕ, zero, suc, Bool, true, false, List, [], ◌∷◌, get_or, length, map, inl, inr, refl, sym, ap, arith}
 use Rattle.std.specs.Prelude.{All, Contains, sum_by}
 use Rattle.std.specs.List.Sorted.{IsNonDecreasingBy}
 use Rattle.std.proofs.lemmas.Bool.{eq-eqb, eqb-false}
@@ -58,6 +58,19 @@ none_falls key (x ∷ xs) rises = (
   All-map (λ m. key x ≤ m) key xs (λ j d lt. rises 0 (suc j) d (omega arith) (omega (arith, lt))),
   none_falls key xs (λ i j d le lt. rises (suc i) (suc j) d (omega (arith, le)) (omega (arith, lt))),
 )
+
+-- and so they rise as a list does
+all_at : {X : Type 0} (key : X → ℕ) (n : ℕ) (xs : List X) (j : ℕ) (d : X) → All (λ m. n ≤ m) (map key xs) → j < length xs → n ≤ key (get_or xs j d)
+all_at key n [] j d least lt = absurd (omega (arith, lt))
+all_at key n (x ∷ xs) zero d least lt = All-head (λ m. n ≤ m) (key x) (map key xs) least
+all_at key n (x ∷ xs) (suc j) d least lt = all_at key n xs j d (All-tail (λ m. n ≤ m) (key x) (map key xs) least) (omega (arith, lt))
+
+pub falls_rises : {X : Type 0} (key : X → ℕ) (xs : List X) → NoneFalls (map key xs) → IsNonDecreasingBy key xs
+falls_rises key [] falls i j d le lt = absurd (omega (arith, lt))
+falls_rises key (x ∷ xs) falls zero zero d le lt = omega arith
+falls_rises key (x ∷ xs) falls zero (suc j) d le lt = all_at key (key x) xs j d falls.0 (omega (arith, lt))
+falls_rises key (x ∷ xs) falls (suc i) zero d le lt = absurd (omega (arith, le))
+falls_rises key (x ∷ xs) falls (suc i) (suc j) d le lt = falls_rises key xs falls.1 i j d (omega (arith, le)) (omega (arith, lt))
 
 first_or_later : {X : Type 0} (y : X) (ys : List X) (x : X) → Contains (y ∷ ys) x → (y ≡ x) ⊎ Contains ys x
 first_or_later y ys x (zero, lt, at) = inl at

@@ -2,6 +2,7 @@
 use Rattle.std.proofs.Common.{◌≡◌, ◌⊎◌, ◌<◌, ◌≤◌, ◌++◌, ℕ, suc, List, [], ◌∷◌, None, Some, length, filter, map, inl, inr, refl, sym, ◌∙◌, ap, subst, arith, get_or}
 use Rattle.std.specs.Prelude.{Contains, IsPermutation, slice_get, sum_by}
 use Rattle.std.specs.List.{flat_map}
+use Rattle.std.specs.List.Sorted.{IsNonDecreasingBy}
 use Rattle.std.proofs.lemmas.List.{map-append}
 use Rattle.std.proofs.lemmas.List.Elements.{Contains-append_cases}
 use Rattle.std.proofs.lemmas.List.Sorted.{Contains-permutation, IsPermutation-sym, sum_by-IsPermutation}
@@ -24,16 +25,17 @@ use Rattle.shared_objects.specs.Kinds.{ThingAt}
 use Rattle.shared_objects.specs.Noting.{notes_of}
 use Rattle.run_merge.specs.Entries.{entries_in}
 use Rattle.run_merge.specs.Joining.{IsJoined}
-use Rattle.run_merge.specs.Merging.{Ticketed, entries_of}
+use Rattle.run_merge.specs.Merging.{Ticketed, all_of, done_by, entries_of}
 use Rattle.run_merge.specs.SharedObjects.{ticketed_events, merged_histories}
 use Rattle.run_merge.specs.Tracing.{notes_in, NotesAreRuns}
 use Rattle.run_merge.proofs.closes.Counting.{first_is, done_at}
 use Rattle.run_merge.proofs.closes.Drawing.{flat_there}
 use Rattle.run_merge.proofs.closes.Owners.{logged, ask_some}
 use Rattle.run_merge.proofs.merging.Picked.{is_by, merge_by}
-use Rattle.run_merge.proofs.tracing.Climbing.{is_hit, hits, AreOnce, climbs, none_falls, Climbs, same_climbing}
-use Rattle.run_merge.proofs.tracing.Numbers.{merged, merged_placed, merged_climbs, parts_once}
-use Rattle.run_merge.proofs.tracing.Walking.{keys_of, events_of, own_notes, led_notes, run_notes, of_task, IsNotedOf, task_of, keys_fewer, log_notes}
+use Rattle.run_merge.proofs.merging.Tickets.{sorted_ordered}
+use Rattle.run_merge.proofs.tracing.Climbing.{is_hit, hits, AreOnce, climbs, none_falls, Climbs, NoneFalls, falls_rises, same_climbing}
+use Rattle.run_merge.proofs.tracing.Numbers.{merged, merged_placed, merged_climbs, ordered_falls, parts_once}
+use Rattle.run_merge.proofs.tracing.Walking.{keys_of, events_of, own_falls, own_notes, led_notes, run_notes, of_task, IsNotedOf, task_of, tickets_of, keys_fewer, log_notes}
 
 record IsFrom {X Y : Type 0} (f : X → List Y) (xs : List X) (y : Y) : Type 0 where
   place : ℕ
@@ -76,6 +78,15 @@ module _ (s : Scenario) (ledger : ℕ → LedgerId) (plain : Plain) (names : Lis
   noted_by : (place : ℕ) (task : Returned) → slice_get tasks place ≡ Some task → notes_of (setup s) task.first task.log ≡ own_notes (setup s) task.first (ticketed_events task.log)
   noted_by place task at =
       log_notes (setup s) [] task.first task.log task.task (ask_some s plain names history left tasks pass c place task at) (logged s plain names history left tasks pass c place task at).0.leads
+
+  -- along them tickets rise, as along the events of its log, which are those of the merge that are its own
+  pub notes_rise : (place : ℕ) (task : Returned) → slice_get tasks place ≡ Some task → IsNonDecreasingBy (λ (e : ℕ × Event). e.0) (notes_of (setup s) task.first task.log)
+  notes_rise place task at =
+      let own = done_at s plain names history left tasks pass c firsts place task at in
+      let falls = (ordered_falls 0 (done_by place (merged_histories names history)) (sorted_ordered (filter (is_by place) (all_of (merged_histories names history))))).1 in
+      subst (IsNonDecreasingBy (λ (e : ℕ × Event). e.0)) (sym (noted_by place task at))
+      (falls_rises (λ (e : ℕ × Event). e.0) (own_notes (setup s) task.first (ticketed_events task.log))
+      (own_falls (setup s) task.first (ticketed_events task.log) (subst (λ ns. NoneFalls (tickets_of ns)) own falls)))
 
   -- what a task noted is what is noted of it along the merge
   notes_at : (place : ℕ) (task : Returned) → slice_get tasks place ≡ Some task

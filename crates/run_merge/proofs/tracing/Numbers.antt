@@ -96,7 +96,7 @@ events_fewer number (call ∷ calls) has =
     by_two false is None t rest =
         subst (λ ns. Few ns call.told.ticket) (sym (events_untold call calls is)) (subst (Few (ticketed_events calls)) (sym t) rest)
 
-ordered_falls : (last : ℕ) (ns : List Ticketed) → Ordered last ns → All (λ m. last ≤ m) (tickets_of ns) × NoneFalls (tickets_of ns)
+pub ordered_falls : (last : ℕ) (ns : List Ticketed) → Ordered last ns → All (λ m. last ≤ m) (tickets_of ns) × NoneFalls (tickets_of ns)
 ordered_falls last [] ordered = (All-nil (λ m. last ≤ m), tt)
 ordered_falls last (n ∷ ns) ordered =
     let le = ordered.0 in

@@ -3,7 +3,7 @@ use Rattle.std.proofs.Common.{◌≡◌, ◌⊎◌, ◌<◌, ◌≤◌, ◌++◌
 use Rattle.std.specs.Option.{is_some}
 use Rattle.std.specs.Prelude.{All, Contains}
 use Rattle.std.proofs.lemmas.Bool.{true≢false, eq-eqb, eqb-true, eqb-false}
-use Rattle.std.proofs.lemmas.List.Elements.{All-head, All-tail, Contains-append_left, Contains-append_right, Contains-append_cases}
+use Rattle.std.proofs.lemmas.List.Elements.{All-cons, All-head, All-nil, All-tail, Contains-append_left, Contains-append_right, Contains-append_cases}
 use Rattle.std.proofs.lemmas.List.Sums.{sum_by-cons}
 use Rattle.run_machine.specs.declared.event.Event.{Event}
 use Rattle.run_machine.specs.declared.event.What.{What}
@@ -27,7 +27,7 @@ use Rattle.run_merge.proofs.merging.Picked.{is_by}
 use Rattle.run_merge.proofs.products.Behind.{entry_of}
 use Rattle.run_merge.proofs.products.Parts.{first_or, behind_first, is_none}
 use Rattle.run_merge.proofs.products.Served.{struck_event}
-use Rattle.run_merge.proofs.tracing.Climbing.{is_hit, hits}
+use Rattle.run_merge.proofs.tracing.Climbing.{NoneFalls, is_hit, hits}
 
 abbrev pub tickets_of : List Ticketed → List ℕ
 tickets_of ns = map (λ (n : Ticketed). n.ticket) ns
@@ -170,6 +170,31 @@ module _ (setup : Setup) where
           let more = sum_by-cons (is_hit number) n.ticket (tickets_of ns) in
           let same = sum_by-cons (is_hit number) n.ticket (keys_of rest) in
           omega (arith, le, more, same)
+
+  -- and where tickets do not fall, they do not among notes
+  own_all : (P : ℕ → Type 0) (task : TaskState) (ns : List Ticketed) → All P (tickets_of ns) → All P (keys_of (own_notes setup task ns))
+  own_all P task [] all = All-nil P
+  own_all P task (n ∷ ns) all =
+      by_what (what_of (request setup task) n.entry.reply) (own_all P (answered setup task n.entry.reply) ns (All-tail P n.ticket (tickets_of ns) all))
+    where
+      rest : List (ℕ × Event)
+      rest = own_notes setup (answered setup task n.entry.reply) ns
+
+      by_what : (what : Option What) → All P (keys_of rest) → All P (keys_of (noted_as n.ticket task what ++ rest))
+      by_what None later = later
+      by_what (Some what) later = All-cons P n.ticket (keys_of rest) (All-head P n.ticket (tickets_of ns) all) later
+
+  pub own_falls : (task : TaskState) (ns : List Ticketed) → NoneFalls (tickets_of ns) → NoneFalls (keys_of (own_notes setup task ns))
+  own_falls task [] falls = tt
+  own_falls task (n ∷ ns) falls =
+      by_what (what_of (request setup task) n.entry.reply) (own_all (λ m. n.ticket ≤ m) (answered setup task n.entry.reply) ns falls.0) (own_falls (answered setup task n.entry.reply) ns falls.1)
+    where
+      rest : List (ℕ × Event)
+      rest = own_notes setup (answered setup task n.entry.reply) ns
+
+      by_what : (what : Option What) → All (λ m. n.ticket ≤ m) (keys_of rest) → NoneFalls (keys_of rest) → NoneFalls (keys_of (noted_as n.ticket task what ++ rest))
+      by_what None least later = later
+      by_what (Some what) least later = (least, later)
 
   -- what a task's calls were is noted along the events of its log
   pub log_notes : (before : List Call) (first : TaskState) (log : List Call) (last : TaskState) → AskSome log → LogLeads setup before first log last

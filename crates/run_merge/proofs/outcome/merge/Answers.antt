@@ -1,11 +1,12 @@
-use Rattle.std.proofs.Common.{◌-◌, ◌^◌, ◌∙◌, ap, arith, length, map, refl, subst}
-use Rattle.std.specs.Prelude.{min, sum_by, vec_capacity}
+use Rattle.std.proofs.Common.{◌-◌, ◌^◌, ◌∙◌, ap, arith, length, map, refl, subst, sym}
+use Rattle.std.specs.Prelude.{All, min, sum_by, vec_capacity}
 use Rattle.shared_objects.specs.declared.closed.ClosedTask.{ClosedTask}
 use Rattle.task_core.specs.declared.ended.Ended.{Ended}
 use Rattle.run_merge.specs.Falling.{row_of}
-use Rattle.run_merge.specs.Listing.{IsTrace}
+use Rattle.run_merge.specs.Listing.{IsTrace, WholeRises}
 use Rattle.run_merge.proofs.leaving.Left.{some_set, pools_fit, disks_fit, pools_in, bios_row, records_row, vecs_is}
 use Rattle.run_merge.proofs.leaving.Merges.{is_merged}
+use Rattle.run_merge.proofs.leaving.Traced.{lists_rise}
 use Rattle.run_merge.proofs.outcome.merge.Goals as goal
 
 -- src/outcome.rt
@@ -26,6 +27,10 @@ pub pools_of-pools-requires-clause-some : goal.pools_of-pools-requires-clause-so
 pools_of-pools-requires-clause-some c =
     let long = ap (λ bios. length bios.items) c.parts-bios.ensures.bios in
     omega (arith, some_set c.args.closed c.requires.closed, long)
+
+pub trace_of-requires : goal.trace_of-requires
+trace_of-requires c =
+    record { rising = subst (λ tasks. All (λ (task : ClosedTask). WholeRises task.noted) tasks.items) (sym c.parts-bios.ensures.tasks) (lists_rise c.args.closed c.requires.closed) }
 
 pub returns : goal.returns
 returns c =
