@@ -12,7 +12,7 @@ use Rattle.shared_objects.specs.Shared.{HandsOut, HaveStopped, IsBackStopped, Is
 use Rattle.shared_objects.specs.declared.locks.Locks.{Locks}
 use Rattle.shared_objects.specs.declared.shared.Shared.{Shared}
 use Rattle.task_core.specs.declared.Opened.{Opened}
-use Rattle.bio_workers.specs.Hands.{AreOut, HasOut, numbers}
+use Rattle.bio_workers.specs.Hands.{AreOut, numbers}
 
 eqb_flips : (x y : ℕ) → eqb x y ≡ eqb y x
 eqb_flips x y = elim (eqb_tells x y) [ inl t ↦ ap (λ n. eqb x n) (sym t.1) ∙ ap (λ n. eqb n x) t.1 | inr t ↦ t.0 ∙ sym (ne_eqb y x (λ e. t.1 (sym e))) ]
@@ -38,8 +38,8 @@ pub then_same : (old mid new : Shared) → SameShared old mid → SameShared mid
 then_same old mid new first next = record { told = next.told ∙ first.told; locks = next.locks ∙ first.locks; many = next.many ∙ first.many }
 
 -- what stays out while another task is taken or put back
-still_out : (old new : Shared) (key : RanKey) → HasOut old key → old.next ≤ new.next → SameShared old new
-    → ((slot : Option RanState) → slice_index_or new.tasks.items key.number slot ≡ slice_index_or old.tasks.items key.number slot) → HasOut new key
+still_out : (old new : Shared) (key : RanKey) → IsOut old key → old.next ≤ new.next → SameShared old new
+    → ((slot : Option RanState) → slice_index_or new.tasks.items key.number slot ≡ slice_index_or old.tasks.items key.number slot) → IsOut new key
 still_out old new key out next same slots = record {
   taken = let below = out.taken in omega (arith, below, next);
   own = λ first. subst (λ (locks : Locks). key ≡ key_at locks key.number (slice_index_or new.told.value.tasks.items key.number first)) (sym same.locks)
@@ -58,7 +58,7 @@ module _ (old new : Shared) (ran : RanState) (out : HandsOut old ran new) where
   is_own first = subst (λ (locks : Locks). ran_key ran ≡ key_at locks old.next (slice_index_or new.told.value.tasks.items old.next first)) (sym out.same.locks)
       (subst (λ (o : Opened). ran_key ran ≡ key_at old.locks old.next (slice_index_or o.tasks.items old.next first)) (sym out.same.told) (out.key first))
 
-  new_out : HasOut new (ran_key ran)
+  new_out : IsOut new (ran_key ran)
   new_out = record {
     taken = let next = out.next in let same = its_number in omega (arith, next, same);
     own = λ first. subst (λ (n : ℕ). ran_key ran ≡ key_at new.locks n (slice_index_or new.told.value.tasks.items n first)) (sym its_number) (is_own first);
@@ -84,7 +84,7 @@ module _ (old new : Shared) (ran : RanState) (out : HandsOut old ran new) where
       let same = map-append (λ (key : RanKey). key.number) keys (ran_key ran ∷ []) in
       let next = out.next in
       let own = its_number in record {
-        out = All-push (HasOut new) keys (ran_key ran)
+        out = All-push (IsOut new) keys (ran_key ran)
             (λ k d within. let held = are.out k d within in let below = held.taken in still_out old new (slice_index_or keys k d) held (omega (arith, next)) out.same (λ slot. other_slots (slice_index_or keys k d).number slot (omega (arith, below))))
             new_out;
         apart = subst (IsDistinct eqb) (sym same) (one_more (numbers keys) ran.seats.number are.apart
@@ -113,7 +113,7 @@ module _ (old new : Shared) (ran : RanState) (back : TakesBack old ran new) wher
   puts_one keys many stopped are =
       let same = map-append (λ (key : RanKey). key.number) keys (ran_key ran ∷ []) in
       let next = back.next in
-      let parts = All-pop (HasOut old) (keys ++ ran_key ran ∷ []) keys (Some (ran_key ran)) refl are.out in
+      let parts = All-pop (IsOut old) (keys ++ ran_key ran ∷ []) keys (Some (ran_key ran)) refl are.out in
       let below = parts.1.taken in
       let front = at_front (numbers keys) ran.seats.number (subst (IsDistinct eqb) same are.apart) in
       let differ = All-from_recursion (λ (key : RanKey). eqb ran.seats.number key.number ≡ false) keys (by_key ran.seats.number keys (IsDistinct-head eqb ran.seats.number (numbers keys) front)) in record {
@@ -124,10 +124,8 @@ module _ (old new : Shared) (ran : RanState) (back : TakesBack old ran new) wher
       }
 
 -- each task that is out may be put back
-pub last_is_out : (shared : Shared) (keys : List RanKey) (ran : RanState) → AreOut shared (keys ++ ran_key ran ∷ []) → IsOut shared ran
-last_is_out shared keys ran are =
-    let last = (All-pop (HasOut shared) (keys ++ ran_key ran ∷ []) keys (Some (ran_key ran)) refl are.out).1 in
-    record { taken = last.taken; key = last.own; vacant = last.vacant }
+pub last_is_out : (shared : Shared) (keys : List RanKey) (ran : RanState) → AreOut shared (keys ++ ran_key ran ∷ []) → IsOut shared (ran_key ran)
+last_is_out shared keys ran are = (All-pop (IsOut shared) (keys ++ ran_key ran ∷ []) keys (Some (ran_key ran)) refl are.out).1
 
 -- the seats of each task that is out are of the locks
 pub of_the_locks : (shared : Shared) (keys : List RanKey) → AreOut shared keys → All (λ (key : RanKey). key.home ≡ shared.locks) keys
@@ -137,7 +135,7 @@ of_the_locks shared keys are = λ k d within. ap (λ (key : RanKey). key.home) (
 pub reordered : (shared : Shared) (keys others : List RanKey) → IsPermutation keys others → AreOut shared keys → AreOut shared others
 reordered shared keys others moved are =
     let numbered = IsPermutation-map (λ (key : RanKey). key.number) keys others moved in record {
-      out = All-permutation (HasOut shared) keys others moved are.out;
+      out = All-permutation (IsOut shared) keys others moved are.out;
       apart = IsDistinct-IsPermutation eqb eqb_flips (numbers keys) (numbers others) numbered are.apart;
       others = λ place slot within. elim (are.others place slot within) [ inl there ↦ inl there | inr held ↦ inr (Contains-permutation (numbers keys) (numbers others) place numbered held) ];
     }

@@ -19,4 +19,4 @@ pub use few::Few;
 pub use gate::{Gate, NoGate};
 pub use shift::run_tasks;
 pub use work::{Progress, Work};
-pub use workers::run_workers;
+pub use workers::{Identity, run_workers};

@@ -6,7 +6,7 @@ ghost use Rattle.run_merge.specs.Outcomes.{IsMerged};
 use crate::left::{disks_of, events_of, pools_of, statuses_of};
 use crate::trace::trace_of;
 use run_machine::Event;
-use shared_objects::{Closed, ClosedParts};
+use shared_objects::{Closed, ClosedParts, drop_rest};
 use std::alloc::{AllocError, Global};
 use task_core::Ended;
 
@@ -35,13 +35,17 @@ pub fn merge(alloc: Global, closed: Closed) -> Result<Outcome, AllocError>
         bios,
         vecs,
         records,
+        lists,
         disks,
+        books,
         tally,
+        told,
         tasks,
         trace,
+        pass,
         room,
-        ..
     } = closed.parts();
+    drop_rest(lists, books, told, pass);
     let steps = events_of(&tasks);
     let events = trace_of(alloc, trace, tasks)?;
     let disks = disks_of(disks, room.disks);

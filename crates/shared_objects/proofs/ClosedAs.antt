@@ -54,6 +54,8 @@ use Rattle.object_things.specs.Tallies.{tally_mark}
 use Rattle.seat_lock.specs.declared.view.Known.{Known}
 use Rattle.shared_objects.proofs.LeftOfKind.{IsLeftOf, left_with_key, thing_led, numbers_by_number, task_calls}
 use Rattle.shared_objects.proofs.Shares.{front, none_left, none_right, of_made, some_of, weaker_two, weaker_three}
+use Rattle.shared_objects.proofs.Naming.{same_is, same_self}
+use Rattle.shared_objects.proofs.Unshared.{others_in}
 use Rattle.shared_objects.proofs.Apart.{all_by_tasks, all_more, not_once, once_apart}
 use Rattle.shared_objects.proofs.Taking.{stay_apart}
 
@@ -250,103 +252,6 @@ module _ (opened : Plain) (locks : Locks) (firsts : TaskSeats) (closed : Closed)
       calls_here (OfBook writer) = kind_calls (λ seats. seats.books.items) books_left hold.books writer
       calls_here OfTally = tally_calls
       calls_here OfNone = refl
-
--- An object that was not shared has no history.
-both_false : (a b : Bool) → (a || b) ≡ false → (a ≡ false) × (b ≡ false)
-both_false false b e = (refl, e)
-both_false true b e = absurd (true≢false e)
-
-apart_any : {X : Type 0} (p : X → Bool) (xs ys : List X) → list_any p (xs ++ ys) ≡ false → (list_any p xs ≡ false) × (list_any p ys ≡ false)
-apart_any p [] ys e = (refl, e)
-apart_any p (x ∷ xs) ys e =
-    let parts = both_false (p x) (list_any p (xs ++ ys)) e in let rest = apart_any p xs ys parts.1 in (rw (parts.0) rest.0, rest.1)
-
-turned : (a b : ℕ) → (a == b) ≡ (b == a)
-turned a b = grind (arith, nat_tests)
-
-not_there : {E X : Type 0} (name : Object) (n : ℕ) (key : E → ℕ) (of : E → Object) (value : E → X) (none : ℕ → X) → ((e : E) → is_same name (of e) ≡ (n == key e))
-    → (es : List E) → list_any (is_same name) (map of es) ≡ false → look_up key value none es n ≡ none n
-not_there name n key of value none same [] e = refl
-not_there name n key of value none same (x ∷ xs) e =
-    let parts = both_false (is_same name (of x)) (list_any (is_same name) (map of xs)) e in
-    let other : (key x == n) ≡ false = turned (key x) n ∙ sym (same x) ∙ parts.0 in
-    let rest = not_there name n key of value none same xs parts.1 in rw (other) rest
-
-same_self : (name : Object) → is_same name name ≡ true
-same_self (OfPool n) = self n
-  where
-    self : (n : ℕ) → (n == n) ≡ true
-    self n = grind (arith, nat_tests)
-same_self (OfRescuer n) = self n
-  where
-    self : (n : ℕ) → (n == n) ≡ true
-    self n = grind (arith, nat_tests)
-same_self (OfDisk n) = self n
-  where
-    self : (n : ℕ) → (n == n) ≡ true
-    self n = grind (arith, nat_tests)
-same_self (OfBook n) = self n
-  where
-    self : (n : ℕ) → (n == n) ≡ true
-    self n = grind (arith, nat_tests)
-same_self OfTally = refl
-same_self OfNone = refl
-
-equal : (a b : ℕ) → (a == b) ≡ true → a ≡ b
-equal a b e = grind (arith, nat_tests)
-
-same_is : (a b : Object) → is_same a b ≡ true → a ≡ b
-same_is (OfPool a) (OfPool b) e = ap OfPool (equal a b e)
-same_is (OfRescuer a) (OfRescuer b) e = ap OfRescuer (equal a b e)
-same_is (OfDisk a) (OfDisk b) e = ap OfDisk (equal a b e)
-same_is (OfBook a) (OfBook b) e = ap OfBook (equal a b e)
-same_is OfTally OfTally e = refl
-same_is OfNone OfNone e = refl
-same_is a b e = absurd (cc e)
-
-module _ (closed : Closed) where
-  abbrev AreNone : Object → Type 0
-  AreNone name = list_any (is_same name) (names_of closed) ≡ false
-
-  -- the parts of the list of names
-  parts_of : (name : Object) → AreNone name
-      → (list_any (is_same name) (map (λ entry. OfPool (set_key entry.0)) closed.bios.items) ≡ false) × (is_same name (OfPool 64) ≡ false)
-      × (list_any (is_same name) (map (λ entry. OfPool (slip_key entry.0)) closed.records.items) ≡ false)
-      × (list_any (is_same name) (map (λ entry. OfRescuer (dev_key entry.0)) closed.lists.items) ≡ false)
-      × (list_any (is_same name) (map (λ shut. OfDisk shut.thing.object.dev.0) closed.disks.items) ≡ false)
-      × (list_any (is_same name) (map (λ entry. OfBook (writer_key entry.0)) closed.books.items) ≡ false) × (is_same name OfTally ≡ false)
-  parts_of name none =
-      let bios = apart_any (is_same name) (map (λ entry. OfPool (set_key entry.0)) closed.bios.items) _ none in
-      let vecs = both_false (is_same name (OfPool 64)) _ bios.1 in
-      let records = apart_any (is_same name) (map (λ entry. OfPool (slip_key entry.0)) closed.records.items) _ vecs.1 in
-      let lists = apart_any (is_same name) (map (λ entry. OfRescuer (dev_key entry.0)) closed.lists.items) _ records.1 in
-      let disks = apart_any (is_same name) (map (λ shut. OfDisk shut.thing.object.dev.0) closed.disks.items) _ lists.1 in
-      let books = apart_any (is_same name) (map (λ entry. OfBook (writer_key entry.0)) closed.books.items) _ disks.1 in
-      (bios.0, vecs.0, records.0, lists.0, disks.0, books.0, (both_false (is_same name OfTally) false books.1).0)
-
-  others_in : (name : Object) → AreNone name → history_in closed name ≡ []
-  others_in (OfPool n) none =
-      let parts = parts_of (OfPool n) none in
-      by_case closed.vecs.told.value.known.seen _ _ (n == 64) (is_of_set n) parts.1
-      (not_there (OfPool n) n (λ entry. set_key entry.0) (λ entry. OfPool (set_key entry.0)) (λ entry. entry.1.told.value.known.seen) (λ m. []) (λ entry. refl) closed.bios.items parts.0)
-      (not_there (OfPool n) n (λ entry. slip_key entry.0) (λ entry. OfPool (slip_key entry.0)) (λ entry. entry.1.told.value.known.seen) (λ m. []) (λ entry. refl) closed.records.items parts.2)
-    where
-      by_case : (vecs bios records : List Call) (is_vecs of_set : Bool) → is_vecs ≡ false → bios ≡ [] → records ≡ []
-          → (if is_vecs then vecs else if of_set then bios else records) ≡ []
-      by_case vecs bios records true of_set apart b r = absurd (true≢false apart)
-      by_case vecs bios records false true apart b r = b
-      by_case vecs bios records false false apart b r = r
-  others_in (OfRescuer dev) none =
-      not_there (OfRescuer dev) dev (λ entry. dev_key entry.0) (λ entry. OfRescuer (dev_key entry.0)) (λ entry. entry.1.told.value.known.seen) (λ m. []) (λ entry. refl) closed.lists.items
-      (parts_of (OfRescuer dev) none).3
-  others_in (OfDisk dev) none =
-      not_there (OfDisk dev) dev (λ shut. shut.thing.object.dev.0) (λ shut. OfDisk shut.thing.object.dev.0) (λ shut. shut.told.value.known.seen) (λ m. []) (λ shut. refl) closed.disks.items
-      (parts_of (OfDisk dev) none).4
-  others_in (OfBook writer) none =
-      not_there (OfBook writer) writer (λ entry. writer_key entry.0) (λ entry. OfBook (writer_key entry.0)) (λ entry. entry.1.told.value.known.seen) (λ m. []) (λ entry. refl) closed.books.items
-      (parts_of (OfBook writer) none).5
-  others_in OfTally none = absurd (true≢false (parts_of OfTally none).6)
-  others_in OfNone none = refl
 
 -- all of it
 module _ (setup : Setup) (opened : Plain) (locks : Locks) (firsts : TaskSeats) (closed : Closed) (all : List TaskSeats) (returned : List Returned) (pass : PassState)

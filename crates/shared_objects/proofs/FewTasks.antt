@@ -21,6 +21,7 @@ use Rattle.run_machine.specs.Tasks.{NoBio, Empty, Duty, Writer, Rescuer, Complet
 use Rattle.task_steps.specs.TaskViews.{TaskOf}
 use Rattle.task_core.specs.declared.opening.Opened.{Opened}
 use Rattle.task_core.specs.opened.OfOne.{IsOpened, scenario_in}
+use Rattle.shared_objects.specs.Rans.{most_tasks}
 
 few_of : {X : Type 0} (p : X → Bool) (xs : List X) → length (filter p xs) ≤ length xs
 few_of p [] = omega arith
@@ -71,7 +72,7 @@ module _ (stack : Stack) (good : IsStack stack) (fit : IsFitStack stack) (number
   disks_have_none : rescuer_at (slice_get stack.devices.items number) ≡ true → keeps_data (tree stack number) ≡ true → ⊥
   disks_have_none = by_found (slice_get stack.devices.items number) refl
 
-few_in : (s : Scenario) → IsStack s.stack → IsFitStack s.stack → length (tasks s) ≤ 41
+few_in : (s : Scenario) → IsStack s.stack → IsFitStack s.stack → length (tasks s) ≤ most_tasks
 few_in s good fit =
     let count = (setup s).count in
     let all = range_with_len 0 count in
@@ -92,7 +93,7 @@ few_in s good fit =
     let devices = good.few in
     omega (arith, a, b, d, a', b', eight, each, x, y, z, devices, one_keeper (duties s))
 
-pub few_tasks : (o : Opened) → IsOpened o → length o.tasks.items ≤ 41
+pub few_tasks : (o : Opened) → IsOpened o → length o.tasks.items ≤ most_tasks
 few_tasks o opened =
     let few = few_in (scenario_in o) o.accepted.value.is_stack (accepted_fit o.accepted.value) in
     let same = ap length opened.tasks in

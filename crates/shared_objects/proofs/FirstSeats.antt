@@ -1,26 +1,19 @@
 -- First seats of locks that were just opened.
-use Rattle.std.proofs.Common.{◌≡◌, ◌∙◌, List, [], sym, subst}
-use Rattle.seat_lock.specs.declared.view.Known.{Known}
-use Rattle.seat_lock.specs.Seats.{LockId, SeatState, IsOf, first_seat}
+use Rattle.std.proofs.Common.{◌≡◌, ◌∙◌, List, sym, subst}
+use Rattle.seat_lock.specs.Seats.{LockId, SeatState}
 use Rattle.object_things.specs.Stamps.{CommonState, Held}
 use Rattle.shared_objects.specs.Guards.{guarded}
-use Rattle.shared_objects.specs.Joins.{HasTaken}
-use Rattle.shared_objects.specs.Opening.{IsFirstAt, IsFirstOf, guarded_row}
+use Rattle.shared_objects.specs.Opening.{IsFirstAt, guarded_row}
 use Rattle.shared_objects.specs.Rows.{Abreast, AbreastThree, IsOpened}
 use Rattle.shared_objects.specs.Sharing.{AreRound}
 use Rattle.shared_objects.proofs.Shares.{first_two, last_two, of_made}
-use Rattle.shared_objects.proofs.Taking.{opens}
-
-module _ {T A R : Type 0} where
-  pub first_of : (lock : LockId T) (first : SeatState T A R) → IsOf lock first → first.known ≡ first_seat lock.key → IsFirstOf 0 lock first
-  first_of lock first of fresh = (of, subst (λ (k : Known T A R). HasTaken 0 [] k) (sym fresh) (opens lock.key))
 
 module _ {K T A R : Type 0} (things : List (K × T)) (locks : List (K × LockId T)) (firsts : List (K × SeatState T A R)) (are : AbreastThree IsOpened things locks firsts) where
   pub round_things : AreRound (λ thing. thing) things locks
   round_things = first_two IsOpened things locks firsts are _ (λ thing lock first is. (is.keys.0, is.value))
 
   pub firsts_of : Abreast (IsFirstAt 0) locks firsts
-  firsts_of = last_two IsOpened things locks firsts are (IsFirstAt 0) (λ thing lock first is. (is.keys.1 ∙ sym is.keys.0, first_of lock.1 first.1 is.of is.fresh))
+  firsts_of = last_two IsOpened things locks firsts are (IsFirstAt 0) (λ thing lock first is. (is.keys.1 ∙ sym is.keys.0, is.first_is))
 
 -- locks round things are round the objects that these were made of
 module _ {K O : Type 0} (common : CommonState) (objects : List (K × O)) (things : List (K × Held O)) (locks : List (K × LockId (Held O))) where

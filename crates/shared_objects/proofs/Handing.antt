@@ -4,7 +4,7 @@ use Rattle.std.specs.Prelude.{IfSome}
 use Rattle.std.proofs.lemmas.List.{get_or-set_same, get_or-set_other, length-set}
 use Rattle.task_core.specs.opened.OfOne.{scenario_in}
 use Rattle.task_steps.specs.TaskViews.{TaskOf}
-use Rattle.shared_objects.specs.Rans.{RanState}
+use Rattle.shared_objects.specs.Rans.{RanState, most_tasks}
 use Rattle.shared_objects.specs.Shared.{HandsOut, HasRoomFor, IsOwnIfHere, IsUntaken, SameShared, SharedHolds, key_at}
 use Rattle.shared_objects.specs.Taking.{TakenHold}
 use Rattle.shared_objects.specs.declared.shared.Shared.{Shared}
@@ -46,7 +46,7 @@ module _ (old : Shared) (holds : SharedHolds old) (new : Shared) (same : record 
     firsts = holds.firsts;
     taken = subst (λ n. TakenHold n old.locks [] old.firsts) (sym many) holds.taken;
     all = many ∙ holds.all;
-    few = subst (λ n. n ≤ 41) (sym many) holds.few;
+    few = subst (λ n. n ≤ most_tasks) (sym many) holds.few;
     own = λ at first other lt. own_each at first other (at == place) refl lt;
     next = subst (λ n. new.next ≤ n) (sym many) within;
     untaken = untaken_each;

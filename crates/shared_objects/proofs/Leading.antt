@@ -19,7 +19,7 @@ use Rattle.object_things.specs.Stamps.{is_spent}
 use Rattle.shared_objects.specs.Calls.{is_same, calls_to, struck}
 use Rattle.shared_objects.specs.Desks.{DeskState}
 use Rattle.shared_objects.specs.Logs.{is_event, is_stop, is_glance, events_in, tickets_in, Looked, LogLeads, IsLogged}
-use Rattle.shared_objects.specs.Led.{CallsLead, task_after, BrokeOff, IsLed, LogsLead, TicketsAreFew}
+use Rattle.shared_objects.specs.Led.{CallsLead, task_after, BrokeOff, IsLed, LogsLead}
 use Rattle.shared_objects.proofs.Breaking.{broken_rests, stop_breaks}
 use Rattle.shared_objects.proofs.Staying.{glance_kinds, stop_struck}
 

@@ -7,6 +7,7 @@ pub mod Desked
 pub mod DeskedPools
 pub mod Idling
 pub mod Logging
+pub mod Telling
 pub mod Stepping
 pub mod Places
 pub mod SeatNumbers
@@ -17,6 +18,8 @@ pub mod Shows
 pub mod Found
 pub mod Apart
 pub mod LeftOfKind
+pub mod Naming
+pub mod Unshared
 pub mod ClosedAs
 pub mod Takes
 pub mod Turning
@@ -41,3 +44,7 @@ pub mod Splitting
 pub mod NewDesks
 pub mod TaskRows
 pub mod JustShared
+pub mod Owners
+pub mod Refusing
+pub mod Drawn
+pub mod Tickets

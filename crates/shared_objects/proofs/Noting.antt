@@ -16,7 +16,7 @@ use Rattle.object_things.specs.Histories.{Call, or_last}
 use Rattle.shared_objects.specs.Calls.{calls_to, struck}
 use Rattle.shared_objects.specs.Desks.{DeskState}
 use Rattle.shared_objects.specs.Logs.{is_event, is_stop, is_glance, events_in, LogLeads, IsLogged, seen_by, ShowsStep}
-use Rattle.shared_objects.specs.Noting.{noted_as, note_of, notes_of, HaveTickets, AreNoted, NotesStep}
+use Rattle.shared_objects.specs.Noting.{noted_as, note_of, notes_of, HaveTickets, AddsNote, AreNoted, NotesStep}
 use Rattle.shared_objects.specs.declared.noted.Noted.{Noted}
 use Rattle.shared_objects.proofs.Breaking.{broken_rests, stop_breaks}
 use Rattle.shared_objects.proofs.Leading.{AsksSome, apart_of, asks_some, event_first, glances_quiet, kinds, quiet_first, rest_glances, stop_kind}
@@ -157,18 +157,29 @@ module _ (setup : Setup) where
 
 same_list : (notes more : List (ℕ × Event)) (old list : Noted) → more ≡ notes ++ [] → AreNoted notes (Some old) → list ≡ old → AreNoted more (Some list)
 same_list notes more old list is were same =
-    subst (λ l. AreNoted more (Some l)) (sym same) (λ whole. were whole ∙ sym (is ∙ append-nil notes))
+    subst (λ l. AreNoted more (Some l)) (sym same) (subst (λ l. AreNoted l (Some old)) (sym (is ∙ append-nil notes)) were)
 
--- a step keeps that what is noted is all
+-- one note more, or no memory for it
+adds_note : (notes : List (ℕ × Event)) (note : ℕ × Event) (old new : Noted) → AreNoted notes (Some old) → AddsNote note old new → AreNoted (notes ++ note ∷ []) (Some new)
+adds_note notes note old new (inl (whole, all)) (inl (was, is, adds)) = inl (is, adds ∙ ap (λ l. l ++ note ∷ []) all)
+adds_note notes note old new (inr (part, front)) (inl (was, is, adds)) = absurd (cc (sym part ∙ was))
+adds_note notes note old new (inl (whole, all)) (inr (stops, same)) = inr (stops, (note, [], ap (λ l. l ++ note ∷ []) (sym (same ∙ all))))
+adds_note notes note old new (inr (part, (next, rest, front))) (inr (stops, same)) =
+    inr (stops, (next, rest ++ note ∷ [], ap (λ l. l ++ note ∷ []) front ∙ append_assoc old.events.items (next ∷ rest) (note ∷ []) ∙ ap (λ l. l ++ next ∷ (rest ++ note ∷ [])) (sym same)))
+
+-- a step keeps that what is noted is all, or those before one for which there was no memory
 pub stays_noted : (step : Step) (seen : ℕ) (notes more : List (ℕ × Event)) (old new : Option Noted) → more ≡ notes ++ noted_by step seen → AreNoted notes old
     → NotesStep step seen old new → AreNoted more new
 stays_noted step seen notes more None new is were goes = subst (AreNoted more) (sym goes) tt
 stays_noted step seen notes more (Some old) None is were goes = tt
-stays_noted (Stepped event) seen notes more (Some old) (Some new) is were goes = λ whole. elim goes [
-  | inl adds ↦ adds.2 ∙ ap (λ l. l ++ (seen, event) ∷ []) (were adds.0) ∙ sym is
-  | inr stops ↦ absurd (cc (sym stops.0 ∙ whole))
-]
+stays_noted (Stepped event) seen notes more (Some old) (Some new) is were goes =
+    subst (λ l. AreNoted l (Some new)) (sym is) (adds_note notes (seen, event) old new were goes)
 stays_noted Ended seen notes more (Some old) (Some new) is were goes = same_list notes more old new is were goes
 stays_noted (Broken breach) seen notes more (Some old) (Some new) is were goes = same_list notes more old new is were goes
 stays_noted Waiting seen notes more (Some old) (Some new) is were goes = same_list notes more old new is were goes
 stays_noted (Blocked pool) seen notes more (Some old) (Some new) is were goes = same_list notes more old new is were goes
+
+-- a list that is whole has all notes
+pub whole_notes : (notes : List (ℕ × Event)) (noted : Noted) → AreNoted notes (Some noted) → noted.whole ≡ true → noted.events.items ≡ notes
+whole_notes notes noted (inl (is, all)) whole = all
+whole_notes notes noted (inr (part, front)) whole = absurd (cc (sym part ∙ whole))

@@ -109,7 +109,7 @@ unused_goes (Some pass) is = record {
 
 blank_notes : (noted : Option Noted) → IsBlank noted → AreNoted [] noted
 blank_notes None blank = tt
-blank_notes (Some noted) blank = λ whole. blank.0
+blank_notes (Some noted) blank = inl (blank.1, blank.0)
 
 pub new_desks_are_ran : NewDesksAreRan
 new_desks_are_ran task desk noted is blank = record {

@@ -7,8 +7,8 @@ use Rattle.seat_lock.specs.declared.view.Rank.TheVariants.{First}
 use Rattle.seat_lock.specs.Seats.{LockId, SeatState, IsOf, is_first, new_seat, own, split_more, split_of}
 use Rattle.shared_objects.specs.Holding.{IsSeatOf}
 use Rattle.shared_objects.specs.Joins.{HasTaken, IsNumbered}
-use Rattle.shared_objects.specs.Opening.{IsFirstAt, IsFirstOf, IsNewAt, IsNewOf, first_pass_of}
-use Rattle.shared_objects.specs.Rows.{Abreast, AreChanged, IsAt, CanSplit, IsSplit}
+use Rattle.shared_objects.specs.Opening.{IsFirstAt, IsNewAt, IsNewOf, first_pass_of}
+use Rattle.shared_objects.specs.Rows.{Abreast, AreChanged, IsAt, CanSplit, IsFirstOf, IsSplit}
 use Rattle.shared_objects.proofs.Shares.{some_of, weaker_two}
 use Rattle.shared_objects.proofs.Taking.{splits}
 

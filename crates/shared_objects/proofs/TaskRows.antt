@@ -6,7 +6,7 @@ use Rattle.std.proofs.Math.Decide.{ℕ_discrete}
 use Rattle.std.proofs.Math.Logic.{dite}
 use Rattle.task_steps.specs.TaskViews.{TaskOf}
 use Rattle.shared_objects.specs.Opening.{AreFirst, AreTasksAt, IsTaskAt, IsTaskFor}
-use Rattle.shared_objects.specs.Rans.{RanState}
+use Rattle.shared_objects.specs.Rans.{RanState, most_tasks}
 use Rattle.shared_objects.specs.declared.locks.Locks.{Locks}
 use Rattle.shared_objects.specs.declared.seats.TaskSeats.{TaskSeats}
 use Rattle.shared_objects.proofs.Places.{Part, in_list, next_so, part_all, part_more}
@@ -45,7 +45,7 @@ module _ (locks : Locks) where
       pub task_for : All (IsTaskFor locks) tasks → IsTaskFor locks task
       task_for all = next_so tasks are.0 more task whole (IsTaskFor locks) all
 
-      pub few_before : length tasks ≤ 41 → n < 41
+      pub few_before : length tasks ≤ most_tasks → n < most_tasks
       few_before few = let lt = in_list tasks are.0 more task whole in let long = are.2.0 in omega (arith, lt, long, few)
 
       pub stands_too : (ran : RanState) (now : List (Option RanState)) → now ≡ slots ++ Some ran ∷ [] → IsTaskAt locks n task (Some ran) → Standing tasks more now (n + 1)

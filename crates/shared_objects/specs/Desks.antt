@@ -45,3 +45,7 @@ DeskServes old request reply new = HasCalled old (struck request) reply new
 abbrev pub PicksBy : ℕ → Option ℕ → Type 0
 PicksBy chosen None = Unit {0}
 PicksBy chosen (Some index) = index ≤ chosen
+
+-- so it is at each disk
+abbrev pub DeskPicks : DevId → ℕ → ℕ → Option ℕ → Type 0
+DeskPicks disk pending chosen picked = PicksBy chosen picked

@@ -1,5 +1,5 @@
 -- Where the calls of a task lead it.
-use Rattle.std.specs.Prelude.{◌≡◌, ◌⊎◌, ◌≤◌, ◌+◌, ◌++◌, ℕ, true, false, List, [], ◌∷◌, All, length, None}
+use Rattle.std.specs.Prelude.{◌≡◌, ◌⊎◌, ◌++◌, true, false, List, [], ◌∷◌, All}
 use Rattle.std.specs.Option.{is_some}
 use Rattle.run_machine.specs.Scene.{Setup}
 use Rattle.run_machine.specs.Tasks.{TaskState, request, look_of, answered}
@@ -7,7 +7,7 @@ use Rattle.task_steps.specs.Turns.{breach_of}
 use Rattle.object_things.specs.Histories.{Call}
 use Rattle.shared_objects.specs.Calls.{struck}
 use Rattle.shared_objects.specs.Desks.{DeskState}
-use Rattle.shared_objects.specs.Logs.{is_event, is_stop, is_glance, events_in, tickets_in, Looked, IsLogged}
+use Rattle.shared_objects.specs.Logs.{is_event, is_stop, is_glance, events_in, Looked, IsLogged}
 
 -- these calls, one after the other, lead a task on: each asks for what the task asks for next
 abbrev pub CallsLead : Setup → TaskState → List Call → TaskState → Type 0
@@ -45,8 +45,3 @@ pub record IsLed (setup : Setup) (first : TaskState) (log : List Call) (now : Ta
 
 abbrev pub LogsLead : Type 0
 LogsLead = (setup : Setup) (first now : TaskState) (log : List Call) (desk : DeskState) → IsLogged setup first log now desk → IsLed setup first log now
-
--- Where a glance has no ticket, as its object's history shows, a task has at most one ticket more than events.
-abbrev pub TicketsAreFew : Type 0
-TicketsAreFew = (setup : Setup) (first now : TaskState) (log : List Call) → IsLed setup first log now
-    → All (λ (c : Call). is_glance c.asked c.told.reply ≡ true → c.told.ticket ≡ None) log → length (tickets_in log) ≤ length (events_in log) + 1

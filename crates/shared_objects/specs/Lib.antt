@@ -21,5 +21,6 @@ pub mod Closing
 pub mod Shared
 pub mod Joining
 pub mod Left
+pub mod Tickets
 pub mod Parted
 pub mod Opening

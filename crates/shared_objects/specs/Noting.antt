@@ -31,10 +31,14 @@ notes_of setup task (call ∷ calls) =
 abbrev pub HaveTickets : List Call → Type 0
 HaveTickets log = All (λ (call : Call). is_event call.asked call.told.reply ≡ true → is_some call.told.ticket ≡ true) log
 
--- these are the notes in a list that is whole
+-- these stand in front of all, and are not all
+abbrev pub IsFrontOf : {X : Type 0} → List X → List X → Type 0
+IsFrontOf {X = X} front all = (next : X) × (rest : List X) × (all ≡ front ++ next ∷ rest)
+
+-- What a list has of these notes: all of them where it is whole, and else those before one for which there was no memory.
 abbrev pub AreNoted : List (ℕ × Event) → Option Noted → Type 0
 AreNoted notes None = Unit {0}
-AreNoted notes (Some noted) = noted.whole ≡ true → noted.events.items ≡ notes
+AreNoted notes (Some noted) = ((noted.whole ≡ true) × (noted.events.items ≡ notes)) ⊎ ((noted.whole ≡ false) × IsFrontOf noted.events.items notes)
 
 -- no list is wanted, or it has no note yet
 abbrev pub IsBlank : Option Noted → Type 0

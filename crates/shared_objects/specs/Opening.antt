@@ -1,7 +1,7 @@
 -- How opened objects come behind locks, and tasks get their seats.
 use Rattle.std.specs.Prelude.{◌≡◌, ◌<◌, ◌+◌, ℕ, List, [], All, map, length, slice_index_or, Option, Some, None}
 use Rattle.atomic_table.specs.Seated.{TableId}
-use Rattle.seat_lock.specs.Seats.{LockId, SeatState, IsOf, own}
+use Rattle.seat_lock.specs.Seats.{LockId, SeatState, own}
 use Rattle.tick_clock.specs.declared.ticking.Rank.TheVariants as pass_rank
 use Rattle.tick_clock.specs.Tickets.{PassState, first_pass, fresh_pass}
 use Rattle.stack_base.specs.PoolId.{pool_number}
@@ -20,9 +20,8 @@ use Rattle.object_things.specs.Pools.{IsPoolOf}
 use Rattle.object_things.specs.Stamps.{CommonState, Held}
 use Rattle.shared_objects.specs.Guards.{guarded}
 use Rattle.shared_objects.specs.Holding.{IsSeatOf, dev_key, set_key, slip_key, stage_at}
-use Rattle.shared_objects.specs.Joins.{HasTaken}
 use Rattle.shared_objects.specs.Rans.{IsNewRan, RanState, ran_key}
-use Rattle.shared_objects.specs.Rows.{Abreast, IsAt}
+use Rattle.shared_objects.specs.Rows.{Abreast, IsFirstOf}
 use Rattle.shared_objects.specs.Shared.{HasRoomFor, key_at}
 use Rattle.shared_objects.specs.declared.closed.Room.{Room}
 use Rattle.shared_objects.specs.declared.locks.Locks.{Locks}
@@ -47,10 +46,6 @@ pub record CanShare (plain : Plain) : Type 0 where
   pub books : All (λ entry. IsBookOf (stage_of plain) entry.1.writer entry.1 × (entry.1.writer ≡ entry.0)) plain.books.items
 
 module _ {T A R : Type 0} where
-  -- the first seat of a lock, from which so many seats were split off, and into which none was joined
-  abbrev pub IsFirstOf : ℕ → LockId T → SeatState T A R → Type 0
-  IsFirstOf split lock first = IsOf lock first × HasTaken split [] first.known
-
   -- the seat that the task of this number has of a lock, which has made no call
   abbrev pub IsNewOf : ℕ → LockId T → SeatState T A R → Type 0
   IsNewOf task lock seat = IsSeatOf task lock seat × (own seat.known ≡ [])

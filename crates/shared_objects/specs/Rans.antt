@@ -22,7 +22,7 @@ use Rattle.shared_objects.specs.declared.noted.Noted.{Noted}
 use Rattle.shared_objects.specs.declared.seats.TaskSeats.{TaskSeats}
 
 -- Calls led the task from the first state to this one. They have so many events, or 2^64 - 1 where there are more, and the task has stopped if a
--- step of it answered so. What it noted is all its events, where it did not stop noting them.
+-- step of it answered so. What it noted is all its events, or those before one for which there was no memory.
 pub record IsRan (first task : TaskOf) (desk : DeskState) (events : ℕ) (stopped : Bool) (noted : Option Noted) : Type 0 where
   pub log : List Call
   pub logged : IsLogged (setup first.routing) first.state log task.state desk
@@ -81,6 +81,10 @@ pub record RanKey : Type 0 where
 abbrev pub ran_key : RanState → RanKey
 ran_key ran = record { first = ran.first; home = ran.home; number = ran.seats.number }
 
+-- no run has more tasks: eight writers, a rescuer or a completer for each of 32 devices, and the keeper
+abbrev pub most_tasks : ℕ
+most_tasks = 41
+
 -- a pass that was split off, into which none was joined
 abbrev pub IsOtherPass : Option PassState → Type 0
 IsOtherPass None = ⊥
@@ -96,12 +100,13 @@ pub record RanHolds (state : RanState) : Type 0 where
   pub listed : is_some state.noted ≡ state.home.trace
   pub ran : IsRan state.first state.task (desk_of state.seats) state.events state.stopped state.noted
 
--- it has made no call yet
+-- it has made no call yet, and noted nothing
 pub record IsNewRan (ran : RanState) : Type 0 where
   pub task : ran.task ≡ ran.first
   pub desk : IsNewDesk (desk_of ran.seats)
   pub events : ran.events ≡ 0
   pub stopped : ran.stopped ≡ false
+  pub blank : IsBlank ran.noted
 
 -- whether a step tells that the task has stopped
 abbrev pub is_over : Step → Bool

@@ -3,7 +3,8 @@ use Rattle.std.specs.Prelude.{◌≡◌, ◌<◌, ◌≤◌, ℕ, true, false, L
 use Rattle.seat_lock.specs.declared.lock.Shut.{Shut}
 use Rattle.seat_lock.specs.declared.view.Rank.TheVariants.{First}
 use Rattle.seat_lock.specs.History.{IsLeft}
-use Rattle.seat_lock.specs.Seats.{LockId, SeatState, IsOf, HasJoined, IsWhole, first_seat, is_first, new_seat, own, split_more, split_of}
+use Rattle.seat_lock.specs.Seats.{LockId, SeatState, IsOf, HasJoined, IsWhole, is_first, new_seat, own, split_more, split_of}
+use Rattle.shared_objects.specs.Joins.{HasTaken}
 
 module _ {X Y : Type 0} (P : X → Y → Type 0) where
   -- two rows are as long, and this holds of what stands at each place
@@ -31,13 +32,17 @@ module _ {L X Y : Type 0} (P : L → X → Y → X → Type 0) where
         → P (slice_index_or locks place lock) (slice_index_or olds place old) (slice_index_or others place other) (slice_index_or news place new)
     pub ahead : (place : ℕ) (old : X) → length others ≤ place → slice_index_or news place old ≡ slice_index_or olds place old
 
+module _ {T A R : Type 0} where
+  -- the first seat of a lock, from which so many seats were split off, and into which none was joined
+  abbrev pub IsFirstOf : ℕ → LockId T → SeatState T A R → Type 0
+  IsFirstOf split lock first = IsOf lock first × HasTaken split [] first.known
+
 module _ {K T A R : Type 0} where
   -- a lock round a thing, with its first seat
   pub record IsOpened (thing : K × T) (lock : K × LockId T) (first : K × SeatState T A R) : Type 0 where
     pub keys : (lock.0 ≡ thing.0) × (first.0 ≡ thing.0)
     pub value : lock.1.key.value ≡ thing.1
-    pub of : IsOf lock.1 first.1
-    pub fresh : first.1.known ≡ first_seat lock.1.key
+    pub first_is : IsFirstOf 0 lock.1 first.1
 
   -- a seat of a lock, with its key
   abbrev pub IsAt : K × LockId T → K × SeatState T A R → Type 0
@@ -66,10 +71,13 @@ module _ {K T A R : Type 0} where
   abbrev pub CanClose : K × SeatState T A R → Type 0
   CanClose first = first.1.known.rank ≡ First first.1.known.joined
 
-module _ {K T Q P D A R M : Type 0} (plain : T → D) (mark : T → M) (answers : D → A → R → D → Type 0) where
-  -- A lock was closed: what is left is the thing as the whole history leaves it, which is all that the first seat had seen, and that seat.
-  pub record IsShut (lock : K × LockId T) (first : K × SeatState T A R) (left : K × Shut T Q P D A R M) : Type 0 where
-    pub key : left.0 ≡ lock.0
-    pub thing : IsLeft plain mark answers lock.1.key.value first.1.known.seen left.1.thing
-    pub told : left.1.told.value ≡ first.1
-    pub all : own first.1.known ≡ first.1.known.seen
+module _ {T D A R M : Type 0} (plain : T → D) (mark : T → M) (answers : D → A → R → D → Type 0) where
+  -- What is left of a lock: the thing as the history leaves it, which is all that the first seat has seen and all of its own calls, and that seat.
+  pub record IsShut (lock : LockId T) (first : SeatState T A R) (thing : T) (told : SeatState T A R) : Type 0 where
+    pub left : IsLeft plain mark answers lock.key.value first.known.seen thing
+    pub told_is : told ≡ first
+    pub all : own first.known ≡ first.known.seen
+
+  -- the same with its key
+  abbrev pub IsShutAt : {K Q P : Type 0} → K × LockId T → K × SeatState T A R → K × Shut T Q P D A R M → Type 0
+  IsShutAt lock first left = (left.0 ≡ lock.0) × IsShut lock.1 first.1 left.1.thing left.1.told.value

@@ -6,7 +6,7 @@ use Rattle.task_steps.specs.TaskViews.{TaskOf}
 use Rattle.task_core.specs.Leaving.{HasRoom}
 use Rattle.task_core.specs.opened.OfOne.{IsOpened, scenario_in}
 use Rattle.shared_objects.specs.Holding.{IsPassOf, LocksHold}
-use Rattle.shared_objects.specs.Rans.{IsNewRan, RanKey, RanState, ran_key}
+use Rattle.shared_objects.specs.Rans.{IsNewRan, RanKey, RanState, most_tasks, ran_key}
 use Rattle.shared_objects.specs.Rows.{Abreast, IsAt}
 use Rattle.shared_objects.specs.Sharing.{AreOfOpened}
 use Rattle.shared_objects.specs.Taking.{TakenHold}
@@ -64,7 +64,7 @@ pub record SharedHolds (shared : Shared) : Type 0 where
   -- a seat of each lock was split off for each task, and none was joined
   pub taken : TakenHold (length shared.tasks.items) shared.locks [] shared.firsts
   pub all : length shared.tasks.items ≡ length shared.told.value.tasks.items
-  pub few : length shared.tasks.items ≤ 41
+  pub few : length shared.tasks.items ≤ most_tasks
   pub own : (place : ℕ) (first : TaskOf) (slot : Option RanState) → place < length shared.tasks.items
       → IsOwnIfHere (key_at shared.locks place (slice_index_or shared.told.value.tasks.items place first)) (slice_index_or shared.tasks.items place slot)
   -- those from this one on were not handed out
@@ -87,11 +87,11 @@ pub record HandsOut (old : Shared) (ran : RanState) (new : Shared) : Type 0 wher
   pub tasks : new.tasks.items ≡ slice_set old.tasks.items old.next None
   pub same : SameShared old new
 
--- the task was handed out and did not come back
-pub record IsOut (shared : Shared) (ran : RanState) : Type 0 where
-  pub taken : ran.seats.number < shared.next
-  pub key : (first : TaskOf) → ran_key ran ≡ key_at shared.locks ran.seats.number (slice_index_or shared.told.value.tasks.items ran.seats.number first)
-  pub vacant : (slot : Option RanState) → slice_index_or shared.tasks.items ran.seats.number slot ≡ None
+-- the task of this key was handed out and did not come back
+pub record IsOut (shared : Shared) (key : RanKey) : Type 0 where
+  pub taken : key.number < shared.next
+  pub own : (first : TaskOf) → key ≡ key_at shared.locks key.number (slice_index_or shared.told.value.tasks.items key.number first)
+  pub vacant : (slot : Option RanState) → slice_index_or shared.tasks.items key.number slot ≡ None
 
 -- a task came back
 pub record TakesBack (old : Shared) (ran : RanState) (new : Shared) : Type 0 where

@@ -26,7 +26,6 @@ pub struct ClosedTask {
 }
 
 /// What is left of each object: the thing as all calls have left it, and the first seat, which has seen its whole history.
-#[derive(Drop)]
 pub struct Closed {
     /// The pools of bios, of the writers' set first and then of devices.
     pub bios: Vec<(SetId, Shut<PoolThing<BioBody<Pad>>>)>,
@@ -70,6 +69,47 @@ pub struct ClosedParts {
     pub pass: Snapshot<Pass>,
     /// Room for what the run leaves.
     pub room: Ended,
+}
+
+// By hand, as that of `Shared`.
+impl Drop for Closed {
+    fn drop(self) {
+        let Closed {
+            bios,
+            vecs,
+            records,
+            lists,
+            disks,
+            books,
+            tally,
+            told,
+            tasks,
+            trace: _,
+            pass,
+            room,
+        } = self;
+        drop(bios);
+        drop(vecs);
+        drop(records);
+        drop(disks);
+        drop(tally);
+        drop(tasks);
+        drop(room);
+        drop_rest(lists, books, told, pass);
+    }
+}
+
+/// Drops what a merge has no use for. In a crate above this would be dear to prove.
+pub fn drop_rest(
+    lists: Vec<(DevId, Shut<ListThing>)>,
+    books: Vec<(u32, Shut<BookThing>)>,
+    told: Snapshot<Opened>,
+    pass: Snapshot<Pass>,
+) {
+    drop(lists);
+    drop(books);
+    drop(told);
+    drop(pass);
 }
 
 impl Closed {

@@ -9,6 +9,7 @@ ghost use Rattle.shared_objects.specs.Rows.{Abreast, AreAdded, CanClose, IsAt};
 ghost use Rattle.shared_objects.specs.Shared.{FirstsHold, HaveStopped, SharedHolds};
 ghost use Rattle.shared_objects.specs.Shutting.{HasShut, IsShutOf};
 ghost use Rattle.shared_objects.specs.Taking.{TakenHold};
+ghost use Rattle.shared_objects.specs.Tickets.{ShowsItsTickets};
 
 use crate::closed::{Closed, ClosedTask, Room};
 use crate::locks::Locks;
@@ -39,7 +40,7 @@ fn join_pass(clock: &Clock, first: &mut Option<Pass>, other: Option<Pass>)
 }
 
 // Joins a task's seats into the first ones.
-fn join_seats(locks: &Locks, firsts: &mut TaskSeats, seats: TaskSeats)
+pub(crate) fn join_seats(locks: &Locks, firsts: &mut TaskSeats, seats: TaskSeats)
     requires firsts { FirstsHold locks.now firsts.old }
     requires seats { SeatsHold locks.now seats }
     requires pass { IsPassOf locks.now.common.value.clock seats.pass × IsOtherPass seats.pass }
@@ -67,37 +68,8 @@ fn join_seats(locks: &Locks, firsts: &mut TaskSeats, seats: TaskSeats)
     join_pass(locks.common.clock(), &mut firsts.pass, pass);
 }
 
-// Puts a task away, and joins its seats into the first ones.
-fn join_task(locks: &Locks, firsts: &mut TaskSeats, ran: Ran) -> ClosedTask
-    requires home { ran.home ≡ locks.now }
-    requires firsts { FirstsHold locks.now firsts.old }
-    ensures holds { RanHolds ran }
-    ensures away { IsPutAway ran result }
-    ensures joined { HasJoinedSeats locks.now firsts.old ran.seats firsts.new }
-    ensures of { FirstsHold locks.now firsts.new }
-{
-    let Ran {
-        task,
-        seats,
-        first,
-        home: _,
-        events,
-        stopped: _,
-        noted,
-    } = ran;
-    let shown = Snapshot::of(&seats);
-    join_seats(locks, firsts, seats);
-    ClosedTask {
-        task,
-        first,
-        seats: shown,
-        events,
-        noted,
-    }
-}
-
 // Puts all tasks away, and joins the seats of each into the first ones. There is room for them.
-fn join_tasks(
+pub(crate) fn join_tasks(
     locks: &Locks,
     firsts: &mut TaskSeats,
     tasks: Vec<Option<Ran>>,
@@ -111,7 +83,7 @@ fn join_tasks(
 {
     'joining: for slot in tasks {
         let Some(ran) = slot else { unreachable!() };
-        closed.push(join_task(locks, firsts, ran)).unwrap();
+        closed.push(ran.join(locks, firsts)).unwrap();
     }
 }
 
@@ -147,7 +119,12 @@ fn last_of(pass: Option<Pass>) -> Snapshot<Pass>
 }
 
 // Ends the use of the locks, with their first seats, into which those of all tasks were joined.
-fn close_locks(locks: Locks, firsts: TaskSeats, mut room: Room, told: Snapshot<Opened>) -> Closed
+pub(crate) fn close_locks(
+    locks: Locks,
+    firsts: TaskSeats,
+    mut room: Room,
+    told: Snapshot<Opened>,
+) -> Closed
     requires locks { LocksHold locks }
     requires firsts { FirstsHold locks firsts }
     requires whole { CanEnd firsts }
@@ -174,28 +151,5 @@ fn close_locks(locks: Locks, firsts: TaskSeats, mut room: Room, told: Snapshot<O
         trace: locks.trace,
         pass: last_of(firsts.pass),
         room: room.ended,
-    }
-}
-
-impl Shared {
-    /// Ends the use of the objects: each task was handed out, came back and has stopped. What is left shows the whole history of each object,
-    /// with each task's calls in it.
-    pub fn close(self) -> Closed
-        requires holds { SharedHolds self }
-        requires over { HaveStopped self }
-        ensures closed { HasClosed result }
-        ensures told { result.told.value ≡ self.told.value }
-        ensures trace { result.trace ≡ self.locks.trace }
-    {
-        let Shared {
-            locks,
-            mut firsts,
-            tasks,
-            next: _,
-            mut room,
-            told,
-        } = self;
-        join_tasks(&locks, &mut firsts, tasks, &mut room.tasks);
-        close_locks(locks, firsts, room, told)
     }
 }

@@ -3,6 +3,7 @@ ghost use Rattle.shared_objects.specs.Closing.{LocksCloseAs};
 ghost use Rattle.shared_objects.specs.Led.{LogsLead};
 ghost use Rattle.shared_objects.specs.Logs.{CallsAreLogged, StepsAreLogged};
 ghost use Rattle.shared_objects.specs.Rans.{NewDesksAreRan, StepsKeepRan};
+ghost use Rattle.shared_objects.specs.Tickets.{ClosesShowTickets};
 
 use crate::locks::Locks;
 use crate::ran::Ran;
@@ -37,6 +38,12 @@ pub fn new_desks_are_ran()
 /// with the calls of each task, and the tickets of the clock.
 pub fn locks_close_as()
     ensures { LocksCloseAs }
+{}
+
+/// The tickets of the clock, of what a close shows: they all differ; each is 1 or one more than another one; each is that of an event in the
+/// histories, but for one of a call that was refused, of which each task has one at most; and where a draw found none, 2^64 - 1 is among them.
+pub fn closes_show_tickets()
+    ensures { ClosesShowTickets }
 {}
 
 /// What is handed to it may go to another thread.

@@ -14,7 +14,7 @@ pub mod rows;
 pub mod seats;
 pub mod shared;
 
-pub use closed::{Closed, ClosedParts, ClosedTask};
+pub use closed::{Closed, ClosedParts, ClosedTask, drop_rest};
 pub use desk::Desk;
 pub use locks::Locks;
 pub use noted::Noted;

@@ -5,6 +5,8 @@ ghost use Rattle.shared_objects.specs.Logs.{seen_by};
 ghost use Rattle.shared_objects.specs.Noting.{IsBlank, NotesStep};
 ghost use Rattle.shared_objects.specs.Rans.{events_after, stopped_after};
 
+use crate::closed::ClosedTask;
+use crate::closing::join_seats;
 use crate::locks::Locks;
 use crate::noted::Noted;
 use crate::seats::TaskSeats;
@@ -17,7 +19,6 @@ use tick_clock::Pass;
 
 /// A task with its seats of shared objects, as it goes from thread to thread. Whatever steps it has made, its seats show the calls that led it
 /// from where it was opened to where it is.
-#[derive(Drop)]
 pub struct Ran {
     pub task: Task,
     pub seats: TaskSeats,
@@ -30,6 +31,26 @@ pub struct Ran {
     pub(crate) stopped: bool,
     // What it has noted, where that is wanted.
     pub(crate) noted: Option<Noted>,
+}
+
+// By hand, as that of `Shared`.
+impl Drop for Ran {
+    fn drop(self) {
+        let Ran {
+            task,
+            seats,
+            first,
+            home,
+            events: _,
+            stopped: _,
+            noted,
+        } = self;
+        drop(task);
+        drop(seats);
+        drop(first);
+        drop(home);
+        drop(noted);
+    }
 }
 
 impl Model for Ran {
@@ -48,10 +69,13 @@ impl Ran {
     ghost use Rattle.task_steps.specs.Homes.{IsTaskOf};
     ghost use Rattle.task_steps.specs.Routed.{setup};
     ghost use Rattle.task_steps.specs.Stage.{Owes};
+    ghost use Rattle.task_steps.specs.TaskViews.{ChosenBy};
     ghost use Rattle.task_steps.specs.Turns.{Turns};
-    ghost use Rattle.shared_objects.specs.Desks.{DeskServes};
+    ghost use Rattle.shared_objects.specs.Desks.{DeskPicks, DeskServes};
     ghost use Rattle.shared_objects.specs.Holding.{DeskHolds, desk_of, stage_at};
-    ghost use Rattle.shared_objects.specs.Rans.{IsNewDesk, IsOtherPass, ran_key};
+    ghost use Rattle.shared_objects.specs.Joining.{HasJoinedSeats, IsPutAway};
+    ghost use Rattle.shared_objects.specs.Rans.{IsNewDesk, IsOtherPass, RanHolds, ran_key};
+    ghost use Rattle.shared_objects.specs.Shared.{FirstsHold};
 
     /// A task as it was opened, with seats of these locks, at which nothing was called yet, and an empty list for its events, where the locks
     /// want that.
@@ -82,6 +106,7 @@ impl Ran {
     pub fn step<R: Wait, C: Chooser>(self, rt: &R, locks: &Locks, chooser: &mut C) -> (Ran, Step)
         requires home { self.home ≡ locks.now }
         ensures turns { Turns DeskServes (Owes (stage_at locks.now)) (setup self.task.routing) self.task.state (desk_of self.seats) result.0.task.state (desk_of result.0.seats) result.1 }
+        ensures chosen { ChosenBy self.task.state C.chooses DeskPicks chooser.old result.1 chooser.new }
         ensures key { ran_key result.0 ≡ ran_key self }
         ensures events { result.0.events ≡ events_after result.1 self.events }
         ensures stopped { result.0.stopped ≡ stopped_after result.1 self.stopped }
@@ -110,6 +135,35 @@ impl Ran {
             noted: noted_after(step, seen, noted),
         };
         (ran, step)
+    }
+
+    /// Puts the task away, and joins its seats into the first ones.
+    pub(crate) fn join(self, locks: &Locks, firsts: &mut TaskSeats) -> ClosedTask
+        requires home { self.home ≡ locks.now }
+        requires firsts { FirstsHold locks.now firsts.old }
+        ensures holds { RanHolds self }
+        ensures away { IsPutAway self result }
+        ensures joined { HasJoinedSeats locks.now firsts.old self.seats firsts.new }
+        ensures of { FirstsHold locks.now firsts.new }
+    {
+        let Ran {
+            task,
+            seats,
+            first,
+            home: _,
+            events,
+            stopped: _,
+            noted,
+        } = self;
+        let shown = Snapshot::of(&seats);
+        join_seats(locks, firsts, seats);
+        ClosedTask {
+            task,
+            first,
+            seats: shown,
+            events,
+            noted,
+        }
     }
 
     /// Which task it is: its number among the tasks of the run, in their order.

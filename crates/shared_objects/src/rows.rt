@@ -1,13 +1,27 @@
 //! Rows of locks and of their seats, each entry with its key. Rows stand in one order: what is at a place of one belongs to what is there in
 //! the others. They are of any thing.
 ghost use Rattle.std.specs.Prelude.{◌≡◌, ◌+◌, ◌<◌, ◌≤◌, ◌++◌, false, All, IfOk, OnErr, length, vec_capacity};
-ghost use Rattle.shared_objects.specs.Rows.{Abreast, AbreastThree, AreChanged, AreAdded, IsOpened, IsAt, CanSplit, IsSplit, IsOther, IsJoined, CanClose, IsShut};
+ghost use Rattle.shared_objects.specs.Rows.{Abreast, AbreastThree, AreChanged, AreAdded, IsFirstOf, IsOpened, IsAt, CanSplit, IsSplit, IsOther, IsJoined, CanClose, IsShutAt};
 ghost use Rattle.shared_objects.specs.Joins.{CallsStayApart};
 
 use seat_lock::{Seat, SeatLock, Shut, Thing};
 use std::alloc::{AllocError, Global};
 
 // A lock round a thing, with its first seat.
+pub(crate) fn lock_one<T: Thing + Drop>(
+    alloc: Global,
+    thing: T,
+) -> Result<(SeatLock<T>, Seat<T>), AllocError>
+    ensures value { IfOk result (λ made. made.0.key.value ≡ thing) }
+    ensures first { IfOk result (λ made. IsFirstOf 0 made.0 made.1) }
+{
+    match SeatLock::new(alloc, thing) {
+        Ok((lock, first)) => Ok((lock, first)),
+        Err(_) => Err(AllocError),
+    }
+}
+
+// The same with its key.
 fn open_one<K: Copy + Drop, T: Thing + Drop>(
     alloc: Global,
     entry: (K, T),
@@ -15,10 +29,8 @@ fn open_one<K: Copy + Drop, T: Thing + Drop>(
     ensures { IfOk result (λ made. IsOpened entry made.0 made.1) }
 {
     let (key, thing) = entry;
-    match SeatLock::new(alloc, thing) {
-        Ok((lock, first)) => Ok(((key, lock), (key, first))),
-        Err(_) => Err(AllocError),
-    }
+    let (lock, first) = lock_one(alloc, thing)?;
+    Ok(((key, lock), (key, first)))
 }
 
 /// Locks round things, with their first seats.
@@ -119,7 +131,7 @@ pub(crate) fn close_one<K: Copy + Drop, T: Thing + Drop>(
 ) -> (K, Shut<T>)
     requires of { IsAt lock first }
     requires whole { CanClose first }
-    ensures { IsShut T.plain T.mark T.answers lock first result }
+    ensures { IsShutAt T.plain T.mark T.answers lock first result }
 {
     let (key, lock) = lock;
     let (_, first) = first;
@@ -136,7 +148,7 @@ pub fn close_row<K: Copy + Drop, T: Thing + Drop>(
     requires of { Abreast IsAt locks.items firsts.items }
     requires whole { All CanClose firsts.items }
     requires room { length shut.old.items + length locks.items ≤ vec_capacity shut.old }
-    ensures { AreAdded (IsShut T.plain T.mark T.answers) locks.items firsts.items shut.old.items shut.new.items }
+    ensures { AreAdded (IsShutAt T.plain T.mark T.answers) locks.items firsts.items shut.old.items shut.new.items }
 {
     let mut rest = firsts.into_iter();
     'closing: for lock in locks {

@@ -1,7 +1,8 @@
 //! Shared objects.
 ghost use Rattle.std.specs.Prelude.{◌≡◌, length};
 
-use crate::closed::Room;
+use crate::closed::{Closed, Room};
+use crate::closing::{close_locks, join_tasks};
 use crate::locks::Locks;
 use crate::ran::Ran;
 use crate::seats::TaskSeats;
@@ -12,7 +13,6 @@ use task_core::Opened;
 /// The objects of a run behind locks, with the tasks that were not handed out yet, or are back.
 ///
 /// Threads share the locks by reference (`locks`). The first seats stand beside them, since only one thread may have a seat at a time.
-#[derive(Drop)]
 pub struct Shared {
     pub(crate) locks: Locks,
     // The first seat of each lock and the first pass of the clock, from which those of all tasks were split off.
@@ -26,9 +26,32 @@ pub struct Shared {
     pub(crate) told: Snapshot<Opened>,
 }
 
+// A drop by hand is proved here, once. A derived one every crate above would prove anew that drops shared objects, or hands them to what may: that
+// of each object in them, which takes minutes. The same holds of `Ran` and `Closed`.
+impl Drop for Shared {
+    fn drop(self) {
+        let Shared {
+            locks,
+            firsts,
+            tasks,
+            next: _,
+            room,
+            told,
+        } = self;
+        drop(locks);
+        drop(firsts);
+        drop(tasks);
+        drop(room);
+        drop(told);
+    }
+}
+
 impl Shared {
     ghost use Rattle.std.specs.Prelude.{◌↔◌, IfSome, IsNone, None};
-    ghost use Rattle.shared_objects.specs.Shared.{HandsOut, IsOut, SharedHolds, TakesBack};
+    ghost use Rattle.shared_objects.specs.Left.{HasClosed};
+    ghost use Rattle.shared_objects.specs.Rans.{ran_key};
+    ghost use Rattle.shared_objects.specs.Shared.{HandsOut, HaveStopped, IsOut, SharedHolds, TakesBack};
+    ghost use Rattle.shared_objects.specs.Tickets.{ShowsItsTickets};
 
     /// The locks of the objects.
     pub fn locks(&self) -> &Locks
@@ -63,11 +86,33 @@ impl Shared {
     /// Takes back a task that was handed out.
     pub fn put_task(&mut self, ran: Ran)
         requires holds { SharedHolds self.old }
-        requires out { IsOut self.old ran }
+        requires out { IsOut self.old (ran_key ran) }
         ensures holds { SharedHolds self.new }
         ensures back { TakesBack self.old ran self.new }
     {
         let at = ran.number() as usize;
         drop(mem::replace(&mut self.tasks[at], Some(ran)));
+    }
+
+    /// Ends the use of the objects: each task was handed out, came back and has stopped. What is left shows the whole history of each object,
+    /// with each task's calls in it, and all tickets of their clock.
+    pub fn close(self) -> Closed
+        requires holds { SharedHolds self }
+        requires over { HaveStopped self }
+        ensures closed { HasClosed result }
+        ensures tickets { ShowsItsTickets result }
+        ensures told { result.told.value ≡ self.told.value }
+        ensures trace { result.trace ≡ self.locks.trace }
+    {
+        let Shared {
+            locks,
+            mut firsts,
+            tasks,
+            next: _,
+            mut room,
+            told,
+        } = self;
+        join_tasks(&locks, &mut firsts, tasks, &mut room.tasks);
+        close_locks(locks, firsts, room, told)
     }
 }

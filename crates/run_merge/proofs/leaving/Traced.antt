@@ -18,6 +18,7 @@ use Rattle.shared_objects.specs.Rows.{Abreast}
 use Rattle.shared_objects.specs.declared.closed.Closed.{Closed}
 use Rattle.shared_objects.specs.declared.closed.ClosedTask.{ClosedTask}
 use Rattle.shared_objects.specs.declared.noted.Noted.{Noted}
+use Rattle.shared_objects.proofs.Noting.{whole_notes}
 use Rattle.run_merge.specs.Joining.{IsJoined}
 use Rattle.run_merge.specs.Listing.{IsList, WholeRises, list_in, AreWhole, noted_in}
 use Rattle.run_merge.specs.Merging.{entries_of, sorted, all_of}
@@ -41,7 +42,7 @@ flats_same f g (x ∷ xs) (y ∷ ys) are =
 -- a whole list has all notes
 list_is : (notes : List (ℕ × Event)) (noted : Option Noted) (list : List (ℕ × Event)) → AreNoted notes noted → IsList noted list → list ≡ notes
 list_is notes None list are whole = absurd whole
-list_is notes (Some noted) list are whole = whole.1 ∙ are whole.0
+list_is notes (Some noted) list are whole = whole.1 ∙ whole_notes notes noted are whole.0
 
 module _ (closed : Closed) (has : HasClosed closed) where
   abbrev now : Setup

@@ -117,7 +117,7 @@ impl<'a, R: Wait> Desk<'a, R> {
 }
 
 impl<'a, R: Wait> Objects for Desk<'a, R> {
-    ghost use Rattle.shared_objects.specs.Desks.{DeskServes, PicksBy};
+    ghost use Rattle.shared_objects.specs.Desks.{DeskPicks, DeskServes};
     ghost use Rattle.shared_objects.specs.Holding.{DeskHolds, desk_of, stage_at};
 
     ghost stage = { λ desk. stage_at desk.locks.now };
@@ -126,7 +126,7 @@ impl<'a, R: Wait> Objects for Desk<'a, R> {
 
     ghost serves = { λ old request reply new. DeskServes (desk_of old.seats) request reply (desk_of new.seats) × (new.locks.now ≡ old.locks.now) };
 
-    ghost picks = { λ desk dev pending chosen picked. PicksBy chosen picked };
+    ghost picks = { λ desk. DeskPicks };
 
     #[tactic(auto, using(crate::proofs::Takes::take_named, crate::proofs::Takes::bios_waits, crate::proofs::Takes::set_is_pool, crate::proofs::Takes::bio_served, crate::proofs::Takes::bio_owed, crate::proofs::Takes::bio_clear, crate::proofs::Takes::back_none, crate::proofs::Takes::desk_numbered))]
     fn take_bio(&mut self, set: SetId, waits: bool) -> Result<Taken<BioBody<Pad>>, Unmade> {

@@ -3,8 +3,9 @@ ghost use Rattle.std.specs.Prelude.{◌≡◌};
 ghost use Rattle.task_steps.specs.Homes.{IsTaskOf};
 ghost use Rattle.task_steps.specs.Routed.{setup};
 ghost use Rattle.task_steps.specs.Stage.{Owes};
+ghost use Rattle.task_steps.specs.TaskViews.{ChosenBy};
 ghost use Rattle.task_steps.specs.Turns.{Turns};
-ghost use Rattle.shared_objects.specs.Desks.{DeskServes};
+ghost use Rattle.shared_objects.specs.Desks.{DeskPicks, DeskServes};
 ghost use Rattle.shared_objects.specs.Holding.{DeskHolds, desk_of, stage_at};
 
 use crate::desk::Desk;
@@ -18,6 +19,7 @@ impl<'a, R: Wait> Desk<'a, R> {
         requires routing { task.old.routing ≡ (stage_at self.old.locks.now).routing }
         requires task { IsTaskOf (stage_at self.old.locks.now) task.old.state }
         ensures turns { Turns DeskServes (Owes (stage_at self.old.locks.now)) (setup task.old.routing) task.old.state (desk_of self.old.seats) task.new.state (desk_of self.new.seats) result }
+        ensures chosen { ChosenBy task.old.state C.chooses DeskPicks chooser.old result chooser.new }
         ensures kept { DeskHolds self.new.locks.now self.new.seats × (stage_at self.new.locks.now ≡ stage_at self.old.locks.now) }
         ensures same { task.new.routing ≡ task.old.routing }
         ensures locks { self.new.locks.now ≡ self.old.locks.now }

@@ -7,7 +7,7 @@ ghost use Rattle.task_steps.specs.Stage.{AreServed};
 ghost use Rattle.tick_clock.specs.Tickets.{first_pass};
 ghost use Rattle.shared_objects.specs.Guards.{guarded};
 ghost use Rattle.shared_objects.specs.Holding.{LocksHold};
-ghost use Rattle.shared_objects.specs.Opening.{AreFirst, CanShare, IsFirstAt, IsFirstOf};
+ghost use Rattle.shared_objects.specs.Opening.{AreFirst, CanShare, IsFirstAt};
 ghost use Rattle.shared_objects.specs.Rows.{Abreast};
 ghost use Rattle.shared_objects.specs.Sharing.{AreOfOpened, AreRound, keyed};
 
@@ -15,7 +15,7 @@ use crate::locks::Locks;
 use crate::opening::guards::{
     guard_books, guard_disks, guard_lists, guard_pool, guard_pools, stamp_of,
 };
-use crate::rows::open_row;
+use crate::rows::{lock_one, open_row};
 use crate::seats::TaskSeats;
 use bio_books::Book;
 use bio_records::RescueList;
@@ -28,17 +28,6 @@ use std::alloc::{AllocError, Global};
 use std::sync::Arc;
 use task_core::Plain;
 use tick_clock::Pass;
-
-// A lock round a thing, with its first seat.
-fn lock_one<T: Thing + Drop>(alloc: Global, thing: T) -> Result<(SeatLock<T>, Seat<T>), AllocError>
-    ensures value { IfOk result (λ made. made.0.key.value ≡ thing) }
-    ensures first { IfOk result (λ made. IsFirstOf 0 made.0 made.1) }
-{
-    match SeatLock::new(alloc, thing) {
-        Ok((lock, first)) => Ok((lock, first)),
-        Err(_) => Err(AllocError),
-    }
-}
 
 // Locks round things, with their first seats.
 fn lock_row<K: Copy + Drop, T: Thing + Drop>(

@@ -2,6 +2,7 @@
 ghost use Rattle.std.specs.Prelude.{◌≡◌, ◌+◌, ◌<◌, ◌≤◌, All, IfOk, OnOk, Some, length};
 ghost use Rattle.shared_objects.specs.Holding.{LocksHold};
 ghost use Rattle.shared_objects.specs.Opening.{AreFirst, AreNew, AreTasksAt, IsTaskAt, IsTaskFor};
+ghost use Rattle.shared_objects.specs.Rans.{most_tasks};
 
 use crate::locks::Locks;
 use crate::ran::Ran;
@@ -74,7 +75,7 @@ pub(crate) fn share_tasks(
 ) -> Result<Vec<Option<Ran>>, AllocError>
     requires locks { LocksHold locks.now }
     requires tasks { All (IsTaskFor locks.now) tasks.items }
-    requires few { length tasks.items ≤ 41 }
+    requires few { length tasks.items ≤ most_tasks }
     requires firsts { AreFirst 0 locks.now firsts.old }
     ensures tasks { IfOk result (λ slots. AreTasksAt locks.now tasks.items slots.items) }
     ensures firsts { OnOk result (AreFirst (length tasks.items) locks.now firsts.new) }

@@ -1,6 +1,5 @@
 use Rattle.std.proofs.Common.{rules, arith, ◌≡◌, ◌<◌, ◌++◌, ◌∷◌, [], length, vec_capacity}
 use Rattle.shared_objects.specs.Rows.{IsAt, CanClose}
-use Rattle.shared_objects.proofs.Shutting.{shut_disk}
 use Rattle.shared_objects.proofs.Pairs.{none_taken, pair_abreast, other_so, has_room, one_taken, all_taken}
 use Rattle.shared_objects.proofs.closing.close_disks.Goals as goal
 
@@ -33,7 +32,7 @@ closing-preserved c =
     let pushed : c.push.new.self.items ≡ c.closing.shut.items ++ c.close_one-left.result.1 ∷ [] = search rules in (
       search rules,
       one_taken _ c.args.locks.items c.args.firsts.items c.args.shut.now.items c.closing.lock-iterator.rest.items c.closing.rest.rest.items c.closing.shut.items c.closing.invariant.1
-          c.next.new.self.rest.items c.next-in-closing.new.self.rest.items c.in-Some.lock c.in-Some-next.first c.in-Some.ensures.steps.0 (search rules) c.close_one-left.result.1 c.push.new.self.items pushed (shut_disk c.in-Some.lock c.in-Some-next.first c.close_one-left.result c.close_one-left.ensures),
+          c.next.new.self.rest.items c.next-in-closing.new.self.rest.items c.in-Some.lock c.in-Some-next.first c.in-Some.ensures.steps.0 (search rules) c.close_one-left.result.1 c.push.new.self.items pushed c.close_one-left.ensures.1,
     )
 
 pub returns : goal.returns

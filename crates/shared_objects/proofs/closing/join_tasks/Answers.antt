@@ -28,19 +28,19 @@ unwrap-requires c =
 
 pub joining-preserved : goal.joining-preserved
 joining-preserved c =
-    let pushed : c.push.new.self.items ≡ c.joining.closed.items ++ c.join_task.result ∷ [] = search rules in
+    let pushed : c.push.new.self.items ≡ c.joining.closed.items ++ c.join.result ∷ [] = search rules in
     let slot : c.in-Some.slot ≡ Some c.in-Some-slot.ran = c.in-Some-slot.is in (
       search rules,
       part_more c.args.tasks.items c.joining.slot-iterator.rest.items c.next.new.self.rest.items c.in-Some.slot
           (λ done. ArePutAway (length c.args.tasks.items) c.args.locks.now done c.joining.firsts c.joining.closed.items)
-          (λ done. ArePutAway (length c.args.tasks.items) c.args.locks.now done c.join_task.new.firsts c.push.new.self.items)
+          (λ done. ArePutAway (length c.args.tasks.items) c.args.locks.now done c.join.new.firsts c.push.new.self.items)
           c.joining.invariant.1 c.in-Some.ensures.steps.0
           (λ done whole are.
           let here : IsHereOf c.args.locks.now (length done) (Some c.in-Some-slot.ran) =
           subst (IsHereOf c.args.locks.now (length done)) (next_is c.args.tasks.items done c.next.new.self.rest.items c.in-Some.slot whole c.in-Some.slot ∙ slot)
           (c.requires.here (length done) c.in-Some.slot (in_list c.args.tasks.items done c.next.new.self.rest.items c.in-Some.slot whole)) in
-          subst (λ more. ArePutAway (length c.args.tasks.items) c.args.locks.now (done ++ more ∷ []) c.join_task.new.firsts c.push.new.self.items) (sym slot)
-          (subst (ArePutAway (length c.args.tasks.items) c.args.locks.now (done ++ Some c.in-Some-slot.ran ∷ []) c.join_task.new.firsts) (sym pushed)
-          (one_put_away (length c.args.tasks.items) c.args.locks.now done c.joining.firsts c.joining.closed.items are c.join_task.new.firsts c.in-Some-slot.ran c.join_task.result
-          c.join_task.ensures.holds here.0 here.1 c.join_task.ensures.away c.join_task.ensures.joined c.join_task.ensures.of))),
+          subst (λ more. ArePutAway (length c.args.tasks.items) c.args.locks.now (done ++ more ∷ []) c.join.new.firsts c.push.new.self.items) (sym slot)
+          (subst (ArePutAway (length c.args.tasks.items) c.args.locks.now (done ++ Some c.in-Some-slot.ran ∷ []) c.join.new.firsts) (sym pushed)
+          (one_put_away (length c.args.tasks.items) c.args.locks.now done c.joining.firsts c.joining.closed.items are c.join.new.firsts c.in-Some-slot.ran c.join.result
+          c.join.ensures.holds here.0 here.1 c.join.ensures.away c.join.ensures.joined c.join.ensures.of))),
     )

@@ -2,6 +2,7 @@ use Rattle.std.proofs.Common.{rules, ◌≡◌, ◌≤◌, All, length, refl, sy
 use Rattle.object_things.specs.Stamps.{CommonState}
 use Rattle.shared_objects.specs.Opening.{AreFirst, AreTasksAt, CanShare, IsRoomWith, IsTaskFor}
 use Rattle.shared_objects.specs.Sharing.{AreOfOpened}
+use Rattle.shared_objects.specs.Rans.{most_tasks}
 use Rattle.shared_objects.proofs.FewTasks.{few_tasks}
 use Rattle.shared_objects.proofs.JustShared.{shared_holds, tasks_for}
 use Rattle.shared_objects.proofs.Locking.{locks_hold}
@@ -25,7 +26,7 @@ share_tasks-requires-clause-tasks c =
     (tasks_for c.args.opened c.requires.opened c.in_ok-locks.locks (subst (λ p. AreOfOpened p c.in_ok-locks.locks) (ap (λ p. p.0) c.parts-objects.ensures) c.in_ok-locks.ensures.round))
 
 pub share_tasks-requires-clause-few : goal.share_tasks-requires-clause-few
-share_tasks-requires-clause-few c = subst (λ tasks. length tasks.items ≤ 41) (sym (ap (λ p. p.1) c.parts-objects.ensures)) (few_tasks c.args.opened c.requires.opened)
+share_tasks-requires-clause-few c = subst (λ tasks. length tasks.items ≤ most_tasks) (sym (ap (λ p. p.1) c.parts-objects.ensures)) (few_tasks c.args.opened c.requires.opened)
 
 pub returns-clause-shared : goal.returns-clause-shared
 returns-clause-shared c =

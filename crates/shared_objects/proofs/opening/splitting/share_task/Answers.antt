@@ -12,4 +12,4 @@ pub new-requires-clause-unused : goal.new-requires-clause-unused
 new-requires-clause-unused c = new_desk c.args.number c.args.locks.now c.in_ok-seats.seats c.in_ok-seats.ensures.new_ones
 
 pub returns-clause-ran : goal.returns-clause-ran
-returns-clause-ran c = task_is c.args.number c.args.locks.now c.in_ok-seats.seats c.in_ok-seats.ensures.new_ones c.args.task c.new.result c.new.ensures.made
+returns-clause-ran c = task_is c.args.number c.args.locks.now c.in_ok-seats.seats c.in_ok-seats.ensures.new_ones c.args.task c.new.result c.new.ensures.made c.new.ensures.blank

@@ -1,6 +1,7 @@
 use Rattle.std.proofs.Common.{length, sym, subst}
 use Rattle.shared_objects.specs.Joining.{ArePutAway}
 use Rattle.shared_objects.proofs.Ending.{are_here, can_end, has_closed}
+use Rattle.shared_objects.proofs.Tickets.{shows_its_tickets}
 use Rattle.shared_objects.proofs.shared.Shared.close.Goals as goal
 
 pub join_tasks-requires-clause-here : goal.join_tasks-requires-clause-here
@@ -15,3 +16,6 @@ returns-clause-closed c =
     has_closed c.args.self c.join_tasks.new.firsts c.close_locks.result c.requires.holds c.requires.over
     (subst (ArePutAway (length c.args.self.tasks.items) c.args.self.locks c.args.self.tasks.items c.join_tasks.new.firsts) (sym beside.tasks) c.join_tasks.ensures)
     c.close_locks.ensures.shut beside.pass beside.told_is beside.room_is c.close_locks.ensures.trace
+
+pub returns-clause-tickets : goal.returns-clause-tickets
+returns-clause-tickets c = shows_its_tickets c.close_locks.result (returns-clause-closed c)

@@ -13,4 +13,4 @@ returns-clause-holds c =
     let place = c.number-at.result in
     slot_holds old c.requires.holds _ refl place (Some ran) (ap (slice_set old.tasks.items place) c.replace.ensures.after)
     (omega (arith, c.number-at.ensures, c.requires.out.taken)) (omega arith) c.requires.holds.next
-    (λ first. subst (λ n. ran_key ran ≡ key_at old.locks n (slice_index_or old.told.value.tasks.items n first)) (sym c.number-at.ensures) (c.requires.out.key first))
+    (λ first. subst (λ n. ran_key ran ≡ key_at old.locks n (slice_index_or old.told.value.tasks.items n first)) (sym c.number-at.ensures) (c.requires.out.own first))
