@@ -12,7 +12,7 @@ use std::process::Abort;
 /// More than any report or line here has.
 pub const ROOM: usize = 4096;
 
-const USAGE: &str =
+pub const USAGE: &str =
     "biostack: usage: run [--seed N | --workers N] [--trace] | check | layout | gen N [--text] | replay | scrub [--seed N]\n";
 
 /// Bytes of their own.

@@ -43,4 +43,6 @@ mod stacks;
 #[cfg(test)]
 mod texts;
 #[cfg(test)]
+mod traces;
+#[cfg(test)]
 mod workers;

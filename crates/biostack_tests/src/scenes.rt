@@ -2,6 +2,7 @@
 ghost use Rattle.std.specs.Prelude.{◌↔◌, ◌+◌, ◌≤◌, Contains, IfOk, IsTrue};
 ghost use Rattle.stack_base.specs.Stack.{IsStack};
 ghost use Rattle.layout_model.specs.Writes.{IsWrite};
+ghost use Rattle.run_machine.specs.ReadBehind.{IsReadBehind};
 
 use decl_text::{Accepted, ReadFault, Refusal, read_decl};
 use layout_model::Write;
@@ -22,7 +23,8 @@ pub struct Scene {
 
 /// What a text says, by the three calls that read one.
 pub fn read(alloc: Global, text: &[u8]) -> Result<Scene, ReadFault>
-    ensures { IfOk result (λ scene. IsStack scene.accepted.stack) }
+    ensures stack { IfOk result (λ scene. IsStack scene.accepted.stack) }
+    ensures read { IfOk result (λ scene. IsReadBehind scene.accepted scene.work) }
 {
     let decl = read_decl(alloc, text)?;
     let accepted = accept(alloc, decl)?;
@@ -32,7 +34,8 @@ pub fn read(alloc: Global, text: &[u8]) -> Result<Scene, ReadFault>
 
 /// What a text says that has to be accepted.
 pub fn scene_of(rt: &(impl Abort + AllocGlobal), text: &str) -> Scene
-    ensures { IsStack result.accepted.stack }
+    ensures stack { IsStack result.accepted.stack }
+    ensures read { IsReadBehind result.accepted result.work }
 {
     read(rt.alloc(), text.as_bytes()).expect(rt, "no scene")
 }

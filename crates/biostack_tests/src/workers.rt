@@ -2,7 +2,7 @@
 ghost use Rattle.std.specs.Prelude.{◌≡◌, None};
 
 use crate::asks::holds;
-use crate::calls::{Done, ROOM, is_made_of, owned, sink, words_of};
+use crate::calls::{Done, ROOM, USAGE, is_made_of, owned, sink, words_of};
 use crate::generated::{MORE_ROOM, SPARE, is_between, report_of, steps_of};
 use crate::made::{Part, STORAGE, STORAGE_WRITES, text_of};
 use crate::texts::{MIRRORED, MIRRORED_REPORT, NO_COUNTS, ONE_SECTOR, ONE_SECTOR_REPORT};
@@ -18,11 +18,12 @@ use std::thread::Threads;
 struct Workers(&'static str, u32, &'static str);
 
 /// Three mirrors, each a member of the next one, without memory.
-const NESTED: &str = "disk a 8\ndisk b 8\ndisk c 8\ndisk d 8\nmirror x a b reserve=1 records=1\n\
+pub const NESTED: &str =
+    "disk a 8\ndisk b 8\ndisk c 8\ndisk d 8\nmirror x a b reserve=1 records=1\n\
     mirror y x c reserve=1 records=1\nmirror z y d reserve=1 records=1\nmemory none\nwrite 0 z 0 8 0\n";
 
 /// What they report: each mirror takes a record and two clones.
-const NESTED_REPORT: &str =
+pub const NESTED_REPORT: &str =
     "write 0 ok\ndisk a sum 000000000001ff00\nrun a 0 8\ndisk b sum 000000000001ff00\nrun b 0 8\n\
     disk c sum 000000000001ff00\nrun c 0 8\ndisk d sum 000000000001ff00\nrun d 0 8\n\
     pool fs.bios reserve 2 ordinary 0 spare 1\npool fs.vecs reserve 2 ordinary 0 spare 0\n\
@@ -87,16 +88,18 @@ pub fn make_call_by<G: Gate + Sync>(
     }
 }
 
-// What so many workers do with a text.
-fn run_by(
+/// What so many workers do with a text, with a trace or with none.
+pub fn run_by(
     rt: &(impl Abort + AllocGlobal + Threads + Wait + Sync),
     workers: u32,
+    trace: bool,
     text: &[u8],
     room: usize,
 ) -> Done {
     let number = format!(in rt.alloc(); "{workers}").expect(rt, "no number");
-    let words = ["run", "--workers", number.as_str()];
-    make_call_by(rt, &words, text, room, &mut NoGate::new())
+    let words = ["run", "--workers", number.as_str(), "--trace"];
+    let count = if trace { 4 } else { 3 };
+    make_call_by(rt, &words[..count], text, room, &mut NoGate::new())
 }
 
 // Whether so many workers report this of a text, and nothing else.
@@ -106,7 +109,7 @@ fn reports(
     text: &str,
     report: &str,
 ) -> bool {
-    let done = run_by(rt, workers, text.as_bytes(), ROOM);
+    let done = run_by(rt, workers, false, text.as_bytes(), ROOM);
     let is_written = is_made_of(done.output.held(), &[report]);
     done.status == 0 && is_written && done.errors.held().is_empty()
 }
@@ -125,7 +128,7 @@ fn any_number_of_workers_reports_the_same(rt: HostRuntime) {
 fn run_storage(rt: &(impl Abort + AllocGlobal + Threads + Wait + Sync), workers: u32) -> bool {
     let text = text_of(rt, &[STORAGE, Part::Once("memory none\n"), STORAGE_WRITES]);
     let front = report_of(rt, SPARE);
-    let done = run_by(rt, workers, text.as_bytes(), MORE_ROOM);
+    let done = run_by(rt, workers, false, text.as_bytes(), MORE_ROOM);
     let steps = steps_of(done.output.held(), front.as_str());
     done.status == 0 && is_between(steps, 11_318, 17_700)
 }
@@ -134,5 +137,36 @@ fn run_storage(rt: &(impl Abort + AllocGlobal + Threads + Wait + Sync), workers:
 fn workers_run_a_realistic_stack_without_memory(rt: HostRuntime) {
     for workers in 1..=16_u32 {
         holds(&rt, run_storage(&rt, workers), "a realistic stack");
+    }
+}
+
+/// Words that ask for workers, and are refused.
+const BAD_WORDS: &[&[&str]] = &[
+    &["run", "--workers", "0"],
+    &["run", "--workers", "17"],
+    &["run", "--workers", "x"],
+    &["run", "--workers", "-1"],
+    &["run", "--workers", ""],
+    &["run", "--workers"],
+    &["run", "--workers=0", "--trace"],
+    &["run", "--workers", "2", "--workers", "2"],
+    &["run", "--workers", "2", "--trace", "--trace"],
+    &["run", "--workers", "2", "--seed", "1"],
+    &["run", "--seed", "1", "--workers", "2", "--trace"],
+    &["check", "--workers", "2"],
+    &["--workers", "2"],
+];
+
+// Whether words are refused: nothing is read or written.
+fn is_refused(rt: &(impl Abort + AllocGlobal + Threads + Wait + Sync), words: &[&str]) -> bool {
+    let done = make_call_by(rt, words, b"x", ROOM, &mut NoGate::new());
+    let is_untouched = done.output.held().is_empty() && done.left == Ok(1);
+    done.status == 2 && is_untouched && done.errors.held() == USAGE.as_bytes()
+}
+
+#[test]
+fn words_that_ask_for_no_workers_are_refused(rt: HostRuntime) {
+    for words in BAD_WORDS {
+        holds(&rt, is_refused(&rt, words), "words");
     }
 }

@@ -1,5 +1,5 @@
 -- A call that ends with status 3 has read a text that is refused; and none writes behind a fault.
-use Rattle.std.proofs.Common.{◌≡◌, ◌∙◌, ℕ, List, true, false, true≢false, Option, None, Some, is_some, refl, sym, ap, arith}
+use Rattle.std.proofs.Common.{◌≡◌, ◌∙◌, ℕ, List, Bool, true, true≢false, Option, None, is_some, inl, inr, refl, sym, ap, arith}
 use Rattle.std.proofs.KnownBytes.{Keeps-refl}
 use Rattle.outside_io.specs.Reading.{IsRead}
 use Rattle.outside_io.specs.Saying.{StopsAtFault}
@@ -9,8 +9,8 @@ use Rattle.work_text.proofs.GeneratedTexts.{never_refused}
 use Rattle.bio_workers.specs.Gates.{Showing}
 use Rattle.biostack_top.specs.declared.ending.Ending.{Ending}
 use Rattle.biostack_top.specs.declared.ending.Ending.TheVariants.{Usage, ReadFault, Memory, Refused, WriteFault, Done, NotAllWell}
-use Rattle.biostack_top.specs.Ending.{HadRefusedText, OrderEndsBy, SharedEndsBy, WorkersEndBy, exit_of, refusal_for}
-use Rattle.biostack_top.specs.Input.{IsInput, limit, made_by}
+use Rattle.biostack_top.specs.Ending.{HadRefusedText, MayFollowRun, MayLack, OrderEndsBy, SharedEndsBy, WorkersEndBy, exit_of, refusal_for}
+use Rattle.biostack_top.specs.Input.{HasNoInput, IsInput, limit, made_by}
 use Rattle.biostack_top.specs.Streams.{Call, Stays, Stream}
 
 -- a text that is refused was read, since no generated text is
@@ -46,29 +46,59 @@ stops_at_fault order c WriteFault ends = ends.2.1
 stops_at_fault order c Done ends = (c.out.new, ends.2.0, Keeps-refl (c.out.bytes c.out.new))
 stops_at_fault order c NotAllWell ends = (c.out.new, ends.2.0, Keeps-refl (c.out.bytes c.out.new))
 
--- a text that was read and run by threads ends the call
-pub over_shared_text : {S K : Type 0} (ending : Ending) (shown : Option Showing) (text : List ℕ) (c : Call S K) → IsInput None c.source text
-    → SharedEndsBy ending shown text c.out → WorkersEndBy ending shown c
-over_shared_text Usage shown text c input ends = ends
-over_shared_text ReadFault shown text c input ends = absurd ends
-over_shared_text Memory shown text c input ends = (((text, input.1, input.2), input.3), ends.0, ends.1)
-over_shared_text (Refused refusal) shown text c input ends = (text, input, ends)
-over_shared_text WriteFault shown text c input ends = (text, input, ends)
-over_shared_text Done shown text c input ends = (text, input, ends)
-over_shared_text NotAllWell shown text c input ends = (text, input, ends)
+-- the same of runs by threads
+module _ {S K : Type 0} (trace : Bool) (shown : Option Showing) (c : Call S K) where
+  -- a text that was read and run by threads ends the call
+  pub over_shared_text : (ending : Ending) (text : List ℕ) → IsInput None c.source text → SharedEndsBy ending trace shown text c.out
+      → WorkersEndBy ending trace shown c
+  over_shared_text Usage text input ends = ends
+  over_shared_text ReadFault text input ends = absurd ends
+  over_shared_text Memory text input ends = inr (text, input, ends)
+  over_shared_text (Refused refusal) text input ends = (text, input, ends)
+  over_shared_text WriteFault text input ends = (text, input, ends)
+  over_shared_text Done text input ends = (text, input, ends)
+  over_shared_text NotAllWell text input ends = (text, input, ends)
 
--- the same of a run by threads
-pub refused_workers : {S K : Type 0} (n : ℕ) (shown : Option Showing) (c : Call S K) (ending : Ending) → WorkersEndBy ending shown c → exit_of ending ≡ 3
-    → HadRefusedText (Workers n false) (c.source.bytes c.source.old)
-refused_workers n shown c (Refused refusal) ends is = (ends.0, ends.1.0, ap is_some ends.2.0.0)
-refused_workers n shown c _ ends is = absurd (omega arith)
+  -- there was no text
+  pub without_text : (ending : Ending) → HasNoInput ending None c.source → Stays c.out → shown ≡ None → WorkersEndBy ending trace shown c
+  without_text ReadFault lacks stays none = (lacks, stays, none)
+  without_text Memory lacks stays none = inl (lacks, stays, none)
+  without_text Usage lacks stays none = absurd lacks
+  without_text (Refused refusal) lacks stays none = absurd lacks
+  without_text WriteFault lacks stays none = absurd lacks
+  without_text Done lacks stays none = absurd lacks
+  without_text NotAllWell lacks stays none = absurd lacks
 
-pub stops_with_workers : {S K : Type 0} (shown : Option Showing) (c : Call S K) (ending : Ending) → WorkersEndBy ending shown c
-    → StopsAtFault c.out.bytes c.out.faults c.out.old c.out.new
-stops_with_workers shown c Usage ends = absurd ends
-stops_with_workers shown c ReadFault ends = stays_stops c.out ends.1
-stops_with_workers shown c Memory ends = stays_stops c.out ends.1
-stops_with_workers shown c (Refused refusal) ends = stays_stops c.out ends.2.0.1
-stops_with_workers shown c WriteFault ends = ends.2.1
-stops_with_workers shown c Done ends = (c.out.new, ends.2.0, Keeps-refl (c.out.bytes c.out.new))
-stops_with_workers shown c NotAllWell ends = (c.out.new, ends.2.0, Keeps-refl (c.out.bytes c.out.new))
+  pub refused_workers : (n : ℕ) (ending : Ending) → WorkersEndBy ending trace shown c → exit_of ending ≡ 3
+      → HadRefusedText (Workers n trace) (c.source.bytes c.source.old)
+  refused_workers n (Refused refusal) ends is = (ends.0, ends.1.0, ap is_some ends.2.0.0)
+  refused_workers n _ ends is = absurd (omega arith)
+
+  pub stops_with_workers : (ending : Ending) → WorkersEndBy ending trace shown c → StopsAtFault c.out.bytes c.out.faults c.out.old c.out.new
+  stops_with_workers Usage ends = absurd ends
+  stops_with_workers ReadFault ends = stays_stops c.out ends.1
+  stops_with_workers Memory (inl ends) = stays_stops c.out ends.1
+  stops_with_workers Memory (inr ends) = stays_stops c.out ends.2.0
+  stops_with_workers (Refused refusal) ends = stays_stops c.out ends.2.0.1
+  stops_with_workers WriteFault ends = ends.2.1
+  stops_with_workers Done ends = (c.out.new, ends.2.0, Keeps-refl (c.out.bytes c.out.new))
+  stops_with_workers NotAllWell ends = (c.out.new, ends.2.0, Keeps-refl (c.out.bytes c.out.new))
+
+  -- nothing was shown
+  none_shown : {P : Type 0} → is_some shown ≡ true → shown ≡ None → P
+  none_shown is none = absurd (true≢false (sym is ∙ ap is_some none))
+
+  lacks_trace : (text : List ℕ) → MayLack trace shown text → is_some shown ≡ true → MayFollowRun trace 6
+  lacks_trace text (inl none) is = none_shown is none
+  lacks_trace text (inr lacks) is = inr (inr (inr (refl, lacks.0)))
+
+  -- a gate was shown what they left, and then the call ended so
+  pub follows_run : (ending : Ending) → WorkersEndBy ending trace shown c → is_some shown ≡ true → MayFollowRun trace (exit_of ending)
+  follows_run Usage ends is = absurd ends
+  follows_run ReadFault ends is = none_shown is ends.2
+  follows_run Memory (inl ends) is = none_shown is ends.2
+  follows_run Memory (inr ends) is = lacks_trace ends.0 ends.2.1 is
+  follows_run (Refused refusal) ends is = none_shown is ends.2.1
+  follows_run WriteFault ends is = inr (inr (inl refl))
+  follows_run Done ends is = inl refl
+  follows_run NotAllWell ends is = inr (inl refl)

@@ -1,22 +1,22 @@
 -- An order for threads is for 1 to 16 of them.
-use Rattle.std.proofs.Common.{◌≡◌, ◌∙◌, ◌≤◌, ℕ, List, Some, ap, subst}
-use Rattle.std.proofs.lemmas.Option.{cond_some, none-some, option_and_then_some, same_Some}
+use Rattle.std.proofs.Common.{◌≡◌, ◌≤◌, ℕ, Bool, List, Some, ap, subst}
+use Rattle.std.proofs.lemmas.Option.{none-some, same_Some}
 use Rattle.biostack_words.specs.Grammar.{Word, meaning}
 use Rattle.biostack_words.specs.declared.order.Order.{Order}
 use Rattle.biostack_words.specs.declared.order.Order.TheVariants.{Run, Workers, Check, Layout, Gen, Replay, Scrub}
 use Rattle.biostack_words.proofs.Few.{few_workers as few_meant}
-use Rattle.biostack_top.specs.Orders.{if_served, is_served, order_of, workers_in}
+use Rattle.biostack_top.specs.Orders.{workers_in}
 
-few_in : (words : List Word) (order : Order) (n : ℕ) → meaning words ≡ Some order → workers_in order ≡ Some n → (1 ≤ n) × (n ≤ 16)
-few_in words (Workers m trace) n means is = subst (λ (k : ℕ). (1 ≤ k) × (k ≤ 16)) (same_Some m n is) (few_meant words m trace means)
-few_in words (Run number trace) n means is = absurd (none-some n is)
-few_in words Check n means is = absurd (none-some n is)
-few_in words Layout n means is = absurd (none-some n is)
-few_in words (Gen number shown) n means is = absurd (none-some n is)
-few_in words Replay n means is = absurd (none-some n is)
-few_in words (Scrub number) n means is = absurd (none-some n is)
+pub is_workers : (order : Order) (n : ℕ) (trace : Bool) → workers_in order ≡ Some (n, trace) → order ≡ Workers n trace
+is_workers (Workers m traced) n trace is = ap (λ (p : ℕ × Bool). Workers p.0 p.1) (same_Some (m, traced) (n, trace) is)
+is_workers (Run number traced) n trace is = absurd (none-some (n, trace) is)
+is_workers Check n trace is = absurd (none-some (n, trace) is)
+is_workers Layout n trace is = absurd (none-some (n, trace) is)
+is_workers (Gen number shown) n trace is = absurd (none-some (n, trace) is)
+is_workers Replay n trace is = absurd (none-some (n, trace) is)
+is_workers (Scrub number) n trace is = absurd (none-some (n, trace) is)
 
-pub few_workers : (words : List Word) (order : Order) (n : ℕ) → order_of words ≡ Some order → workers_in order ≡ Some n → (1 ≤ n) × (n ≤ 16)
-few_workers words order n asked is =
-    option_and_then_some if_served (meaning words) order asked
-    (λ found means served. few_in words order n (means ∙ ap Some (cond_some (is_served found) found order served).1) is)
+pub few_workers : (words : List Word) (order : Order) (n : ℕ) (trace : Bool) → meaning words ≡ Some order → workers_in order ≡ Some (n, trace)
+    → (1 ≤ n) × (n ≤ 16)
+few_workers words order n trace means is =
+    few_meant words n trace (subst (λ (o : Order). meaning words ≡ Some o) (is_workers order n trace is) means)

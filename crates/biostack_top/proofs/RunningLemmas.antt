@@ -1,6 +1,6 @@
 -- What the run of a text is, and what it leaves.
-use Rattle.std.proofs.Common.{◌≡◌, ◌*◌, ◌^◌, ◌<◌, ◌≤◌, ℕ, suc, List, [], ◌∷◌, length, refl, subst, arith}
-use Rattle.std.specs.Prelude.{Contains}
+use Rattle.std.proofs.Common.{◌≡◌, ◌*◌, ◌^◌, ◌<◌, ◌≤◌, ℕ, suc, Bool, true, false, true≢false, List, [], ◌∷◌, length, refl, sym, subst, ◌∙◌, arith}
+use Rattle.std.specs.Prelude.{Contains, Result, Ok, Err, IfOk, IsOk}
 use Rattle.std.proofs.lemmas.List.Sums.{sum_by-cons}
 use Rattle.stack_base.specs.declared.stack.Stack.{Stack}
 use Rattle.layout_model.specs.declared.write.Write.{Write}
@@ -29,11 +29,11 @@ use Rattle.report_text.specs.Views.{IsOf, told_of}
 use Rattle.report_text.proofs.LeftLemmas.{left_of, told_is}
 use Rattle.shared_objects.specs.declared.closed.Closed.{Closed}
 use Rattle.shared_objects.specs.Left.{HasClosed}
-use Rattle.bio_workers.specs.Gates.{Showing, showing}
-use Rattle.run_merge.specs.Outcomes.{IsMerged, state_in}
+use Rattle.bio_workers.specs.Gates.{showing}
+use Rattle.run_merge.specs.Outcomes.{IsMerged, ledger_of, state_in}
 use Rattle.run_merge.specs.declared.outcome.Outcome.{Outcome}
 use Rattle.biostack_top.specs.Scene.{Says}
-use Rattle.biostack_top.specs.Running.{EveryRunIsAsClaimed, HasMerged, HasRun, IsTold, IsToldMerged, ledger_in, sectors, stream_of}
+use Rattle.biostack_top.specs.Running.{ByNumber, ByThreads, EveryRunIsAsClaimed, HasOutcome, HasRun, IsShownOf, IsTold, Maker, sectors, stream_of}
 
 module _ (text : List ℕ) (accepted : Accepted) (work : Work) (says : Says text accepted work) where
   pub read_behind : IsReadBehind accepted work
@@ -52,41 +52,15 @@ module _ (text : List ℕ) (accepted : Accepted) (work : Work) (says : Says text
   every_run = λ ledger events state naming run.
       accepted_texts_run_as_claimed accepted work read_behind says.rescuers ledger events state naming run
 
-  module _ (number : ℕ) (events : List Event) (ended : Ended) (has : HasRun (scenario_of accepted work) number events ended) where
+  module _ (maker : Maker) (events : List Event) (ended : Ended) (has : HasRun (scenario_of accepted work) maker events ended) where
     pub is_of : IsOf accepted.stack ended
     is_of = left_of has.state.objects has.disks accepted.stack (length events) ended has.left
 
-    pub is_told : IsTold accepted work number events (told_of ended (most_steps work.bound))
+    pub is_told : IsTold accepted work maker events (told_of ended (most_steps work.bound))
     is_told =
-        let run = turns_are_a_run (scene (scenario_of accepted work) has.ledger) (start (scenario_of accepted work)) _ events has.state has.after has.follows in
-        let claimed = every_run has.ledger events has.state has.naming run in
+        let claimed = every_run has.ledger events has.state has.naming has.run in
         record {
           ledger = has.ledger;
-          state = has.state;
-          after = has.after;
-          follows = has.follows;
-          ended = record {
-            naming = has.naming;
-            run = run;
-            ends = has.ends;
-            named = has.named;
-            claimed = claimed.0;
-            bounded = claimed.1;
-            told = told_is has.state.objects has.disks accepted.stack (length events) (most_steps work.bound) ended has.left;
-          };
-          fits = has.fits;
-        }
-
-  -- the same of what a gate was shown
-  module _ (shown : Showing) (events : List Event) (ended : Ended) (has : HasMerged (scenario_of accepted work) shown events ended) where
-    pub is_of_merged : IsOf accepted.stack ended
-    is_of_merged = left_of has.state.objects has.disks accepted.stack (length events) ended has.left
-
-    pub is_told_merged : IsToldMerged accepted work shown events (told_of ended (most_steps work.bound))
-    is_told_merged =
-        let claimed = every_run (ledger_in shown) events has.state has.naming has.run in
-        record {
-          of = record { opened = has.opened; of = has.of };
           state = has.state;
           ended = record {
             naming = has.naming;
@@ -97,7 +71,7 @@ module _ (text : List ℕ) (accepted : Accepted) (work : Work) (says : Says text
             bounded = claimed.1;
             told = told_is has.state.objects has.disks accepted.stack (length events) (most_steps work.bound) ended has.left;
           };
-          merged = has.merged;
+          made = has.made;
         }
 
 -- writes of up to 2,048 sectors, each of which needs an element
@@ -124,34 +98,48 @@ few_sectors text accepted work says =
 -- what a run by one thread is, whatever its events are handed to
 pub has_run : {V : Type 0} (happens : V → Event → V → Type 0) (opened : Opened) (number : ℕ) (stream : Lcg) (before : V) (after : Lcg) (now : V) (ended : Ended)
     → IsOpened opened → stream ≡ stream_of number → (ran : IsSerialRun happens opened stream before after now ended)
-    → HasRun (scenario_in opened) number ran.events ended
+    → HasRun (scenario_in opened) (ByNumber number) ran.events ended
 has_run happens opened number stream before after now ended is same ran =
     let ledger = (stage_of opened.objects).ledger in
+    let s = scenario_in opened in
+    let follows = subst (λ from. Follows (scene s ledger) (start s) from ran.events ran.state after) same ran.follows in
     record {
       ledger = ledger;
       naming = is.one.holds.numbered;
       state = ran.state;
-      after = after;
-      follows = subst (λ from. Follows (scene (scenario_in opened) ledger) (start (scenario_in opened)) from ran.events ran.state after) same ran.follows;
+      run = turns_are_a_run (scene s ledger) (start s) (stream_of number) ran.events ran.state after follows;
+      made = ((after, follows), ran.fits);
       ends = ran.ends;
       left = ran.left;
       disks = ran.disks;
       named = ran.named;
-      fits = ran.fits;
     }
 
--- what a gate is shown of what threads have left, and the merge of that
-pub has_merged : (closed : Closed) (outcome : Outcome) → HasClosed closed → (is : IsMerged closed outcome)
-    → HasMerged (scenario_in closed.told.value) (showing closed) is.events outcome.ended
-has_merged closed outcome held is = record {
-  opened = held.opened;
-  of = refl;
-  naming = is.naming;
-  state = state_in closed;
-  run = is.run;
-  merged = is.merges;
-  ends = is.ends;
-  left = is.left;
-  disks = is.disks;
-  named = is.named;
-}
+-- what threads have left, and the merge of that
+module _ (closed : Closed) (held : HasClosed closed) where
+  has_merged : (outcome : Outcome) (is : IsMerged closed outcome) → HasRun (scenario_in closed.told.value) (ByThreads (showing closed)) is.events outcome.ended
+  has_merged outcome is = record {
+    ledger = ledger_of closed;
+    naming = is.naming;
+    state = state_in closed;
+    run = is.run;
+    made = (record { opened = held.opened; of = refl }, refl, is.merges);
+    ends = is.ends;
+    left = is.left;
+    disks = is.disks;
+    named = is.named;
+  }
+
+  outcome_is : {E : Type 0} (trace : Bool) (result : Result Outcome E) → closed.trace ≡ trace → IfOk result (IsMerged closed)
+      → (closed.trace ≡ false → IsOk result) → HasOutcome (scenario_in closed.told.value) trace (showing closed) result
+  outcome_is trace (Ok outcome) same is fine = (is.events, has_merged outcome is, (is.traced ∙ same, is.trace))
+  outcome_is true (Err lacking) same is fine = refl
+  outcome_is false (Err lacking) same is fine = absurd (true≢false (sym (fine same)))
+
+  -- of what was shared as this
+  pub has_outcome : {E : Type 0} (shared : Opened) (trace : Bool) (result : Result Outcome E) → closed.told.value ≡ shared → closed.trace ≡ trace
+      → IfOk result (IsMerged closed) → (closed.trace ≡ false → IsOk result)
+      → IsShownOf (scenario_in shared) (showing closed) × HasOutcome (scenario_in shared) trace (showing closed) result
+  has_outcome shared trace result told same is fine =
+      subst (λ (o : Opened). IsShownOf (scenario_in o) (showing closed) × HasOutcome (scenario_in o) trace (showing closed) result) told
+      (record { opened = held.opened; of = refl }, outcome_is trace result same is fine)

@@ -1,9 +1,9 @@
 -- A whole text, by its declarations and the rest of it.
-use Rattle.std.proofs.Common.{◌≡◌, ℕ, Bool, List, [], Ok, Err, drop, length, lt-ltb, refl, sym, ap, subst, ◌∙◌, arith}
+use Rattle.std.proofs.Common.{◌≡◌, ℕ, Bool, List, [], Ok, Err, drop, length, sym, ap, subst, ◌∙◌, arith}
 use Rattle.std.specs.Prelude.{Contains}
 use Rattle.layout_model.specs.declared.write.Write.{Write}
 use Rattle.layout_model.specs.Writes.{IsWrite}
-use Rattle.decl_text.specs.Text.{lines, most_bytes}
+use Rattle.decl_text.specs.Text.{lines}
 use Rattle.decl_text.specs.Refusals.{known_after, refusal}
 use Rattle.decl_text.specs.Read.{Read}
 use Rattle.decl_text.specs.Reading.{ReadsDecl, declarations}

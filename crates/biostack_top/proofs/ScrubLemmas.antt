@@ -1,7 +1,6 @@
 -- What a scrub compares is what the run of a text leaves, and that is laid out.
-use Rattle.std.proofs.Common.{◌≡◌, ◌==◌, ◌<◌, ◌++◌, ℕ, true, List, [], length, map, get_or, Some, refl, sym, ap, ◌∙◌, subst, arith}
+use Rattle.std.proofs.Common.{◌≡◌, ◌==◌, ◌<◌, ◌++◌, ℕ, true, List, length, Some, refl, sym, ap, ◌∙◌, subst}
 use Rattle.std.specs.Prelude.{Option, find, IsSomeAnd}
-use Rattle.stack_base.specs.declared.ids.DevId.{DevId}
 use Rattle.stack_base.specs.Tree.{size, tree}
 use Rattle.layout_model.proofs.Stacks.{element}
 use Rattle.layout_model.specs.Laid.{IsLaid}
@@ -11,10 +10,8 @@ use Rattle.work_text.specs.declared.Work.{Work}
 use Rattle.model_disks.specs.Disks.{DiskState}
 use Rattle.task_core.specs.declared.ended.Ended.{Ended}
 use Rattle.run_machine.specs.declared.event.Event.{Event}
-use Rattle.run_machine.specs.Opened.{scene, start}
 use Rattle.run_machine.specs.Scenario.{scenario_of}
 use Rattle.block_core.specs.Images.{HasLaidImages}
-use Rattle.serial_run.proofs.Follows.{turns_are_a_run}
 use Rattle.mirror_scrub.specs.Seen.{AreDisksOf, held}
 use Rattle.mirror_scrub.specs.Text.{all_alike, scrub_text}
 use Rattle.mirror_scrub.proofs.SeenLemmas.{held_is}
@@ -23,19 +20,17 @@ use Rattle.report_text.specs.Report.{steps_line}
 use Rattle.report_text.specs.Views.{told_of}
 use Rattle.biostack_words.specs.declared.order.Order.TheVariants.{Scrub}
 use Rattle.biostack_top.specs.Ending.{Tells}
-use Rattle.biostack_top.specs.Running.{HasRun, stream_of}
+use Rattle.biostack_top.specs.Running.{ByNumber, HasRun}
 use Rattle.biostack_top.specs.Scene.{Says}
 use Rattle.biostack_top.specs.Scrubbed.{AreLaidImages}
 use Rattle.biostack_top.proofs.LeftDisks.{left_disk}
 use Rattle.biostack_top.proofs.RunningLemmas.{every_run, is_told}
 
 module _ (text : List ℕ) (accepted : Accepted) (work : Work) (says : Says text accepted work) (number : ℕ) (events : List Event) (ended : Ended)
-    (has : HasRun (scenario_of accepted work) number events ended) where
+    (has : HasRun (scenario_of accepted work) (ByNumber number) events ended) where
   -- the images of its end
   laid_images : HasLaidImages (scenario_of accepted work) has.state
-  laid_images =
-      let run = turns_are_a_run (scene (scenario_of accepted work) has.ledger) (start (scenario_of accepted work)) (stream_of number) events has.state has.after has.follows in
-      (every_run text accepted work says has.ledger events has.state has.naming run).0.images has.ends
+  laid_images = (every_run text accepted work says has.ledger events has.state has.naming has.run).0.images has.ends
 
   -- each disk is there
   disk_is : (disk : ℕ) → disk < length accepted.stack.devices.items → is_disk (tree accepted.stack disk) ≡ true
@@ -65,7 +60,7 @@ module _ (text : List ℕ) (accepted : Accepted) (work : Work) (says : Says text
     told_of ended (most_steps work.bound),
     says,
     every_run text accepted work says,
-    is_told text accepted work says number events ended has,
+    is_told text accepted work says (ByNumber number) events ended has,
     are_laid,
     refl,
     refl,

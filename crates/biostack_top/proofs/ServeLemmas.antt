@@ -1,5 +1,5 @@
 -- What a text that was read makes of the call.
-use Rattle.std.proofs.Common.{◌≡◌, ℕ, List, true, false, true≢false, Option, None, refl, sym, ap, ◌∙◌, subst}
+use Rattle.std.proofs.Common.{◌≡◌, ℕ, Bool, List, true, false, true≢false, Option, None, refl, sym, ap, ◌∙◌, subst}
 use Rattle.std.specs.Prelude.{Result, Ok, Err}
 use Rattle.std.specs.Io.KnownBytes.{Appends}
 use Rattle.outside_io.specs.Causes.{Rose}
@@ -9,7 +9,12 @@ use Rattle.biostack_words.specs.declared.order.Order.TheVariants.{Run, Workers, 
 use Rattle.work_text.specs.Whole.{text_refusal}
 use Rattle.work_text.proofs.GeneratedTexts.{never_refused}
 use Rattle.biostack_top.specs.Orders.{is_replay, is_shown}
-use Rattle.biostack_top.specs.Ending.{Tells, refusal_for}
+use Rattle.decl_text.specs.declared.reason.Refusal.{Refusal}
+use Rattle.biostack_top.specs.declared.ending.Ending.{Ending}
+use Rattle.biostack_top.specs.declared.ending.Ending.TheVariants.{Usage, ReadFault, Memory, Refused, WriteFault, Done, NotAllWell}
+use Rattle.bio_workers.specs.Gates.{Showing}
+use Rattle.biostack_top.specs.Ending.{EndsWith, EndsWritten, SharedEndsBy, Tells, TellsShown, refusal_for}
+use Rattle.biostack_top.specs.Streams.{Stream}
 use Rattle.biostack_top.specs.Input.{IsMade, made_by}
 
 -- a text that a number made is shown whole, and is not refused
@@ -44,3 +49,28 @@ pub written_front : {K E : Type 0} {held : K → Option (List ℕ)} {faults : K 
     → Rose (faults a) (faults b) × StopsAtFault held faults a b × AppendsFront (held a) (held b) text
 written_front {E = E} {held} {faults} {a} {b} {text} is written =
     let front = subst (λ (r : Result Unit E). Writes held faults a b r text) is written in (front.cause.failed, front.stops, front.front)
+
+-- all that is told of a text was written, or a front of it
+pub ends_written : {K : Type 0} (ending : Ending) (first : Option Refusal) (tells : List ℕ → Bool → Type 0) (told : List ℕ) (well : Bool) (out : Stream K)
+    → first ≡ None → tells told well → EndsWritten ending told well out → EndsWith ending first tells out
+ends_written WriteFault first tells told well out fine is written = (written.0, written.1, fine, (told, well, is, written.2))
+ends_written Done first tells told well out fine is written = (written.1, fine, (told, subst (tells told) written.0 is, written.2))
+ends_written NotAllWell first tells told well out fine is written = (written.1, fine, (told, subst (tells told) written.0 is, written.2))
+ends_written Usage first tells told well out fine is written = absurd written
+ends_written ReadFault first tells told well out fine is written = absurd written
+ends_written Memory first tells told well out fine is written = absurd written
+ends_written (Refused refusal) first tells told well out fine is written = absurd written
+
+-- of a text that threads have run
+pub ends_shared : {K : Type 0} (ending : Ending) (trace : Bool) (shown : Option Showing) (text told : List ℕ) (well : Bool) (out : Stream K)
+    → text_refusal text ≡ None → TellsShown trace shown text told well → EndsWritten ending told well out → SharedEndsBy ending trace shown text out
+ends_shared WriteFault trace shown text told well out fine is written =
+    ends_written WriteFault (text_refusal text) (TellsShown trace shown text) told well out fine is written
+ends_shared Done trace shown text told well out fine is written =
+    ends_written Done (text_refusal text) (TellsShown trace shown text) told well out fine is written
+ends_shared NotAllWell trace shown text told well out fine is written =
+    ends_written NotAllWell (text_refusal text) (TellsShown trace shown text) told well out fine is written
+ends_shared Usage trace shown text told well out fine is written = absurd written
+ends_shared ReadFault trace shown text told well out fine is written = absurd written
+ends_shared Memory trace shown text told well out fine is written = absurd written
+ends_shared (Refused refusal) trace shown text told well out fine is written = absurd written

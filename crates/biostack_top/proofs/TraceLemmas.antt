@@ -5,7 +5,7 @@ use Rattle.std.proofs.KnownBytes.{Appends-nil, Appends-trans, Keeps-refl}
 use Rattle.std.proofs.lemmas.List.Concat.{flat_map-cons}
 use Rattle.stack_base.specs.declared.stack.Stack.{Stack}
 use Rattle.outside_io.specs.Causes.{Rose}
-use Rattle.outside_io.specs.Saying.{AppendsFront, Says, Writes, emptied}
+use Rattle.outside_io.specs.Saying.{Says, Writes, emptied}
 use Rattle.outside_io.proofs.PutLemmas.{appends_front, front_longer}
 use Rattle.outside_io.proofs.SaysLemmas.{finished, says_then, says_silence}
 use Rattle.run_machine.specs.declared.event.Event.{Event}

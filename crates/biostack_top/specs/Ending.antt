@@ -1,5 +1,5 @@
 -- How a call of the program may end, and what stands then.
-use Rattle.std.specs.Prelude.{◌≡◌, ◌⊎◌, Bool, true, false, List, [], ◌∷◌, ◌++◌, ℕ, length, codes, decimal, Option, None, Some, is_some, Result, Ok, Err}
+use Rattle.std.specs.Prelude.{◌≡◌, ◌⊎◌, All, Bool, true, false, List, [], ◌∷◌, ◌++◌, ℕ, length, codes, decimal, Option, None, Some, is_some, Result, Ok, Err}
 use Rattle.std.specs.List.{list_all}
 use Rattle.std.specs.Io.KnownBytes.{Appends}
 use Rattle.stack_base.specs.declared.ids.Status.{Status}
@@ -16,6 +16,7 @@ use Rattle.run_machine.specs.declared.event.Event.{Event}
 use Rattle.work_text.specs.declared.Work.{Work}
 use Rattle.work_text.specs.Whole.{text_refusal}
 use Rattle.report_text.specs.Report.{Told, gen_text, report, steps_line}
+use Rattle.run_machine.specs.Named.{Fits}
 use Rattle.run_machine.specs.Scenario.{scenario_of}
 use Rattle.bio_workers.specs.Gates.{Showing}
 use Rattle.mirror_scrub.specs.Seen.{images_of}
@@ -27,9 +28,10 @@ use Rattle.biostack_words.specs.declared.order.Order.{Order}
 use Rattle.biostack_words.specs.declared.order.Order.TheVariants.{Run, Workers, Check, Layout, Gen, Replay, Scrub}
 use Rattle.biostack_top.specs.Input.{HasNoInput, IsGiven, IsInput, limit, made_by}
 use Rattle.biostack_top.specs.LayoutText.{AreLaid}
-use Rattle.biostack_top.specs.Orders.{is_alone, is_served, order_of}
+use Rattle.biostack_words.specs.Grammar.{meaning}
+use Rattle.biostack_top.specs.Orders.{is_alone}
 use Rattle.biostack_top.specs.Replaying.{TellsReplay, replay_refusal}
-use Rattle.biostack_top.specs.Running.{EveryRunIsAsClaimed, IsTold, IsToldMerged, sectors}
+use Rattle.biostack_top.specs.Running.{ByNumber, ByThreads, EveryRunIsAsClaimed, IsShownOf, IsTold, Maker, sectors}
 use Rattle.biostack_top.specs.Scene.{Says}
 use Rattle.biostack_top.specs.Streams.{Call, Fails, Stays, Stream}
 use Rattle.biostack_top.specs.Tracing.{traced}
@@ -67,14 +69,19 @@ line_of Memory = codes "biostack: want of memory\n"
 abbrev pub all_well : List Status → Bool
 all_well statuses = list_all (λ end. status_eq end no_error) statuses
 
+-- This is told of the run of a text that was made so, and whether each write of it ended well: its lines, where there is a
+-- trace, and the report of what it left. Each of the lines is read back as its event, which has numbers that fit its fields.
+abbrev pub TellsRun : Maker → Bool → List ℕ → List ℕ → Bool → Type 0
+TellsRun maker trace text told well =
+    (accepted : Accepted) × (work : Work) × (events : List Event) × (left : Told)
+    × Says text accepted work × EveryRunIsAsClaimed accepted work × IsTold accepted work maker events left × (trace ≡ true → All Fits events)
+    × (told ≡ traced trace accepted.stack events ++ report accepted.stack left) × (well ≡ all_well left.statuses)
+
 -- What is written of a text, and whether all is well: the lines of a run, where there is a trace, and the report of what it left; the devices of
 -- the text and what it needs; its fragments; the text itself, where a number made it, or what a run of that left; what its lines of events come
 -- to; or where the members of mirrors differ behind a run, and its steps.
 abbrev pub Tells : Order → List ℕ → List ℕ → Bool → Type 0
-Tells (Run number trace) text told well =
-    (accepted : Accepted) × (work : Work) × (events : List Event) × (left : Told)
-    × Says text accepted work × EveryRunIsAsClaimed accepted work × IsTold accepted work number events left
-    × (told ≡ traced trace accepted.stack events ++ report accepted.stack left) × (well ≡ all_well left.statuses)
+Tells (Run number trace) text told well = TellsRun (ByNumber number) trace text told well
 Tells Check text told well =
     (accepted : Accepted) × (work : Work) × Says text accepted work × (told ≡ check_text accepted.stack work.bound) × (well ≡ true)
 Tells Layout text told well =
@@ -83,13 +90,13 @@ Tells Layout text told well =
 Tells (Gen number true) text told well = (told ≡ text) × (well ≡ true)
 Tells (Gen number false) text told well =
     (accepted : Accepted) × (work : Work) × (events : List Event) × (left : Told)
-    × Says text accepted work × EveryRunIsAsClaimed accepted work × IsTold accepted work number events left
+    × Says text accepted work × EveryRunIsAsClaimed accepted work × IsTold accepted work (ByNumber number) events left
     × (told ≡ gen_text number (length work.writes.items) (sectors work.writes.items) accepted.stack left) × (well ≡ true)
 Tells (Workers n trace) text told well = ⊥
 Tells Replay text told well = TellsReplay text told well
 Tells (Scrub number) text told well =
     (accepted : Accepted) × (work : Work) × (events : List Event) × (left : Told)
-    × Says text accepted work × EveryRunIsAsClaimed accepted work × IsTold accepted work number events left
+    × Says text accepted work × EveryRunIsAsClaimed accepted work × IsTold accepted work (ByNumber number) events left
     × AreLaidImages (scenario_of accepted work) (images_of left.disks)
     × (told ≡ scrub_text accepted.stack (images_of left.disks) ++ steps_line left.steps left.bound)
     × (well ≡ all_alike accepted.stack (images_of left.disks))
@@ -98,6 +105,14 @@ Tells (Scrub number) text told well =
 abbrev pub refusal_for : Order → List ℕ → Option Refusal
 refusal_for Replay text = replay_refusal text
 refusal_for order text = text_refusal text
+
+-- All that is told of a text was written, and all is well, or it is not; or the output failed, and has a front of it and
+-- nothing behind the fault.
+abbrev pub EndsWritten : {K : Type 0} → Ending → List ℕ → Bool → Stream K → Type 0
+EndsWritten WriteFault told well out = Fails out × StopsAtFault out.bytes out.faults out.old out.new × AppendsFront (out.bytes out.old) (out.bytes out.new) told
+EndsWritten Done told well out = (well ≡ true) × (out.faults out.new ≡ out.faults out.old) × Appends (out.bytes out.old) (out.bytes out.new) told
+EndsWritten NotAllWell told well out = (well ≡ false) × (out.faults out.new ≡ out.faults out.old) × Appends (out.bytes out.old) (out.bytes out.new) told
+EndsWritten ending told well out = ⊥
 
 -- a text has no refusal, and all that is told of it was written, without a fault; all of it is well, or it is not
 abbrev pub WritesAll : {K : Type 0} → Option Refusal → (List ℕ → Bool → Type 0) → Bool → Stream K → Type 0
@@ -135,57 +150,66 @@ OrderEndsBy WriteFault order c = OfText WriteFault order c
 OrderEndsBy Done order c = OfText Done order c
 OrderEndsBy NotAllWell order c = OfText NotAllWell order c
 
--- This is told of a text that threads have run, by what a gate was shown of it: the report of what the merge of these
--- histories left. Where it was shown nothing, nothing is told.
-abbrev pub TellsShown : Option Showing → List ℕ → List ℕ → Bool → Type 0
-TellsShown None text told well = ⊥
-TellsShown (Some shown) text told well =
-    (accepted : Accepted) × (work : Work) × (events : List Event) × (left : Told)
-    × Says text accepted work × EveryRunIsAsClaimed accepted work × IsToldMerged accepted work shown events left
-    × (told ≡ report accepted.stack left) × (well ≡ all_well left.statuses)
+-- This is told of a text that threads have run, with a trace or with none, by what a gate was shown of it: where it was
+-- shown nothing, nothing is told.
+abbrev pub TellsShown : Bool → Option Showing → List ℕ → List ℕ → Bool → Type 0
+TellsShown trace None text told well = ⊥
+TellsShown trace (Some shown) text told well = TellsRun (ByThreads shown) trace text told well
 
--- A text that threads are to run ends so, and this is what the gate was shown then: nothing where the text is refused or
--- memory was wanting. So memory is not wanting once it was shown what the run left.
-abbrev pub SharedEndsBy : {K : Type 0} → Ending → Option Showing → List ℕ → Stream K → Type 0
-SharedEndsBy Memory shown text out = Stays out × (shown ≡ None)
-SharedEndsBy (Refused refusal) shown text out = EndsWith (Refused refusal) (text_refusal text) (TellsShown shown text) out × (shown ≡ None)
-SharedEndsBy ending shown text out = EndsWith ending (text_refusal text) (TellsShown shown text) out
+-- What a gate may have been shown of a text for whose run memory was wanting: nothing; or where there is to be a trace,
+-- what threads have left of the text.
+abbrev pub MayLack : Bool → Option Showing → List ℕ → Type 0
+MayLack trace shown text =
+    (shown ≡ None)
+    ⊎ ((trace ≡ true) × ((accepted : Accepted) × (work : Work) × (left : Showing)
+    × Says text accepted work × IsShownOf (scenario_of accepted work) left × (shown ≡ Some left)))
+
+-- A text that threads are to run ends so, and this is what the gate was shown then.
+abbrev pub SharedEndsBy : {K : Type 0} → Ending → Bool → Option Showing → List ℕ → Stream K → Type 0
+SharedEndsBy Memory trace shown text out = Stays out × MayLack trace shown text
+SharedEndsBy (Refused refusal) trace shown text out = EndsWith (Refused refusal) (text_refusal text) (TellsShown trace shown text) out × (shown ≡ None)
+SharedEndsBy ending trace shown text out = EndsWith ending (text_refusal text) (TellsShown trace shown text) out
 
 -- there was a text, and it ends the call so
-abbrev pub OfSharedText : {S K : Type 0} → Ending → Option Showing → Call S K → Type 0
-OfSharedText ending shown c = (text : List ℕ) × IsInput None c.source text × SharedEndsBy ending shown text c.out
+abbrev pub OfSharedText : {S K : Type 0} → Ending → Bool → Option Showing → Call S K → Type 0
+OfSharedText ending trace shown c = (text : List ℕ) × IsInput None c.source text × SharedEndsBy ending trace shown text c.out
 
 -- a call with an order for threads ends so only where this holds
-abbrev pub WorkersEndBy : {S K : Type 0} → Ending → Option Showing → Call S K → Type 0
-WorkersEndBy Usage shown c = ⊥
-WorkersEndBy ReadFault shown c = HasNoInput ReadFault None c.source × Stays c.out × (shown ≡ None)
-WorkersEndBy Memory shown c = HasNoInput Memory None c.source × Stays c.out × (shown ≡ None)
-WorkersEndBy (Refused refusal) shown c = OfSharedText (Refused refusal) shown c
-WorkersEndBy WriteFault shown c = OfSharedText WriteFault shown c
-WorkersEndBy Done shown c = OfSharedText Done shown c
-WorkersEndBy NotAllWell shown c = OfSharedText NotAllWell shown c
+abbrev pub WorkersEndBy : {S K : Type 0} → Ending → Bool → Option Showing → Call S K → Type 0
+WorkersEndBy Usage trace shown c = ⊥
+WorkersEndBy ReadFault trace shown c = HasNoInput ReadFault None c.source × Stays c.out × (shown ≡ None)
+WorkersEndBy Memory trace shown c = (HasNoInput Memory None c.source × Stays c.out × (shown ≡ None)) ⊎ OfSharedText Memory trace shown c
+WorkersEndBy (Refused refusal) trace shown c = OfSharedText (Refused refusal) trace shown c
+WorkersEndBy WriteFault trace shown c = OfSharedText WriteFault trace shown c
+WorkersEndBy Done trace shown c = OfSharedText Done trace shown c
+WorkersEndBy NotAllWell trace shown c = OfSharedText NotAllWell trace shown c
 
--- words end a call so: they give no order that is carried out, or there was no memory to read them
+-- What a status may be behind a run that a gate was shown: memory may have been wanting for a trace.
+abbrev pub MayFollowRun : Bool → ℕ → Type 0
+MayFollowRun trace exit = (exit ≡ 0) ⊎ (exit ≡ 1) ⊎ (exit ≡ 5) ⊎ ((exit ≡ 6) × (trace ≡ true))
+
+-- words end a call so: they give no order, or there was no memory to read them
 abbrev pub WordsEndBy : Ending → List (List ℕ) → Type 0
-WordsEndBy Usage words = order_of words ≡ None
+WordsEndBy Usage words = meaning words ≡ None
 WordsEndBy Memory words = Unit {0}
 WordsEndBy ending words = ⊥
 
 -- they give this order, or end a call so
 abbrev pub IsAsked : List (List ℕ) → Result Order Ending → Type 0
-IsAsked words (Ok order) = (order_of words ≡ Some order) × (is_served order ≡ true)
+IsAsked words (Ok order) = meaning words ≡ Some order
 IsAsked words (Err ending) = WordsEndBy ending words
 
 -- An order ends a call so, whose gate was shown this: one without threads shows it nothing.
 abbrev pub AskedEndsBy : {S K : Type 0} → Ending → Order → Option Showing → Call S K → Type 0
 AskedEndsBy ending order shown c =
-    ((is_alone order ≡ true) × OrderEndsBy ending order c × (shown ≡ None)) ⊎ ((is_alone order ≡ false) × WorkersEndBy ending shown c)
+    ((is_alone order ≡ true) × OrderEndsBy ending order c × (shown ≡ None))
+    ⊎ ((n : ℕ) × (trace : Bool) × (order ≡ Workers n trace) × WorkersEndBy ending trace shown c)
 
 -- words that a call was given ended it so and nothing was done, or they are an order that ends so
 abbrev pub EndsBy : {S K : Type 0} → Ending → List (List ℕ) → Option Showing → Call S K → Type 0
 EndsBy ending words shown c =
     (WordsEndBy ending words × Stays c.source × Stays c.out × (shown ≡ None))
-    ⊎ ((order : Order) × (order_of words ≡ Some order) × AskedEndsBy ending order shown c)
+    ⊎ ((order : Order) × (meaning words ≡ Some order) × AskedEndsBy ending order shown c)
 
 -- errors got the line of an ending, or a front of it where they failed
 abbrev pub IsToldTo : {E : Type 0} → Ending → Stream E → Type 0

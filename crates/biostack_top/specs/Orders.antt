@@ -1,23 +1,11 @@
--- Which orders are carried out, and the words that give them.
-use Rattle.std.specs.Prelude.{if◌then◌else◌, not, Bool, true, false, List, ℕ, Option, None, Some, is_none}
-use Rattle.std.specs.Option.{option_and_then}
-use Rattle.biostack_words.specs.Grammar.{meaning}
+-- What orders ask for.
+use Rattle.std.specs.Prelude.{Bool, true, false, ℕ, Option, None, Some, is_none}
 use Rattle.biostack_words.specs.declared.order.Order.{Order}
 use Rattle.biostack_words.specs.declared.order.Order.TheVariants.{Run, Workers, Check, Layout, Gen, Replay, Scrub}
 
--- whether an order is carried out: runs by threads have no trace yet
-abbrev pub is_served : Order → Bool
-is_served (Run number trace) = true
-is_served (Workers n trace) = not trace
-is_served Check = true
-is_served Layout = true
-is_served (Gen number shown) = true
-is_served Replay = true
-is_served (Scrub number) = true
-
--- how many threads an order is for, where it is one for threads
-abbrev pub workers_in : Order → Option ℕ
-workers_in (Workers n trace) = Some n
+-- how many threads an order is for, and whether with a trace, where it is one for threads
+abbrev pub workers_in : Order → Option (ℕ × Bool)
+workers_in (Workers n trace) = Some (n, trace)
 workers_in (Run number trace) = None
 workers_in Check = None
 workers_in Layout = None
@@ -59,10 +47,3 @@ is_replay Check = false
 is_replay Layout = false
 is_replay (Gen number shown) = false
 is_replay (Scrub number) = false
-
-abbrev pub if_served : Order → Option Order
-if_served order = if is_served order then Some order else None
-
--- the order that the words give, where it is carried out
-abbrev pub order_of : List (List ℕ) → Option Order
-order_of words = option_and_then if_served (meaning words)

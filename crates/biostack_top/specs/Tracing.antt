@@ -1,5 +1,6 @@
 -- What a trace writes of events.
-use Rattle.std.specs.Prelude.{◌≡◌, Bool, true, false, List, [], ◌∷◌, ◌++◌, ℕ, Option}
+use Rattle.std.specs.Prelude.{◌≡◌, Bool, true, false, List, [], ◌∷◌, ◌++◌, ℕ, Option, IfSome, is_some}
+use Rattle.std.specs.Global.{Vec}
 use Rattle.std.specs.List.{flat_map}
 use Rattle.stack_base.specs.declared.stack.Stack.{Stack}
 use Rattle.outside_io.specs.Saying.{Says}
@@ -25,3 +26,7 @@ pub record WritesLine {K : Type 0} (held : K → Option (List ℕ)) (faults : K 
 abbrev pub traced : Bool → Stack → List Event → List ℕ
 traced true stack events = event_lines stack events
 traced false stack events = []
+
+-- what is kept of the events of a run: all of them where there is to be a trace, and else nothing
+abbrev pub IsTraceOf : Bool → List Event → Option (Vec Event) → Type 0
+IsTraceOf trace events kept = (is_some kept ≡ trace) × IfSome kept (λ list. list.items ≡ events)

@@ -1,15 +1,16 @@
 //! The top call of `biostack`: all that the program does, over any source and sinks.
 #![tactic(auto)]
 
-ghost use Rattle.std.specs.Prelude.{◌≡◌, ◌⊎◌, ◌≤◌, List, ℕ, is_some, map, false, true, None};
+ghost use Rattle.std.specs.Prelude.{◌≡◌, ◌⊎◌, ◌≤◌, Bool, List, ℕ, is_some, map, true, None, Some};
 ghost use Rattle.std.specs.String.{string_bytes};
 ghost use Rattle.outside_io.specs.Causes.{Rose};
 ghost use Rattle.outside_io.specs.Saying.{StopsAtFault};
 ghost use Rattle.biostack_words.specs.declared.order.Order.{Order as Orders};
 ghost use Rattle.biostack_top.specs.declared.ending.Ending.{Ending as Endings};
 ghost use Rattle.biostack_words.specs.declared.order.Order.TheVariants as orders;
-ghost use Rattle.biostack_top.specs.Ending.{EndsBy, HadRefusedText, IsToldTo, MeetsNoFault, OrderEndsBy, WorkersEndBy, exit_of};
-ghost use Rattle.biostack_top.specs.Orders.{is_alone, may_be_unwell, order_of};
+ghost use Rattle.biostack_words.specs.Grammar.{meaning};
+ghost use Rattle.biostack_top.specs.Ending.{EndsBy, HadRefusedText, IsToldTo, MayFollowRun, MeetsNoFault, OrderEndsBy, WorkersEndBy, exit_of};
+ghost use Rattle.biostack_top.specs.Orders.{is_alone, may_be_unwell};
 ghost use Rattle.biostack_top.specs.Streams.{stream};
 
 mod ending;
@@ -18,6 +19,7 @@ pub mod laws;
 mod layout;
 mod order;
 mod replay;
+mod report;
 mod run;
 mod scene;
 mod scrub;
@@ -94,11 +96,12 @@ pub fn serve_alone<S: Source, K: Sink, E: Sink>(
     end(ending, errors)
 }
 
-// Runs the text of the source by so many threads, as `biostack` does with such an order.
+// Runs the text of the source by so many threads, with a trace or with none, as `biostack` does with such an order.
 fn serve_shared<R: Threads + Wait + Sync, S: Source, K: Sink, E: Sink, G: Gate + Sync>(
     rt: &R,
     alloc: Global,
     workers: u32,
+    trace: bool,
     source: &mut S,
     out: &mut K,
     errors: &mut E,
@@ -107,38 +110,39 @@ fn serve_shared<R: Threads + Wait + Sync, S: Source, K: Sink, E: Sink, G: Gate +
     requires workers { (1 ≤ workers) × (workers ≤ 16) }
     requires unshown { G.shown gate.old ≡ None }
     ensures whole { (ending : Endings) × (result.0 ≡ exit_of ending)
-        × WorkersEndBy ending (G.shown gate.new) record {
+        × WorkersEndBy ending trace (G.shown gate.new) record {
           source = stream S.left S.faults source.old source.new;
           out = stream K.held K.faults out.old out.new;
         }
         × IsToldTo ending (stream E.held E.faults errors.old errors.new) }
     ensures no_usage { (result.0 ≡ 2) → ⊥ }
-    ensures refused { result.0 ≡ 3 → HadRefusedText (orders.Workers workers false) (S.left source.old) }
+    ensures refused { result.0 ≡ 3 → HadRefusedText (orders.Workers workers trace) (S.left source.old) }
     ensures read_fault { result.0 ≡ 4 → Rose (S.faults source.old) (S.faults source.new) }
     ensures no_read_fault { (result.0 ≡ 4) ⊎ (S.faults source.new ≡ S.faults source.old) }
     ensures write_fault { result.0 ≡ 5 → Rose (K.faults out.old) (K.faults out.new) }
     ensures no_write_fault { (result.0 ≡ 5) ⊎ (K.faults out.new ≡ K.faults out.old) }
     ensures stops { StopsAtFault K.held K.faults out.old out.new }
-    ensures shown { is_some (G.shown gate.new) ≡ true → (result.0 ≡ 0) ⊎ (result.0 ≡ 1) ⊎ (result.0 ≡ 5) }
+    ensures shown { is_some (G.shown gate.new) ≡ true → MayFollowRun trace result.0 }
     ensures complete { (text : List ℕ)
-        → MeetsNoFault (orders.Workers workers false) text record {
+        → MeetsNoFault (orders.Workers workers trace) text record {
           source = stream S.left S.faults source.old source.new;
           out = stream K.held K.faults out.old out.new;
         }
         → (result.0 ≡ 0) ⊎ (result.0 ≡ 1) ⊎ (result.0 ≡ 6) }
 {
-    let ending = workers::serve_workers(rt, alloc, workers, source, out, gate);
+    let ending = workers::serve_workers(rt, alloc, workers, trace, source, out, gate);
     end(ending, errors)
 }
 
 /// Carries out the words after the program's name, as `serve_alone` does with an order.
 ///
-/// The status is as there; 2 where the words give no order that is carried out, and 6 also where there was no memory to read them. Nothing
-/// is read or written then.
+/// The status is as there; 2 where the words give no order, and 6 also where there was no memory to read them. Nothing is read or written
+/// then.
 ///
 /// A run by threads has 1 to 16 workers, of which the caller is one. The gate is told of their steps, and once all have ended it is shown what
-/// they left: the history of each object. The report is that of the run which the merge of these histories is, and memory is not wanting any
-/// more then. Nothing else shows the gate anything. Such a run waits for its threads, so all here holds where the call returns; any other order
+/// they left: the history of each object. The report is that of the run which the merge of these histories is, and a trace before it has the
+/// lines of its events. Memory is not wanting any more then, but for such a trace: with 6 nothing was written. Nothing else shows the gate
+/// anything. Such a run waits for its threads, so all here holds where the call returns; any other order
 /// is carried out by `serve_alone`, which does.
 pub fn biostack<R: Threads + Wait + Sync, S: Source, K: Sink, E: Sink, G: Gate + Sync>(
     rt: &R,
@@ -160,24 +164,26 @@ pub fn biostack<R: Threads + Wait + Sync, S: Source, K: Sink, E: Sink, G: Gate +
         × IsToldTo ending (stream E.held E.faults errors.old errors.new) }
 
     // What each status alone says.
-    ensures usage { result.0 ≡ 2 → order_of (map string_bytes words.now) ≡ None }
-    ensures no_order { order_of (map string_bytes words.now) ≡ None → (result.0 ≡ 2) ⊎ (result.0 ≡ 6) }
-    ensures not_all_well { result.0 ≡ 1 → (order : Orders) × (order_of (map string_bytes words.now) ≡ Some order) × (may_be_unwell order ≡ true) }
-    ensures refused { result.0 ≡ 3 → (order : Orders) × (order_of (map string_bytes words.now) ≡ Some order)
+    ensures usage { result.0 ≡ 2 → meaning (map string_bytes words.now) ≡ None }
+    ensures no_order { meaning (map string_bytes words.now) ≡ None → (result.0 ≡ 2) ⊎ (result.0 ≡ 6) }
+    ensures not_all_well { result.0 ≡ 1 → (order : Orders) × (meaning (map string_bytes words.now) ≡ Some order) × (may_be_unwell order ≡ true) }
+    ensures refused { result.0 ≡ 3 → (order : Orders) × (meaning (map string_bytes words.now) ≡ Some order)
         × HadRefusedText order (S.left source.old) }
     ensures read_fault { result.0 ≡ 4 → Rose (S.faults source.old) (S.faults source.new) }
     ensures no_read_fault { (result.0 ≡ 4) ⊎ (S.faults source.new ≡ S.faults source.old) }
     ensures write_fault { result.0 ≡ 5 → Rose (K.faults out.old) (K.faults out.new) }
     ensures no_write_fault { (result.0 ≡ 5) ⊎ (K.faults out.new ≡ K.faults out.old) }
 
-    // A gate is shown something by a run alone, which then was reported, but for a fault of the output: no memory was wanting.
-    ensures shown { is_some (G.shown gate.new) ≡ true → (result.0 ≡ 0) ⊎ (result.0 ≡ 1) ⊎ (result.0 ≡ 5) }
+    // A gate is shown something by a run of threads alone, which then was reported, but for a fault of the output, or want of memory for its
+    // trace.
+    ensures shown { is_some (G.shown gate.new) ≡ true → (n : ℕ) × (trace : Bool)
+        × (meaning (map string_bytes words.now) ≡ Some (orders.Workers n trace)) × MayFollowRun trace result.0 }
 
     // What the output holds by now it held before any fault.
     ensures stops { StopsAtFault K.held K.faults out.old out.new }
 
     // An order over a text that is not refused is carried out where nothing fails, but for want of memory.
-    ensures complete { (order : Orders) (text : List ℕ) → order_of (map string_bytes words.now) ≡ Some order
+    ensures complete { (order : Orders) (text : List ℕ) → meaning (map string_bytes words.now) ≡ Some order
         → MeetsNoFault order text record {
           source = stream S.left S.faults source.old source.new;
           out = stream K.held K.faults out.old out.new;
@@ -186,7 +192,9 @@ pub fn biostack<R: Threads + Wait + Sync, S: Source, K: Sink, E: Sink, G: Gate +
 {
     match order::order_of(alloc, words) {
         Ok(order) => match order::workers_in(order) {
-            Some(workers) => serve_shared(rt, alloc, workers, source, out, errors, gate),
+            Some((workers, trace)) => {
+                serve_shared(rt, alloc, workers, trace, source, out, errors, gate)
+            }
             None => serve_alone(alloc, &order, source, out, errors),
         },
         Err(ending) => end(ending, errors),

@@ -1,34 +1,19 @@
 //! What the words ask for.
 ghost use Rattle.std.specs.Prelude.{◌≡◌, map};
 ghost use Rattle.std.specs.String.{string_bytes};
-ghost use Rattle.biostack_top.specs.Orders.{is_replay, is_served, is_shown, workers_in};
+ghost use Rattle.biostack_top.specs.Orders.{is_replay, is_shown, workers_in};
 ghost use Rattle.biostack_top.specs.Ending.{IsAsked};
 
 use crate::ending::Ending;
 use biostack_words::{Order, WordFault, read_words};
 use std::alloc::Global;
 
-// Whether an order is carried out.
-fn is_served(order: Order) -> bool
-    ensures { result ≡ is_served order }
-{
-    match order {
-        Order::Run { .. }
-        | Order::Check
-        | Order::Layout
-        | Order::Gen { .. }
-        | Order::Replay
-        | Order::Scrub { .. } => { true }
-        Order::Workers { trace, .. } => !trace,
-    }
-}
-
-/// How many threads an order is for, where it is one for threads.
-pub(crate) fn workers_in(order: Order) -> Option<u32>
+/// How many threads an order is for, and whether there is to be a trace, where it is one for threads.
+pub(crate) fn workers_in(order: Order) -> Option<(u32, bool)>
     ensures { result ≡ workers_in order }
 {
     match order {
-        Order::Workers { n, .. } => Some(n),
+        Order::Workers { n, trace } => Some((n, trace)),
         Order::Run { .. } => None,
         Order::Check => None,
         Order::Layout => None,
@@ -60,7 +45,7 @@ pub(crate) fn is_replay(order: Order) -> bool
     matches!(order, Order::Replay)
 }
 
-/// The order that the words give, where it is carried out.
+/// The order that the words give.
 ///
 /// # Errors
 ///
@@ -69,13 +54,7 @@ pub(crate) fn order_of(alloc: Global, words: &[String]) -> Result<Order, Ending>
     ensures { IsAsked (map string_bytes words.now) result }
 {
     match read_words(alloc, words) {
-        Ok(order) => {
-            if is_served(order) {
-                Ok(order)
-            } else {
-                Err(Ending::Usage)
-            }
-        }
+        Ok(order) => Ok(order),
         Err(WordFault::Refused) => Err(Ending::Usage),
         Err(WordFault::Memory) => Err(Ending::Memory),
     }

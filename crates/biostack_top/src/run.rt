@@ -1,28 +1,24 @@
 //! Runs a scene to its end.
-ghost use Rattle.std.specs.Prelude.{◌≡◌, ◌^◌, ◌<◌, List, false, IsErr, OnErr, OnOk};
-ghost use Rattle.stack_base.specs.declared.ids.Status.TheVariants.{Ok as no_error};
-ghost use Rattle.stack_base.specs.Fault.{status_eq};
+ghost use Rattle.std.specs.Prelude.{◌≡◌, ◌^◌, ◌<◌, List, false};
 ghost use Rattle.outside_io.specs.Saying.{Writes};
-ghost use Rattle.run_machine.specs.declared.event.Event.{Event as Told};
+ghost use Rattle.run_machine.specs.declared.event.Event.{Event as Happening};
 ghost use Rattle.task_core.specs.opened.OfOne.{IsOpened, scenario_in};
-ghost use Rattle.report_text.specs.CheckText.{most_steps};
-ghost use Rattle.report_text.specs.Report.{gen_text, report};
-ghost use Rattle.report_text.specs.Views.{IsOf, told_of};
 ghost use Rattle.biostack_words.specs.declared.order.Order.TheVariants as order;
 ghost use Rattle.biostack_top.specs.Scene.{IsSaid};
-ghost use Rattle.biostack_top.specs.Running.{HasRun, sectors};
+ghost use Rattle.biostack_top.specs.Running.{ByNumber, HasRun, sectors};
 ghost use Rattle.biostack_top.specs.Streams.{stream};
 ghost use Rattle.biostack_top.specs.Tracing.{traced};
-ghost use Rattle.biostack_top.specs.Ending.{TextEndsBy, all_well};
+ghost use Rattle.biostack_top.specs.Ending.{TextEndsBy};
 
 use crate::ending::Ending;
+use crate::report::report_behind;
 use crate::scene::Scene;
 use crate::trace::run_traced;
 use layout_model::Write;
 use outside_io::{Failed, Sink};
-use report_text::{write_gen, write_report};
+use report_text::write_gen;
 use serial_run::{Events, Schedule, run_serial};
-use stack_base::{Stack, Status};
+use stack_base::Stack;
 use std::alloc::Global;
 use task_core::{Ended, Event, Opened, open};
 
@@ -39,7 +35,7 @@ impl Events for Silence {
 /// Runs what was opened, and tells nothing of it.
 pub(crate) fn run_quiet(opened: Opened, number: u64) -> Ended
     requires opened { IsOpened opened }
-    ensures { (events : List Told) × HasRun (scenario_in opened) number events result }
+    ensures { (events : List Happening) × HasRun (scenario_in opened) (ByNumber number) events result }
 {
     let mut schedule = Schedule::new(number);
     run_serial(opened, &mut schedule, &mut Silence)
@@ -54,7 +50,7 @@ fn run_opened<K: Sink>(
     out: &mut K,
 ) -> (Ended, Result<(), Failed>)
     requires opened { IsOpened opened }
-    ensures { (events : List Told) × HasRun (scenario_in opened) number events result.0
+    ensures { (events : List Happening) × HasRun (scenario_in opened) (ByNumber number) events result.0
         × Writes K.held K.faults out.old out.new result.1 (traced trace stack.now events) }
 {
     if trace {
@@ -62,37 +58,6 @@ fn run_opened<K: Sink>(
     } else {
         (run_quiet(opened, number), Ok(()))
     }
-}
-
-// Writes the report behind a trace, if that was written.
-fn report_behind<K: Sink>(
-    traced: Result<(), Failed>,
-    ended: &Ended,
-    scene: &Scene<'_>,
-    out: &mut K,
-) -> Result<(), Failed>
-    requires ended { IsOf scene.now.accepted.stack ended.now }
-    requires bound { most_steps scene.now.work.bound < 2 ^ 64 }
-    ensures ok { OnOk traced (Writes K.held K.faults out.old out.new result
-        (report scene.now.accepted.stack (told_of ended.now (most_steps scene.now.work.bound)))) }
-    ensures err { OnErr traced (IsErr result × (out.new ≡ out.old)) }
-{
-    traced?;
-    write_report(ended, &scene.accepted.stack, &scene.work.bound, out)
-}
-
-// Whether a write ended well.
-fn is_well(end: Status) -> bool
-    ensures { result ≡ status_eq end no_error }
-{
-    matches!(end, Status::Ok)
-}
-
-/// Whether each write ended well.
-pub(crate) fn all_well(statuses: &[Status]) -> bool
-    ensures { result ≡ all_well statuses.now }
-{
-    statuses.iter().all(|end| is_well(*end))
 }
 
 /// Runs the scene's writes to their end by the schedule of a number, and reports what the run left.
@@ -110,16 +75,7 @@ pub(crate) fn run<K: Sink>(
         return Ending::Memory;
     };
     let (ended, traced) = run_opened(opened, number, trace, &scene.accepted.stack, out);
-    match report_behind(traced, &ended, scene, out) {
-        Err(Failed) => Ending::WriteFault,
-        Ok(()) => {
-            if all_well(&ended.statuses) {
-                Ending::Done
-            } else {
-                Ending::NotAllWell
-            }
-        }
-    }
+    report_behind(traced, &ended, scene, out)
 }
 
 // How many sectors writes have together.

@@ -1,10 +1,11 @@
-//! Tells a pen the line of each event as it happens.
-ghost use Rattle.std.specs.Prelude.{◌≡◌, List, [], false, true, MatchResult};
+//! Tells a pen the line of each event: as it happens, or of events that were kept.
+ghost use Rattle.std.specs.Prelude.{◌≡◌, All, Bool, List, [], false, true, MatchResult};
 ghost use Rattle.outside_io.specs.Saying.{Says, Writes};
-ghost use Rattle.run_machine.specs.declared.event.Event.{Event as Told};
+ghost use Rattle.run_machine.specs.declared.event.Event.{Event as Happening};
 ghost use Rattle.task_core.specs.opened.OfOne.{IsOpened, scenario_in};
-ghost use Rattle.biostack_top.specs.Running.{HasRun};
-ghost use Rattle.biostack_top.specs.Tracing.{event_line, event_lines};
+ghost use Rattle.biostack_top.specs.Running.{ByNumber, HasRun};
+ghost use Rattle.run_machine.specs.Named.{Fits};
+ghost use Rattle.biostack_top.specs.Tracing.{IsTraceOf, event_line, event_lines, traced};
 
 use arrayvec::ArrayVec;
 use outside_io::{Failed, Pen, Sink};
@@ -21,10 +22,17 @@ pub(crate) struct Trace<'k, 's, K> {
     pen: Pen,
 }
 
+// The numbers of an event are such as its fields have.
+fn fits(event: Event)
+    ensures { Fits event }
+{}
+
 // Tells the line of an event, with the byte 10 that ends it.
 fn write_line<K: Sink>(pen: &mut Pen, out: &mut K, stack: &Stack, event: &Event)
-    ensures { Says K.held K.faults out.old pen.old out.new pen.new (event_line stack.now event.now) }
+    ensures says { Says K.held K.faults out.old pen.old out.new pen.new (event_line stack.now event.now) }
+    ensures fits { Fits event.now }
 {
+    fits(*event);
     let mut line = ArrayVec::new();
     write_event(event, stack, &mut line);
     pen.put(out, &[line.as_slice(), b"\n"]);
@@ -73,7 +81,7 @@ pub(crate) fn run_traced<K: Sink>(
     out: &mut K,
 ) -> (Ended, Result<(), Failed>)
     requires opened { IsOpened opened }
-    ensures { (events : List Told) × HasRun (scenario_in opened) number events result.0
+    ensures { (events : List Happening) × HasRun (scenario_in opened) (ByNumber number) events result.0
         × Writes K.held K.faults out.old out.new result.1 (event_lines stack.now events) }
 {
     let mut schedule = Schedule::new(number);
@@ -85,4 +93,41 @@ pub(crate) fn run_traced<K: Sink>(
     let ended = run_serial(opened, &mut schedule, &mut trace);
     let told = trace.finish();
     (ended, told)
+}
+
+// Tells the lines of events, in their order.
+fn write_lines<K: Sink>(pen: &mut Pen, out: &mut K, stack: &Stack, events: &[Event])
+    ensures says { Says K.held K.faults out.old pen.old out.new pen.new (event_lines stack.now events.now) }
+    ensures fits { All Fits events.now }
+{
+    'telling: for event in events {
+        write_line(pen, out, stack, event);
+    }
+}
+
+// Writes the lines of events, in their order.
+fn write_events<K: Sink>(events: &[Event], stack: &Stack, out: &mut K) -> Result<(), Failed>
+    ensures written { Writes K.held K.faults out.old out.new result (event_lines stack.now events.now) }
+    ensures fits { All Fits events.now }
+{
+    let mut pen = Pen::new();
+    write_lines(&mut pen, out, stack, events);
+    pen.finish(out)
+}
+
+/// Writes the line of each event that was kept of a run: of all of them, or of none where there is to be no trace. An error says that the sink
+/// has failed.
+pub(crate) fn write_trace<K: Sink>(
+    kept: &Option<Vec<Event>>,
+    stack: &Stack,
+    out: &mut K,
+) -> Result<(), Failed>
+    ensures written { (trace : Bool) (events : List Happening) → IsTraceOf trace events kept.now
+        → Writes K.held K.faults out.old out.new result (traced trace stack.now events) }
+    ensures fits { (trace : Bool) (events : List Happening) → IsTraceOf trace events kept.now → trace ≡ true → All Fits events }
+{
+    match kept {
+        Some(events) => write_events(events, stack, out),
+        None => Ok(()),
+    }
 }

@@ -1,32 +1,27 @@
 //! Runs a text by threads.
-ghost use Rattle.std.specs.Prelude.{◌≡◌, ◌^◌, ◌<◌, ◌≤◌, List, None, false, Some, IfOk};
-ghost use Rattle.outside_io.specs.Saying.{Writes};
-ghost use Rattle.run_machine.specs.declared.event.Event.{Event as Told};
+ghost use Rattle.std.specs.Prelude.{◌≡◌, ◌≤◌, None, Some};
 ghost use Rattle.task_core.specs.opened.OfOne.{scenario_in};
-ghost use Rattle.report_text.specs.CheckText.{most_steps};
-ghost use Rattle.report_text.specs.Report.{report};
-ghost use Rattle.report_text.specs.Views.{IsOf, told_of};
 ghost use Rattle.shared_objects.specs.Shared.{SharedHolds};
 ghost use Rattle.bio_workers.specs.Gates.{Showing};
-ghost use Rattle.biostack_top.specs.Ending.{SharedEndsBy, WorkersEndBy, all_well};
-ghost use Rattle.biostack_top.specs.Running.{HasMerged};
+ghost use Rattle.biostack_top.specs.Ending.{SharedEndsBy, WorkersEndBy};
+ghost use Rattle.biostack_top.specs.Running.{HasOutcome, IsShownOf};
 ghost use Rattle.biostack_top.specs.Scene.{IsSaid};
 ghost use Rattle.biostack_top.specs.Streams.{stream};
 
 use crate::ending::Ending;
 use crate::input::read;
-use crate::run::all_well;
+use crate::report::report_behind;
 use crate::scene::{Scene, read_scene};
+use crate::trace::write_trace;
 use bio_workers::{Gate, run_workers};
 use decl_text::ReadFault;
-use outside_io::{Failed, Sink, Source};
-use report_text::write_report;
-use run_merge::merge;
+use outside_io::{Sink, Source};
+use run_merge::{Outcome, merge};
 use shared_objects::{Shared, share};
-use std::alloc::Global;
+use std::alloc::{AllocError, Global};
 use std::sync::Wait;
 use std::thread::Threads;
-use task_core::{Ended, open};
+use task_core::open;
 
 // Runs what was shared to its end, shows the gate what the threads left, and answers what the merge of that is.
 fn run_shown<R: Threads + Wait + Sync, G: Gate + Sync>(
@@ -35,39 +30,24 @@ fn run_shown<R: Threads + Wait + Sync, G: Gate + Sync>(
     workers: u32,
     shared: Shared,
     gate: &mut G,
-) -> Ended
+) -> Result<Outcome, AllocError>
     requires holds { SharedHolds shared }
     requires untaken { shared.next ≡ 0 }
-    requires untraced { shared.locks.trace ≡ false }
     requires workers { (1 ≤ workers) × (workers ≤ 16) }
-    ensures { (shown : Showing) × (G.shown gate.new ≡ Some shown)
-        × (events : List Told) × HasMerged (scenario_in shared.told.value) shown events result }
+    ensures { (shown : Showing) × (G.shown gate.new ≡ Some shown) × IsShownOf (scenario_in shared.told.value) shown
+        × HasOutcome (scenario_in shared.told.value) shared.locks.trace shown result }
 {
     let closed = run_workers(rt, shared, workers, &*gate);
     gate.closed(&closed);
-    match merge(alloc, closed) {
-        Ok(outcome) => outcome.ended,
-        Err(_) => unreachable!(),
-    }
+    merge(alloc, closed)
 }
 
-// Writes the report of what a run of the scene left, and answers whether each write ended well.
-fn report<K: Sink>(ended: &Ended, scene: &Scene<'_>, out: &mut K) -> Result<bool, Failed>
-    requires ended { IsOf scene.now.accepted.stack ended.now }
-    requires bound { most_steps scene.now.work.bound < 2 ^ 64 }
-    ensures written { Writes K.held K.faults out.old out.new result
-        (report scene.now.accepted.stack (told_of ended.now (most_steps scene.now.work.bound))) }
-    ensures well { IfOk result (λ well. well ≡ all_well ended.now.statuses.items) }
-{
-    write_report(ended, &scene.accepted.stack, &scene.work.bound, out)?;
-    Ok(all_well(&ended.statuses))
-}
-
-// Runs the scene's writes to their end by so many threads, and reports what the run left.
+// Runs the scene's writes to their end by so many threads, and reports what the run left, behind its trace where there is to be one.
 fn run_scene<R: Threads + Wait + Sync, K: Sink, G: Gate + Sync>(
     rt: &R,
     alloc: Global,
     workers: u32,
+    trace: bool,
     scene: &Scene<'_>,
     out: &mut K,
     gate: &mut G,
@@ -75,65 +55,63 @@ fn run_scene<R: Threads + Wait + Sync, K: Sink, G: Gate + Sync>(
     requires said { IsSaid scene.now }
     requires workers { (1 ≤ workers) × (workers ≤ 16) }
     requires unshown { G.shown gate.old ≡ None }
-    ensures { SharedEndsBy result (G.shown gate.new) scene.now.text.now (stream K.held K.faults out.old out.new) }
+    ensures { SharedEndsBy result trace (G.shown gate.new) scene.now.text.now (stream K.held K.faults out.old out.new) }
 {
     let Ok(opened) = open(alloc, &scene.accepted, &scene.work) else {
         return Ending::Memory;
     };
-    let Ok(shared) = share(alloc, opened, false) else {
+    let Ok(shared) = share(alloc, opened, trace) else {
         return Ending::Memory;
     };
-    let ended = run_shown(rt, alloc, workers, shared, gate);
-    match report(&ended, scene, out) {
-        Err(Failed) => Ending::WriteFault,
-        Ok(well) => {
-            if well {
-                Ending::Done
-            } else {
-                Ending::NotAllWell
-            }
-        }
-    }
+    let Ok(outcome) = run_shown(rt, alloc, workers, shared, gate) else {
+        return Ending::Memory;
+    };
+    let Outcome { ended, events } = outcome;
+    let traced = write_trace(&events, &scene.accepted.stack, out);
+    report_behind(traced, &ended, scene, out)
 }
 
-// Runs a text by so many threads.
+// Runs a text by so many threads, with a trace or with none.
 fn serve_text<R: Threads + Wait + Sync, K: Sink, G: Gate + Sync>(
     rt: &R,
     alloc: Global,
     workers: u32,
+    trace: bool,
     text: &[u8],
     out: &mut K,
     gate: &mut G,
 ) -> Ending
     requires workers { (1 ≤ workers) × (workers ≤ 16) }
     requires unshown { G.shown gate.old ≡ None }
-    ensures { SharedEndsBy result (G.shown gate.new) text.now (stream K.held K.faults out.old out.new) }
+    ensures { SharedEndsBy result trace (G.shown gate.new) text.now (stream K.held K.faults out.old out.new) }
 {
     match read_scene(alloc, text, false) {
-        Ok(scene) => run_scene(rt, alloc, workers, &scene, out, gate),
+        Ok(scene) => run_scene(rt, alloc, workers, trace, &scene, out, gate),
         Err(ReadFault::Refused(refusal)) => Ending::Refused(refusal),
         Err(ReadFault::Memory) => Ending::Memory,
     }
 }
 
-/// Runs the text of the source by so many threads, from 1 to 16, shows the gate what they left, and reports it. Tells how that ended.
+/// Runs the text of the source by so many threads, from 1 to 16, shows the gate what they left, and reports it, with a trace or with none. Tells
+/// how that ended.
 pub(crate) fn serve_workers<R: Threads + Wait + Sync, S: Source, K: Sink, G: Gate + Sync>(
     rt: &R,
     alloc: Global,
     workers: u32,
+    trace: bool,
     source: &mut S,
     out: &mut K,
     gate: &mut G,
 ) -> Ending
     requires workers { (1 ≤ workers) × (workers ≤ 16) }
     requires unshown { G.shown gate.old ≡ None }
-    ensures { WorkersEndBy result (G.shown gate.new) record {
+    ensures { WorkersEndBy result trace (G.shown gate.new) record {
       source = stream S.left S.faults source.old source.new;
       out = stream K.held K.faults out.old out.new;
     } }
 {
     match read(alloc, source) {
-        Ok(text) => serve_text(rt, alloc, workers, &text, out, gate),
+        Ok(text) => serve_text(rt, alloc, workers, trace, &text, out, gate),
         Err(ending) => ending,
     }
 }

@@ -10,7 +10,8 @@ returns-clause-refused g c = λ is.
       source = stream g.S.Source.left g.S.Source.faults c.args.source.now c.serve_workers-ending.new.source;
       out = stream g.K.Sink.held g.K.Sink.faults c.args.out.now c.serve_workers-ending.new.out;
     } in
-    refused_workers c.args.workers (g.G.Gate.shown c.serve_workers-ending.new.gate) call c.serve_workers-ending.result c.serve_workers-ending.ensures
+    refused_workers c.args.trace (g.G.Gate.shown c.serve_workers-ending.new.gate) call c.args.workers c.serve_workers-ending.result
+    c.serve_workers-ending.ensures
     (sym c.end.ensures.exit ∙ is)
 
 pub returns-clause-stops : goal.returns-clause-stops
@@ -19,4 +20,4 @@ returns-clause-stops g c =
       source = stream g.S.Source.left g.S.Source.faults c.args.source.now c.serve_workers-ending.new.source;
       out = stream g.K.Sink.held g.K.Sink.faults c.args.out.now c.serve_workers-ending.new.out;
     } in
-    stops_with_workers (g.G.Gate.shown c.serve_workers-ending.new.gate) call c.serve_workers-ending.result c.serve_workers-ending.ensures
+    stops_with_workers c.args.trace (g.G.Gate.shown c.serve_workers-ending.new.gate) call c.serve_workers-ending.result c.serve_workers-ending.ensures

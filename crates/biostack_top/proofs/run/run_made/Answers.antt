@@ -5,8 +5,8 @@ use Rattle.run_machine.specs.Opened.{Scenario}
 use Rattle.report_text.specs.CheckText.{most_steps}
 use Rattle.report_text.specs.Report.{gen_text}
 use Rattle.report_text.specs.Views.{told_of}
-use Rattle.biostack_top.specs.Running.{HasRun, sectors}
-use Rattle.biostack_top.proofs.RunningLemmas.{few_sectors, few_steps, is_of, runnable}
+use Rattle.biostack_top.specs.Running.{ByNumber, HasRun, sectors}
+use Rattle.biostack_top.proofs.RunningLemmas.{few_sectors, few_steps, is_of}
 use Rattle.biostack_top.proofs.ToldLemmas.{tells_made}
 use Rattle.biostack_top.proofs.run.run_made.Goals as goal
 
@@ -19,8 +19,8 @@ pub write_gen-requires-clause-ended : goal.write_gen-requires-clause-ended
 write_gen-requires-clause-ended g c =
     let scene = c.args.scene.now in
     let by = c.run_quiet-ended.ensures in
-    is_of scene.text.now scene.accepted scene.work c.requires c.args.number by.0 c.run_quiet-ended.result
-    (subst (λ (s : Scenario). HasRun s c.args.number by.0 c.run_quiet-ended.result) c.in-Ok.ensures.of by.1)
+    is_of scene.text.now scene.accepted scene.work c.requires (ByNumber c.args.number) by.0 c.run_quiet-ended.result
+    (subst (λ (s : Scenario). HasRun s (ByNumber c.args.number) by.0 c.run_quiet-ended.result) c.in-Ok.ensures.of by.1)
 
 pub write_gen-requires-clause-bound : goal.write_gen-requires-clause-bound
 write_gen-requires-clause-bound g c =
@@ -31,7 +31,7 @@ returns-in-Ok-write_gen g c =
     let scene = c.args.scene.now in
     let by = c.run_quiet-ended.ensures in
     let ended = c.run_quiet-ended.result in
-    let has = subst (λ (s : Scenario). HasRun s c.args.number by.0 ended) c.in-Ok.ensures.of by.1 in
+    let has = subst (λ (s : Scenario). HasRun s (ByNumber c.args.number) by.0 ended) c.in-Ok.ensures.of by.1 in
     let written = c.in-Ok-write_gen.ensures in (
       written.cause.quiet,
       c.requires.fine,
@@ -48,7 +48,7 @@ returns g c =
     let scene = c.args.scene.now in
     let by = c.run_quiet-ended.ensures in
     let ended = c.run_quiet-ended.result in
-    let has = subst (λ (s : Scenario). HasRun s c.args.number by.0 ended) c.in-Ok.ensures.of by.1 in
+    let has = subst (λ (s : Scenario). HasRun s (ByNumber c.args.number) by.0 ended) c.in-Ok.ensures.of by.1 in
     let written = c.in-Err.ensures in (
       written.cause.failed,
       written.stops,

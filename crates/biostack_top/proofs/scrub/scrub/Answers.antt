@@ -10,8 +10,8 @@ use Rattle.report_text.specs.CheckText.{most_steps}
 use Rattle.report_text.specs.Report.{steps_line}
 use Rattle.biostack_words.specs.declared.order.Order.TheVariants.{Scrub}
 use Rattle.biostack_top.specs.Ending.{Tells}
-use Rattle.biostack_top.specs.Running.{HasRun}
-use Rattle.biostack_top.proofs.RunningLemmas.{few_steps, runnable}
+use Rattle.biostack_top.specs.Running.{ByNumber, HasRun}
+use Rattle.biostack_top.proofs.RunningLemmas.{few_steps}
 use Rattle.biostack_top.proofs.ScrubLemmas.{are_disks, tells_scrub}
 use Rattle.biostack_top.proofs.ServeLemmas.{written_front, written_whole}
 use Rattle.biostack_top.proofs.TraceLemmas.{writes_then}
@@ -23,7 +23,7 @@ scrub-told-requires-clause-disks g c =
     let by = c.run_quiet-ended.ensures in
     subst (λ (disks : List DiskState). AreDisksOf scene.accepted.stack disks) (sym c.deref.ensures.value)
     (are_disks scene.text.now scene.accepted scene.work c.requires c.args.number by.0 c.run_quiet-ended.result
-    (subst (λ (s : Scenario). HasRun s c.args.number by.0 c.run_quiet-ended.result) c.in-Ok.ensures.of by.1))
+    (subst (λ (s : Scenario). HasRun s (ByNumber c.args.number) by.0 c.run_quiet-ended.result) c.in-Ok.ensures.of by.1))
 
 pub steps_behind-requires : goal.steps_behind-requires
 steps_behind-requires g c =
@@ -35,14 +35,14 @@ all_alike-requires-clause-disks g c =
     let by = c.run_quiet-ended.ensures in
     subst (λ (disks : List DiskState). AreDisksOf scene.accepted.stack disks) (sym c.deref-in-Ok-steps_behind.ensures.value)
     (are_disks scene.text.now scene.accepted scene.work c.requires c.args.number by.0 c.run_quiet-ended.result
-    (subst (λ (s : Scenario). HasRun s c.args.number by.0 c.run_quiet-ended.result) c.in-Ok.ensures.of by.1))
+    (subst (λ (s : Scenario). HasRun s (ByNumber c.args.number) by.0 c.run_quiet-ended.result) c.in-Ok.ensures.of by.1))
 
 pub returns-in-Err : goal.returns-in-Err
 returns-in-Err g c =
     let scene = c.args.scene.now in
     let by = c.run_quiet-ended.ensures in
     let ended = c.run_quiet-ended.result in
-    let has = subst (λ (s : Scenario). HasRun s c.args.number by.0 ended) c.in-Ok.ensures.of by.1 in
+    let has = subst (λ (s : Scenario). HasRun s (ByNumber c.args.number) by.0 ended) c.in-Ok.ensures.of by.1 in
     let lines = λ (disks : List DiskState). scrub_text scene.accepted.stack (held disks) in
     let steps = steps_line ended.steps (most_steps scene.work.bound) in
     let all = writes_then (lines c.deref.result.now) steps c.scrub-told.result c.steps_behind.result c.scrub-told.ensures c.steps_behind.ensures.ok c.steps_behind.ensures.err in
@@ -64,7 +64,7 @@ returns-then-all_alike g c =
     let scene = c.args.scene.now in
     let by = c.run_quiet-ended.ensures in
     let ended = c.run_quiet-ended.result in
-    let has = subst (λ (s : Scenario). HasRun s c.args.number by.0 ended) c.in-Ok.ensures.of by.1 in
+    let has = subst (λ (s : Scenario). HasRun s (ByNumber c.args.number) by.0 ended) c.in-Ok.ensures.of by.1 in
     let lines = λ (disks : List DiskState). scrub_text scene.accepted.stack (held disks) in
     let steps = steps_line ended.steps (most_steps scene.work.bound) in
     let all = writes_then (lines c.deref.result.now) steps c.scrub-told.result c.steps_behind.result c.scrub-told.ensures c.steps_behind.ensures.ok c.steps_behind.ensures.err in
@@ -86,7 +86,7 @@ returns g c =
     let scene = c.args.scene.now in
     let by = c.run_quiet-ended.ensures in
     let ended = c.run_quiet-ended.result in
-    let has = subst (λ (s : Scenario). HasRun s c.args.number by.0 ended) c.in-Ok.ensures.of by.1 in
+    let has = subst (λ (s : Scenario). HasRun s (ByNumber c.args.number) by.0 ended) c.in-Ok.ensures.of by.1 in
     let lines = λ (disks : List DiskState). scrub_text scene.accepted.stack (held disks) in
     let steps = steps_line ended.steps (most_steps scene.work.bound) in
     let all = writes_then (lines c.deref.result.now) steps c.scrub-told.result c.steps_behind.result c.scrub-told.ensures c.steps_behind.ensures.ok c.steps_behind.ensures.err in

@@ -1,8 +1,9 @@
--- The text that was read ends the call.
-use Rattle.std.proofs.Common.{ℕ, List, subst}
+-- The text that was read ends the call, or there was none.
+use Rattle.std.proofs.Common.{ℕ, List, refl, subst}
+use Rattle.std.proofs.KnownBytes.{Keeps-refl}
 use Rattle.biostack_top.specs.Ending.{SharedEndsBy}
 use Rattle.biostack_top.specs.Streams.{Call, stream}
-use Rattle.biostack_top.proofs.EndingLemmas.{over_shared_text}
+use Rattle.biostack_top.proofs.EndingLemmas.{over_shared_text, without_text}
 use Rattle.biostack_top.proofs.workers.serve_workers.Goals as goal
 
 pub returns-in-Ok : goal.returns-in-Ok
@@ -12,5 +13,14 @@ returns-in-Ok g c =
       out = stream g.K.Sink.held g.K.Sink.faults c.args.out.now c.serve_text.new.out;
     } in
     let shown = g.G.Gate.shown c.serve_text.new.gate in
-    let ends = subst (λ (text : List ℕ). SharedEndsBy c.serve_text.result shown text call.out) c.deref.ensures.value c.serve_text.ensures in
-    over_shared_text c.serve_text.result shown c.in-Ok.text.items call c.in-Ok.ensures ends
+    let ends = subst (λ (text : List ℕ). SharedEndsBy c.serve_text.result c.args.trace shown text call.out) c.deref.ensures.value c.serve_text.ensures in
+    over_shared_text c.args.trace shown call c.serve_text.result c.in-Ok.text.items c.in-Ok.ensures ends
+
+pub returns-in-Err : goal.returns-in-Err
+returns-in-Err g c =
+    let call : Call g.row.S.Denot g.row.K.Denot = record {
+      source = stream g.S.Source.left g.S.Source.faults c.args.source.now c.read.new.source;
+      out = stream g.K.Sink.held g.K.Sink.faults c.args.out.now c.args.out.now;
+    } in
+    without_text c.args.trace (g.G.Gate.shown c.args.gate.now) call c.in-Err.ending c.in-Err.ensures
+    (Keeps-refl (g.K.Sink.held c.args.out.now), refl) c.requires.unshown

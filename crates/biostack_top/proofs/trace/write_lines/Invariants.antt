@@ -1,0 +1,12 @@
+use Rattle.std.proofs.Common.{All, take}
+use Rattle.std.specs.List.{flat_map}
+use Rattle.outside_io.specs.Saying.{Says}
+use Rattle.run_machine.specs.Named.{Fits}
+use Rattle.biostack_top.specs.Tracing.{event_line}
+use Rattle.biostack_top.proofs.trace.write_lines.Given as goal
+
+-- the lines of the events so far, whose numbers fit
+abbrev pub invariant-telling : goal.invariant-telling
+invariant-telling g l =
+    Says g.K.Sink.held g.K.Sink.faults l.fn.out l.fn.pen l.out l.pen (flat_map (event_line l.stack) (take l.event-index l.events))
+    × All Fits (take l.event-index l.events)
