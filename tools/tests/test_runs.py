@@ -190,6 +190,14 @@ class Examples(unittest.TestCase):
         for words in (["--seed", "7"], *(["--workers", str(n)] for n in (1, 2, 4, 16))):
             self.assertEqual(program("run", *words, data=text), (0, report, ""), words)
 
+    @needs_program
+    def test_traces_of_threads(self):
+        for name, path, output in examples():
+            text = read(path)
+            for workers in ("1", "4"):
+                trace = program("run", "--workers", workers, "--trace", data=text.encode())[1]
+                self.assertEqual(followed(text, trace)[2], [], (name, workers))
+
     def test_pictures(self):
         for name, path, output in examples():
             into = io.StringIO()
