@@ -10,3 +10,4 @@ mod NameExamples
 pub mod renaming
 pub mod TextLines
 pub mod Traced
+pub mod ReportLines

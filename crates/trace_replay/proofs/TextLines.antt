@@ -1,5 +1,5 @@
 -- The lines of a text that is put together of whole lines, and those of them that tell events.
-use Rattle.std.proofs.Common.{◌≡◌, ◌+◌, ◌==◌, if◌then◌else◌, ℕ, Bool, true, false, List, [], ◌∷◌, ◌++◌, length, filter, map, refl, sym, ap, ◌∙◌, arith}
+use Rattle.std.proofs.Common.{◌≡◌, ◌+◌, ◌==◌, if◌then◌else◌, not, ℕ, Bool, true, false, List, [], ◌∷◌, ◌++◌, length, filter, map, refl, sym, ap, ◌∙◌, arith}
 use Rattle.std.specs.List.{list_all, slice_split, onto_first, count_by}
 use Rattle.std.proofs.lemmas.List.{append-nil}
 use Rattle.std.proofs.lemmas.List.Sums.{AllPass-from_list_all}
@@ -8,6 +8,7 @@ use Rattle.std.proofs.lemmas.Bool.Decides.{nat_tests}
 use Rattle.decl_text.specs.Reading.{NonePass}
 use Rattle.decl_text.specs.Text.{lines, without_empty_end}
 use Rattle.trace_text.specs.Laws.{is_line_byte}
+use Rattle.trace_text.proofs.NameWords.{list_all_follows}
 use Rattle.block_core.proofs.start.FactsAtStart.{all_map}
 use Rattle.trace_replay.specs.Lines.{is_told, told_lines}
 
@@ -72,14 +73,24 @@ lines_of_two body back =
     joined [] = refl
     joined (byte ∷ bytes) = ap (λ all. byte ∷ all) (joined bytes)
 
--- one line
-not_end : (byte : ℕ) → is_line_byte byte ≡ true → ends_line byte ≡ false
+-- a byte within a line
+abbrev pub is_inner : ℕ → Bool
+is_inner byte = not (byte == 10)
+
+not_end : (byte : ℕ) → is_inner byte ≡ true → ends_line byte ≡ false
 not_end byte is = grind (arith, nat_tests, is)
 
-pub line_first : (line back : List ℕ) → list_all is_line_byte line ≡ true → lines (line ++ 10 ∷ back) ≡ line ∷ lines back
-line_first line back is =
-    let all = all_map (λ byte. is_line_byte byte ≡ true) (λ byte. ends_line byte ≡ false) not_end line (AllPass-from_list_all is_line_byte line is) in
+-- one line
+pub inner_first : (line back : List ℕ) → list_all is_inner line ≡ true → lines (line ++ 10 ∷ back) ≡ line ∷ lines back
+inner_first line back is =
+    let all = all_map (λ byte. is_inner byte ≡ true) (λ byte. ends_line byte ≡ false) not_end line (AllPass-from_list_all is_inner line is) in
     lines_at line back ∙ ap (λ parts. parts ++ lines back) (slice_split_none ends_line line all)
+
+inner_byte : (byte : ℕ) → is_line_byte byte ≡ true → is_inner byte ≡ true
+inner_byte byte is = grind (arith, nat_tests, is)
+
+pub line_first : (line back : List ℕ) → list_all is_line_byte line ≡ true → lines (line ++ 10 ∷ back) ≡ line ∷ lines back
+line_first line back is = inner_first line back (list_all_follows is_line_byte is_inner inner_byte line is)
 
 -- those that tell events
 pub told_are : (number : ℕ) (all : List (List ℕ)) → map (λ (line : ℕ × List ℕ). line.1) (told_lines number all) ≡ filter is_told all

@@ -7,6 +7,7 @@ use Rattle.std.proofs.lemmas.List.Concat.{flat_map-cons}
 use Rattle.std.proofs.lemmas.List.Elements.{All-head, All-tail, filter-append}
 use Rattle.elem_ledger.specs.Ledger.{LedgerId}
 use Rattle.stack_base.specs.declared.stack.Stack.{Stack}
+use Rattle.decl_text.specs.Reading.{NonePass}
 use Rattle.decl_text.specs.Steps.{Begins}
 use Rattle.decl_text.specs.Text.{lines}
 use Rattle.decl_text.proofs.Cuts.{before_is}
@@ -20,11 +21,12 @@ use Rattle.trace_text.specs.Laws.{IsLineOf, EventsAreApart, LinesAreText}
 use Rattle.trace_text.specs.Lines.{line_of}
 use Rattle.trace_text.specs.Names.{IsNamed}
 use Rattle.plain_core.specs.Ledgers.{ledger_of}
+use Rattle.report_text.specs.Report.{report}
 use Rattle.trace_replay.specs.Exact.{IsReplayOf, TellRun, RunsHaveNoBadLine}
 use Rattle.trace_replay.specs.Lines.{is_told, told_in}
 use Rattle.trace_replay.specs.Names.{Names, no_names, after}
 use Rattle.trace_replay.specs.Replay.{AreLinesOf, IsFinish}
-use Rattle.trace_replay.specs.Traces.{AreRead, IsReadAsRun, trace_of, IsOfWholeLines, HasTrace, IsReplayable, IsReplayedWhole, TracesReplay}
+use Rattle.trace_replay.specs.Traces.{AreRead, IsReadAsRun, trace_of, IsOfWholeLines, HasTrace, IsReplayable, IsReplayedWhole, TracesReplay, ReportsTellNoEvent, ReportedRunsReplay}
 use Rattle.trace_replay.specs.declared.walk.Finish.{Finish}
 use Rattle.trace_replay.specs.declared.walk.Finish.TheVariants.{Ended, Open, Stuck}
 use Rattle.trace_replay.specs.declared.walk.Replayed.{Replayed}
@@ -70,14 +72,14 @@ module _ (stack : Stack) (named : IsNamed stack) (text_lines : LinesAreText) whe
         ap lines has.is ∙ scenario_first scenario (trace_of stack events ++ report) has.whole
         ∙ ap (λ all. lines scenario ++ all) (trace_lines events report has.named has.fits)
 
-    pub told_are_its : map (λ (line : ℕ × List ℕ). line.1) (told_in 1 text) ≡ map (line_of stack) events
-    told_are_its =
+    pub told_are_its : NonePass is_told (lines report) → map (λ (line : ℕ × List ℕ). line.1) (told_in 1 text) ≡ map (line_of stack) events
+    told_are_its none =
         told_are 1 (lines text)
         ∙ ap (filter is_told) all_lines
         ∙ filter-append is_told (lines scenario) (map (line_of stack) events ++ lines report)
         ∙ ap (λ all. all ++ filter is_told (map (line_of stack) events ++ lines report)) (none_told (lines scenario) has.before)
         ∙ filter-append is_told (map (line_of stack) events) (lines report)
-        ∙ ap (λ all. filter is_told (map (line_of stack) events) ++ all) (none_told (lines report) has.behind)
+        ∙ ap (λ all. filter is_told (map (line_of stack) events) ++ all) (none_told (lines report) none)
         ∙ append-nil (filter is_told (map (line_of stack) events))
         ∙ all_told events
 
@@ -138,13 +140,14 @@ ends_so s state Open is ended = absurd (is.0 ended)
 ends_so s state Stuck is ended = let none = ended.writes in let some = is.0 in absurd (omega (arith, none, some))
 
 module _ (apart : EventsAreApart) (text_lines : LinesAreText) (s : Scenario) (ledger : ℕ → LedgerId) (events : List Event) (state : State) (text scenario report : List ℕ)
-    (good : IsScenario s) (naming : IsNaming ledger) (named : IsNamed s.stack) (run : IsRun (scene s ledger) (start s) events state) (has : HasTrace s.stack events text scenario report) where
+    (good : IsScenario s) (naming : IsNaming ledger) (named : IsNamed s.stack) (run : IsRun (scene s ledger) (start s) events state) (has : HasTrace s.stack events text scenario report)
+    (none : NonePass is_told (lines report)) where
   abbrev as_run : IsReadAsRun s events state
   as_run = runs_are_read_by_names s ledger events state good naming run
 
   lines_tell : AreLinesOf s.stack no_names (told_in 1 text) as_run.events as_run.names
   lines_tell =
-      read_lines s.stack named text_lines no_names as_run.names events as_run.events (told_in 1 text) has.named has.fits (told_are_its s.stack named text_lines events text scenario report has)
+      read_lines s.stack named text_lines no_names as_run.names events as_run.events (told_in 1 text) has.named has.fits (told_are_its s.stack named text_lines events text scenario report has none)
       as_run.read
 
   tell_run : TellRun s (told_in 1 text)
@@ -163,7 +166,7 @@ module _ (apart : EventsAreApart) (text_lines : LinesAreText) (s : Scenario) (le
       let same : is.events ≡ as_run.events = same_events s.stack no_names as_run.names is.names (told_in 1 text) as_run.events is.events apart named lines_tell said in
       let left : is.state ≡ as_run.other =
       runs_lead_to_one_state.one s ledger_of as_run.events is.state as_run.other (subst (λ (es : List Event). IsRun (scene s ledger_of) (start s) es is.state) same is.run) as_run.run in
-      let told = ap length (told_are_its s.stack named text_lines events text scenario report has) in
+      let told = ap length (told_are_its s.stack named text_lines events text scenario report has none) in
       let long = length-map (told_in 1 text) (λ (line : ℕ × List ℕ). line.1) in
       let many = length-map events (line_of s.stack) in
       record {
@@ -177,8 +180,16 @@ module _ (apart : EventsAreApart) (text_lines : LinesAreText) (s : Scenario) (le
 
 pub traces_replay : EventsAreApart → LinesAreText → TracesReplay
 traces_replay apart text_lines = record {
-  text = λ s events state text scenario t.
-      replayable apart text_lines s t.ledger events state text scenario t.report t.good t.naming t.stack t.run t.trace;
-  whole = λ s events state text scenario replayed t is.
-      replayed_whole apart text_lines s t.ledger events state text scenario t.report t.good t.naming t.stack t.run t.trace replayed is;
+  text = λ s events state text scenario behind t none.
+      replayable apart text_lines s t.ledger events state text scenario behind t.good t.naming t.stack t.run t.trace none;
+  whole = λ s events state text scenario behind replayed t none is.
+      replayed_whole apart text_lines s t.ledger events state text scenario behind t.good t.naming t.stack t.run t.trace none replayed is;
+}
+
+pub reported_runs_replay : TracesReplay → ReportsTellNoEvent → ReportedRunsReplay
+reported_runs_replay replay none = record {
+  text = λ s events state text scenario told t.
+      replay.text s events state text scenario (report s.stack told) t (none s.stack told t.stack);
+  whole = λ s events state text scenario told replayed t is.
+      replay.whole s events state text scenario (report s.stack told) replayed t (none s.stack told t.stack) is;
 }

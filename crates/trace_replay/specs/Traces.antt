@@ -16,6 +16,7 @@ use Rattle.block_core.specs.Scenarios.{IsScenario, IsNaming}
 use Rattle.trace_text.specs.Lines.{line_of}
 use Rattle.trace_text.specs.Names.{IsNamed}
 use Rattle.plain_core.specs.Ledgers.{ledger_of}
+use Rattle.report_text.specs.Report.{Told, report}
 use Rattle.trace_replay.specs.Exact.{IsReplayOf, TellRun}
 use Rattle.trace_replay.specs.Lines.{is_told, told_in}
 use Rattle.trace_replay.specs.Names.{Names, after, event_placed, no_names}
@@ -64,12 +65,15 @@ trace_of stack events = flat_map (λ event. line_of stack event ++ 10 ∷ []) ev
 abbrev pub IsOfWholeLines : List ℕ → Type 0
 IsOfWholeLines text = (text ≡ []) ⊎ ((body : List ℕ) × (text ≡ body ++ 10 ∷ []))
 
--- A scenario, the trace of a run of it and a report: only the trace has lines whose first word is `event`.
-pub record HasTrace (stack : Stack) (events : List Event) (text scenario report : List ℕ) : Type 0 where
-  pub is : text ≡ scenario ++ (trace_of stack events ++ report)
+-- no line of a text begins with the word `event`
+abbrev pub TellsNoEvent : List ℕ → Type 0
+TellsNoEvent text = NonePass is_told (lines text)
+
+-- A scenario, the trace of a run of it and what stands behind the trace.
+pub record HasTrace (stack : Stack) (events : List Event) (text scenario behind : List ℕ) : Type 0 where
+  pub is : text ≡ scenario ++ (trace_of stack events ++ behind)
   pub whole : IsOfWholeLines scenario
-  pub before : NonePass is_told (lines scenario)
-  pub behind : NonePass is_told (lines report)
+  pub before : TellsNoEvent scenario
   -- each event names what the stack has, by numbers that fit its fields
   pub named : All (IsEventOf stack) events
   pub fits : All Fits events
@@ -86,18 +90,28 @@ pub record IsReplayedWhole (events : List Event) (state : State) (replayed : Rep
   pub ended : HasEnded state → replayed.finish ≡ Ended
 
 -- This text has the trace of a run of a scenario, of whose devices no two have one name.
-pub record TracesRun (s : Scenario) (events : List Event) (state : State) (text scenario : List ℕ) : Type 0 where
+pub record TracesRun (s : Scenario) (events : List Event) (state : State) (text scenario behind : List ℕ) : Type 0 where
   pub good : IsScenario s
   pub stack : IsNamed s.stack
   pub ledger : ℕ → LedgerId
   pub naming : IsNaming ledger
   pub run : IsRun (scene s ledger) (start s) events state
-  pub report : List ℕ
-  pub trace : HasTrace s.stack events text scenario report
+  pub trace : HasTrace s.stack events text scenario behind
 
--- So it is with the trace of every run of every scenario.
+-- So it is with the trace of every run of every scenario, where what stands behind it tells no event.
 pub record TracesReplay : Type 0 where
-  pub text : (s : Scenario) (events : List Event) (state : State) (text scenario : List ℕ) → TracesRun s events state text scenario
-      → IsReplayable s events text scenario
-  pub whole : (s : Scenario) (events : List Event) (state : State) (text scenario : List ℕ) (replayed : Replayed) → TracesRun s events state text scenario
-      → IsReplayOf s (told_in 1 text) replayed → IsReplayedWhole events state replayed
+  pub text : (s : Scenario) (events : List Event) (state : State) (text scenario behind : List ℕ) → TracesRun s events state text scenario behind
+      → TellsNoEvent behind → IsReplayable s events text scenario
+  pub whole : (s : Scenario) (events : List Event) (state : State) (text scenario behind : List ℕ) (replayed : Replayed)
+      → TracesRun s events state text scenario behind → TellsNoEvent behind → IsReplayOf s (told_in 1 text) replayed → IsReplayedWhole events state replayed
+
+-- A report of a stack whose devices have names tells no event, whatever it says of a run.
+abbrev pub ReportsTellNoEvent : Type 0
+ReportsTellNoEvent = (stack : Stack) (told : Told) → IsNamed stack → TellsNoEvent (report stack told)
+
+-- So a scenario, the trace of any run of it and any report of its stack are replayed to the end.
+pub record ReportedRunsReplay : Type 0 where
+  pub text : (s : Scenario) (events : List Event) (state : State) (text scenario : List ℕ) (told : Told)
+      → TracesRun s events state text scenario (report s.stack told) → IsReplayable s events text scenario
+  pub whole : (s : Scenario) (events : List Event) (state : State) (text scenario : List ℕ) (told : Told) (replayed : Replayed)
+      → TracesRun s events state text scenario (report s.stack told) → IsReplayOf s (told_in 1 text) replayed → IsReplayedWhole events state replayed

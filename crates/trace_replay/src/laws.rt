@@ -1,6 +1,6 @@
 //! What holds of every replay, as functions that do nothing.
 ghost use Rattle.trace_replay.specs.Exact.{NoneIsStuck, RunsHaveNoBadLine};
-ghost use Rattle.trace_replay.specs.Traces.{NextPlacesAreVacant, RunsAreReadByNames, TracesReplay};
+ghost use Rattle.trace_replay.specs.Traces.{NextPlacesAreVacant, ReportedRunsReplay, ReportsTellNoEvent, RunsAreReadByNames, TracesReplay};
 
 use trace_text::laws::{events_are_apart, lines_are_text};
 
@@ -27,11 +27,25 @@ pub fn next_places_are_vacant()
     ensures { NextPlacesAreVacant }
 {}
 
-/// So the trace of every run of every scenario, between the scenario and a report, is replayed to its end: no line is bad,
-/// all events are counted, and the replay has ended where the run has. The scenario ends where the trace begins.
+/// So the trace of every run of every scenario, between the scenario and lines that tell no event, is replayed to its end:
+/// no line is bad, all events are counted, and the replay has ended where the run has. The scenario ends where the trace
+/// begins.
 pub fn traces_replay()
     ensures { TracesReplay }
 {
     events_are_apart();
     lines_are_text();
+}
+
+/// No line of a report of a stack whose devices have names begins with the word `event`.
+pub fn reports_tell_no_event()
+    ensures { ReportsTellNoEvent }
+{}
+
+/// So what `run --trace` writes, behind the text of its scenario, is replayed to its end: nothing is asked of the report.
+pub fn reported_runs_replay()
+    ensures { ReportedRunsReplay }
+{
+    traces_replay();
+    reports_tell_no_event();
 }
