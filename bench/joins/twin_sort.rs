@@ -1,4 +1,4 @@
-//! The other twin of main.rt.txt: the same lists one behind the other, sorted by std's stable sort, as the join of main.rt.txt does.
+//! The other twin of main.rt.txt: the same lists one behind the other, sorted by std's stable sort.
 use std::time::Instant;
 
 include!("common.rs");
