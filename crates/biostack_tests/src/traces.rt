@@ -43,7 +43,10 @@ fn follow(core: &mut Core, stack: &Stack, text: &[u8]) -> u64
 {
     let mut lines = Lines::from(text, 0);
     let mut events: u64 = 0;
-    while let Some(line) = lines.next() {
+    for _ in 0..u64::MAX {
+        let Some(line) = lines.next() else {
+            return events;
+        };
         if !comes(core, stack, line) {
             return events;
         }
