@@ -1,6 +1,7 @@
 pub mod RunCharges
 pub mod DeviceCharges
 pub mod TaskCharges
+pub mod EntriesLeft
 pub mod EventCharges
 pub mod ChargesAtStart
 pub mod Bounded

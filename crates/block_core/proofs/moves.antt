@@ -1,8 +1,13 @@
 pub mod Moves
+pub mod PaidKinds
 pub mod Sums
 pub mod Listed
 pub mod Deltas
 pub mod BookMaps
+pub mod StepsTold
+pub mod LineSteps
+pub mod WriterSteps
+pub mod CompleterSteps
 pub mod StepMoves
 pub mod Geometry
 pub mod Devices

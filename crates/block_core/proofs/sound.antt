@@ -25,6 +25,7 @@ pub mod Few
 pub mod Splitting
 pub mod Lasting
 pub mod Misplaced
+pub mod StoodFor
 pub mod Roles
 pub mod EachBio
 pub mod LegLists

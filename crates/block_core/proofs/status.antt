@@ -1,6 +1,11 @@
 pub mod Marks
 pub mod RunEndings
 pub mod NodeValues
+pub mod AtOneNode
+pub mod MarksBehind
+pub mod Tellers
+pub mod EndsAllowed
+pub mod EndsDecided
 pub mod ValuesKept
 pub mod NodeBios
 pub mod Found

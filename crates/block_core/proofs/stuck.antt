@@ -1,5 +1,8 @@
 pub mod NothingWaits
 pub mod WaitersBelow
+pub mod FreeEvents
+pub mod LinesFree
+pub mod CompletersFree
 pub mod Frees
 pub mod Stuck
 pub mod Waits

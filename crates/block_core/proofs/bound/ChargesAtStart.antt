@@ -9,7 +9,7 @@ use Rattle.stack_base.specs.declared.ids.PoolId.{PoolId}
 use Rattle.stack_base.specs.PoolId.{pool_number}
 use Rattle.elem_ledger.specs.Ledger.{LedgerId}
 use Rattle.layout_model.specs.Need.{vectors}
-use Rattle.block_core.specs.Payers.{Paid, WriteVector, ScriptEntry, LaterRound, ReserveChange, cost, unit_price}
+use Rattle.block_core.specs.Payers.{Paid, ScriptEntry, LaterRound, ReserveChange, cost, unit_price}
 use Rattle.block_core.specs.Paying.{write_cost, all_costs}
 use Rattle.layout_model.proofs.RangeSums.{sum_next}
 use Rattle.model_disks.specs.Disks.{DiskState}
@@ -17,7 +17,7 @@ use Rattle.run_machine.specs.Scene.{tree_at}
 use Rattle.run_machine.specs.Lines.{rests}
 use Rattle.run_machine.specs.Tasks.{TaskState, Writer, Rescuer, Completer, Duty, Resizes, Starts, Keeps, Keeper, Todo, NoBio, Empty, needs_vector}
 use Rattle.block_core.specs.Weights.{Pending, Rescued, total, sum_at, task_weight, book_weight}
-use Rattle.block_core.specs.Charges.{run_charge, vector_charge, write_charge, todo_charge, charge, duty_charge, task_charge, task_spent, entries_left, charged, spent}
+use Rattle.block_core.specs.Charges.{vector_charge, write_charge, todo_charge, charge, duty_charge, task_charge, task_spent, entries_left, charged, spent}
 use Rattle.block_core.proofs.moves.Sums.{same_or_not}
 use Rattle.std.specs.Prelude.{zip, find}
 use Rattle.std.specs.List.{list_any, flat_map}
@@ -27,7 +27,6 @@ use Rattle.std.proofs.Math.Nat.{mul-le-mul_left}
 use Rattle.fail_script.specs.Script.{Answers, entries_of, only_tail}
 use Rattle.layout_model.specs.declared.write.Write.{Write}
 use Rattle.layout_model.specs.Needs.{elements, parts}
-use Rattle.layout_model.specs.Bound.{all_elements, all_parts}
 use Rattle.layout_model.proofs.RangeSums.{sum_of_one, sum_of_zero, sum_of_two}
 use Rattle.run_machine.specs.Scene.{is_disk}
 use Rattle.run_machine.specs.Opened.{Scenario, Change, scene, start, tasks as opened_tasks, todos, todos_of, is_by, writers, duties, duties_of, keepers, no_task, round_count, writes_from, script_at, is_numbered, setup as setup_in, at as device_at}

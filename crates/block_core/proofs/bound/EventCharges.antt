@@ -1,9 +1,8 @@
 -- What each event does to what is charged and spent.
-use Rattle.std.proofs.Common.{◌≡◌, ◌+◌, ◌*◌, ◌<◌, ◌≤◌, ◌⊎◌, if◌then◌else◌, ℕ, zero, suc, Bool, true, false, List, [], ◌∷◌, length, filter, Option, None, Some, inl, inr, refl, sym, ◌∙◌, ap, subst, arith}
-use Rattle.std.proofs.lemmas.Bool.Decides.{nat_tests}
+use Rattle.std.proofs.Common.{◌≡◌, ◌+◌, ◌*◌, ◌<◌, ◌≤◌, if◌then◌else◌, ℕ, zero, suc, Bool, true, false, List, [], ◌∷◌, filter, Option, None, Some, inl, inr, refl, ap, subst, arith}
 use Rattle.std.proofs.lemmas.List.Sums.{sum_by-cons, sum_by-append, sum_by_push}
 use Rattle.stack_base.specs.PoolId.{pool_number}
-use Rattle.mempool_core.specs.Move.{PoolState, Move as PoolMove, after_move, takes_ordinary, takes_spare, misses, gives, resizes}
+use Rattle.mempool_core.specs.Move.{Move as PoolMove, after_move, misses, gives, resizes}
 use Rattle.bio_records.specs.declared.bio.Pad.{Pad}
 use Rattle.bio_records.specs.declared.tasks.TaskLists.{TaskLists}
 use Rattle.bio_records.specs.Items.{Item}
@@ -17,15 +16,14 @@ use Rattle.run_machine.specs.Tasks.{TaskState, Writer, Rescuer, Completer, Keepe
 use Rattle.run_machine.specs.Objects.{clear_bio, clear_vector, clear_slip}
 use Rattle.run_machine.specs.Runs.{State}
 use Rattle.block_core.specs.Weights.{Weight, Rescued, Lined, sum_at, doing_weight, task_weight, line_weight}
-use Rattle.block_core.specs.Charges.{bio_charge, write_run, vector_charge, end_charge, close_charge, charge, want_spent, doing_spent, task_spent, duty_charge, task_charge, entries_left, charged, spent}
+use Rattle.block_core.specs.Charges.{bio_charge, write_run, vector_charge, end_charge, close_charge, charge, want_spent, doing_spent, task_spent, duty_charge, task_charge, charged, spent}
 use Rattle.block_core.specs.Payers.{Paid, WriteVector, ScriptEntry, PieceBio, cost}
 use Rattle.block_core.specs.Payers as paid
-use Rattle.block_core.proofs.moves.Moves.{Move, kind_of, Can, after, limit_of, HasLine, with_want, filled_of, cut_lists, piece}
+use Rattle.block_core.proofs.moves.Moves.{Move, Can, after, limit_of, HasLine, with_want, filled_of, cut_lists, piece}
+use Rattle.block_core.proofs.moves.PaidKinds.{kind_of}
 use Rattle.block_core.proofs.moves.Moves as moves
-use Rattle.block_core.proofs.moves.Sums.{sum_at-upd, sum_at-other}
 use Rattle.block_core.proofs.sound.Facts.{TaskFits, DoingFits, Kept}
 use Rattle.block_core.proofs.sound.Orders.{Each, IsOwn, DoingPlaced, TodoThere, TaskPlaced, Placed, Ground}
-use Rattle.mempool_core.specs.Position.{uses_entry, next_pos}
 use Rattle.block_core.proofs.bound.TaskCharges.{charge_lands, copies_charge, pops_once, pops_not, punts_charge, later_charge, takes_spent, want_spends, new_spends, wants_below, on_tasks, on_line, tells_charge, later_give, hands_back}
 use Rattle.block_core.proofs.bound.DeviceCharges.{Priced, leaf_charge, mirror_charge, cut_needs, legs_next, leg_some}
 use Rattle.block_core.proofs.moves.Deltas.{delta}
@@ -35,41 +33,8 @@ use Rattle.block_core.proofs.sound.OrdersKept.{line_placed}
 use Rattle.block_core.proofs.moves.Landings.{IsLanding, settled_there, goes_there, all_there, none_there, cut_there, leg_there}
 use Rattle.block_core.proofs.sound.Places.{cut_weight}
 use Rattle.std.proofs.Math.Nat.{mul-le-mul_left, mul-add}
-
--- the entries that are left of a pool's script
-next_up : (pool : PoolState) → pool.facts.pos ≤ next_pos pool.script pool.facts.pos
-next_up pool = elim (uses_entry pool.script pool.facts.pos) as (λ v. pool.facts.pos ≤ (if v then pool.facts.pos + 1 else pool.facts.pos)) [ true ↦ omega arith | false ↦ omega arith ]
-
-pool_left : (pool : PoolState) (move : PoolMove) → entries_left (after_move pool move) ≤ entries_left pool
-pool_left pool takes_ordinary = omega (arith, next_up pool)
-pool_left pool takes_spare = omega (arith, next_up pool)
-pool_left pool (misses used) = omega (arith, next_up pool)
-pool_left pool gives = omega arith
-pool_left pool (resizes min) = omega arith
-
-pool_used : (pool : PoolState) (used : Bool) → used ≡ uses_entry pool.script pool.facts.pos → used ≡ true → entries_left (after_move pool (misses used)) + 1 ≤ entries_left pool
-pool_used pool used same told =
-    let is : uses_entry pool.script pool.facts.pos ≡ true = sym same ∙ told in
-    let lt : pool.facts.pos < length pool.script.entries = grind (arith, nat_tests, is) in
-    let next : next_pos pool.script pool.facts.pos ≡ pool.facts.pos + 1 = ap (λ (v : Bool). if v then pool.facts.pos + 1 else pool.facts.pos) is in
-    omega (arith, lt, next)
-
-abbrev all_entries : (ℕ → PoolState) → ℕ
-all_entries pools = sum_at (λ number pool. entries_left pool) 66 pools
-
-pub below_or : (a b : ℕ) → (a < b) ⊎ (b ≤ a)
-below_or a b = grind arith
-
-pools_left : (pools : ℕ → PoolState) (number : ℕ) (move : PoolMove) → all_entries (upd pools number (after_move (pools number) move)) ≤ all_entries pools
-pools_left pools number move = elim (below_or number 66) [
-  | inl lt ↦ omega (arith, sum_at-upd (λ number pool. entries_left pool) 66 pools number (after_move (pools number) move) lt, pool_left (pools number) move)
-  | inr ge ↦ omega (arith, sum_at-other (λ number pool. entries_left pool) 66 pools number (after_move (pools number) move) ge)
-]
-
-pools_used : (pools : ℕ → PoolState) (number : ℕ) (used : Bool) → number < 66 → used ≡ uses_entry (pools number).script (pools number).facts.pos → used ≡ true
-    → all_entries (upd pools number (after_move (pools number) (misses used))) + 1 ≤ all_entries pools
-pools_used pools number used lt same told =
-    omega (arith, sum_at-upd (λ number pool. entries_left pool) 66 pools number (after_move (pools number) (misses used)) lt, pool_used (pools number) used same told)
+use Rattle.block_core.proofs.bound.EntriesLeft.{all_entries, pools_left, pools_used}
+pub use Rattle.block_core.proofs.bound.EntriesLeft.{below_or}
 
 -- as much more costs as much more
 costs_less : (each old new : ℕ) → new ≤ old → each * new ≤ each * old
@@ -114,6 +79,7 @@ module _ (price : Paid → ℕ) (scene : Scene) (s : State) (g : Ground scene.se
       omega (arith, b, sum_by-cons (bio_charge price scene.setup (Lined 32)) filled_item [], pops_not price 32 item.share.no (omega (arith, home)))
 
   pub lowers : (m : Move) → Can scene s m → Lowers m
+  -- takes
   lowers (moves.TakesFirst place writer todo later move) c =
       let x = Writer writer (todo ∷ later) NoBio rests in
       let y = Writer writer (todo ∷ later) (HasBio (clear_bio (scene.ledger 65))) rests in
@@ -153,6 +119,7 @@ module _ (price : Paid → ℕ) (scene : Scene) (s : State) (g : Ground scene.se
       let new : Line = record { doing = Drives bio (ToMaster (clear_slip (scene.ledger (2 * bio.bio.dev.0 + 1)))); lists = lists } in
       let t = on_line scene s place x (Drives bio ToRecord) lists new c.0 c.1 c.2 in
       omega (arith, delta scene w s (moves.TakesSlip place x bio lists move) c, (t.0 price).0, (t.0 price).1, fewer (2 * bio.bio.dev.0 + 1) move)
+  -- misses
   lowers (moves.MissesOne place x number used) c =
       omega (
         arith,
@@ -173,6 +140,7 @@ module _ (price : Paid → ℕ) (scene : Scene) (s : State) (g : Ground scene.se
         new_spends price doing dev (Takes false) WantsPunt c.3,
         fewer (2 * dev.0) (misses used),
       )
+  -- punts
   lowers (moves.Punts place x doing lists dev) c =
       let new : Line = record { doing = with_want doing (Takes true); lists = not_punted dev lists } in
       let t = on_line scene s place x doing lists new c.0 c.1 c.2 in
@@ -191,6 +159,7 @@ module _ (price : Paid → ℕ) (scene : Scene) (s : State) (g : Ground scene.se
         punts_charge price scene.setup (limit_of x) dev lists.list0 low at.0,
         punts_charge price scene.setup (limit_of x) dev lists.list1 low at.1,
       )
+  -- pops
   lowers (moves.Pops place dev bio bios) c =
       let r : Each (IsOwn scene.setup dev.0 dev.0) (bio ∷ bios) = subst (Each (IsOwn scene.setup dev.0 dev.0)) c.3 (a.rescued dev.0) in
       let x = Rescuer dev rests in
@@ -205,6 +174,7 @@ module _ (price : Paid → ℕ) (scene : Scene) (s : State) (g : Ground scene.se
         sum_by-cons (bio_charge price scene.setup (Lined dev.0)) bio [],
         pops_not price dev.0 bio.share.no (omega (arith, own)),
       )
+  -- pushes
   lowers (moves.Pushes place x bio lists) c =
       let d = has place x (Drives bio ToPush) lists c.1 c.2 in
       let t = on_line scene s place x (Drives bio ToPush) lists (goes_on scene.setup bio.bio.dev lists) c.0 c.1 c.2 in
@@ -218,10 +188,12 @@ module _ (price : Paid → ℕ) (scene : Scene) (s : State) (g : Ground scene.se
         b,
         leaf_charge price (tree_at scene.setup bio.bio.dev) bio.bio.range bio.bio.dev.0 d.3 is.some,
       )
+  -- completions
   lowers (moves.Completed place disk index bio status new) c =
       let x = Completer disk Empty in
       let y = Completer disk (Brings bio status) in
       omega (arith, delta scene w s (moves.Completed place disk index bio status new) c, on_tasks (task_spent price) scene s place x y c.0 c.1, on_tasks (task_charge price) scene s place x y c.0 c.1)
+  -- links of writes
   lowers (moves.Begins place writer todo later item None key) c =
       let x = Writer writer (todo ∷ later) (HasBio item) rests in
       let y = Writer writer later NoBio (settled scene.setup (filled_of writer todo item None key ∷ [])) in
@@ -246,6 +218,7 @@ module _ (price : Paid → ℕ) (scene : Scene) (s : State) (g : Ground scene.se
         begins place writer todo later item (Some vector) key c t.0.0 t.2.0,
         later_charge price scene.setup later,
       )
+  -- links of pieces
   lowers (moves.Chained place x bio lists hand number kind sizes members key node) c =
       let n = first_length kind sizes bio.bio.range in
       let new : Line = goes_on scene.setup bio.bio.dev (cut_lists bio lists hand n key kind sizes members) in
@@ -263,6 +236,7 @@ module _ (price : Paid → ℕ) (scene : Scene) (s : State) (g : Ground scene.se
         p.cut bio hand key number kind sizes members d.1.0.0 c.3 cuts.0,
         pops_once price (limit_of x) child.share.no,
       )
+  -- links of masters
   lowers (moves.Mastered place x bio lists slip key node) c =
       let d = has place x (Drives bio (ToMaster slip)) lists c.1 c.2 in
       let t = on_line scene s place x (Drives bio (ToMaster slip)) lists (copies scene.setup lists bio.bio key 0) c.0 c.1 c.2 in
@@ -275,6 +249,7 @@ module _ (price : Paid → ℕ) (scene : Scene) (s : State) (g : Ground scene.se
         copies_charge price scene.setup p (limit_of x) lists bio.bio key 0 (none_there scene.setup (limit_of x) lists d.0) (all_there scene.setup (limit_of x) lists.list1 d.1.1),
         mirror_charge price (tree_at scene.setup bio.bio.dev) bio.bio.range bio.bio.dev.0 slip d.3 is.some,
       )
+  -- links of legs
   lowers (moves.Legged place x bio lists master leg hand key node) c =
       let d = has place x (Copies bio master leg (Links hand)) lists c.1 c.2 in
       let lt = line_fits scene x (Copies bio master leg (Links hand)) lists (subst (TaskFits scene) c.1 (i.tasks place)) c.2 in
@@ -293,6 +268,7 @@ module _ (price : Paid → ℕ) (scene : Scene) (s : State) (g : Ground scene.se
         legs_next price (tree_at scene.setup bio.dev) bio.range leg lt,
         pops_once price (limit_of x) item.share.no,
       )
+  -- drops that leave a node open
   lowers (moves.Told place disk carried writer key status part node) c =
       let x = Completer disk carried in
       let y = Completer disk Empty in
@@ -304,6 +280,7 @@ module _ (price : Paid → ℕ) (scene : Scene) (s : State) (g : Ground scene.se
         tells_charge price scene.setup place carried writer key status part c.2,
         later_give price node.held.bio part,
       )
+  -- drops that close a node
   lowers (moves.Closes place disk carried writer key status part node) c =
       let x = Completer disk carried in
       let y = Completer disk (Carries writer (closed_of (told node status part))) in
@@ -315,6 +292,7 @@ module _ (price : Paid → ℕ) (scene : Scene) (s : State) (g : Ground scene.se
         tells_charge price scene.setup place carried writer key status part c.2,
         later_give price node.held.bio part,
       )
+  -- gives
   lowers (moves.Gives place disk writer number closed held) c =
       let x = Completer disk (Carries writer closed) in
       let y = Completer disk (Carries writer (record closed { held = held })) in
@@ -326,6 +304,7 @@ module _ (price : Paid → ℕ) (scene : Scene) (s : State) (g : Ground scene.se
         hands_back price number closed.held held c.2,
         fewer number gives,
       )
+  -- ends of writes
   lowers (moves.Ends place disk writer closed) c =
       let x = Completer disk (Carries writer closed) in
       let y = Completer disk Empty in
@@ -337,6 +316,7 @@ module _ (price : Paid → ℕ) (scene : Scene) (s : State) (g : Ground scene.se
         on_tasks (task_spent price) scene s place x y c.0 c.1,
         on_tasks (task_charge price) scene s place x y c.0 c.1,
       )
+  -- resizes
   lowers (moves.Resized place pool min later duties) c =
       let x = Keeper (Keeps (Resizes pool min later ∷ duties)) in
       let y = Keeper (Keeps duties) in
@@ -348,6 +328,7 @@ module _ (price : Paid → ℕ) (scene : Scene) (s : State) (g : Ground scene.se
         sum_by-cons (duty_charge price) (Resizes pool min later) duties,
         fewer (pool_number pool) (resizes min),
       )
+  -- rounds
   lowers (moves.Started place round later duties) c =
       let x = Keeper (Keeps (Starts round later ∷ duties)) in
       let y = Keeper (Keeps duties) in

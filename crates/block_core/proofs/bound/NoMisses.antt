@@ -30,7 +30,7 @@ use Rattle.block_core.proofs.moves.Moves as moves
 use Rattle.block_core.proofs.bound.Dues.{IsHad}
 use Rattle.block_core.proofs.sound.TaskLines.{all-upd, wants_busy}
 use Rattle.block_core.proofs.sound.Places.{out_more, out_same}
-use Rattle.block_core.proofs.moves.StepMoves.{asks_line}
+use Rattle.block_core.proofs.moves.LineSteps.{asks_line}
 use Rattle.block_core.proofs.moves.Sums.{one-same}
 
 -- no task wants to punt

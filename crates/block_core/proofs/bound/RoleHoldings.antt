@@ -62,6 +62,7 @@ told_odd writer key status part (Fails breach kept) node t none = absurd t
 
 module _ (scene : Scene) (s : State) (i : Kept scene s) (none : total scene odd s ≡ 0) where
   pub none_odd : (m : Move) → Can scene s m → total scene odd (after scene s m) ≡ 0
+  -- takes, misses, punts, pops, pushes, completions and links of writes
   none_odd (moves.TakesFirst place writer todo later move) c = omega (arith, none, delta scene odd s (moves.TakesFirst place writer todo later move) c)
   none_odd (moves.TakesVector place writer todo later item move) c = omega (arith, none, delta scene odd s (moves.TakesVector place writer todo later item move) c)
   none_odd (moves.TakesSub place x doing lists dev waits move) c = omega (arith, none, delta scene odd s (moves.TakesSub place x doing lists dev waits move) c)
@@ -76,6 +77,7 @@ module _ (scene : Scene) (s : State) (i : Kept scene s) (none : total scene odd 
   none_odd (moves.Begins place writer todo later item vector key) c =
       let first = filled_of writer todo item vector key ∷ [] in
       omega (arith, none, delta scene odd s (moves.Begins place writer todo later item vector key) c, first_weight odd blind 32 scene.setup first, zeros first)
+  -- links of pieces
   none_odd (moves.Chained place x bio lists hand number kind sizes members key node) c =
       let cut = cut_lists bio lists hand (first_length kind sizes bio.bio.range) key kind sizes members in
       omega (
@@ -86,6 +88,7 @@ module _ (scene : Scene) (s : State) (i : Kept scene s) (none : total scene odd 
         zeros cut.list0,
         zeros cut.list1,
       )
+  -- links of masters
   none_odd (moves.Mastered place x bio lists slip key node) c =
       let legs = legs_of (tree_at scene.setup bio.bio.dev) in
       let part = places.line_part scene (named bio.bio.writer bio.bio.node) s place x (Drives bio (ToMaster slip)) lists c.0 c.1 c.2 in
@@ -100,6 +103,7 @@ module _ (scene : Scene) (s : State) (i : Kept scene s) (none : total scene odd 
         zeros lists.list1,
         same_bio node.role node.held.bio (Some bio) node.held.slip a.1,
       )
+  -- links of legs
   none_odd (moves.Legged place x bio lists master leg hand key node) c =
       let legs = legs_of (tree_at scene.setup bio.dev) in
       let item = leg_at bio hand leg key (tree_at scene.setup bio.dev) in
@@ -112,6 +116,7 @@ module _ (scene : Scene) (s : State) (i : Kept scene s) (none : total scene odd 
         zeros (submitted item lists).list0,
         zeros lists.list1,
       )
+  -- drops that leave a node open
   none_odd (moves.Told place disk carried writer key status part node) c =
       omega (
         arith,
@@ -119,6 +124,7 @@ module _ (scene : Scene) (s : State) (i : Kept scene s) (none : total scene odd 
         delta scene odd s (moves.Told place disk carried writer key status part node) c,
         told_odd writer key status part carried node c.2 (is_away scene s place disk carried writer key status part node i c.0 c.1 c.2 c.4),
       )
+  -- drops that close a node, gives, ends of writes, resizes and rounds
   none_odd (moves.Closes place disk carried writer key status part node) c = omega (arith, none, delta scene odd s (moves.Closes place disk carried writer key status part node) c)
   none_odd (moves.Gives place disk writer number closed held) c = omega (arith, none, delta scene odd s (moves.Gives place disk writer number closed held) c)
   none_odd (moves.Ends place disk writer closed) c = omega (arith, none, delta scene odd s (moves.Ends place disk writer closed) c)

@@ -3,13 +3,12 @@ use Rattle.std.proofs.Common.{◌≡◌, ◌+◌, ◌-◌, ◌*◌, ◌<◌, ◌
 use Rattle.std.specs.Prelude.{sum_by}
 use Rattle.std.specs.List.{range_with_len}
 use Rattle.std.proofs.lemmas.List.Sums.{sum_by-cons}
-use Rattle.std.proofs.lemmas.List.FromFn.{length-range_with_len}
 use Rattle.stack_base.specs.declared.stack.Kind.{Kind}
 use Rattle.stack_base.specs.Mapping.{slot, head}
 use Rattle.stack_base.specs.Cutting.{next, IsCut}
 use Rattle.stack_base.specs.Tree.{Tree, Leaf, Split, Mirrored}
 use Rattle.layout_model.specs.Need.{begun, needed, ended, fragments_of}
-use Rattle.layout_model.proofs.RangeSums.{sum_of_first, sum_of_one, sum_next}
+use Rattle.layout_model.proofs.RangeSums.{sum_of_first, sum_next}
 use Rattle.layout_model.proofs.Counted.{total_piece, total_more, total_legs}
 use Rattle.block_core.specs.Charges.{begun_charge, run_charge}
 use Rattle.block_core.specs.Payers.{Record, PieceBio, Fragment, Paid, cost, unit_price}

@@ -56,6 +56,7 @@ module _ (scene : Scene) (s : State) (f : Fair scene) (g : Ground scene.setup) (
       ≡ total scene w s + total scene in_hand (after scene s m) + all_duties scene s.task
 
   pub takes_one : (m : Move) → Can scene s m → IsHad m → Lowers m
+  -- takes
   takes_one (moves.TakesFirst place writer todo later move) c h =
       let m : Move = moves.TakesFirst place writer todo later move in
       let x = Writer writer (todo ∷ later) NoBio rests in
@@ -75,10 +76,12 @@ module _ (scene : Scene) (s : State) (f : Fair scene) (g : Ground scene.setup) (
       let m : Move = moves.TakesSlip place x bio lists move in
       let new : Line = record { doing = Drives bio (ToMaster (clear_slip (scene.ledger (2 * bio.bio.dev.0 + 1)))); lists = lists } in
       omega (arith, delta scene w s m c, delta scene in_hand s m c, (on_line scene s place x (Drives bio ToRecord) lists new c.0 c.1 c.2).1)
+  -- misses, punts and pops
   takes_one (moves.MissesOne place x number used) c h = absurd h
   takes_one (moves.MissesTry place x doing lists dev used) c h = absurd h
   takes_one (moves.Punts place x doing lists dev) c h = absurd h
   takes_one (moves.Pops place dev bio bios) c h = absurd h
+  -- pushes
   takes_one (moves.Pushes place x bio lists) c h =
       let m : Move = moves.Pushes place x bio lists in
       let d = has place x (Drives bio ToPush) lists c.1 c.2 in
@@ -99,9 +102,11 @@ module _ (scene : Scene) (s : State) (f : Fair scene) (g : Ground scene.setup) (
       at_disk (Leaf number sectors) fits = needed_disk number sectors bio.bio.range.start bio.bio.range.len
       at_disk (Split number kind sizes members) fits = absurd fits
       at_disk (Mirrored number sizes members) fits = absurd fits
+  -- completions
   takes_one (moves.Completed place disk index bio status new) c h =
       let m : Move = moves.Completed place disk index bio status new in
       omega (arith, delta scene w s m c, delta scene in_hand s m c, on_tasks task_duties scene s place (Completer disk Empty) (Completer disk (Brings bio status)) c.0 c.1)
+  -- links of writes
   takes_one (moves.Begins place writer todo later item None key) c h =
       let m : Move = moves.Begins place writer todo later item None key in
       let x = Writer writer (todo ∷ later) (HasBio item) rests in
@@ -137,6 +142,7 @@ module _ (scene : Scene) (s : State) (f : Fair scene) (g : Ground scene.setup) (
         sum_by-cons (bio_due scene.setup (Lined 32)) first [],
         later_due scene.setup later,
       )
+  -- links of pieces
   takes_one (moves.Chained place x bio lists hand number kind sizes members key node) c h =
       let m : Move = moves.Chained place x bio lists hand number kind sizes members key node in
       let n = first_length kind sizes bio.bio.range in
@@ -159,6 +165,7 @@ module _ (scene : Scene) (s : State) (f : Fair scene) (g : Ground scene.setup) (
         p.cut bio hand key number kind sizes members d.1.0.0 c.3 cuts.0,
         v.cut bio hand key number kind sizes members d.1.0.0 small c.3 cuts.0,
       )
+  -- links of masters
   takes_one (moves.Mastered place x bio lists slip key node) c h =
       let m : Move = moves.Mastered place x bio lists slip key node in
       let d = has place x (Drives bio (ToMaster slip)) lists c.1 c.2 in
@@ -182,6 +189,7 @@ module _ (scene : Scene) (s : State) (f : Fair scene) (g : Ground scene.setup) (
       by_tree (Mirrored number sizes members) is fits = p.master bio.bio (has place x (Drives bio (ToMaster slip)) lists c.1 c.2).1.0.0 number sizes members is
       by_tree (Leaf number sectors) is fits = absurd fits
       by_tree (Split number kind sizes members) is fits = absurd fits
+  -- links of legs
   takes_one (moves.Legged place x bio lists master leg hand key node) c h =
       let m : Move = moves.Legged place x bio lists master leg hand key node in
       let d = has place x (Copies bio master leg (Links hand)) lists c.1 c.2 in
@@ -205,6 +213,7 @@ module _ (scene : Scene) (s : State) (f : Fair scene) (g : Ground scene.setup) (
         v.leg bio hand leg key d.0 lt,
         legs_next (λ k. sum_by one_each (leg_fragments (tree_at scene.setup bio.dev) bio k)) legs leg lt,
       )
+  -- drops that leave a node open
   takes_one (moves.Told place disk carried writer key status part node) c h =
       let m : Move = moves.Told place disk carried writer key status part node in
       omega (
@@ -215,6 +224,7 @@ module _ (scene : Scene) (s : State) (f : Fair scene) (g : Ground scene.setup) (
         tells_due scene.setup place carried writer key status part c.2,
         carried_hand place carried,
       )
+  -- drops that close a node
   takes_one (moves.Closes place disk carried writer key status part node) c h =
       let m : Move = moves.Closes place disk carried writer key status part node in
       let odd_none : odd_holding node.role node.held.bio node.held.slip ≡ 0 = omega (arith, held, node_part scene s i odd writer key node c.4) in
@@ -228,6 +238,7 @@ module _ (scene : Scene) (s : State) (f : Fair scene) (g : Ground scene.setup) (
         closes_one carried writer key status part node c.2 (is_away scene s place disk carried writer key status part node i c.0 c.1 c.2 c.4)
             (closing_own scene s f i place disk carried writer key status part node c) odd_none,
       )
+  -- gives
   takes_one (moves.Gives place disk writer number closed held) c h =
       let m : Move = moves.Gives place disk writer number closed held in
       omega (
@@ -237,10 +248,12 @@ module _ (scene : Scene) (s : State) (f : Fair scene) (g : Ground scene.setup) (
         on_tasks task_duties scene s place (Completer disk (Carries writer closed)) (Completer disk (Carries writer (record closed { held = held }))) c.0 c.1,
         hands_charge number closed.held held c.2,
       )
+  -- ends of writes
   takes_one (moves.Ends place disk writer closed) c h =
       let m : Move = moves.Ends place disk writer closed in
       let none : there closed.held.bio + there closed.held.vector + there closed.held.slip ≡ 0 = rw (c.2) refl in
       omega (arith, delta scene w s m c, delta scene in_hand s m c, none, on_tasks task_duties scene s place (Completer disk (Carries writer closed)) (Completer disk Empty) c.0 c.1)
+  -- resizes and rounds
   takes_one (moves.Resized place pool min later duties) c h =
       let m : Move = moves.Resized place pool min later duties in
       omega (arith, delta scene w s m c, delta scene in_hand s m c, on_tasks task_duties scene s place (Keeper (Keeps (Resizes pool min later ∷ duties))) (Keeper (Keeps duties)) c.0 c.1)

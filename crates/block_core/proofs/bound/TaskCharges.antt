@@ -16,12 +16,11 @@ use Rattle.run_machine.specs.Lines.{Want, Takes, ToPush, ToCut, ToRecord, ToMast
 use Rattle.run_machine.specs.Tasks.{TaskState, Writer, Rescuer, Completer, Keeper, Todo, NoBio, Carried, Empty, Brings, Carries, Fails}
 use Rattle.run_machine.specs.Runs.{State}
 use Rattle.block_core.specs.Weights.{Rescued, Lined, sum_at, line_weight, carried_weight}
-use Rattle.block_core.specs.Charges.{may_pop, bio_charge, legs_charge, there, write_charge, todo_charge, end_charge, give_charge, held_charge, close_charge, charge, want_spent, doing_spent, task_spent, task_duties, task_charge, charged, spent}
+use Rattle.block_core.specs.Charges.{may_pop, bio_charge, legs_charge, there, write_charge, todo_charge, end_charge, give_charge, held_charge, close_charge, charge, want_spent, doing_spent, task_spent, task_duties, task_charge}
 use Rattle.block_core.specs.Paying.{is_brought, paid_end}
 use Rattle.block_core.specs.Payers.{Paid, MissesAtOnce, IsPunted, IsPopped}
 use Rattle.block_core.specs.Payers as paid
 use Rattle.block_core.proofs.moves.Moves.{with_line, HasLine, Wants, with_want, Tells, Hands}
-use Rattle.block_core.proofs.moves.Moves as moves
 use Rattle.block_core.proofs.moves.Sums.{sum_at-upd}
 use Rattle.block_core.proofs.sound.Orders.{Each, IsPlaced, DoingPlaced, each_map, each_filter, of_set}
 use Rattle.block_core.proofs.bound.DeviceCharges.{Priced}

@@ -1,6 +1,6 @@
 -- A state by hand to which no run comes: a write's top node waits for two ends, and two bios that name it wait in a disk. As many refer to it as it waits
 -- for, but its own part would be in two places.
-use Rattle.std.proofs.Common.{◌≡◌, ◌==◌, if◌then◌else◌, ℕ, Bool, true, [], ◌∷◌, None, Some, refl, arith}
+use Rattle.std.proofs.Common.{◌≡◌, ◌==◌, if◌then◌else◌, ℕ, Bool, true, [], ◌∷◌, Some, refl, arith}
 use Rattle.elem_ledger.specs.Ledger.{LedgerId}
 use Rattle.stack_base.specs.declared.ids.SetId.TheVariants.{Fs}
 use Rattle.stack_base.specs.declared.ids.Status.TheVariants.{Ok}

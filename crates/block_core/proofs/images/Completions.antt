@@ -23,7 +23,7 @@ use Rattle.block_core.specs.Fragments.{fragment_of, completed_by}
 use Rattle.block_core.proofs.moves.Moves.{Move, place_of, Can, after, HasLine, Tells}
 use Rattle.block_core.proofs.moves.Moves as moves
 use Rattle.block_core.proofs.moves.Sums.{upd-same}
-use Rattle.block_core.proofs.moves.StepMoves.{IsMove}
+use Rattle.block_core.proofs.moves.StepsTold.{IsMove}
 use Rattle.block_core.proofs.images.StillToCome.{ended, done}
 
 -- a request that asks no disk for what it is done with

@@ -79,18 +79,21 @@ module _ (scene : Scene) (s : State) (value : Fragment → ℕ) (g : Ground scen
   has place x doing lists is h = line_placed scene.setup x doing lists (subst (TaskPlaced scene.setup) is (a.tasks place)) h
 
   pub comes : (m : Move) → Can scene s m → total scene w (after scene s m) + done value m ≡ total scene w s
+  -- takes and misses
   comes (moves.TakesFirst place writer todo later move) c = omega (arith, delta scene w s (moves.TakesFirst place writer todo later move) c)
   comes (moves.TakesVector place writer todo later item move) c = omega (arith, delta scene w s (moves.TakesVector place writer todo later item move) c)
   comes (moves.TakesSub place x doing lists dev waits move) c = omega (arith, delta scene w s (moves.TakesSub place x doing lists dev waits move) c)
   comes (moves.TakesSlip place x bio lists move) c = omega (arith, delta scene w s (moves.TakesSlip place x bio lists move) c)
   comes (moves.MissesOne place x number used) c = omega (arith, delta scene w s (moves.MissesOne place x number used) c)
   comes (moves.MissesTry place x doing lists dev used) c = omega (arith, delta scene w s (moves.MissesTry place x doing lists dev used) c)
+  -- punts
   comes (moves.Punts place x doing lists dev) c =
       omega (
         arith,
         delta scene w s (moves.Punts place x doing lists dev) c,
         sum_same (bio_comes scene.setup value Rescued) (bio_comes scene.setup value (Lined (limit_of x))) (punted dev lists) (λ item. refl),
       )
+  -- pops
   comes (moves.Pops place dev bio bios) c =
       let r : Each (IsOwn scene.setup dev.0 dev.0) (bio ∷ bios) = subst (Each (IsOwn scene.setup dev.0 dev.0)) c.3 (a.rescued dev.0) in
       omega (
@@ -99,6 +102,7 @@ module _ (scene : Scene) (s : State) (value : Fragment → ℕ) (g : Ground scen
         settled_there scene.setup w (lands scene.setup value v) dev.0 (bio ∷ []) (r.0.0.0, tt),
         sum_by-cons (bio_comes scene.setup value (Lined dev.0)) bio [],
       )
+  -- pushes
   comes (moves.Pushes place x bio lists) c =
       let d = has place x (Drives bio ToPush) lists c.1 c.2 in
       omega (
@@ -107,8 +111,10 @@ module _ (scene : Scene) (s : State) (value : Fragment → ℕ) (g : Ground scen
         goes_there scene.setup w (lands scene.setup value v) (limit_of x) bio.bio.dev lists (none_there scene.setup (limit_of x) lists d.0) (all_there scene.setup (limit_of x) lists.list1 d.1.1),
         v.disk bio.bio d.1.0.0 d.3,
       )
+  -- completions
   comes (moves.Completed place disk index bio status new) c =
       omega (arith, delta scene w s (moves.Completed place disk index bio status new) c, sum_by-cons value (fragment_of bio.bio) [])
+  -- links of writes
   comes (moves.Begins place writer todo later item None key) c =
       let t : TaskPlaced scene.setup (Writer writer (todo ∷ later) (HasBio item) rests) = subst (TaskPlaced scene.setup) c.1 (a.tasks place) in
       let filled_item : Item Pad = filled_of writer todo item None key in
@@ -129,6 +135,7 @@ module _ (scene : Scene) (s : State) (value : Fragment → ℕ) (g : Ground scen
         sum_by-cons (bio_comes scene.setup value (Lined 32)) filled_item [],
         sum_by-cons (λ todo. sum_by value (todo_fragments scene.setup todo)) todo later,
       )
+  -- links of pieces
   comes (moves.Chained place x bio lists hand number kind sizes members key node) c =
       let n = first_length kind sizes bio.bio.range in
       let d = has place x (Drives bio (ToCut (Links hand))) lists c.1 c.2 in
@@ -142,6 +149,7 @@ module _ (scene : Scene) (s : State) (value : Fragment → ℕ) (g : Ground scen
         cut_weight (bio_comes scene.setup value (Lined (limit_of x))) bio lists hand n key kind sizes members,
         v.cut bio hand key number kind sizes members d.1.0.0 small c.3 cuts.0,
       )
+  -- links of masters
   comes (moves.Mastered place x bio lists slip key node) c =
       let d = has place x (Drives bio (ToMaster slip)) lists c.1 c.2 in
       omega (
@@ -150,6 +158,7 @@ module _ (scene : Scene) (s : State) (value : Fragment → ℕ) (g : Ground scen
         copies_come scene.setup value v (limit_of x) lists bio.bio key 0 (none_there scene.setup (limit_of x) lists d.0) (all_there scene.setup (limit_of x) lists.list1 d.1.1),
         mirror_worth (tree_at scene.setup bio.bio.dev) value bio.bio bio.bio.range bio.bio.dev.0 slip d.3,
       )
+  -- links of legs
   comes (moves.Legged place x bio lists master leg hand key node) c =
       let d = has place x (Copies bio master leg (Links hand)) lists c.1 c.2 in
       let lt = line_fits scene x (Copies bio master leg (Links hand)) lists (subst (TaskFits scene) c.1 (i.tasks place)) c.2 in
@@ -164,6 +173,7 @@ module _ (scene : Scene) (s : State) (value : Fragment → ℕ) (g : Ground scen
         v.leg bio hand leg key d.0 lt,
         legs_next (λ k. sum_by value (leg_fragments (tree_at scene.setup bio.dev) bio k)) (legs_of (tree_at scene.setup bio.dev)) leg lt,
       )
+  -- drops that leave a node open, drops that close a node, gives, ends of writes, resizes and rounds
   comes (moves.Told place disk carried writer key status part node) c = omega (arith, carried_none scene.setup value place carried, delta scene w s (moves.Told place disk carried writer key status part node) c)
   comes (moves.Closes place disk carried writer key status part node) c = omega (arith, carried_none scene.setup value place carried, delta scene w s (moves.Closes place disk carried writer key status part node) c)
   comes (moves.Gives place disk writer number closed held) c = omega (arith, delta scene w s (moves.Gives place disk writer number closed held) c)

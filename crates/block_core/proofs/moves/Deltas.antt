@@ -47,6 +47,7 @@ two_nodes w writer book key place node new m v e =
 
 -- what each event does to every sum over all places
 pub delta : (scene : Scene) (w : Weight) (s : State) (m : Move) → Can scene s m → total scene w (after scene s m) + lost scene w s m ≡ total scene w s + gained scene w s m
+-- takes
 delta scene w s (moves.TakesFirst place writer todo later move) c =
     omega (arith, task_delta scene w s place (Writer writer (todo ∷ later) NoBio rests) (Writer writer (todo ∷ later) (HasBio (clear_bio (scene.ledger 65))) rests) c.0 c.1)
 delta scene w s (moves.TakesVector place writer todo later item move) c =
@@ -58,10 +59,12 @@ delta scene w s (moves.TakesSub place x doing lists dev waits move) c =
 delta scene w s (moves.TakesSlip place x bio lists move) c =
     let new : Line = record { doing = Drives bio (ToMaster (clear_slip (scene.ledger (2 * bio.bio.dev.0 + 1)))); lists = lists } in
     omega (arith, task_delta scene w s place x (with_line x new) c.0 c.1, line_changes w place x (Drives bio ToRecord) lists new c.2)
+-- misses
 delta scene w s (moves.MissesOne place x number used) c = omega (arith, task_delta scene w s place x x c.0 c.1)
 delta scene w s (moves.MissesTry place x doing lists dev used) c =
     let new : Line = record { doing = with_want doing WantsPunt; lists = lists } in
     omega (arith, task_delta scene w s place x (with_line x new) c.0 c.1, line_changes w place x doing lists new c.2, want_changes w (limit_of x) doing dev (Takes false) WantsPunt c.3)
+-- punts
 delta scene w s (moves.Punts place x doing lists dev) c =
     let new : Line = record { doing = with_want doing (Takes true); lists = not_punted dev lists } in
     let old = s.objects.rescue dev.0 in
@@ -74,6 +77,7 @@ delta scene w s (moves.Punts place x doing lists dev) c =
       sum_by-append (w.bio Rescued) old (punted dev lists),
       punted_weight (w.bio (Lined (limit_of x))) dev lists,
     )
+-- pops
 delta scene w s (moves.Pops place dev bio bios) c =
     let q : sum_by (w.bio Rescued) (s.objects.rescue dev.0) ≡ sum_by (w.bio Rescued) (bio ∷ bios) = ap (sum_by (w.bio Rescued)) c.3 in
     omega (
@@ -83,6 +87,7 @@ delta scene w s (moves.Pops place dev bio bios) c =
       sum_by-cons (w.bio Rescued) bio bios,
       sum_at-upd (λ dev bios. sum_by (w.bio Rescued) bios) scene.setup.count s.objects.rescue dev.0 bios c.2,
     )
+-- pushes
 delta scene w s (moves.Pushes place x bio lists) c =
     let new : Line = goes_on scene.setup bio.bio.dev lists in
     let d = sum_at-upd (λ dev (disk : DiskState). sum_by (w.bio Pending) disk.pending) scene.setup.count s.objects.disk bio.bio.dev.0 (pushed bio (s.objects.disk bio.bio.dev.0)) c.3 in
@@ -93,6 +98,7 @@ delta scene w s (moves.Pushes place x bio lists) c =
       d,
       sum_by_push (w.bio Pending) (s.objects.disk bio.bio.dev.0).pending bio,
     )
+-- completions
 delta scene w s (moves.Completed place disk index bio status new) c =
     let old = (s.objects.disk disk.0).pending in
     let lt = slice_get_within old index bio c.3.taken in
@@ -102,6 +108,7 @@ delta scene w s (moves.Completed place disk index bio status new) c =
     let p : sum_by (w.bio Pending) new.pending ≡ sum_by (w.bio Pending) (remove old index) = ap (λ (disk : DiskState). sum_by (w.bio Pending) disk.pending) c.3.after in
     let d = sum_at-upd (λ dev (disk : DiskState). sum_by (w.bio Pending) disk.pending) scene.setup.count s.objects.disk disk.0 new c.2 in
     omega (arith, task_delta scene w s place (Completer disk Empty) (Completer disk (Brings bio status)) c.0 c.1, d)
+-- links of writes
 delta scene w s (moves.Begins place writer todo later item vector key) c =
     let v = vacant_at (s.objects.book writer) key c.3 in
     let top = top_node todo.number (vector_of todo vector) in
@@ -112,6 +119,7 @@ delta scene w s (moves.Begins place writer todo later item vector key) c =
       sum_at-upd (book_weight w) scene.books s.objects.book writer (with_node (s.objects.book writer) key (Some top)) c.2,
       book_upd w writer (s.objects.book writer) key (Some top) v.1,
     )
+-- links of pieces
 delta scene w s (moves.Chained place x bio lists hand number kind sizes members key node) c =
     let new : Line = goes_on scene.setup bio.bio.dev (cut_lists bio lists hand (first_length kind sizes bio.bio.range) key kind sizes members) in
     let book = s.objects.book bio.bio.writer in
@@ -122,6 +130,7 @@ delta scene w s (moves.Chained place x bio lists hand number kind sizes members 
       sum_at-upd (book_weight w) scene.books s.objects.book bio.bio.writer (with_node (with_node book key (Some (child_node node.write bio.bio.node))) bio.bio.node (Some (raised node))) c.4,
       two_nodes w bio.bio.writer book key bio.bio.node node (child_node node.write bio.bio.node) (raised node) c.6 c.5,
     )
+-- links of masters
 delta scene w s (moves.Mastered place x bio lists slip key node) c =
     let new : Line = copies scene.setup lists bio.bio key 0 in
     let book = s.objects.book bio.bio.writer in
@@ -133,6 +142,7 @@ delta scene w s (moves.Mastered place x bio lists slip key node) c =
       sum_at-upd (book_weight w) scene.books s.objects.book bio.bio.writer (with_node (with_node book key (Some master)) bio.bio.node (Some (keeping bio node))) c.3,
       two_nodes w bio.bio.writer book key bio.bio.node node master (keeping bio node) c.5 c.4,
     )
+-- links of legs
 delta scene w s (moves.Legged place x bio lists master leg hand key node) c =
     let new : Line = copies scene.setup (submitted (leg_at bio hand leg key (tree_at scene.setup bio.dev)) lists) bio master (leg + 1) in
     let book = s.objects.book bio.writer in
@@ -145,6 +155,7 @@ delta scene w s (moves.Legged place x bio lists master leg hand key node) c =
       sum_at-upd (book_weight w) scene.books s.objects.book bio.writer (with_node book key (Some (leg_node node.write master))) c.3,
       book_upd w bio.writer book key (Some (leg_node node.write master)) v.1,
     )
+-- drops that leave a node open
 delta scene w s (moves.Told place disk carried writer key status part node) c =
     let lt = within_book (s.objects.book writer) key node c.4 in
     let y : weigh_option (w.node writer key) (node_at (s.objects.book writer) key) ≡ w.node writer key node = ap (weigh_option (w.node writer key)) c.4 in
@@ -154,6 +165,7 @@ delta scene w s (moves.Told place disk carried writer key status part node) c =
       sum_at-upd (book_weight w) scene.books s.objects.book writer (with_node (s.objects.book writer) key (Some (lowered (told node status part)))) c.3,
       book_upd w writer (s.objects.book writer) key (Some (lowered (told node status part))) lt,
     )
+-- drops that close a node
 delta scene w s (moves.Closes place disk carried writer key status part node) c =
     let lt = within_book (s.objects.book writer) key node c.4 in
     let y : weigh_option (w.node writer key) (node_at (s.objects.book writer) key) ≡ w.node writer key node = ap (weigh_option (w.node writer key)) c.4 in
@@ -163,6 +175,7 @@ delta scene w s (moves.Closes place disk carried writer key status part node) c 
       sum_at-upd (book_weight w) scene.books s.objects.book writer (with_node (s.objects.book writer) key None) c.3,
       book_upd w writer (s.objects.book writer) key None lt,
     )
+-- gives, ends of writes, resizes and rounds
 delta scene w s (moves.Gives place disk writer number closed held) c =
     omega (arith, task_delta scene w s place (Completer disk (Carries writer closed)) (Completer disk (Carries writer (record closed { held = held }))) c.0 c.1)
 delta scene w s (moves.Ends place disk writer closed) c =

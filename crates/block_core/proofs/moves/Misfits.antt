@@ -61,6 +61,7 @@ module _ (bad : Bio → ℕ) (f : Follows bad) where
 
   module _ (scene : Scene) (s : State) (i : Kept scene s) (none : total scene w s ≡ 0) where
     stays : (m : Move) → Can scene s m → total scene w (after scene s m) ≡ 0
+    -- takes, misses and punts
     stays (moves.TakesFirst place writer todo later move) c = omega (arith, none, delta scene w s (moves.TakesFirst place writer todo later move) c)
     stays (moves.TakesVector place writer todo later item move) c = omega (arith, none, delta scene w s (moves.TakesVector place writer todo later item move) c)
     stays (moves.TakesSub place x doing lists dev waits move) c = omega (arith, none, delta scene w s (moves.TakesSub place x doing lists dev waits move) c)
@@ -68,6 +69,7 @@ module _ (bad : Bio → ℕ) (f : Follows bad) where
     stays (moves.MissesOne place x number used) c = omega (arith, none, delta scene w s (moves.MissesOne place x number used) c)
     stays (moves.MissesTry place x doing lists dev used) c = omega (arith, none, delta scene w s (moves.MissesTry place x doing lists dev used) c)
     stays (moves.Punts place x doing lists dev) c = omega (arith, none, delta scene w s (moves.Punts place x doing lists dev) c)
+    -- pops
     stays (moves.Pops place dev bio bios) c =
         omega (
           arith,
@@ -76,9 +78,11 @@ module _ (bad : Bio → ℕ) (f : Follows bad) where
           first_weight w blind dev.0 scene.setup (bio ∷ []),
           sum_by-cons bad_item bio [],
         )
+    -- pushes and completions
     stays (moves.Pushes place x bio lists) c =
         omega (arith, none, delta scene w s (moves.Pushes place x bio lists) c, goes_weight w blind (limit_of x) scene.setup bio.bio.dev lists)
     stays (moves.Completed place disk index bio status new) c = omega (arith, none, delta scene w s (moves.Completed place disk index bio status new) c)
+    -- links of writes
     stays (moves.Begins place writer todo later item None key) c =
         omega (
           arith,
@@ -99,6 +103,7 @@ module _ (bad : Bio → ℕ) (f : Follows bad) where
           sum_by-cons (λ todo. bad (first_bio writer todo 0)) todo later,
           f.begins writer todo key,
         )
+    -- links of pieces
     stays (moves.Chained place x bio lists hand number kind sizes members key node) c =
         let n = first_length kind sizes bio.bio.range in
         let child = piece bio hand n key kind sizes members in
@@ -117,6 +122,7 @@ module _ (bad : Bio → ℕ) (f : Follows bad) where
           f.fronts bio hand n key short fits,
           f.rests bio n short fits,
         )
+    -- links of masters
     stays (moves.Mastered place x bio lists slip key node) c =
         omega (
           arith,
@@ -125,6 +131,7 @@ module _ (bad : Bio → ℕ) (f : Follows bad) where
           copies_weight w blind (limit_of x) scene.setup lists bio.bio key 0,
           unless_less (0 == legs_of (tree_at scene.setup bio.bio.dev)) (bad bio.bio),
         )
+    -- links of legs
     stays (moves.Legged place x bio lists master leg hand key node) c =
         let lt = line_fits scene x (Copies bio master leg (Links hand)) lists (subst (TaskFits scene) c.1 (i.tasks place)) c.2 in
         let item = leg_at bio hand leg key (tree_at scene.setup bio.dev) in
@@ -140,6 +147,7 @@ module _ (bad : Bio → ℕ) (f : Follows bad) where
           sum_by_push bad_item lists.list0 item,
           legs_follow bio hand leg key (tree_at scene.setup bio.dev) lt,
         )
+    -- drops that leave a node open, drops that close a node, gives, ends of writes, resizes and rounds
     stays (moves.Told place disk carried writer key status part node) c = omega (arith, none, delta scene w s (moves.Told place disk carried writer key status part node) c)
     stays (moves.Closes place disk carried writer key status part node) c = omega (arith, none, delta scene w s (moves.Closes place disk carried writer key status part node) c)
     stays (moves.Gives place disk writer number closed held) c = omega (arith, none, delta scene w s (moves.Gives place disk writer number closed held) c)

@@ -90,6 +90,7 @@ module _ (scene : Scene) (s : State) (f : Fair scene) (i : Kept scene s) where
       omega (arith, b, i.counts w k, delta scene (refs scene.setup w k) s m c, even)
 
   pub counts : (m : Move) → Can scene s m → (w k : ℕ) → count_of (node_at ((after scene s m).objects.book w) k) ≡ total scene (refs scene.setup w k) (after scene s m)
+  -- takes, misses, punts, pops, pushes and completions
   counts (moves.TakesFirst place writer todo later move) c w k = same (moves.TakesFirst place writer todo later move) c w k refl refl
   counts (moves.TakesVector place writer todo later item move) c w k = same (moves.TakesVector place writer todo later item move) c w k refl refl
   counts (moves.TakesSub place x doing lists dev waits move) c w k = same (moves.TakesSub place x doing lists dev waits move) c w k refl refl
@@ -103,6 +104,7 @@ module _ (scene : Scene) (s : State) (f : Fair scene) (i : Kept scene s) where
   counts (moves.Pushes place x bio lists) c w k =
       same (moves.Pushes place x bio lists) c w k refl (omega (arith, goes_weight (refs scene.setup w k) (blind_refs scene.setup w k) (limit_of x) scene.setup bio.bio.dev lists))
   counts (moves.Completed place disk index bio status new) c w k = same (moves.Completed place disk index bio status new) c w k refl refl
+  -- links of writes
   counts (moves.Begins place writer todo later item vector key) c w k =
       omega (
         arith,
@@ -111,6 +113,7 @@ module _ (scene : Scene) (s : State) (f : Fair scene) (i : Kept scene s) where
         begun_refs scene.setup w k writer todo later item vector key,
         made count_of refl s.objects.book writer key (top_node todo.number (vector_of todo vector)) w k 1 c.3 refl,
       )
+  -- links of pieces
   counts (moves.Chained place x bio lists hand number kind sizes members key node) c w k =
       let n = first_length kind sizes bio.bio.range in
       omega (
@@ -121,6 +124,7 @@ module _ (scene : Scene) (s : State) (f : Fair scene) (i : Kept scene s) where
         cut_weight (names w k) bio lists hand n key kind sizes members,
         chained count_of refl s.objects.book bio.bio.writer key bio.bio.node node (child_node node.write bio.bio.node) (raised node) w k 1 1 0 c.6 c.5 refl (omega arith),
       )
+  -- links of masters
   counts (moves.Mastered place x bio lists slip key node) c w k =
       let legs = legs_of (tree_at scene.setup bio.bio.dev) in
       omega (
@@ -132,6 +136,7 @@ module _ (scene : Scene) (s : State) (f : Fair scene) (i : Kept scene s) where
         spread (one bio.bio.writer w) (one key k) (one bio.bio.node k) legs,
         chained count_of refl s.objects.book bio.bio.writer key bio.bio.node node (master_node node.write bio.bio.node slip legs) (keeping bio node) w k legs 0 0 c.5 c.4 refl refl,
       )
+  -- links of legs
   counts (moves.Legged place x bio lists master leg hand key node) c w k =
       let legs = legs_of (tree_at scene.setup bio.dev) in
       let item = leg_at bio hand leg key (tree_at scene.setup bio.dev) in
@@ -148,6 +153,7 @@ module _ (scene : Scene) (s : State) (f : Fair scene) (i : Kept scene s) where
         leg_named w k bio hand leg key (tree_at scene.setup bio.dev) lt,
         made count_of refl s.objects.book bio.writer key (leg_node node.write master) w k 1 c.5 refl,
       )
+  -- drops that leave a node open
   counts (moves.Told place disk carried writer key status part node) c w k =
       let lower : node.count - 1 + 1 ≡ node.count = let lt = c.5 in omega arith in
       omega (
@@ -157,6 +163,7 @@ module _ (scene : Scene) (s : State) (f : Fair scene) (i : Kept scene s) where
         tells_refs scene.setup w k writer key status part carried c.2,
         became count_of s.objects.book writer key node (Some (lowered (told node status part))) w k 1 c.4 lower,
       )
+  -- drops that close a node
   counts (moves.Closes place disk carried writer key status part node) c w k =
       let last : 0 + 1 ≡ node.count = let q = c.5 in omega arith in
       omega (
@@ -166,6 +173,7 @@ module _ (scene : Scene) (s : State) (f : Fair scene) (i : Kept scene s) where
         tells_refs scene.setup w k writer key status part carried c.2,
         became count_of s.objects.book writer key node None w k 1 c.4 last,
       )
+  -- gives, ends of writes, resizes and rounds
   counts (moves.Gives place disk writer number closed held) c w k = same (moves.Gives place disk writer number closed held) c w k refl refl
   counts (moves.Ends place disk writer closed) c w k = same (moves.Ends place disk writer closed) c w k refl (ap (under w k writer) c.3)
   counts (moves.Resized place pool min later duties) c w k = same (moves.Resized place pool min later duties) c w k refl refl

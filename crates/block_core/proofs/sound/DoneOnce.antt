@@ -31,7 +31,7 @@ use Rattle.bio_books.specs.Drops.{Ended}
 use Rattle.bio_books.specs.Drops as end
 use Rattle.block_core.specs.Dones.{done_in}
 use Rattle.block_core.proofs.sound.TaskLines.{wants_busy}
-use Rattle.block_core.proofs.moves.StepMoves.{asks_line}
+use Rattle.block_core.proofs.moves.LineSteps.{asks_line}
 
 -- 1 where a request tells this write done
 abbrev pub asked : ℕ → Request → ℕ

@@ -260,6 +260,7 @@ module _ (scene : Scene) (s : State) (i : Kept scene s) (p : Placed scene.setup 
   all_same s lists writer master legs = legs
 
   pub stays_legged : (m : Move) (c : Can scene s m) → Kept scene (after scene s m) → Legged scene (after scene s m)
+  -- takes and misses
   stays_legged (moves.TakesFirst place writer todo later move) c j =
       goes (moves.TakesFirst place writer todo later move) c j _ refl tt
   stays_legged (moves.TakesVector place writer todo later item move) c j = goes (moves.TakesVector place writer todo later item move) c j _ refl tt
@@ -272,12 +273,14 @@ module _ (scene : Scene) (s : State) (i : Kept scene s) (p : Placed scene.setup 
   stays_legged (moves.MissesTry place x doing lists dev used) c j =
       let m : Move = moves.MissesTry place x doing lists dev used in
       goes m c j _ refl (relined (after scene s m) x _ (wants_has (after scene s m) doing dev (Takes false) WantsPunt lists lists c.3 (all_same (after scene s m) lists) (has place x doing lists c.0 c.1 c.2)))
+  -- punts
   stays_legged (moves.Punts place x doing lists dev) c j =
       let m : Move = moves.Punts place x doing lists dev in
       goes m c j _ refl
       (relined (after scene s m) x _
       (wants_has (after scene s m) doing dev WantsPunt (Takes true) lists (not_punted dev lists) c.3
       (λ writer master legs. each_less (IsLegOf (after scene s m) writer master) (λ item. not (is_of dev item)) lists.list0 legs) (has place x doing lists c.0 c.1 c.2)))
+  -- pops, pushes, completions, links of writes and links of pieces
   stays_legged (moves.Pops place dev bio bios) c j = goes (moves.Pops place dev bio bios) c j _ refl (settled_none (after scene s (moves.Pops place dev bio bios)) scene.setup (bio ∷ []))
   stays_legged (moves.Pushes place x bio lists) c j = goes (moves.Pushes place x bio lists) c j _ refl (relined (after scene s (moves.Pushes place x bio lists)) x _ (settled_none (after scene s (moves.Pushes place x bio lists)) scene.setup (order bio.bio.dev lists)))
   stays_legged (moves.Completed place disk index bio status new) c j = goes (moves.Completed place disk index bio status new) c j _ refl tt
@@ -286,6 +289,7 @@ module _ (scene : Scene) (s : State) (i : Kept scene s) (p : Placed scene.setup 
   stays_legged (moves.Chained place x bio lists hand number kind sizes members key node) c j =
       goes (moves.Chained place x bio lists hand number kind sizes members key node) c j _ refl
       (relined (after scene s (moves.Chained place x bio lists hand number kind sizes members key node)) x _ (settled_none (after scene s (moves.Chained place x bio lists hand number kind sizes members key node)) scene.setup (order bio.bio.dev (cut_lists bio lists hand (first_length kind sizes bio.bio.range) key kind sizes members))))
+  -- links of masters
   stays_legged (moves.Mastered place x bio lists slip key node) c j =
       let m : Move = moves.Mastered place x bio lists slip key node in
       let d = at place x (Drives bio (ToMaster slip)) lists c.1 c.2 in
@@ -294,6 +298,7 @@ module _ (scene : Scene) (s : State) (i : Kept scene s) (p : Placed scene.setup 
       goes m c j _ refl
       (relined (after scene s m) x _
       (next_has (after scene s m) scene.setup lists bio.bio key 0 (subst (Each (IsLegOf (after scene s m) bio.bio.writer key)) (sym d.0) tt) (omega (arith, up, set))))
+  -- links of legs
   stays_legged (moves.Legged place x bio lists master leg hand key node) c j =
       let m : Move = moves.Legged place x bio lists master leg hand key node in
       let new = after scene s m in
@@ -320,6 +325,7 @@ module _ (scene : Scene) (s : State) (i : Kept scene s) (p : Placed scene.setup 
       by_tree (Leaf number sectors) lt made = absurd (omega (arith, lt))
       by_tree (Split number kind sizes members) lt made = absurd (omega (arith, lt))
       by_tree (Mirrored number sizes members) lt made = (refl, (leg_node node.write master, made, refl))
+  -- drops that leave a node open, drops that close a node, gives, ends of writes, resizes and rounds
   stays_legged (moves.Told place disk carried writer key status part node) c j = goes (moves.Told place disk carried writer key status part node) c j _ refl tt
   stays_legged (moves.Closes place disk carried writer key status part node) c j = goes (moves.Closes place disk carried writer key status part node) c j _ refl tt
   stays_legged (moves.Gives place disk writer number closed held) c j = goes (moves.Gives place disk writer number closed held) c j _ refl tt

@@ -93,6 +93,7 @@ module _ (scene : Scene) (s : State) (g : Ground scene.setup) (i : Kept scene s)
       let y : None ≡ Some node = sym a.0 ∙ sym x ∙ found in cc
 
   pub stays_leveled : (m : Move) → Can scene s m → AreLeveled scene (after scene s m)
+  -- takes, misses, punts, pops, pushes and completions
   stays_leveled (moves.TakesFirst place writer todo later move) c = same (moves.TakesFirst place writer todo later move) c (omega arith)
   stays_leveled (moves.TakesVector place writer todo later item move) c = same (moves.TakesVector place writer todo later item move) c (omega arith)
   stays_leveled (moves.TakesSub place x doing lists dev waits move) c = same (moves.TakesSub place x doing lists dev waits move) c (omega arith)
@@ -105,6 +106,7 @@ module _ (scene : Scene) (s : State) (g : Ground scene.setup) (i : Kept scene s)
   stays_leveled (moves.Pushes place x bio lists) c =
       same (moves.Pushes place x bio lists) c (omega (arith, goes_weight (off_levels level) (blind_levels level) (limit_of x) scene.setup bio.bio.dev lists))
   stays_leveled (moves.Completed place disk index bio status new) c = same (moves.Completed place disk index bio status new) c (omega arith)
+  -- links of writes
   stays_leveled (moves.Begins place writer todo later item vector key) c =
       let new = with_mark level writer key 64 in
       let here = mark_here level writer key 64 in
@@ -117,6 +119,7 @@ module _ (scene : Scene) (s : State) (g : Ground scene.setup) (i : Kept scene s)
         begun_on new writer todo item vector key t.2 here,
         vector_on new writer key todo item vector t.2 here,
       ))
+  -- links of pieces
   stays_leveled (moves.Chained place x bio lists hand number kind sizes members key node) c =
       let n = first_length kind sizes bio.bio.range in
       let dev = bio.bio.dev.0 in
@@ -141,6 +144,7 @@ module _ (scene : Scene) (s : State) (g : Ground scene.setup) (i : Kept scene s)
         fits,
         child,
       ))
+  -- links of masters
   stays_leveled (moves.Mastered place x bio lists slip key node) c =
       let dev = bio.bio.dev.0 in
       let new = with_mark level bio.bio.writer key (2 * dev + 1) in
@@ -175,6 +179,7 @@ module _ (scene : Scene) (s : State) (g : Ground scene.setup) (i : Kept scene s)
       by_tree (Leaf number sectors) a = absurd a
       by_tree (Split number kind sizes members) a = absurd a
       by_tree (Mirrored number sizes members) a = a
+  -- links of legs
   stays_leveled (moves.Legged place x bio lists master leg hand key node) c =
       let dev = bio.dev.0 in
       let new = with_mark level bio.writer key (2 * dev) in
@@ -202,10 +207,12 @@ module _ (scene : Scene) (s : State) (g : Ground scene.setup) (i : Kept scene s)
         fits,
         child,
       ))
+  -- drops that leave a node open
   stays_leveled (moves.Told place disk carried writer key status part node) c =
       let a : task_weight (off_levels level) place (s.task place) ≡ carried_weight (off_levels level) 0 carried = ap (task_weight (off_levels level) 0) c.1 in
       let b = sum_at-ge (task_weight (off_levels level)) scene.tasks s.task place c.0 in
       same (moves.Told place disk carried writer key status part node) c (omega (arith, told_on level writer key status part carried node c.2 (omega (arith, a, b, off))))
+  -- drops that close a node, gives, ends of writes, resizes and rounds
   stays_leveled (moves.Closes place disk carried writer key status part node) c = same (moves.Closes place disk carried writer key status part node) c (omega arith)
   stays_leveled (moves.Gives place disk writer number closed held) c = same (moves.Gives place disk writer number closed held) c (omega arith)
   stays_leveled (moves.Ends place disk writer closed) c = same (moves.Ends place disk writer closed) c (omega arith)

@@ -137,6 +137,7 @@ module _ (scene : Scene) (s : State) (i : Kept scene s) (was_master : ℕ → Bo
       let y : None ≡ Some node = sym a.0 ∙ sym x ∙ found in cc
 
   pub stays_right : (m : Move) → Can scene s m → ArePlaced scene (after scene s m) (was_after was_master m)
+  -- takes, misses, punts, pops, pushes and completions
   stays_right (moves.TakesFirst place writer todo later move) c = same (moves.TakesFirst place writer todo later move) c (omega arith)
   stays_right (moves.TakesVector place writer todo later item move) c = same (moves.TakesVector place writer todo later item move) c (omega arith)
   stays_right (moves.TakesSub place x doing lists dev waits move) c = same (moves.TakesSub place x doing lists dev waits move) c (omega arith)
@@ -150,6 +151,7 @@ module _ (scene : Scene) (s : State) (i : Kept scene s) (was_master : ℕ → Bo
   stays_right (moves.Pushes place x bio lists) c =
       same (moves.Pushes place x bio lists) c (omega (arith, goes_weight (w mark) (blind mark was_master) (limit_of x) scene.setup bio.bio.dev lists))
   stays_right (moves.Completed place disk index bio status new) c = same (moves.Completed place disk index bio status new) c (omega arith)
+  -- links of writes
   stays_right (moves.Begins place writer todo later item vector key) c =
       let new = with_mark mark writer key false in
       let here = mark_here mark writer key false in
@@ -161,6 +163,7 @@ module _ (scene : Scene) (s : State) (i : Kept scene s) (was_master : ℕ → Bo
         sum_by-cons (λ (item : Item Pad). yes (new item.bio.writer item.bio.node)) (filled_of writer todo item vector key) [],
         begun_right new writer todo item vector key here,
       ))
+  -- links of pieces
   stays_right (moves.Chained place x bio lists hand number kind sizes members key node) c =
       let n = first_length kind sizes bio.bio.range in
       let new = with_mark mark bio.bio.writer key false in
@@ -178,6 +181,7 @@ module _ (scene : Scene) (s : State) (i : Kept scene s) (was_master : ℕ → Bo
         goes_weight (w new) (blind new was_master) (limit_of x) scene.setup bio.bio.dev (cut_lists bio lists hand n key kind sizes members),
         cut_weight (λ (item : Item Pad). yes (new item.bio.writer item.bio.node)) bio lists hand n key kind sizes members,
       ))
+  -- links of masters
   stays_right (moves.Mastered place x bio lists slip key node) c =
       let new = with_mark mark bio.bio.writer key true in
       let here = mark_here mark bio.bio.writer key true in
@@ -197,6 +201,7 @@ module _ (scene : Scene) (s : State) (i : Kept scene s) (was_master : ℕ → Bo
         ap (unless (0 == legs)) copy,
         unless_none (0 == legs),
       ))
+  -- links of legs
   stays_right (moves.Legged place x bio lists master leg hand key node) c =
       let new = with_mark mark bio.writer key false in
       let here = mark_here mark bio.writer key false in
@@ -219,7 +224,9 @@ module _ (scene : Scene) (s : State) (i : Kept scene s) (was_master : ℕ → Bo
         sum_by_push (λ (item : Item Pad). yes (new item.bio.writer item.bio.node)) lists.list0 item,
         leg_right new bio hand leg key (tree_at scene.setup bio.dev) lt here,
       ))
+  -- drops that leave a node open
   stays_right (moves.Told place disk carried writer key status part node) c = same (moves.Told place disk carried writer key status part node) c (omega arith)
+  -- drops that close a node
   stays_right (moves.Closes place disk carried writer key status part node) c =
       let other = upd was_master place (is_master node.role) in
       let m : Move = moves.Closes place disk carried writer key status part node in
@@ -230,6 +237,7 @@ module _ (scene : Scene) (s : State) (i : Kept scene s) (was_master : ℕ → Bo
       let off = total_but (misplaced mark other) (w mark) (same_but mark other was_master) scene s place c.0
       (λ j ne of closed. ap (λ b. wrong_above (mark of) b closed.parent) (upd-other was_master place (is_master node.role) j ne)) in
       (mark, omega (arith, none, delta scene (misplaced mark other) s m c, own, old, is, off, above_parent (mark writer) node.role))
+  -- gives, ends of writes, resizes and rounds
   stays_right (moves.Gives place disk writer number closed held) c = same (moves.Gives place disk writer number closed held) c (omega arith)
   stays_right (moves.Ends place disk writer closed) c = same (moves.Ends place disk writer closed) c (omega arith)
   stays_right (moves.Resized place pool min later duties) c = same (moves.Resized place pool min later duties) c (omega arith)

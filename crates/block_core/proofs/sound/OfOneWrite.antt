@@ -104,6 +104,7 @@ module _ (scene : Scene) (s : State) (i : Kept scene s) (write_of : ℕ → ℕ 
       let y : None ≡ Some node = sym a.0 ∙ sym x ∙ found in cc
 
   pub stays_of_one_write : (m : Move) → Can scene s m → AreOfOneWrite scene (after scene s m)
+  -- takes, misses, punts, pops, pushes and completions
   stays_of_one_write (moves.TakesFirst place writer todo later move) c = same (moves.TakesFirst place writer todo later move) c (omega arith)
   stays_of_one_write (moves.TakesVector place writer todo later item move) c = same (moves.TakesVector place writer todo later item move) c (omega arith)
   stays_of_one_write (moves.TakesSub place x doing lists dev waits move) c = same (moves.TakesSub place x doing lists dev waits move) c (omega arith)
@@ -116,6 +117,7 @@ module _ (scene : Scene) (s : State) (i : Kept scene s) (write_of : ℕ → ℕ 
   stays_of_one_write (moves.Pushes place x bio lists) c =
       same (moves.Pushes place x bio lists) c (omega (arith, goes_weight (strays write_of) (blind_strays write_of) (limit_of x) scene.setup bio.bio.dev lists))
   stays_of_one_write (moves.Completed place disk index bio status new) c = same (moves.Completed place disk index bio status new) c (omega arith)
+  -- links of writes
   stays_of_one_write (moves.Begins place writer todo later item vector key) c =
       let new = with_mark write_of writer key todo.number in
       let here = mark_here write_of writer key todo.number in
@@ -127,6 +129,7 @@ module _ (scene : Scene) (s : State) (i : Kept scene s) (write_of : ℕ → ℕ 
         sum_by-cons (bio_strays new) (filled_of writer todo item vector key) [],
         begun_of_write new writer todo item vector key here,
       ))
+  -- links of pieces
   stays_of_one_write (moves.Chained place x bio lists hand number kind sizes members key node) c =
       let n = first_length kind sizes bio.bio.range in
       let new = with_mark write_of bio.bio.writer key node.write in
@@ -146,6 +149,7 @@ module _ (scene : Scene) (s : State) (i : Kept scene s) (write_of : ℕ → ℕ 
         goes_weight (strays new) (blind_strays new) (limit_of x) scene.setup bio.bio.dev (cut_lists bio lists hand n key kind sizes members),
         cut_weight (bio_strays new) bio lists hand n key kind sizes members,
       ))
+  -- links of masters
   stays_of_one_write (moves.Mastered place x bio lists slip key node) c =
       let new = with_mark write_of bio.bio.writer key node.write in
       let here = mark_here write_of bio.bio.writer key node.write in
@@ -166,6 +170,7 @@ module _ (scene : Scene) (s : State) (i : Kept scene s) (write_of : ℕ → ℕ 
         ap (unless (0 == legs)) copy,
         unless_none (0 == legs),
       ))
+  -- links of legs
   stays_of_one_write (moves.Legged place x bio lists master leg hand key node) c =
       let new = with_mark write_of bio.writer key node.write in
       let here = mark_here write_of bio.writer key node.write in
@@ -191,6 +196,7 @@ module _ (scene : Scene) (s : State) (i : Kept scene s) (write_of : ℕ → ℕ 
         sum_by_push (bio_strays new) lists.list0 item,
         fits,
       ))
+  -- drops that leave a node open, drops that close a node, gives, ends of writes, resizes and rounds
   stays_of_one_write (moves.Told place disk carried writer key status part node) c = same (moves.Told place disk carried writer key status part node) c (omega arith)
   stays_of_one_write (moves.Closes place disk carried writer key status part node) c = same (moves.Closes place disk carried writer key status part node) c (omega arith)
   stays_of_one_write (moves.Gives place disk writer number closed held) c = same (moves.Gives place disk writer number closed held) c (omega arith)

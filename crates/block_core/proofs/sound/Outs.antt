@@ -22,6 +22,7 @@ use Rattle.block_core.proofs.sound.Places.{out_more, out_same, out_less, cut_wei
 
 module _ (scene : Scene) (s : State) (f : Fair scene) (i : Kept scene s) where
   pub outs : (m : Move) → Can scene s m → (q : ℕ) → ((after scene s m).objects.pool q).facts.out ≡ total scene (elements q) (after scene s m)
+  -- takes
   outs (moves.TakesFirst place writer todo later move) c q =
       omega (arith, i.outs q, delta scene (elements q) s (moves.TakesFirst place writer todo later move) c, out_more s.objects.pool 65 move q c.2, ap (λ n. one n q) (f.named 65))
   outs (moves.TakesVector place writer todo later item move) c q =
@@ -36,11 +37,13 @@ module _ (scene : Scene) (s : State) (f : Fair scene) (i : Kept scene s) where
         out_more s.objects.pool (2 * bio.bio.dev.0 + 1) move q c.3,
         ap (λ n. one n q) (f.named (2 * bio.bio.dev.0 + 1)),
       )
+  -- misses and punts
   outs (moves.MissesOne place x number used) c q =
       omega (arith, i.outs q, delta scene (elements q) s (moves.MissesOne place x number used) c, out_same s.objects.pool number used q)
   outs (moves.MissesTry place x doing lists dev used) c q =
       omega (arith, i.outs q, delta scene (elements q) s (moves.MissesTry place x doing lists dev used) c, out_same s.objects.pool (2 * dev.0) used q)
   outs (moves.Punts place x doing lists dev) c q = omega (arith, i.outs q, delta scene (elements q) s (moves.Punts place x doing lists dev) c)
+  -- pops
   outs (moves.Pops place dev bio bios) c q =
       omega (
         arith,
@@ -49,12 +52,14 @@ module _ (scene : Scene) (s : State) (f : Fair scene) (i : Kept scene s) where
         first_weight (elements q) (blind_elements q) dev.0 scene.setup (bio ∷ []),
         sum_by-cons (λ (bio : Item Pad). one bio.share.no q) bio [],
       )
+  -- pushes, completions and links of writes
   outs (moves.Pushes place x bio lists) c q =
       omega (arith, i.outs q, delta scene (elements q) s (moves.Pushes place x bio lists) c, goes_weight (elements q) (blind_elements q) (limit_of x) scene.setup bio.bio.dev lists)
   outs (moves.Completed place disk index bio status new) c q =
       omega (arith, i.outs q, delta scene (elements q) s (moves.Completed place disk index bio status new) c)
   outs (moves.Begins place writer todo later item vector key) c q =
       omega (arith, i.outs q, delta scene (elements q) s (moves.Begins place writer todo later item vector key) c, begun_elements scene q writer todo later item vector key)
+  -- links of pieces
   outs (moves.Chained place x bio lists hand number kind sizes members key node) c q =
       let g : Item Pad → ℕ = λ bio. one bio.share.no q in
       let n = first_length kind sizes bio.bio.range in
@@ -65,6 +70,7 @@ module _ (scene : Scene) (s : State) (f : Fair scene) (i : Kept scene s) where
         goes_weight (elements q) (blind_elements q) (limit_of x) scene.setup bio.bio.dev (cut_lists bio lists hand n key kind sizes members),
         cut_weight g bio lists hand n key kind sizes members,
       )
+  -- links of masters
   outs (moves.Mastered place x bio lists slip key node) c q =
       let w = named bio.bio.writer bio.bio.node in
       let part = line_part scene w s place x (Drives bio (ToMaster slip)) lists c.0 c.1 c.2 in
@@ -78,6 +84,7 @@ module _ (scene : Scene) (s : State) (f : Fair scene) (i : Kept scene s) where
         copies_weight (elements q) (blind_elements q) (limit_of x) scene.setup lists bio.bio key 0,
         unless_none (0 == legs_of (tree_at scene.setup bio.bio.dev)),
       )
+  -- links of legs
   outs (moves.Legged place x bio lists master leg hand key node) c q =
       let g : Item Pad → ℕ = λ bio. one bio.share.no q in
       let item = leg_at bio hand leg key (tree_at scene.setup bio.dev) in
@@ -95,6 +102,7 @@ module _ (scene : Scene) (s : State) (f : Fair scene) (i : Kept scene s) where
       same_share (Leaf number sectors) = refl
       same_share (Split number kind sizes members) = refl
       same_share (Mirrored number sizes members) = refl
+  -- drops that leave a node open
   outs (moves.Told place disk carried writer key status part node) c q =
       omega (
         arith,
@@ -102,6 +110,7 @@ module _ (scene : Scene) (s : State) (f : Fair scene) (i : Kept scene s) where
         delta scene (elements q) s (moves.Told place disk carried writer key status part node) c,
         told_elements q writer key status part carried node c.2 (λ bio ending is. (is_away scene s place disk carried writer key status part node i c.0 c.1 c.2 c.4 bio ending is).0),
       )
+  -- drops that close a node
   outs (moves.Closes place disk carried writer key status part node) c q =
       omega (
         arith,
@@ -109,10 +118,12 @@ module _ (scene : Scene) (s : State) (f : Fair scene) (i : Kept scene s) where
         delta scene (elements q) s (moves.Closes place disk carried writer key status part node) c,
         told_elements q writer key status part carried node c.2 (λ bio ending is. (is_away scene s place disk carried writer key status part node i c.0 c.1 c.2 c.4 bio ending is).0),
       )
+  -- gives and ends of writes
   outs (moves.Gives place disk writer number closed held) c q =
       omega (arith, i.outs q, delta scene (elements q) s (moves.Gives place disk writer number closed held) c, hands_elements q number closed.held held c.2, out_less s.objects.pool number q c.3)
   outs (moves.Ends place disk writer closed) c q =
       omega (arith, i.outs q, delta scene (elements q) s (moves.Ends place disk writer closed) c, ap (holding_elements q) c.2)
+  -- resizes
   outs (moves.Resized place pool min later duties) c q =
       omega (
         arith,
@@ -120,4 +131,5 @@ module _ (scene : Scene) (s : State) (f : Fair scene) (i : Kept scene s) where
         delta scene (elements q) s (moves.Resized place pool min later duties) c,
         weight-upd (λ (y : PoolState). y.facts.out) s.objects.pool (pool_number pool) (after_move (s.objects.pool (pool_number pool)) (resizes min)) q,
       )
+  -- rounds
   outs (moves.Started place round later duties) c q = omega (arith, i.outs q, delta scene (elements q) s (moves.Started place round later duties) c)

@@ -148,6 +148,7 @@ module _ (scene : Scene) (s : State) (f : Fair scene) (i : Kept scene s) where
       )
 
   pub owns : (m : Move) → Can scene s m → (w k : ℕ) → own_of (node_at ((after scene s m).objects.book w) k) ≡ total scene (named w k) (after scene s m)
+  -- takes, misses, punts, pops, pushes and completions
   owns (moves.TakesFirst place writer todo later move) c w k = same (moves.TakesFirst place writer todo later move) c w k refl refl
   owns (moves.TakesVector place writer todo later item move) c w k = same (moves.TakesVector place writer todo later item move) c w k refl refl
   owns (moves.TakesSub place x doing lists dev waits move) c w k = same (moves.TakesSub place x doing lists dev waits move) c w k refl refl
@@ -160,6 +161,7 @@ module _ (scene : Scene) (s : State) (f : Fair scene) (i : Kept scene s) where
   owns (moves.Pushes place x bio lists) c w k =
       same (moves.Pushes place x bio lists) c w k refl (omega (arith, goes_weight (named w k) (blind_named w k) (limit_of x) scene.setup bio.bio.dev lists))
   owns (moves.Completed place disk index bio status new) c w k = same (moves.Completed place disk index bio status new) c w k refl refl
+  -- links of writes
   owns (moves.Begins place writer todo later item vector key) c w k =
       omega (
         arith,
@@ -168,6 +170,7 @@ module _ (scene : Scene) (s : State) (f : Fair scene) (i : Kept scene s) where
         begun_named scene.setup w k writer todo later item vector key,
         made own_of refl s.objects.book writer key (top_node todo.number (vector_of todo vector)) w k 1 c.3 refl,
       )
+  -- links of pieces
   owns (moves.Chained place x bio lists hand number kind sizes members key node) c w k =
       let n = first_length kind sizes bio.bio.range in
       omega (
@@ -178,6 +181,7 @@ module _ (scene : Scene) (s : State) (f : Fair scene) (i : Kept scene s) where
         cut_weight (names w k) bio lists hand n key kind sizes members,
         chained own_of refl s.objects.book bio.bio.writer key bio.bio.node node (child_node node.write bio.bio.node) (raised node) w k 1 0 0 c.6 c.5 refl refl,
       )
+  -- links of masters
   owns (moves.Mastered place x bio lists slip key node) c w k =
       let legs = legs_of (tree_at scene.setup bio.bio.dev) in
       let part = line_part scene (named bio.bio.writer bio.bio.node) s place x (Drives bio (ToMaster slip)) lists c.0 c.1 c.2 in
@@ -192,6 +196,7 @@ module _ (scene : Scene) (s : State) (f : Fair scene) (i : Kept scene s) where
         unless_none (0 == legs),
         chained own_of refl s.objects.book bio.bio.writer key bio.bio.node node (master_node node.write bio.bio.node slip legs) (keeping bio node) w k 0 0 1 c.5 c.4 refl lost_own,
       )
+  -- links of legs
   owns (moves.Legged place x bio lists master leg hand key node) c w k =
       let legs = legs_of (tree_at scene.setup bio.dev) in
       let item = leg_at bio hand leg key (tree_at scene.setup bio.dev) in
@@ -206,6 +211,7 @@ module _ (scene : Scene) (s : State) (f : Fair scene) (i : Kept scene s) where
         leg_named w k bio hand leg key (tree_at scene.setup bio.dev) lt,
         made own_of refl s.objects.book bio.writer key (leg_node node.write master) w k 1 c.5 refl,
       )
+  -- drops that leave a node open
   owns (moves.Told place disk carried writer key status part node) c w k =
       omega (
         arith,
@@ -215,6 +221,7 @@ module _ (scene : Scene) (s : State) (f : Fair scene) (i : Kept scene s) where
         became own_of s.objects.book writer key node (Some (lowered (told node status part))) w k (brought carried) c.4
             (told_own writer key status part carried node c.2 (is_away scene s place disk carried writer key status part node i c.0 c.1 c.2 c.4)),
       )
+  -- drops that close a node
   owns (moves.Closes place disk carried writer key status part node) c w k =
       omega (
         arith,
@@ -223,6 +230,7 @@ module _ (scene : Scene) (s : State) (f : Fair scene) (i : Kept scene s) where
         tells_named w k writer key status part carried c.2,
         became own_of s.objects.book writer key node None w k (brought carried) c.4 (closing_own place disk carried writer key status part node c),
       )
+  -- gives, ends of writes, resizes and rounds
   owns (moves.Gives place disk writer number closed held) c w k = same (moves.Gives place disk writer number closed held) c w k refl refl
   owns (moves.Ends place disk writer closed) c w k = same (moves.Ends place disk writer closed) c w k refl refl
   owns (moves.Resized place pool min later duties) c w k = same (moves.Resized place pool min later duties) c w k refl refl

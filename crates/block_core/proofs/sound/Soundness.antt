@@ -24,7 +24,8 @@ use Rattle.block_core.proofs.sound.Lasting.{runs_keep}
 use Rattle.block_core.proofs.sound.EachBio.{each_bio, each_copied}
 use Rattle.block_core.proofs.stuck.Idle.{node_part}
 use Rattle.block_core.proofs.sound.Misplaced.{misplaced}
-use Rattle.block_core.proofs.sound.Roles.{Stands, runs_stand, has_roles}
+use Rattle.block_core.proofs.sound.Roles.{has_roles}
+use Rattle.block_core.proofs.sound.StoodFor.{Stands, runs_stand}
 use Rattle.block_core.proofs.sound.LegLists.{TaskHasLegs, HasLegs, Legged, stays_legged}
 use Rattle.block_core.proofs.sound.ListOrder.{hands_right, in_list_order}
 use Rattle.block_core.proofs.status.KeptEnds.{ends_are_kept}

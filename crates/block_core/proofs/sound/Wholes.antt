@@ -49,7 +49,7 @@ use Rattle.block_core.proofs.sound.Posts.{Posted, stays_posted, left_long}
 use Rattle.block_core.proofs.start.PostsAtStart.{ids_of, start_posted, start_crew}
 use Rattle.block_core.proofs.stuck.WaitersBelow.{Known}
 use Rattle.block_core.proofs.stuck.Stuck.{goes_on_or_ended}
-use Rattle.block_core.proofs.stuck.Frees.{HasNumbers}
+use Rattle.block_core.proofs.stuck.FreeEvents.{HasNumbers}
 use Rattle.block_core.proofs.sound.Counters.{Counted, stays_counted}
 use Rattle.std.specs.Prelude.{◌^◌}
 use Rattle.block_core.proofs.moves.Devices.{ground}

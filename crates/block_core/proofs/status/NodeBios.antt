@@ -14,7 +14,8 @@ use Rattle.block_core.proofs.moves.Moves.{Move, place_of, touch_by, Can, HasLine
 use Rattle.block_core.proofs.moves.Moves as moves
 use Rattle.block_core.proofs.sound.TaskLines.{IsBusy}
 use Rattle.block_core.proofs.status.Marks.{Mark, bio_may, todo_may}
-use Rattle.block_core.proofs.status.ValuesKept.{here_or, new_mark, marks_by}
+use Rattle.block_core.proofs.status.AtOneNode.{here_or}
+use Rattle.block_core.proofs.status.MarksBehind.{new_mark, marks_by}
 
 abbrev pub AreOfBios : Setup → (Fragment → Status) → (ℕ → ℕ → Mark) → (ℕ → ℕ → Bio) → Type 0
 AreOfBios setup ends mark bios = (w k : ℕ) → (mark w k).ends ≡ bio_may setup ends (bios w k)

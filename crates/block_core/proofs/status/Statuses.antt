@@ -61,7 +61,9 @@ use Rattle.block_core.proofs.images.BioData.{own_writes}
 use Rattle.block_core.proofs.images.ImageData.{IsOwn, own_stays, completed_waits, completed_ends, start_own}
 use Rattle.block_core.proofs.status.RunEndings.{Given, given, plan_alone}
 use Rattle.block_core.proofs.status.NodeValues.{is_itself}
-use Rattle.block_core.proofs.status.ValuesKept.{HasEnding, marks_by, stays_marked}
+use Rattle.block_core.proofs.status.ValuesKept.{stays_marked}
+use Rattle.block_core.proofs.status.Tellers.{HasEnding}
+use Rattle.block_core.proofs.status.MarksBehind.{marks_by}
 use Rattle.block_core.proofs.status.NodeBios.{AreOfBios, stays_of_bios}
 use Rattle.block_core.proofs.status.Valued.{may_given, are_valued}
 

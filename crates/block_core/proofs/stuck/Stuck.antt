@@ -34,7 +34,8 @@ use Rattle.block_core.proofs.unrefused.BioNeeds.{Worth}
 use Rattle.block_core.proofs.sound.Posts.{ByRounds, starts, AtPost, Posted}
 use Rattle.block_core.proofs.stuck.NothingWaits.{IsPool, spares, StillDoing, StillTaken, StillWriter, IsStill, Calm, zero_or, some_place, line_below}
 use Rattle.block_core.proofs.stuck.WaitersBelow.{Known, none_open, all_home, has_spare}
-use Rattle.block_core.proofs.stuck.Frees.{HasNumbers, task_free, free_of}
+use Rattle.block_core.proofs.stuck.Frees.{task_free}
+use Rattle.block_core.proofs.stuck.FreeEvents.{HasNumbers, free_of}
 
 -- a search over the numbers below n
 find : (F : Type 0) (P : ℕ → Type 0) (n : ℕ) → ((k : ℕ) → k < n → F ⊎ P k) → F ⊎ ((k : ℕ) → k < n → P k)
@@ -235,14 +236,14 @@ module _ (scene : Scene) (s : State) (level : ℕ → ℕ → ℕ) (known : Know
             let home = all_home scene s level known all_calm (pool_number pool) in
             let same : sum s.objects.tally.left ≡ later = left_over ∙ sym (r.1.0) in
             let lets_it : IsTrue (sum s.objects.tally.left == later) = eq-eqb (sum s.objects.tally.left) later same in
-            free_of scene s f worth known.kept known.placed room numbers keeper post.1.2 (Keeper (Keeps (Resizes pool min later ∷ duties))) at (requests.OutIs 0) (what.Resize pool min)
+            free_of scene s keeper post.1.2 (Keeper (Keeps (Resizes pool min later ∷ duties))) at (requests.OutIs 0) (what.Resize pool min)
             (requests.LeftOver (sum s.objects.tally.left), (refl, refl), lets_it) refl refl
             (with_pool s.objects (pool_number pool) (resizes min)) (sym home, refl)
         by_keeping (Keeps (Starts round later ∷ duties)) at fits r post =
             let full : now + (1 + starts duties) + 1 ≡ length s.objects.tally.left = post.1.1 refl in
             let same : sum s.objects.tally.left ≡ later = left_over ∙ sym (r.1.1) in
             let lets_it : IsTrue (sum s.objects.tally.left == later) = eq-eqb (sum s.objects.tally.left) later same in
-            free_of scene s f worth known.kept known.placed room numbers keeper post.1.2 (Keeper (Keeps (Starts round later ∷ duties))) at requests.Did (what.Round round)
+            free_of scene s keeper post.1.2 (Keeper (Keeps (Starts round later ∷ duties))) at requests.Did (what.Round round)
             (requests.LeftOver (sum s.objects.tally.left), (refl, refl), lets_it) refl refl
             (record s.objects { tally = record s.objects.tally { round = now + 1 } }) (omega (arith, full), refl)
 

@@ -99,6 +99,7 @@ module _ (scene : Scene) (s : State) (g : Worth scene.setup) (ground : Ground sc
 
   -- what an event takes and gives
   room : (m : Move) → Can scene s m → total scene (places setup w) (after scene s m) ≤ total scene (places setup w) s
+  -- takes, misses, punts and pops
   room (moves.TakesFirst place writer todo later move) c = omega (arith, delta scene (places setup w) s (moves.TakesFirst place writer todo later move) c)
   room (moves.TakesVector place writer todo later item move) c = omega (arith, delta scene (places setup w) s (moves.TakesVector place writer todo later item move) c)
   room (moves.TakesSub place x doing lists dev waits move) c = omega (arith, delta scene (places setup w) s (moves.TakesSub place x doing lists dev waits move) c)
@@ -109,6 +110,7 @@ module _ (scene : Scene) (s : State) (g : Worth scene.setup) (ground : Ground sc
   room (moves.Pops place dev bio bios) c =
       let r : Each (IsOwn setup dev.0 dev.0) (bio ∷ bios) = subst (Each (IsOwn setup dev.0 dev.0)) c.3 (p.rescued dev.0) in
       omega (arith, delta scene (places setup w) s (moves.Pops place dev bio bios) c, settled_room setup g w dev.0 (bio ∷ []) (r.0.0.0, tt), sum_by-cons (lined setup g w) bio [])
+  -- pushes
   room (moves.Pushes place x bio lists) c =
       let d = at place x (Drives bio ToPush) lists c.1 c.2 in
       let none : Each (λ (item : Item Pad). IsThere setup item.bio) lists.list0 = subst (Each (λ (item : Item Pad). IsThere setup item.bio)) (sym d.0) tt in
@@ -117,7 +119,9 @@ module _ (scene : Scene) (s : State) (g : Worth scene.setup) (ground : Ground sc
         delta scene (places setup w) s (moves.Pushes place x bio lists) c,
         goes_room setup g w (limit_of x) bio.bio.dev lists none (there_of setup (limit_of x) lists.list1 d.1.1),
       )
+  -- completions
   room (moves.Completed place disk index bio status new) c = omega (arith, delta scene (places setup w) s (moves.Completed place disk index bio status new) c)
+  -- links of writes
   room (moves.Begins place writer todo later item None key) c =
       let t = subst (TaskPlaced setup) c.1 (p.tasks place) in
       let bio = filled_of writer todo item None key in
@@ -150,6 +154,7 @@ module _ (scene : Scene) (s : State) (g : Worth scene.setup) (ground : Ground sc
     where
       times_more : (a n m : ℕ) → a * ((1 + n) + m) ≡ a * n + a + a * m
       times_more a n m = grind arith
+  -- links of pieces
   room (moves.Chained place x bio lists hand number kind sizes members key node) c =
       let n = first_length kind sizes bio.bio.range in
       let child = piece bio hand n key kind sizes members in
@@ -174,6 +179,7 @@ module _ (scene : Scene) (s : State) (g : Worth scene.setup) (ground : Ground sc
     where
       times_more : (a n m : ℕ) → a * (n + (1 + m)) ≡ a * n + a + a * m
       times_more a n m = grind arith
+  -- links of masters
   room (moves.Mastered place x bio lists slip key node) c =
       let d = at place x (Drives bio (ToMaster slip)) lists c.1 c.2 in
       let none : Each (λ (item : Item Pad). IsThere setup item.bio) lists.list0 = subst (Each (λ (item : Item Pad). IsThere setup item.bio)) (sym d.0) tt in
@@ -195,6 +201,7 @@ module _ (scene : Scene) (s : State) (g : Worth scene.setup) (ground : Ground sc
       by_tree (Leaf number sectors) is a there = absurd a
       by_tree (Split number kind sizes members) is a there = absurd a
       by_tree (Mirrored number sizes members) is a there = g.master bio.bio there number sizes members is
+  -- links of legs
   room (moves.Legged place x bio lists master leg hand key node) c =
       let d = at place x (Copies bio master leg (Links hand)) lists c.1 c.2 in
       let lt = line_fits scene x (Copies bio master leg (Links hand)) lists (subst (TaskFits scene) c.1 (i.tasks place)) c.2 in
@@ -223,6 +230,7 @@ module _ (scene : Scene) (s : State) (g : Worth scene.setup) (ground : Ground sc
       same_writer (Leaf number sectors) lt = absurd (omega (arith, lt))
       same_writer (Split number kind sizes members) lt = absurd (omega (arith, lt))
       same_writer (Mirrored number sizes members) lt = refl
+  -- drops that leave a node open, drops that close a node, gives, ends of writes, resizes and rounds
   room (moves.Told place disk carried writer key status part node) c =
       omega (arith, delta scene (places setup w) s (moves.Told place disk carried writer key status part node) c)
   room (moves.Closes place disk carried writer key status part node) c =

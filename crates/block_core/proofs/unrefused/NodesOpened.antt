@@ -84,6 +84,7 @@ module _ (scene : Scene) (s : State) (g : Ground scene.setup) (n : Needs scene.s
       omega (arith, b, sum_by-cons ((room scene.setup w).bio (Lined 32)) filled_item [], all)
 
   fits : (w : ℕ) (m : Move) → Can scene s m → Fits w m
+  -- takes, misses, punts, pops, pushes, completions and links of writes
   fits w (moves.TakesFirst place writer todo later move) c = omega arith
   fits w (moves.TakesVector place writer todo later item move) c = omega arith
   fits w (moves.TakesSub place x doing lists dev waits move) c = omega arith
@@ -101,6 +102,7 @@ module _ (scene : Scene) (s : State) (g : Ground scene.setup) (n : Needs scene.s
   fits w (moves.Begins place writer todo later item vector key) c =
       let t : TaskPlaced scene.setup (Writer writer (todo ∷ later) (taken_of item vector) rests) = subst (TaskPlaced scene.setup) c.1 (a.tasks place) in
       begins w place writer todo later item vector key t.0.0
+  -- links of pieces
   fits w (moves.Chained place x bio lists hand number kind sizes members key node) c =
       let k = first_length kind sizes bio.bio.range in
       let d = has place x (Drives bio (ToCut (Links hand))) lists c.1 c.2 in
@@ -112,11 +114,13 @@ module _ (scene : Scene) (s : State) (g : Ground scene.setup) (n : Needs scene.s
         cut_weight ((room scene.setup w).bio (Lined (limit_of x))) bio lists hand k key kind sizes members,
         part,
       )
+  -- links of masters
   fits w (moves.Mastered place x bio lists slip key node) c =
       let d = has place x (Drives bio (ToMaster slip)) lists c.1 c.2 in
       let is = d.1.0.0 in
       let part = ap (λ v. one bio.bio.writer w * v) (mirror_need (tree_at scene.setup bio.bio.dev) bio.bio.range bio.bio.dev.0 slip d.3 is.some) in
       omega (arith, copies_room scene.setup n w (limit_of x) lists bio.bio key 0 (none_there scene.setup (limit_of x) lists d.0) (all_there scene.setup (limit_of x) lists.list1 d.1.1), part)
+  -- links of legs
   fits w (moves.Legged place x bio lists master leg hand key node) c =
       let d = has place x (Copies bio master leg (Links hand)) lists c.1 c.2 in
       let lt = line_fits scene x (Copies bio master leg (Links hand)) lists (subst (TaskFits scene) c.1 (i.tasks place)) c.2 in
@@ -139,6 +143,7 @@ module _ (scene : Scene) (s : State) (g : Ground scene.setup) (n : Needs scene.s
       leg_writer bio hand leg key (Leaf number sectors) lt = absurd (omega (arith, lt))
       leg_writer bio hand leg key (Split number kind sizes members) lt = absurd (omega (arith, lt))
       leg_writer bio hand leg key (Mirrored number sizes members) lt = refl
+  -- drops that leave a node open, drops that close a node, gives, ends of writes, resizes and rounds
   fits w (moves.Told place disk carried writer key status part node) c = omega arith
   fits w (moves.Closes place disk carried writer key status part node) c = omega arith
   fits w (moves.Gives place disk writer number closed held) c = omega arith
