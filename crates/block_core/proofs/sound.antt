@@ -32,6 +32,5 @@ pub mod LegLists
 pub mod ListOrder
 pub mod Positions
 pub mod Soundness
-pub mod SoundCases
 pub mod Sayings
 pub mod Dones
