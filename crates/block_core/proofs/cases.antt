@@ -2,4 +2,5 @@ pub mod RankCases
 pub mod FragmentCases
 pub mod ValueCases
 pub mod HandCases
+pub mod LevelCases
 pub mod RoleCases

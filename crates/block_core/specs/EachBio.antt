@@ -35,18 +35,18 @@ pub record EachBio (P : Item Pad → Type 0) (scene : Scene) (state : State) : T
   pub rescued : (dev : ℕ) → dev < scene.setup.count → All P (state.objects.rescue dev)
   pub pending : (dev : ℕ) → dev < scene.setup.count → All P (state.objects.disk dev).pending
 
--- and a fact of the bio that a mirror copies, which waits in the node that it names while its legs are made
-abbrev pub DoingCopies : (Bio → Type 0) → Doing → Type 0
+-- and a fact of the bio that a mirror copies, which waits in the node that it names while its legs are made, and of the place of its master
+abbrev pub DoingCopies : (Bio → ℕ → Type 0) → Doing → Type 0
 DoingCopies P Rests = Unit {0}
 DoingCopies P (Drives bio ask) = Unit {0}
-DoingCopies P (Copies bio master leg want) = P bio
+DoingCopies P (Copies bio master leg want) = P bio master
 DoingCopies P (Breaks breach kept) = Unit {0}
 
-abbrev pub TaskCopies : (Bio → Type 0) → TaskState → Type 0
+abbrev pub TaskCopies : (Bio → ℕ → Type 0) → TaskState → Type 0
 TaskCopies P (Writer number todo taken line) = DoingCopies P line.doing
 TaskCopies P (Rescuer dev line) = DoingCopies P line.doing
 TaskCopies P (Completer disk carried) = Unit {0}
 TaskCopies P (Keeper keeping) = Unit {0}
 
-abbrev pub EachCopied : (Bio → Type 0) → Scene → State → Type 0
+abbrev pub EachCopied : (Bio → (master : ℕ) → Type 0) → Scene → State → Type 0
 EachCopied P scene state = (place : ℕ) → place < scene.tasks → TaskCopies P (state.task place)

@@ -46,7 +46,7 @@ pub record IsSound (s : Scenario) (ledger : ℕ → LedgerId) (events : List Eve
   -- still to come to it, and where that run is decided, it keeps what decides it, or that still comes
   pub kept : EndsAreKept events state
   pub valued : IsValued s (scene s ledger) (node_bios (scene s ledger) (start s) events state run no_bios) state
-  -- what nodes hold is of pools whose numbers rise from each node to its parent
+  -- what nodes hold, and what is left of closed ones, is of pools whose numbers rise from each node to its parent
   pub levels : HasLevels (scene s ledger) state
   -- bios are in their order in lists, and no task waits for a bio of a set of which it has one in its lists
   pub lists : AreInListOrder (scene s ledger) state
@@ -57,7 +57,7 @@ pub record IsSound (s : Scenario) (ledger : ℕ → LedgerId) (events : List Eve
   pub others : (f : Fragment) → 0 < times f (completed (scene s ledger) (start s) events state run) + total (scene s ledger) (to_come (setup s) (is_it f)) state
       → IsOfScenario s f
   pub words : EachBio (λ item. HasItsWord s item.bio) (scene s ledger) state
-  pub copied : EachCopied (HasItsWord s) (scene s ledger) state
+  pub copied : EachCopied (λ bio master. HasItsWord s bio) (scene s ledger) state
   -- each sector of each disk holds the data of the last fragment without a fault there that was completed, and zeros where there is none
   pub images : (disk at : ℕ) → at < size (tree s.stack disk)
       → slice_index_or (state.objects.disk disk).image at [] ≡ held_after s disk at (completed (scene s ledger) (start s) events state run) zero_sector

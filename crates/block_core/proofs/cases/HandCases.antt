@@ -57,8 +57,8 @@ module _ (setup : Setup) (share : LedgerId) where
   fails hand = hand
 
 -- the word of a bio whose first sector is the second one of a write without a tag
-abbrev IsOfSecond : Bio → Type 0
-IsOfSecond bio = bio.word ≡ 64
+abbrev IsOfSecond : Bio → ℕ → Type 0
+IsOfSecond bio master = bio.word ≡ 64
 
 abbrev copying : TaskState
 copying = Rescuer (device 2) (record { doing = Copies (bio 1) 1 0 (Takes true); lists = no_lists })

@@ -56,7 +56,7 @@ module _ (P : Item Pad → Type 0) (w : Weight) (is : (spot : Spot) (item : Item
   }
 
 -- and so it is with a bio that a mirror copies
-module _ (P : Bio → Type 0) (w : Weight) (is : (bio : Bio) (master leg : ℕ) → w.copy bio master leg ≡ 0 → P bio) where
+module _ (P : Bio → ℕ → Type 0) (w : Weight) (is : (bio : Bio) (master leg : ℕ) → w.copy bio master leg ≡ 0 → P bio master) where
   of_copying : (limit : ℕ) (doing : Doing) → doing_weight w limit doing ≡ 0 → DoingCopies P doing
   of_copying limit Rests none = tt
   of_copying limit (Drives bio ask) none = tt

@@ -6,7 +6,7 @@ use Rattle.bio_books.specs.Links.{IsVacant}
 use Rattle.run_machine.specs.Scene.{Scene}
 use Rattle.run_machine.specs.Runs.{State}
 use Rattle.block_core.specs.Weights.{total, under}
-use Rattle.block_core.proofs.sound.OffLevels.{parent_off, held_off, off_levels}
+use Rattle.block_core.proofs.sound.OffLevels.{parent_off, held_off, held_level, below_off, off_levels}
 use Rattle.block_core.proofs.sound.Facts.{Kept}
 use Rattle.block_core.proofs.moves.Marked.{with_mark, mark_other, mark_still, IsUnmoved, none_moves}
 
@@ -17,6 +17,10 @@ module _ (level : ℕ → ℕ → ℕ) (writer key n : ℕ) where
   parent_same : (w k : ℕ) (parent : Option ℕ) → new w k ≡ level w k → under writer key w parent ≡ 0 → parent_off new w k parent ≡ parent_off level w k parent
   parent_same w k None here none = refl
   parent_same w k (Some parent) here none = omega (arith, here, mark_still level writer key n w parent none)
+
+  below_same : (w own : ℕ) (parent : Option ℕ) → under writer key w parent ≡ 0 → below_off (new w) own parent ≡ below_off (level w) own parent
+  below_same w own None none = refl
+  below_same w own (Some parent) none = omega (arith, mark_still level writer key n w parent none)
 
   -- what refers to another place keeps its level
   unmoved : IsUnmoved (off_levels new) (off_levels level) writer key
@@ -30,7 +34,7 @@ module _ (level : ℕ → ℕ → ℕ) (writer key n : ℕ) where
     node = λ w k node other none.
         let here = mark_other level writer key n w k other in
         omega (arith, parent_same w k (parent_of node.role) here none, ap (λ l. held_off l node.held) here);
-    closed = λ task w closed none. omega arith;
+    closed = λ task w closed none. omega (arith, below_same w (held_level closed.held) closed.parent none);
   }
 
   -- so a level for a vacant place changes nothing

@@ -1,6 +1,7 @@
 -- Events keep all nodes on levels.
-use Rattle.std.proofs.Common.{◌≡◌, ◌≢◌, ◌+◌, ◌-◌, ◌*◌, ◌<◌, ◌≤◌, ◌==◌, ℕ, [], ◌∷◌, Option, None, Some, inr, refl, sym, ◌∙◌, ap, subst, arith}
+use Rattle.std.proofs.Common.{◌≡◌, ◌≢◌, ◌+◌, ◌-◌, ◌*◌, ◌<◌, ◌≤◌, ◌==◌, ℕ, [], ◌∷◌, Option, None, Some, inl, inr, refl, sym, ◌∙◌, ap, subst, arith}
 use Rattle.std.proofs.lemmas.List.Sums.{sum_by-cons, sum_by_push}
+use Rattle.stack_base.specs.declared.ids.DevId.{DevId}
 use Rattle.stack_base.specs.declared.ids.Status.{Status}
 use Rattle.stack_base.specs.Tree.{Tree, Leaf, Split, Mirrored}
 use Rattle.bio_records.specs.declared.bio.Bio.{Bio}
@@ -8,11 +9,12 @@ use Rattle.bio_records.specs.declared.bio.Pad.{Pad}
 use Rattle.bio_records.specs.declared.tasks.TaskLists.{TaskLists}
 use Rattle.bio_records.specs.Items.{Item}
 use Rattle.bio_lists.specs.Submission.{submitted}
-use Rattle.bio_books.specs.Books.{Node, VectorItem, node_at, told, later_part}
+use Rattle.bio_books.specs.Books.{Node, VectorItem, SlipItem, Holding, node_at, parent_of, told, later_part}
+use Rattle.bio_books.specs.Drops.{Closed, closed_of}
 use Rattle.bio_books.specs.Links.{IsVacant}
 use Rattle.run_machine.specs.Scene.{Scene, tree_at}
 use Rattle.run_machine.specs.Lines.{Links, ToCut, ToMaster, Doing, Drives, Copies, first_length, legs_of, leg_at}
-use Rattle.run_machine.specs.Tasks.{TaskState, Todo, Carried, Empty, Brings, Carries, Fails}
+use Rattle.run_machine.specs.Tasks.{TaskState, Completer, Todo, Carried, Empty, Brings, Carries, Fails}
 use Rattle.run_machine.specs.Runs.{State}
 use Rattle.block_core.specs.Weights.{total, weigh_option, task_weight, carried_weight}
 use Rattle.block_core.proofs.moves.Moves.{Move, IsTaking, place_of, Can, after, lost, gained, limit_of, with_line, HasLine, Wants, with_want, taken_of, filled_of, vector_of, cut_lists, IsTake, Tells, Hands, piece, with_pool, with_book}
@@ -26,9 +28,10 @@ use Rattle.block_core.proofs.moves.Deltas.{vacant_at, delta}
 use Rattle.block_core.proofs.sound.Places.{sum_at-ge, copies_weight, unless, unless_none, cut_weight, line_part}
 use Rattle.block_core.proofs.moves.Listed.{IsBlind, landed_same, first_weight, goes_weight}
 use Rattle.block_core.specs.Weights.{apart}
-use Rattle.block_core.proofs.sound.OffLevels.{bio_off, held_off, off_levels, AreLeveled}
+use Rattle.block_core.proofs.sound.OffLevels.{bio_off, parent_off, held_off, first_level, held_level, below_off, closed_off, off_levels, AreLeveled}
 use Rattle.block_core.proofs.moves.Marked.{with_mark, mark_here, mark_other}
 use Rattle.block_core.proofs.sound.Levels.{total_null}
+use Rattle.block_core.proofs.stuck.Idle.{node_part}
 
 blind_levels : (level : ℕ → ℕ → ℕ) → IsBlind (off_levels level)
 blind_levels level limit item t = landed_same (λ (bio : Bio). apart (level bio.writer bio.node) (min item.share.no 64)) (λ to members bio. refl) t item.bio
@@ -59,6 +62,55 @@ told_on level writer key status part (Carries of closed) node t off =
 told_on level writer key status part Empty node t off = absurd t
 told_on level writer key status part (Fails breach kept) node t off = absurd t
 
+-- what is off one level is off no other one, and that is the first level
+held_once : (l : ℕ) (held : Holding) → held_off l held ≡ 0 → (held_level held ≤ l) × (held_off (held_level held) held ≡ 0)
+held_once l held none = by_three held.bio held.vector held.slip none
+  where
+    by_three : (bio : Option (Item Pad)) (vector : Option VectorItem) (slip : Option SlipItem)
+        → held_off l (record { bio = bio; vector = vector; slip = slip }) ≡ 0
+        → (first_level bio vector slip ≤ l) × (held_off (first_level bio vector slip) (record { bio = bio; vector = vector; slip = slip }) ≡ 0)
+    by_three (Some bio) (Some vector) (Some slip) none = (omega (arith, none), omega (arith, none))
+    by_three (Some bio) (Some vector) None none = (omega (arith, none), omega (arith, none))
+    by_three (Some bio) None (Some slip) none = (omega (arith, none), omega (arith, none))
+    by_three (Some bio) None None none = (omega (arith, none), omega (arith, none))
+    by_three None (Some vector) (Some slip) none = (omega (arith, none), omega (arith, none))
+    by_three None (Some vector) None none = (omega (arith, none), omega (arith, none))
+    by_three None None (Some slip) none = (omega (arith, none), omega (arith, none))
+    by_three None None None none = (omega arith, omega arith)
+
+below_less : (level : ℕ → ℕ) (own l : ℕ) (parent : Option ℕ) → own ≤ l → below_off level own parent ≤ below_off level l parent
+below_less level own l None le = omega arith
+below_less level own l (Some parent) le = omega (arith, le)
+
+-- with one element less
+less_off : (l : ℕ) (old new : Holding) (number : ℕ) → Hands old number new → held_off l new ≤ held_off l old
+less_off l old new number (inl (vector, has, share, is)) = rw is (omega arith)
+less_off l old new number (inr (inl (bio, has, share, is))) = rw is (omega arith)
+less_off l old new number (inr (inr (slip, has, share, is))) = rw is (omega arith)
+
+less_closed : (level : ℕ → ℕ) (closed : Closed) (held : Holding) (number : ℕ) → Hands closed.held number held → closed_off level closed ≡ 0
+    → closed_off level (record closed { held = held }) ≡ 0
+less_closed level closed held number hands none =
+    let own = held_level closed.held in
+    let h = held_once own held (omega (arith, none, less_off own closed.held held number hands)) in
+    let low = h.0 in
+    let off = h.1 in
+    omega (arith, off, below_less level (held_level held) own closed.parent low, none)
+
+-- what is left of a node that closes is of the level of the node
+closes_on : (level : ℕ → ℕ → ℕ) (writer key : ℕ) (node : Node) → held_off (level writer key) node.held ≡ 0 → parent_off level writer key (parent_of node.role) ≡ 0
+    → closed_off (level writer) (closed_of node) ≡ 0
+closes_on level writer key node held up =
+    let h = held_once (level writer key) node.held held in
+    let low = h.0 in
+    let off = h.1 in
+    let same : below_off (level writer) (level writer key) (parent_of node.role) ≡ parent_off level writer key (parent_of node.role) = by_parent (parent_of node.role) in
+    omega (arith, off, same, up, below_less (level writer) (held_level node.held) (level writer key) (parent_of node.role) low)
+  where
+    by_parent : (parent : Option ℕ) → below_off (level writer) (level writer key) parent ≡ parent_off level writer key parent
+    by_parent None = refl
+    by_parent (Some parent) = refl
+
 -- the vector of a write is on the level of its top
 vector_on : (level : ℕ → ℕ → ℕ) (writer key : ℕ) (todo : Todo) (item : Item Pad) (vector : Option VectorItem) → HandHome (taken_of item vector) → level writer key ≡ 64
     → weigh_option (λ (v : VectorItem). apart (level writer key) (min v.share.no 64)) (vector_of todo vector) ≡ 0
@@ -84,6 +136,12 @@ module _ (scene : Scene) (s : State) (g : Ground scene.setup) (i : Kept scene s)
 
   at : (place : ℕ) (x : TaskState) (doing : Doing) (lists : TaskLists) → s.task place ≡ x → HasLine x doing lists → DoingPlaced scene.setup (limit_of x) doing lists
   at place x doing lists is h = line_placed scene.setup x doing lists (subst (TaskPlaced scene.setup) is (p.tasks place)) h
+
+  -- what a completer carries is on its level
+  carried_off : (place : ℕ) (disk : DevId) (carried : Carried) → place < scene.tasks → s.task place ≡ Completer disk carried → carried_weight (off_levels level) 0 carried ≡ 0
+  carried_off place disk carried lt is =
+      let a : task_weight (off_levels level) place (s.task place) ≡ carried_weight (off_levels level) 0 carried = ap (task_weight (off_levels level) 0) is in
+      omega (arith, a, sum_at-ge (task_weight (off_levels level)) scene.tasks s.task place lt, off)
 
   -- an open node has another place than a vacant one
   other_place : (writer key place : ℕ) (node : Node) → IsVacant (s.objects.book writer) key → node_at (s.objects.book writer) place ≡ Some node → place ≢ key
@@ -209,12 +267,18 @@ module _ (scene : Scene) (s : State) (g : Ground scene.setup) (i : Kept scene s)
       ))
   -- drops that leave a node open
   stays_leveled (moves.Told place disk carried writer key status part node) c =
-      let a : task_weight (off_levels level) place (s.task place) ≡ carried_weight (off_levels level) 0 carried = ap (task_weight (off_levels level) 0) c.1 in
-      let b = sum_at-ge (task_weight (off_levels level)) scene.tasks s.task place c.0 in
-      same (moves.Told place disk carried writer key status part node) c (omega (arith, told_on level writer key status part carried node c.2 (omega (arith, a, b, off))))
+      let own = carried_off place disk carried c.0 c.1 in
+      same (moves.Told place disk carried writer key status part node) c (omega (arith, told_on level writer key status part carried node c.2 own))
   -- drops that close a node, gives, ends of writes, resizes and rounds
-  stays_leveled (moves.Closes place disk carried writer key status part node) c = same (moves.Closes place disk carried writer key status part node) c (omega arith)
-  stays_leveled (moves.Gives place disk writer number closed held) c = same (moves.Gives place disk writer number closed held) c (omega arith)
+  stays_leveled (moves.Closes place disk carried writer key status part node) c =
+      let own = carried_off place disk carried c.0 c.1 in
+      let held = told_on level writer key status part carried node c.2 own in
+      let at_node = node_part scene s i (off_levels level) writer key node c.4 in
+      let none : held_off (level writer key) (told node status part).held ≡ 0 = omega (arith, held, at_node, off) in
+      same (moves.Closes place disk carried writer key status part node) c (omega (arith, closes_on level writer key (told node status part) none (omega (arith, at_node, off))))
+  stays_leveled (moves.Gives place disk writer number closed held) c =
+      let own : closed_off (level writer) closed ≡ 0 = carried_off place disk (Carries writer closed) c.0 c.1 in
+      same (moves.Gives place disk writer number closed held) c (omega (arith, less_closed (level writer) closed held number c.2 own))
   stays_leveled (moves.Ends place disk writer closed) c = same (moves.Ends place disk writer closed) c (omega arith)
   stays_leveled (moves.Resized place pool min later duties) c = same (moves.Resized place pool min later duties) c (omega arith)
   stays_leveled (moves.Started place round later duties) c = same (moves.Started place round later duties) c (omega arith)

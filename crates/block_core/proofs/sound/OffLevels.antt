@@ -3,6 +3,7 @@ use Rattle.std.specs.Prelude.{◌≡◌, ◌+◌, ◌-◌, ◌*◌, min, ℕ, Op
 use Rattle.bio_records.specs.declared.bio.Pad.{Pad}
 use Rattle.bio_records.specs.Items.{Item}
 use Rattle.bio_books.specs.Books.{VectorItem, SlipItem, Holding, parent_of}
+use Rattle.bio_books.specs.Drops.{Closed}
 use Rattle.run_machine.specs.Scene.{Scene}
 use Rattle.run_machine.specs.Runs.{State}
 use Rattle.block_core.specs.Weights.{Weight, apart, total, weigh_option}
@@ -23,6 +24,23 @@ held_off level held =
     + weigh_option (λ (vector : VectorItem). apart level (min vector.share.no 64)) held.vector
     + weigh_option (λ (slip : SlipItem). apart level (min slip.share.no 64)) held.slip
 
+-- the level of what is held: that of the first that is there
+abbrev pub first_level : Option (Item Pad) → Option VectorItem → Option SlipItem → ℕ
+first_level (Some bio) vector slip = min bio.share.no 64
+first_level None (Some vector) slip = min vector.share.no 64
+first_level None None slip = weigh_option (λ (slip : SlipItem). min slip.share.no 64) slip
+
+abbrev pub held_level : Holding → ℕ
+held_level held = first_level held.bio held.vector held.slip
+
+-- what is left of a closed node is of one level, below that of the node that it was under
+abbrev pub below_off : (ℕ → ℕ) → ℕ → Option ℕ → ℕ
+below_off level own None = 0
+below_off level own (Some parent) = (own + 1) - level parent
+
+abbrev pub closed_off : (ℕ → ℕ) → Closed → ℕ
+closed_off level closed = held_off (held_level closed.held) closed.held + below_off level (held_level closed.held) closed.parent
+
 -- how far all is off these levels; a master is on the level of its mirror's records
 abbrev pub off_levels : (ℕ → ℕ → ℕ) → Weight
 off_levels level = record {
@@ -33,7 +51,7 @@ off_levels level = record {
   vector = λ vector. 0;
   slip = λ slip. 0;
   node = λ writer place node. parent_off level writer place (parent_of node.role) + held_off (level writer place) node.held;
-  closed = λ task writer closed. 0;
+  closed = λ task writer closed. closed_off (level writer) closed;
 }
 
 -- there are levels on which all is

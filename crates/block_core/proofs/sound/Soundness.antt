@@ -1,18 +1,18 @@
 -- Every run of every scenario is sound.
-use Rattle.std.proofs.Common.{◌≡◌, ◌+◌, ◌-◌, ℕ, false, refl, sym, ◌∙◌, ap, subst, arith}
+use Rattle.std.proofs.Common.{◌≡◌, ◌+◌, ◌-◌, ◌*◌, ℕ, false, refl, sym, ◌∙◌, ap, subst, arith}
 use Rattle.std.specs.Prelude.{min}
 use Rattle.layout_model.specs.May.{fault_of}
 use Rattle.bio_books.specs.Books.{node_at, parent_of}
 use Rattle.run_machine.specs.Scene.{Scene}
 use Rattle.run_machine.specs.Lines.{Line}
-use Rattle.run_machine.specs.Tasks.{TaskState, Writer, Rescuer, Completer, Keeper}
+use Rattle.run_machine.specs.Tasks.{TaskState, Writer, Rescuer, Completer, Carries, Keeper}
 use Rattle.run_machine.specs.Opened.{scene, start, setup as setup_in}
 use Rattle.run_machine.specs.Runs.{State}
 use Rattle.block_core.specs.Weights.{total}
 use Rattle.block_core.specs.Fragments.{is_it}
 use Rattle.block_core.proofs.sound.CarriedLevels.{on_level, TaskOne, begins_one, stays_one}
 use Rattle.block_core.proofs.sound.LevelsKept.{stays_leveled}
-use Rattle.block_core.proofs.sound.OffLevels.{parent_off, off_levels, AreLeveled}
+use Rattle.block_core.proofs.sound.OffLevels.{parent_off, held_level, below_off, closed_off, off_levels, AreLeveled}
 use Rattle.block_core.specs.Levels.{HasLevels}
 use Rattle.block_core.specs.Images.{HasItsWord}
 use Rattle.block_core.specs.Sound.{EveryRunIsSound}
@@ -36,6 +36,7 @@ use Rattle.block_core.proofs.unrefused.BioNeeds.{worth}
 use Rattle.block_core.proofs.images.Completed.{fragments_add_up}
 use Rattle.block_core.proofs.images.PlannedOnce.{planned_is, is_planned}
 use Rattle.block_core.proofs.moves.Misfits.{misfits, no_misfits}
+use Rattle.block_core.proofs.moves.Totals.{task_part}
 use Rattle.block_core.proofs.images.BioData.{unfit, tied, unfit_follows}
 use Rattle.block_core.proofs.images.ImageData.{start_fits, images_are_of_completed}
 use Rattle.block_core.proofs.status.Statuses.{completers_are_right, nodes_are_valued}
@@ -52,6 +53,17 @@ module _ (scene : Scene) (s : State) (i : Kept scene s) (level : ℕ → ℕ →
     under = λ writer place node parent at is.
         let here : parent_off level writer place (parent_of node.role) ≡ (level writer place + 1) - level writer parent = ap (parent_off level writer place) is in
         omega (arith, off, here, node_part scene s i (off_levels level) writer place node at);
+    carried = λ place disk writer closed lt is.
+        let none : closed_off (level writer) closed ≡ 0 = omega (arith, off, task_part scene (off_levels level) s place (Completer disk (Carries writer closed)) lt is) in (
+          held_level closed.held,
+          on_level (held_level closed.held) closed.held (omega (arith, none)),
+          λ parent is_under.
+              let up : below_off (level writer) (held_level closed.held) closed.parent ≡ (held_level closed.held + 1) - level writer parent =
+              ap (below_off (level writer) (held_level closed.held)) is_under in
+              omega (arith, none, up),
+        );
+    masters =
+        each_copied (λ bio master. level bio.writer master ≡ 2 * bio.dev.0 + 1) (off_levels level) (λ bio master leg none. omega (arith, none)) scene s off;
   }
 
 -- a task that did nothing yet copies no bio
@@ -108,7 +120,7 @@ every_run_is_sound s ledger events state good naming run =
       fragments = λ fragment is. all (is_it fragment) ∙ is_planned s good ledger fragment is;
       others = λ fragment some. planned_is s good ledger fragment (omega (arith, some, all (is_it fragment)));
       words = each_bio (λ item. HasItsWord s item.bio) (misfits (unfit s)) (λ spot item none. tied s item.bio (omega (arith, none))) sc state fits;
-      copied = each_copied (HasItsWord s) (misfits (unfit s)) (λ bio master leg none. tied s bio (omega (arith, none))) sc state fits;
+      copied = each_copied (λ bio master. HasItsWord s bio) (misfits (unfit s)) (λ bio master leg none. tied s bio (omega (arith, none))) sc state fits;
       images = λ disk at lt. images_are_of_completed s ledger events state good naming run disk at lt;
       tally = run_tallied s ledger good naming events state run;
       places = runs_roomy sc f g (worth s.stack good.stack (setup_in s).places) (start s) events state first (start_roomy s good ledger) run;
