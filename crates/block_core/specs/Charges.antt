@@ -173,9 +173,13 @@ charged price scene s =
 abbrev pub spent : (Paid → ℕ) → Scene → State → ℕ
 spent price scene s = sum_at (λ place task. task_spent price task) scene.tasks s.task
 
--- all charges of a state; no more is spent than is charged
+-- the charges of a state that are still open: all of them, without what is spent
+abbrev pub open_charges : (Paid → ℕ) → Scene → State → ℕ
+open_charges price scene s = charged price scene s - spent price scene s
+
+-- and where each event costs one
 abbrev pub rank : Scene → State → ℕ
-rank scene s = charged unit_price scene s - spent unit_price scene s
+rank scene s = open_charges unit_price scene s
 
 -- Of each reached state: as many events as come behind it lower its rank by as many at least. So each event lowers the rank.
 abbrev pub EventsLowerRank : Type 0

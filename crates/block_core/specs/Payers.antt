@@ -1,5 +1,5 @@
 -- Which events are paid for by what: the table behind the charges.
-use Rattle.std.specs.Prelude.{◌+◌, ℕ, List, [], ◌∷◌, sum_by}
+use Rattle.std.specs.Prelude.{ℕ, List, [], ◌∷◌, sum_by}
 
 pub data Payer : Type 0 where
   -- the bio of a write, and its vector, where it has one

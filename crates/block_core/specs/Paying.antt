@@ -15,7 +15,7 @@ use Rattle.run_machine.specs.Opened.{Change, Scenario, round_count, scene, start
 use Rattle.run_machine.specs.Runs.{State, IsRun}
 use Rattle.run_machine.specs.Scene.{Scene}
 use Rattle.run_machine.specs.Tasks.{Carried, Empty, Brings, Carries, Fails, TaskState, Writer, Rescuer, Completer, Keeper}
-use Rattle.block_core.specs.Charges.{run_charge, vector_charge}
+use Rattle.block_core.specs.Charges.{run_charge, vector_charge, charged, spent, open_charges}
 use Rattle.block_core.specs.Payers.{WriteBio, ScriptEntry, LaterRound, ReserveChange, Paid, cost}
 use Rattle.block_core.specs.Payers as paid
 use Rattle.block_core.specs.Scenarios.{IsScenario, IsNaming}
@@ -77,3 +77,14 @@ all_costs price s =
 abbrev pub EachHasItsCharge : Type 0
 EachHasItsCharge = (s : Scenario) (ledger : ℕ → LedgerId) (events : List Event) (state : State) → IsScenario s → IsNaming ledger
     → (run : IsRun (scene s ledger) (start s) events state) → (price : Paid → ℕ) → costs price (scene s ledger) (start s) events state run ≤ all_costs price s
+
+-- No more is ever spent than is charged, so what is charged without what is spent is all that is left.
+abbrev pub NoMoreIsSpent : Type 0
+NoMoreIsSpent = (s : Scenario) (ledger : ℕ → LedgerId) (events : List Event) (state : State) → IsScenario s → IsNaming ledger
+    → IsRun (scene s ledger) (start s) events state → (price : Paid → ℕ) → spent price (scene s ledger) state ≤ charged price (scene s ledger) state
+
+-- And so it is from each reached state, with the charges that it has still open: the events behind it use up as much of them as they cost.
+abbrev pub EventsUseUpCharges : Type 0
+EventsUseUpCharges = (s : Scenario) (ledger : ℕ → LedgerId) (before later : List Event) (old new : State) → IsScenario s → IsNaming ledger
+    → IsRun (scene s ledger) (start s) before old → (run : IsRun (scene s ledger) old later new) → (price : Paid → ℕ)
+    → costs price (scene s ledger) old later new run + open_charges price (scene s ledger) new ≤ open_charges price (scene s ledger) old

@@ -12,7 +12,7 @@ ghost use Rattle.block_core.specs.Fragments.{EachIsCompletedOnce, FragmentsAddUp
 ghost use Rattle.block_core.specs.Images.{EndedRunsLeaveTheSame, ImagesAreLaidOut, ImagesAreOfCompleted, LaidIsOne, OneFragmentARound, RoundsComeInOrder};
 ghost use Rattle.block_core.specs.Present.{WorkIsPresent};
 ghost use Rattle.block_core.specs.OfOneWrite.{AllAreOfOneWrite};
-ghost use Rattle.block_core.specs.Paying.{EachHasItsCharge};
+ghost use Rattle.block_core.specs.Paying.{EachHasItsCharge, EventsUseUpCharges, NoMoreIsSpent};
 ghost use Rattle.block_core.specs.Replies.{RepliesAreEvents};
 ghost use Rattle.block_core.specs.Rooms.{BooksHaveRoom};
 ghost use Rattle.block_core.specs.Runnable.{AcceptedTextsAreRunnable, StepsAreFew};
@@ -81,9 +81,12 @@ pub fn runs_are_bounded()
 {}
 
 /// However the kinds of event are priced, the events of no run of any scenario cost more than all that pays for them, by the table of what each bio,
-/// vector, record, fragment, entry, round and change pays for: so no charge is used twice.
+/// vector, record, fragment, entry, round and change pays for: so no charge is used twice. Nor do the events behind any reached state cost more than
+/// the charges that are open there without those that are open behind them.
 pub fn events_have_charges()
-    ensures { EachHasItsCharge }
+    ensures all { EachHasItsCharge }
+    ensures spent { NoMoreIsSpent }
+    ensures later { EventsUseUpCharges }
 {}
 
 /// Where no take of a run misses, the layout alone fixes how many events it has once it has ended: each element is taken and given back, each node

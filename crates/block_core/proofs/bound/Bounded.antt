@@ -8,10 +8,10 @@ use Rattle.run_machine.specs.Maps.{upd}
 use Rattle.run_machine.specs.Scene.{Scene}
 use Rattle.run_machine.specs.Opened.{Scenario, scene, start, setup as setup_in}
 use Rattle.run_machine.specs.Runs.{State, Steps, IsRun}
-use Rattle.block_core.specs.Charges.{charged, spent, rank, EventsLowerRank}
+use Rattle.block_core.specs.Charges.{charged, spent, open_charges, rank, EventsLowerRank}
 use Rattle.block_core.specs.Scenarios.{IsScenario, IsNaming}
 use Rattle.block_core.specs.Payers.{Paid, unit_price}
-use Rattle.block_core.specs.Paying.{brings, paid_as, costs, all_costs, EachHasItsCharge}
+use Rattle.block_core.specs.Paying.{brings, paid_as, costs, all_costs, EachHasItsCharge, EventsUseUpCharges, NoMoreIsSpent}
 use Rattle.block_core.specs.Bounded.{most_steps, OpenedRankIsBounded, OutsAreBounded, RunsAreBounded}
 use Rattle.block_core.proofs.moves.Moves.{Move, after}
 use Rattle.block_core.proofs.moves.Moves as moves
@@ -62,6 +62,11 @@ event_out scene s (moves.Closes place disk carried writer key status part node) 
 event_out scene s (moves.Ends place disk writer closed) q = omega arith
 event_out scene s (moves.Started place round later duties) q = omega arith
 
+-- where each event costs one, they cost as much as there are
+costs_length : (scene : Scene) (s : State) (events : List Event) (new : State) (run : IsRun scene s events new) → costs unit_price scene s events new run ≡ length events
+costs_length scene s [] new run = refl
+costs_length scene s (event ∷ events) new (next, step, run) = omega (arith, costs_length scene next events new run)
+
 module _ (scene : Scene) (f : Fair scene) (g : Ground scene.setup) (p : (price : Paid → ℕ) → Priced price scene.setup) where
   -- one event
   step_costs : (price : Paid → ℕ) (s : State) (place : ℕ) (event : Event) (new : State) → Whole scene s → Steps scene s place event new
@@ -85,19 +90,15 @@ module _ (scene : Scene) (f : Fair scene) (g : Ground scene.setup) (p : (price :
       let j = runs_whole scene f g s (event ∷ []) next i (next, (place, steps), refl) in
       omega (arith, step_costs price s place event next i steps, runs_cost price next events new j run)
 
-  -- where each costs one, they cost as much as there are
-  costs_length : (s : State) (events : List Event) (new : State) (run : IsRun scene s events new) → costs unit_price scene s events new run ≡ length events
-  costs_length s [] new run = refl
-  costs_length s (event ∷ events) new (next, step, run) = omega (arith, costs_length next events new run)
-
-  pub runs_lower : (s : State) (events : List Event) (new : State) → Whole scene s → Whole scene new → IsRun scene s events new → length events + rank scene new ≤ rank scene s
-  runs_lower s events new i j run =
+  -- they use up as much of what is open as they cost
+  pub runs_use_up : (price : Paid → ℕ) (s : State) (events : List Event) (new : State) → Whole scene s → Whole scene new → (run : IsRun scene s events new)
+      → costs price scene s events new run + open_charges price scene new ≤ open_charges price scene s
+  runs_use_up price s events new i j run =
       omega (
         arith,
-        costs_length s events new run,
-        runs_cost unit_price s events new i run,
-        covers unit_price scene new g (p unit_price) j.kept j.placed,
-        covers unit_price scene s g (p unit_price) i.kept i.placed,
+        runs_cost price s events new i run,
+        covers price scene new g (p price) j.kept j.placed,
+        covers price scene s g (p price) i.kept i.placed,
       )
 
   pub runs_out : (q : ℕ) (s : State) (events : List Event) (new : State) → Whole scene s → IsRun scene s events new
@@ -113,14 +114,25 @@ module _ (s : Scenario) (ledger : ℕ → LedgerId) (good : IsScenario s) (namin
   fair : Fair (scene s ledger)
   fair = record { named = naming }
 
-  run_lowers : (before later : List Event) (old new : State) → IsRun (scene s ledger) (start s) before old → IsRun (scene s ledger) old later new
-      → length later + rank (scene s ledger) new ≤ rank (scene s ledger) old
-  run_lowers before later old new first second =
+  run_uses_up : (before later : List Event) (old new : State) → IsRun (scene s ledger) (start s) before old → (run : IsRun (scene s ledger) old later new) → (price : Paid → ℕ)
+      → costs price (scene s ledger) old later new run + open_charges price (scene s ledger) new ≤ open_charges price (scene s ledger) old
+  run_uses_up before later old new first run price =
       let g = ground s.stack good.stack (setup_in s).places in
       let p : (price : Paid → ℕ) → Priced price (setup_in s) = λ price. priced price s.stack good.stack (setup_in s).places in
       let i = runs_whole (scene s ledger) fair g (start s) before old (start_whole s ledger good naming) first in
-      let j = runs_whole (scene s ledger) fair g old later new i second in
-      runs_lower (scene s ledger) fair g p old later new i j second
+      let j = runs_whole (scene s ledger) fair g old later new i run in
+      runs_use_up (scene s ledger) fair g p price old later new i j run
+
+  run_lowers : (before later : List Event) (old new : State) → IsRun (scene s ledger) (start s) before old → IsRun (scene s ledger) old later new
+      → length later + rank (scene s ledger) new ≤ rank (scene s ledger) old
+  run_lowers before later old new first second = omega (arith, costs_length (scene s ledger) old later new second, run_uses_up before later old new first second unit_price)
+
+  run_covers : (events : List Event) (state : State) → IsRun (scene s ledger) (start s) events state → (price : Paid → ℕ)
+      → spent price (scene s ledger) state ≤ charged price (scene s ledger) state
+  run_covers events state run price =
+      let g = ground s.stack good.stack (setup_in s).places in
+      let j = runs_whole (scene s ledger) fair g (start s) events state (start_whole s ledger good naming) run in
+      covers price (scene s ledger) state g (priced price s.stack good.stack (setup_in s).places) j.kept j.placed
 
   run_bounded : (events : List Event) (state : State) → IsRun (scene s ledger) (start s) events state → length events ≤ most_steps s
   run_bounded events state run = omega (arith, run_lowers [] events (start s) state refl run, start_charge s good ledger unit_price, few_costs s good ledger)
@@ -159,6 +171,12 @@ opened_rank_is_bounded s ledger good naming = omega (arith, start_charge s good 
 
 pub outs_are_bounded : OutsAreBounded
 outs_are_bounded s ledger events state good naming run number = run_out s ledger good naming events state run number
+
+pub no_more_is_spent : NoMoreIsSpent
+no_more_is_spent s ledger events state good naming run price = run_covers s ledger good naming events state run price
+
+pub events_use_up_charges : EventsUseUpCharges
+events_use_up_charges s ledger before later old new good naming first run price = run_uses_up s ledger good naming before later old new first run price
 
 pub each_has_its_charge : EachHasItsCharge
 each_has_its_charge s ledger events state good naming run price = run_paid s ledger good naming events state run price
