@@ -1,10 +1,13 @@
 pub mod RunCharges
 pub mod DeviceCharges
+pub mod PoolPayers
 pub mod TaskCharges
 pub mod EntriesLeft
 pub mod EventCharges
 pub mod ChargesAtStart
+pub mod PayerCounts
 pub mod Bounded
+pub mod KindTimes
 pub mod RoleHoldings
 pub mod Dues
 pub mod StillDue

@@ -12,15 +12,15 @@ use Rattle.mempool_core.specs.Move.{PoolState}
 use Rattle.bio_records.specs.declared.bio.Bio.{Bio}
 use Rattle.bio_records.specs.declared.bio.Pad.{Pad}
 use Rattle.bio_records.specs.Items.{Item}
-use Rattle.bio_books.specs.Books.{Holding, parent_of}
+use Rattle.bio_books.specs.Books.{VectorItem, SlipItem, Holding, parent_of}
 use Rattle.run_machine.specs.declared.event.Event.{Event}
 use Rattle.run_machine.specs.Scene.{Setup, Scene, tree_at}
 use Rattle.run_machine.specs.Lines.{Want, Takes, Punts, Links, ToPush, ToCut, ToRecord, ToMaster, Doing, Rests, Drives, Copies, Breaks}
 use Rattle.run_machine.specs.Tasks.{Todo, Taken, NoBio, HasBio, HasBoth, Duty, Resizes, Starts, Keeps, Stops, TaskState, Writer, Rescuer, Completer, Keeper, needs_vector}
 use Rattle.run_machine.specs.Opened.{Scenario, scene, start}
 use Rattle.run_machine.specs.Runs.{State, IsRun}
-use Rattle.block_core.specs.Payers.{WriteBio, WriteVector, Record, PieceBio, Fragment, ScriptEntry, LaterRound, ReserveChange, Paid, MissesAtOnce, IsPunted, IsTaken, IsLinked, IsPopped, IsCompleted, EndsItself, EndsForParent, IsGiven, IsDone, cost, unit_price}
-use Rattle.block_core.specs.Weights.{Weight, Spot, Lined, Rescued, Pending, Brought, sum_at, total, legs_left}
+use Rattle.block_core.specs.Payers.{Payer, WriteBio, WriteVector, Record, PieceBio, Fragment, ScriptEntry, LaterRound, ReserveChange, payer_at, Paid, MissesAtOnce, IsPunted, IsTaken, IsLinked, IsPopped, IsCompleted, EndsItself, EndsForParent, IsGiven, IsDone, cost, unit_price}
+use Rattle.block_core.specs.Weights.{Weight, Spot, Lined, Rescued, Pending, Brought, sum_at, total, weigh_option, legs_left}
 use Rattle.block_core.specs.Scenarios.{IsScenario, IsNaming}
 
 -- what begins at sector s of a run that starts at r, here and below: at a disk a fragment is pushed and completed, where the run starts;
@@ -48,14 +48,14 @@ abbrev pub may_pop : (Paid → ℕ) → ℕ → ℕ → ℕ
 may_pop price limit number = if nat_lt number (2 * limit) then price IsPopped else 0
 
 -- a bio is given back, once its end was told
-abbrev pub end_charge : (Paid → ℕ) → ℕ
-end_charge price = price EndsItself + price IsGiven
+abbrev pub end_charge : (Paid → ℕ) → Payer → ℕ
+end_charge price payer = price (EndsItself payer) + price (IsGiven payer)
 
 abbrev pub bio_charge : (Paid → ℕ) → Setup → Spot → Item Pad → ℕ
-bio_charge price setup (Lined limit) item = end_charge price + may_pop price limit item.share.no + run_at price setup item.bio
-bio_charge price setup Rescued item = end_charge price + price IsPopped + run_at price setup item.bio
-bio_charge price setup Pending item = end_charge price + price IsCompleted
-bio_charge price setup Brought item = end_charge price
+bio_charge price setup (Lined limit) item = end_charge price (payer_at item.share.no) + may_pop price limit item.share.no + run_at price setup item.bio
+bio_charge price setup Rescued item = end_charge price (payer_at item.share.no) + price IsPopped + run_at price setup item.bio
+bio_charge price setup Pending item = end_charge price (payer_at item.share.no) + price IsCompleted
+bio_charge price setup Brought item = end_charge price (payer_at item.share.no)
 
 -- the legs that are still to be made
 abbrev pub leg_charge : (Paid → ℕ) → Tree → Range → ℕ → ℕ
@@ -84,17 +84,19 @@ abbrev pub todo_charge : (Paid → ℕ) → Setup → List Todo → Taken → �
 todo_charge price setup [] taken = 0
 todo_charge price setup (todo ∷ later) NoBio = write_charge price setup todo + sum_by (write_charge price setup) later
 todo_charge price setup (todo ∷ later) (HasBio bio) =
-    price IsLinked + end_charge price + price IsDone + vector_charge price todo.write + write_run price setup todo + sum_by (write_charge price setup) later
+    price (IsLinked WriteBio) + end_charge price WriteBio + price IsDone + vector_charge price todo.write + write_run price setup todo + sum_by (write_charge price setup) later
 todo_charge price setup (todo ∷ later) (HasBoth bio vector) =
-    price IsLinked + end_charge price + price IsDone + price IsGiven + write_run price setup todo + sum_by (write_charge price setup) later
+    price (IsLinked WriteBio) + end_charge price WriteBio + price IsDone + price (IsGiven WriteVector) + write_run price setup todo + sum_by (write_charge price setup) later
 
 -- what is held is given back
-abbrev pub give_charge : {X : Type 0} → (Paid → ℕ) → Option X → ℕ
+abbrev pub give_charge : (Paid → ℕ) → Option (Item Pad) → ℕ
 give_charge price None = 0
-give_charge price (Some x) = price IsGiven
+give_charge price (Some bio) = price (IsGiven (payer_at bio.share.no))
 
 abbrev pub held_charge : (Paid → ℕ) → Holding → ℕ
-held_charge price held = give_charge price held.bio + give_charge price held.vector + give_charge price held.slip
+held_charge price held =
+    give_charge price held.bio + weigh_option (λ (vector : VectorItem). price (IsGiven (payer_at vector.share.no))) held.vector
+    + weigh_option (λ (slip : SlipItem). price (IsGiven (payer_at slip.share.no))) held.slip
 
 -- and the end of a node is told to its parent, or is that of its write
 abbrev pub close_charge : (Paid → ℕ) → Option ℕ → ℕ
@@ -118,14 +120,14 @@ abbrev pub want_spent : (Paid → ℕ) → Want → ℕ
 want_spent price (Takes false) = 0
 want_spent price (Takes true) = price MissesAtOnce + price IsPunted
 want_spent price Punts = price MissesAtOnce
-want_spent price (Links hand) = price MissesAtOnce + price IsPunted + price IsTaken
+want_spent price (Links hand) = price MissesAtOnce + price IsPunted + price (IsTaken PieceBio)
 
 abbrev pub doing_spent : (Paid → ℕ) → Doing → ℕ
 doing_spent price Rests = 0
 doing_spent price (Drives bio ToPush) = 0
 doing_spent price (Drives bio (ToCut want)) = want_spent price want
 doing_spent price (Drives bio ToRecord) = 0
-doing_spent price (Drives bio (ToMaster slip)) = price IsTaken
+doing_spent price (Drives bio (ToMaster slip)) = price (IsTaken Record)
 doing_spent price (Copies bio master leg want) = want_spent price want
 doing_spent price (Breaks breach kept) = 0
 

@@ -14,8 +14,6 @@ use Rattle.run_machine.specs.declared.event.What.TheVariants as what
 use Rattle.run_machine.specs.Opened.{Scenario, scene, start, duties}
 use Rattle.run_machine.specs.Runs.{State, IsRun, HasEnded}
 use Rattle.run_machine.specs.Tasks.{Duty, Resizes, Starts}
-use Rattle.block_core.specs.Payers.{Paid}
-use Rattle.block_core.specs.Payers as paid
 use Rattle.block_core.specs.Scenarios.{IsScenario, IsNaming}
 
 abbrev pub is_miss : What → Bool
@@ -38,27 +36,19 @@ abbrev pub starts_round : Duty → Bool
 starts_round (Starts round later) = true
 starts_round (Resizes pool min later) = false
 
--- How often each kind of event that is paid for comes where no take misses. Each element is taken and given back, and each of a node linked. Each
--- fragment is pushed and completed, and its end is told to its node. Each other end is that of a node, and is told to its parent, or of a write,
--- which is done. The keeper starts each round behind the first, and changes reserves. The others come only behind a miss.
-abbrev pub times_without_misses : Scenario → Paid → ℕ
-times_without_misses s paid.IsTaken = all_elements s.stack s.writes
-times_without_misses s paid.IsLinked = all_nodes s.stack s.writes
-times_without_misses s paid.IsPushed = all_parts s.stack s.writes
-times_without_misses s paid.IsCompleted = all_parts s.stack s.writes
-times_without_misses s paid.EndsItself = all_parts s.stack s.writes
-times_without_misses s paid.EndsForParent = all_below s.stack s.writes
-times_without_misses s paid.IsGiven = all_elements s.stack s.writes
-times_without_misses s paid.IsDone = length s.writes
-times_without_misses s paid.Starts = length (filter starts_round (duties s))
-times_without_misses s paid.Resizes = length (filter (λ duty. not (starts_round duty)) (duties s))
-times_without_misses s kind = 0
-
+-- How often each kind of event comes where no take misses. Each element is taken and given back, and each of a node linked. Each fragment is pushed
+-- and completed, and its end is told to its node. Each other end is that of a node, and is told to its parent, or of a write, which is done. The
+-- keeper starts each round behind the first, and changes reserves. The others come only behind a miss.
 abbrev pub exact_steps : Scenario → ℕ
 exact_steps s =
-    let times = times_without_misses s in
-    times paid.IsTaken + times paid.IsLinked + times paid.IsPushed + times paid.IsCompleted + times paid.EndsItself + times paid.EndsForParent
-    + times paid.IsGiven + times paid.IsDone + times paid.Starts + times paid.Resizes
+    let takes = all_elements s.stack s.writes in
+    let links = all_nodes s.stack s.writes in
+    let pushes = all_parts s.stack s.writes in
+    let ends = all_parts s.stack s.writes + all_below s.stack s.writes in
+    let starts = length (filter starts_round (duties s)) in
+    let resizes = length (filter (λ duty. not (starts_round duty)) (duties s)) in
+    -- as many gives as takes, and completions as pushes
+    takes + links + pushes + pushes + ends + takes + length s.writes + starts + resizes
 
 -- So many events has each run that has ended and in which no take missed: its keeper has done all, since the last round has a write.
 abbrev pub StepsWithoutMisses : Type 0

@@ -15,6 +15,7 @@ pub mod Present
 pub mod Payers
 pub mod Charges
 pub mod Paying
+pub mod PayerCounts
 pub mod Bounded
 pub mod Rooms
 pub mod Breaks

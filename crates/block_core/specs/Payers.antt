@@ -1,5 +1,8 @@
 -- Which events are paid for by what: the table behind the charges.
 use Rattle.std.specs.Prelude.{ℕ, List, [], ◌∷◌, sum_by}
+use Rattle.stack_base.specs.declared.ids.PoolId.{PoolId}
+use Rattle.stack_base.specs.declared.ids.PoolId.TheVariants.{FsBios, FsVecs, Bios, Records}
+use Rattle.run_machine.specs.Events.{pool_of}
 
 pub data Payer : Type 0 where
   -- the bio of a write, and its vector, where it has one
@@ -15,18 +18,30 @@ pub data Payer : Type 0 where
   LaterRound : Payer
   ReserveChange : Payer
 
+-- what the elements of a pool are
+abbrev pub payer_of : PoolId → Payer
+payer_of FsBios = WriteBio
+payer_of FsVecs = WriteVector
+payer_of (Bios dev) = PieceBio
+payer_of (Records dev) = Record
+
+-- an element, by the number of its pool
+abbrev pub payer_at : ℕ → Payer
+payer_at number = payer_of (pool_of number)
+
 pub data Paid : Type 0 where
-  IsTaken : Paid
+  -- an element of this kind is taken, its node is linked, the end of a bio's own fragment is told to its node, and the element is given back
+  IsTaken : Payer → Paid
+  IsLinked : Payer → Paid
+  EndsItself : Payer → Paid
+  IsGiven : Payer → Paid
   MissesAtOnce : Paid
   IsPunted : Paid
-  IsLinked : Paid
   IsPopped : Paid
   IsPushed : Paid
   IsCompleted : Paid
-  -- its own fragment's end is told to its node; and that of a node to its parent, or for a record to the parent's own part
-  EndsItself : Paid
+  -- the end of a node is told to its parent, or for a record to the parent's own part
   EndsForParent : Paid
-  IsGiven : Paid
   IsDone : Paid
   MissesWaiting : Paid
   Starts : Paid
@@ -34,10 +49,11 @@ pub data Paid : Type 0 where
 
 -- each of these events at most once
 abbrev pub pays_for : Payer → List Paid
-pays_for WriteBio = IsTaken ∷ IsLinked ∷ EndsItself ∷ IsGiven ∷ IsDone ∷ []
-pays_for WriteVector = IsTaken ∷ IsGiven ∷ []
-pays_for Record = IsTaken ∷ IsLinked ∷ IsGiven ∷ EndsForParent ∷ []
-pays_for PieceBio = MissesAtOnce ∷ IsPunted ∷ IsTaken ∷ IsLinked ∷ IsPopped ∷ EndsItself ∷ IsGiven ∷ EndsForParent ∷ []
+pays_for WriteBio = IsTaken WriteBio ∷ IsLinked WriteBio ∷ EndsItself WriteBio ∷ IsGiven WriteBio ∷ IsDone ∷ []
+pays_for WriteVector = IsTaken WriteVector ∷ IsGiven WriteVector ∷ []
+pays_for Record = IsTaken Record ∷ IsLinked Record ∷ IsGiven Record ∷ EndsForParent ∷ []
+pays_for PieceBio =
+    MissesAtOnce ∷ IsPunted ∷ IsTaken PieceBio ∷ IsLinked PieceBio ∷ IsPopped ∷ EndsItself PieceBio ∷ IsGiven PieceBio ∷ EndsForParent ∷ []
 pays_for Fragment = IsPushed ∷ IsCompleted ∷ []
 pays_for ScriptEntry = MissesWaiting ∷ []
 pays_for LaterRound = Starts ∷ []

@@ -1,5 +1,5 @@
 -- How the events of a run are paid for: each by a charge of its own.
-use Rattle.std.specs.Prelude.{◌+◌, ◌-◌, ◌*◌, ◌≤◌, ℕ, Bool, true, false, List, [], ◌∷◌, sum_by}
+use Rattle.std.specs.Prelude.{◌+◌, ◌-◌, ◌*◌, ◌≤◌, ℕ, List, [], ◌∷◌, sum_by, Option, None, Some}
 use Rattle.std.specs.List.{range_with_len}
 use Rattle.elem_ledger.specs.Ledger.{LedgerId}
 use Rattle.fail_script.specs.Script.{Answers, entries_of}
@@ -7,8 +7,12 @@ use Rattle.stack_base.specs.declared.ids.PoolId.{PoolId}
 use Rattle.stack_base.specs.declared.stack.Stack.{Stack}
 use Rattle.stack_base.specs.Tree.{tree}
 use Rattle.layout_model.specs.declared.write.Write.{Write}
+use Rattle.bio_records.specs.declared.bio.Pad.{Pad}
+use Rattle.bio_records.specs.Items.{Item}
 use Rattle.run_machine.specs.declared.event.Event.{Event}
 use Rattle.run_machine.specs.declared.event.Got.TheVariants as got
+use Rattle.run_machine.specs.declared.event.How.{How}
+use Rattle.run_machine.specs.declared.event.How.TheVariants as how
 use Rattle.run_machine.specs.declared.event.What.{What}
 use Rattle.run_machine.specs.declared.event.What.TheVariants as what
 use Rattle.run_machine.specs.Opened.{Change, Scenario, round_count, scene, start}
@@ -16,40 +20,47 @@ use Rattle.run_machine.specs.Runs.{State, IsRun}
 use Rattle.run_machine.specs.Scene.{Scene}
 use Rattle.run_machine.specs.Tasks.{Carried, Empty, Brings, Carries, Fails, TaskState, Writer, Rescuer, Completer, Keeper}
 use Rattle.block_core.specs.Charges.{run_charge, vector_charge, charged, spent, open_charges}
-use Rattle.block_core.specs.Payers.{WriteBio, ScriptEntry, LaterRound, ReserveChange, Paid, cost}
+use Rattle.block_core.specs.Payers.{Payer, WriteBio, Record, PieceBio, ScriptEntry, LaterRound, ReserveChange, payer_of, payer_at, Paid, cost}
 use Rattle.block_core.specs.Payers as paid
 use Rattle.block_core.specs.Scenarios.{IsScenario, IsNaming}
 
--- whether what a task tells next is the end of a bio that it brings
-abbrev pub is_brought : Carried → Bool
-is_brought Empty = false
-is_brought (Brings bio status) = true
-is_brought (Carries writer closed) = false
-is_brought (Fails breach kept) = false
+-- the bio that a task brings, of which it tells the end next
+abbrev pub bio_brought : Carried → Option (Item Pad)
+bio_brought Empty = None
+bio_brought (Brings bio status) = Some bio
+bio_brought (Carries writer closed) = None
+bio_brought (Fails breach kept) = None
 
-abbrev pub brings : TaskState → Bool
-brings (Writer number todo taken line) = false
-brings (Rescuer dev line) = false
-brings (Completer disk carried) = is_brought carried
-brings (Keeper keeping) = false
+abbrev pub brings : TaskState → Option (Item Pad)
+brings (Writer number todo taken line) = None
+brings (Rescuer dev line) = None
+brings (Completer disk carried) = bio_brought carried
+brings (Keeper keeping) = None
 
 -- an end is told of a bio, or of a node
-abbrev pub paid_end : Bool → Paid
-paid_end true = paid.EndsItself
-paid_end false = paid.EndsForParent
+abbrev pub paid_end : Option (Item Pad) → Paid
+paid_end (Some bio) = paid.EndsItself (payer_at bio.share.no)
+paid_end None = paid.EndsForParent
 
--- the kind of event that is paid for, by whether its task brings a bio
-abbrev pub paid_as : Bool → What → Paid
+-- what a node is opened for: a write, the first piece of a bio or a leg, or a mirror's record
+abbrev pub linked_for : How → Payer
+linked_for how.Write = WriteBio
+linked_for how.Chain = PieceBio
+linked_for how.Master = Record
+linked_for how.Leg = PieceBio
+
+-- the kind of event that is paid for, by the bio that its task brings
+abbrev pub paid_as : Option (Item Pad) → What → Paid
 paid_as brought (what.Take pool got.Missed) = paid.MissesWaiting
-paid_as brought (what.Take pool got) = paid.IsTaken
+paid_as brought (what.Take pool got) = paid.IsTaken (payer_of pool)
 paid_as brought (what.Try pool got.Missed) = paid.MissesAtOnce
-paid_as brought (what.Try pool got) = paid.IsTaken
-paid_as brought (what.Give pool) = paid.IsGiven
+paid_as brought (what.Try pool got) = paid.IsTaken (payer_of pool)
+paid_as brought (what.Give pool) = paid.IsGiven (payer_of pool)
 paid_as brought (what.Punt dev moved) = paid.IsPunted
 paid_as brought (what.Pop dev) = paid.IsPopped
 paid_as brought (what.Push disk at len leg) = paid.IsPushed
 paid_as brought (what.Complete disk index status) = paid.IsCompleted
-paid_as brought (what.Link writer how node) = paid.IsLinked
+paid_as brought (what.Link writer opening node) = paid.IsLinked (linked_for opening)
 paid_as brought (what.Drop writer node status end) = paid_end brought
 paid_as brought (what.Done write status) = paid.IsDone
 paid_as brought (what.Resize pool min) = paid.Resizes

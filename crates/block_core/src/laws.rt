@@ -12,6 +12,7 @@ ghost use Rattle.block_core.specs.Fragments.{EachIsCompletedOnce, FragmentsAddUp
 ghost use Rattle.block_core.specs.Images.{EndedRunsLeaveTheSame, ImagesAreLaidOut, ImagesAreOfCompleted, LaidIsOne, OneFragmentARound, RoundsComeInOrder};
 ghost use Rattle.block_core.specs.Present.{WorkIsPresent};
 ghost use Rattle.block_core.specs.OfOneWrite.{AllAreOfOneWrite};
+ghost use Rattle.block_core.specs.PayerCounts.{EachKindIsFew, PayersAreCounted};
 ghost use Rattle.block_core.specs.Paying.{EachHasItsCharge, EventsUseUpCharges, NoMoreIsSpent};
 ghost use Rattle.block_core.specs.Replies.{RepliesAreEvents};
 ghost use Rattle.block_core.specs.Rooms.{BooksHaveRoom};
@@ -87,6 +88,13 @@ pub fn events_have_charges()
     ensures all { EachHasItsCharge }
     ensures spent { NoMoreIsSpent }
     ensures later { EventsUseUpCharges }
+{}
+
+/// How many things pay for events the layout tells: of the elements that all writes need, their own bios, their vectors, the records of mirrors, and the
+/// bios of first pieces and of legs; and the fragments. So of each kind of event no run of any scenario has more than there are of what pays for it.
+pub fn each_kind_is_few()
+    ensures counted { PayersAreCounted }
+    ensures kinds { EachKindIsFew }
 {}
 
 /// Where no take of a run misses, the layout alone fixes how many events it has once it has ended: each element is taken and given back, each node

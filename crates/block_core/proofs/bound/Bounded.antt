@@ -22,7 +22,8 @@ use Rattle.block_core.proofs.moves.Devices.{ground}
 use Rattle.block_core.proofs.moves.StepMoves.{step_is_move}
 use Rattle.block_core.proofs.bound.DeviceCharges.{Priced, priced}
 use Rattle.block_core.proofs.bound.EventCharges.{lowers, covers}
-use Rattle.block_core.proofs.bound.ChargesAtStart.{few_costs, start_charge, start_spent}
+use Rattle.block_core.proofs.bound.ChargesAtStart.{start_charge, start_spent}
+use Rattle.block_core.proofs.bound.PayerCounts.{few_costs}
 use Rattle.block_core.proofs.sound.Wholes.{Whole, runs_whole, start_whole}
 
 -- an event takes one element out of a pool at most
@@ -135,7 +136,7 @@ module _ (s : Scenario) (ledger : ℕ → LedgerId) (good : IsScenario s) (namin
       covers price (scene s ledger) state g (priced price s.stack good.stack (setup_in s).places) j.kept j.placed
 
   run_bounded : (events : List Event) (state : State) → IsRun (scene s ledger) (start s) events state → length events ≤ most_steps s
-  run_bounded events state run = omega (arith, run_lowers [] events (start s) state refl run, start_charge s good ledger unit_price, few_costs s good ledger)
+  run_bounded events state run = omega (arith, run_lowers [] events (start s) state refl run, start_charge s good ledger unit_price, few_costs s)
 
   -- whatever events cost, the events of a run cost no more than all that pays for them
   run_paid : (events : List Event) (state : State) (run : IsRun (scene s ledger) (start s) events state) (price : Paid → ℕ)
@@ -167,7 +168,7 @@ pub runs_are_bounded : RunsAreBounded
 runs_are_bounded s ledger events state good naming run = run_bounded s ledger good naming events state run
 
 pub opened_rank_is_bounded : OpenedRankIsBounded
-opened_rank_is_bounded s ledger good naming = omega (arith, start_charge s good ledger unit_price, few_costs s good ledger)
+opened_rank_is_bounded s ledger good naming = omega (arith, start_charge s good ledger unit_price, few_costs s)
 
 pub outs_are_bounded : OutsAreBounded
 outs_are_bounded s ledger events state good naming run number = run_out s ledger good naming events state run number

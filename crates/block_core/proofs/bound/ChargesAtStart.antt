@@ -1,5 +1,5 @@
--- At the start no more is charged than all that pays, and so no more than a run may have events, where each costs one.
-use Rattle.std.proofs.Common.{◌≡◌, ◌≢◌, ◌+◌, ◌-◌, ◌*◌, ◌<◌, ◌≤◌, ◌==◌, ◌⊎◌, ◌++◌, not, if◌then◌else◌, ℕ, zero, suc, Bool, true, false, List, [], ◌∷◌, length, map, filter, Some, inl, inr, refl, sym, ◌∙◌, ap, subst, arith, cond}
+-- At the start no more is charged than all that pays.
+use Rattle.std.proofs.Common.{◌≡◌, ◌≢◌, ◌+◌, ◌-◌, ◌<◌, ◌≤◌, ◌==◌, ◌⊎◌, ◌++◌, not, if◌then◌else◌, ℕ, zero, suc, Bool, true, false, List, [], ◌∷◌, length, map, filter, Some, inl, inr, refl, sym, ◌∙◌, ap, subst, arith, cond}
 use Rattle.std.specs.Prelude.{sum_by}
 use Rattle.std.specs.List.{range_with_len}
 use Rattle.std.proofs.lemmas.Bool.{eq-eqb, ne_eqb}
@@ -8,16 +8,14 @@ use Rattle.std.proofs.lemmas.List.Filters.{sum_by-filter_both}
 use Rattle.stack_base.specs.declared.ids.PoolId.{PoolId}
 use Rattle.stack_base.specs.PoolId.{pool_number}
 use Rattle.elem_ledger.specs.Ledger.{LedgerId}
-use Rattle.layout_model.specs.Need.{vectors}
-use Rattle.block_core.specs.Payers.{Paid, ScriptEntry, LaterRound, ReserveChange, cost, unit_price}
+use Rattle.block_core.specs.Payers.{Paid, ScriptEntry, LaterRound, ReserveChange, cost}
 use Rattle.block_core.specs.Paying.{write_cost, all_costs}
 use Rattle.layout_model.proofs.RangeSums.{sum_next}
 use Rattle.model_disks.specs.Disks.{DiskState}
-use Rattle.run_machine.specs.Scene.{tree_at}
 use Rattle.run_machine.specs.Lines.{rests}
-use Rattle.run_machine.specs.Tasks.{TaskState, Writer, Rescuer, Completer, Duty, Resizes, Starts, Keeps, Keeper, Todo, NoBio, Empty, needs_vector}
+use Rattle.run_machine.specs.Tasks.{TaskState, Writer, Rescuer, Completer, Duty, Resizes, Starts, Keeps, Keeper, Todo, NoBio, Empty}
 use Rattle.block_core.specs.Weights.{Pending, Rescued, total, sum_at, task_weight, book_weight}
-use Rattle.block_core.specs.Charges.{vector_charge, write_charge, todo_charge, charge, duty_charge, task_charge, task_spent, entries_left, charged, spent}
+use Rattle.block_core.specs.Charges.{write_charge, todo_charge, charge, duty_charge, task_charge, task_spent, entries_left, charged, spent}
 use Rattle.block_core.proofs.moves.Sums.{same_or_not}
 use Rattle.std.specs.Prelude.{zip, find}
 use Rattle.std.specs.List.{list_any, flat_map}
@@ -26,18 +24,14 @@ use Rattle.std.proofs.lemmas.List.{take_all}
 use Rattle.std.proofs.Math.Nat.{mul-le-mul_left}
 use Rattle.fail_script.specs.Script.{Answers, entries_of, only_tail}
 use Rattle.layout_model.specs.declared.write.Write.{Write}
-use Rattle.layout_model.specs.Needs.{elements, parts}
-use Rattle.layout_model.proofs.RangeSums.{sum_of_one, sum_of_zero, sum_of_two}
+use Rattle.layout_model.proofs.RangeSums.{sum_of_zero, sum_of_two}
 use Rattle.run_machine.specs.Scene.{is_disk}
 use Rattle.run_machine.specs.Opened.{Scenario, Change, scene, start, tasks as opened_tasks, todos, todos_of, is_by, writers, duties, duties_of, keepers, no_task, round_count, writes_from, script_at, is_numbered, setup as setup_in, at as device_at}
 use Rattle.block_core.specs.Scenarios.{IsScenario}
-use Rattle.block_core.specs.Bounded.{most_steps}
 use Rattle.block_core.proofs.start.FactsAtStart.{start_opened, nodes_zero, sum_at-zero}
 use Rattle.block_core.proofs.start.StagesAtStart.{places_sum}
 use Rattle.std.proofs.Math.Numerals.{add-one}
-use Rattle.std.proofs.lemmas.List.FromFn.{length-range_with_len}
 use Rattle.block_core.proofs.bound.TaskCharges.{later_charge}
-use Rattle.block_core.proofs.bound.RunCharges.{charge_enough}
 
 -- sums over numbers
 at_le : {X : Type 0} (w : ℕ → X → ℕ) (f : ℕ → X) (g : ℕ → ℕ) (n : ℕ) → ((v : ℕ) → w v (f v) ≤ g v) → sum_at w n f ≤ sum_at (λ v (x : ℕ). g v) n (λ v. v)
@@ -118,10 +112,6 @@ zip_sum {A = A} {B = B} h (n ∷ ns) (x ∷ xs) = omega (arith, sum_by-cons (λ 
 joined_sum : {X Y : Type 0} (g : Y → ℕ) (f : X → List Y) (xs : List X) → sum_by g (flat_map f xs) ≡ sum_by (λ x. sum_by g (f x)) xs
 joined_sum g f [] = refl
 joined_sum g f (x ∷ xs) = omega (arith, sum_by-append g (f x) (flat_map f xs), sum_by-cons (λ x. sum_by g (f x)) x xs, joined_sum g f xs)
-
-bound_sum : {X : Type 0} (h e f : X → ℕ) (xs : List X) → ((x : X) → h x ≤ 8 * e x + 2 * f x) → sum_by h xs ≤ 8 * sum_by e xs + 2 * sum_by f xs
-bound_sum h e f [] le = omega arith
-bound_sum h e f (x ∷ xs) le = omega (arith, sum_by-cons h x xs, sum_by-cons e x xs, sum_by-cons f x xs, le x, bound_sum h e f xs le)
 
 -- the script of a pool is one of those of its number
 script_part : (scripts : List (PoolId × Answers)) (number : ℕ)
@@ -262,17 +252,3 @@ module _ (s : Scenario) (good : IsScenario s) (ledger : ℕ → LedgerId) where
         none_spent : (ds : List Duty) → sum_by (task_spent price) (keepers ds) ≡ 0
         none_spent [] = refl
         none_spent (duty ∷ ds) = refl
-
-  -- where each event costs one, that is no more than a run may have events
-  vector_twice : (b : Bool) → cond b 2 0 ≡ 2 * cond b 1 0
-  vector_twice true = omega arith
-  vector_twice false = omega arith
-
-  pub few_costs : all_costs unit_price s ≤ most_steps s
-  few_costs =
-      let n = round_count s - 1 in
-      let a = bound_sum (write_cost unit_price s.stack) (λ write. elements s.stack write) (λ write. parts s.stack write) s.writes
-      (λ write.
-      let both : vector_charge unit_price write ≡ 2 * vectors write.count = vector_twice (needs_vector write) in
-      omega (arith, both, charge_enough (tree_at (setup_in s) write.dev) write.start write.count)) in
-      omega (arith, a, sum_of_one (range_with_len 1 n), length-range_with_len 1 n, sum_of_one s.changes)

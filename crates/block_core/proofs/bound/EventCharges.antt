@@ -2,6 +2,7 @@
 use Rattle.std.proofs.Common.{◌≡◌, ◌+◌, ◌*◌, ◌<◌, ◌≤◌, if◌then◌else◌, ℕ, zero, suc, Bool, true, false, List, [], ◌∷◌, filter, Option, None, Some, inl, inr, refl, ap, subst, arith}
 use Rattle.std.proofs.lemmas.List.Sums.{sum_by-cons, sum_by-append, sum_by_push}
 use Rattle.stack_base.specs.PoolId.{pool_number}
+use Rattle.stack_base.specs.Tree.{Tree, Leaf, Split, Mirrored}
 use Rattle.mempool_core.specs.Move.{Move as PoolMove, after_move, misses, gives, resizes}
 use Rattle.bio_records.specs.declared.bio.Pad.{Pad}
 use Rattle.bio_records.specs.declared.tasks.TaskLists.{TaskLists}
@@ -17,14 +18,15 @@ use Rattle.run_machine.specs.Objects.{clear_bio, clear_vector, clear_slip}
 use Rattle.run_machine.specs.Runs.{State}
 use Rattle.block_core.specs.Weights.{Weight, Rescued, Lined, sum_at, doing_weight, task_weight, line_weight}
 use Rattle.block_core.specs.Charges.{bio_charge, write_run, vector_charge, end_charge, close_charge, charge, want_spent, doing_spent, task_spent, duty_charge, task_charge, charged, spent}
-use Rattle.block_core.specs.Payers.{Paid, WriteVector, ScriptEntry, PieceBio, cost}
+use Rattle.block_core.specs.Payers.{Paid, WriteBio, WriteVector, ScriptEntry, PieceBio, cost}
 use Rattle.block_core.specs.Payers as paid
 use Rattle.block_core.proofs.moves.Moves.{Move, Can, after, limit_of, HasLine, with_want, filled_of, cut_lists, piece}
 use Rattle.block_core.proofs.moves.PaidKinds.{kind_of}
 use Rattle.block_core.proofs.moves.Moves as moves
 use Rattle.block_core.proofs.sound.Facts.{TaskFits, DoingFits, Kept}
-use Rattle.block_core.proofs.sound.Orders.{Each, IsOwn, DoingPlaced, TodoThere, TaskPlaced, Placed, Ground}
+use Rattle.block_core.proofs.sound.Orders.{Each, IsOwn, AskFits, DoingPlaced, TodoThere, TaskPlaced, Placed, Ground}
 use Rattle.block_core.proofs.bound.TaskCharges.{charge_lands, copies_charge, pops_once, pops_not, punts_charge, later_charge, takes_spent, want_spends, new_spends, wants_below, on_tasks, on_line, tells_charge, later_give, hands_back}
+use Rattle.block_core.proofs.bound.PoolPayers.{is_write_bio, is_write_vector, is_piece_bio, is_record, leg_bio}
 use Rattle.block_core.proofs.bound.DeviceCharges.{Priced, leaf_charge, mirror_charge, cut_needs, legs_next, leg_some}
 use Rattle.block_core.proofs.moves.Deltas.{delta}
 use Rattle.block_core.proofs.sound.TaskLines.{line_fits}
@@ -68,15 +70,17 @@ module _ (price : Paid → ℕ) (scene : Scene) (s : State) (g : Ground scene.se
 
   begins : (place writer : ℕ) (todo : Todo) (later : List Todo) (item : Item Pad) (vector : Option VectorItem) (key : ℕ) → Can scene s (moves.Begins place writer todo later item vector key)
       → TodoThere scene.setup writer todo → item.share.no ≡ 65
-      → line_weight w 32 (settled scene.setup (filled_of writer todo item vector key ∷ [])) ≤ end_charge price + write_run price scene.setup todo
+      → line_weight w 32 (settled scene.setup (filled_of writer todo item vector key ∷ [])) ≤ end_charge price WriteBio + write_run price scene.setup todo
   begins place writer todo later item None key c fits home =
       let filled_item : Item Pad = filled_of writer todo item None key in
       let b = settled_there scene.setup w lands 32 (filled_item ∷ []) (fits key, tt) in
-      omega (arith, b, sum_by-cons (bio_charge price scene.setup (Lined 32)) filled_item [], pops_not price 32 item.share.no (omega (arith, home)))
+      let ends = ap (end_charge price) (is_write_bio item.share.no home) in
+      omega (arith, ends, b, sum_by-cons (bio_charge price scene.setup (Lined 32)) filled_item [], pops_not price 32 item.share.no (omega (arith, home)))
   begins place writer todo later item (Some vector) key c fits home =
       let filled_item : Item Pad = filled_of writer todo item (Some vector) key in
       let b = settled_there scene.setup w lands 32 (filled_item ∷ []) (fits key, tt) in
-      omega (arith, b, sum_by-cons (bio_charge price scene.setup (Lined 32)) filled_item [], pops_not price 32 item.share.no (omega (arith, home)))
+      let ends = ap (end_charge price) (is_write_bio item.share.no home) in
+      omega (arith, ends, b, sum_by-cons (bio_charge price scene.setup (Lined 32)) filled_item [], pops_not price 32 item.share.no (omega (arith, home)))
 
   pub lowers : (m : Move) → Can scene s m → Lowers m
   -- takes
@@ -215,6 +219,7 @@ module _ (price : Paid → ℕ) (scene : Scene) (s : State) (g : Ground scene.se
         delta scene w s (moves.Begins place writer todo later item (Some vector) key) c,
         on_tasks (task_spent price) scene s place x y c.0 c.1,
         on_tasks (task_charge price) scene s place x y c.0 c.1,
+        ap (λ payer. price (paid.IsGiven payer)) (is_write_vector vector.share.no t.2.1),
         begins place writer todo later item (Some vector) key c t.0.0 t.2.0,
         later_charge price scene.setup later,
       )
@@ -225,6 +230,10 @@ module _ (price : Paid → ℕ) (scene : Scene) (s : State) (g : Ground scene.se
       let child = piece bio hand n key kind sizes members in
       let d = has place x (Drives bio (ToCut (Links hand))) lists c.1 c.2 in
       let cuts = cut_there scene.setup (limit_of x) g bio hand lists key number kind sizes members d c.3 in
+      let known = d.1.0.0.device in
+      let few = g.few in
+      let suits : AskFits (Split number kind sizes members) bio.bio.range bio.bio.dev.0 (ToCut (Links hand)) =
+      subst (λ t. AskFits t bio.bio.range bio.bio.dev.0 (ToCut (Links hand))) c.3 d.3 in
       let t = on_line scene s place x (Drives bio (ToCut (Links hand))) lists new c.0 c.1 c.2 in
       omega (
         arith,
@@ -235,11 +244,14 @@ module _ (price : Paid → ℕ) (scene : Scene) (s : State) (g : Ground scene.se
         cut_weight (bio_charge price scene.setup (Lined (limit_of x))) bio lists hand n key kind sizes members,
         p.cut bio hand key number kind sizes members d.1.0.0 c.3 cuts.0,
         pops_once price (limit_of x) child.share.no,
+        ap (end_charge price) (is_piece_bio hand.share.no bio.bio.dev.0 suits.1 (omega (arith, known, few))),
       )
   -- links of masters
   lowers (moves.Mastered place x bio lists slip key node) c =
       let d = has place x (Drives bio (ToMaster slip)) lists c.1 c.2 in
       let t = on_line scene s place x (Drives bio (ToMaster slip)) lists (copies scene.setup lists bio.bio key 0) c.0 c.1 c.2 in
+      let known = d.1.0.0.device in
+      let few = g.few in
       let is = d.1.0.0 in
       omega (
         arith,
@@ -248,10 +260,18 @@ module _ (price : Paid → ℕ) (scene : Scene) (s : State) (g : Ground scene.se
         (t.0 price).1,
         copies_charge price scene.setup p (limit_of x) lists bio.bio key 0 (none_there scene.setup (limit_of x) lists d.0) (all_there scene.setup (limit_of x) lists.list1 d.1.1),
         mirror_charge price (tree_at scene.setup bio.bio.dev) bio.bio.range bio.bio.dev.0 slip d.3 is.some,
+        ap (λ payer. price (paid.IsGiven payer)) (is_record slip.share.no bio.bio.dev.0 (by_tree (tree_at scene.setup bio.bio.dev) d.3) (omega (arith, known, few))),
       )
+    where
+      by_tree : (t : Tree) → AskFits t bio.bio.range bio.bio.dev.0 (ToMaster slip) → slip.share.no ≡ 2 * bio.bio.dev.0 + 1
+      by_tree (Leaf number sectors) a = absurd a
+      by_tree (Split number kind sizes members) a = absurd a
+      by_tree (Mirrored number sizes members) a = a
   -- links of legs
   lowers (moves.Legged place x bio lists master leg hand key node) c =
       let d = has place x (Copies bio master leg (Links hand)) lists c.1 c.2 in
+      let known = d.0.device in
+      let few = g.few in
       let lt = line_fits scene x (Copies bio master leg (Links hand)) lists (subst (TaskFits scene) c.1 (i.tasks place)) c.2 in
       let item = leg_at bio hand leg key (tree_at scene.setup bio.dev) in
       let more = submitted item lists in
@@ -267,6 +287,7 @@ module _ (price : Paid → ℕ) (scene : Scene) (s : State) (g : Ground scene.se
         p.leg bio hand leg key d.0 lt,
         legs_next price (tree_at scene.setup bio.dev) bio.range leg lt,
         pops_once price (limit_of x) item.share.no,
+        ap (end_charge price) (is_piece_bio item.share.no bio.dev.0 (leg_bio bio hand leg key (2 * bio.dev.0) (tree_at scene.setup bio.dev) lt d.6) (omega (arith, known, few))),
       )
   -- drops that leave a node open
   lowers (moves.Told place disk carried writer key status part node) c =

@@ -17,8 +17,8 @@ use Rattle.run_machine.specs.Tasks.{TaskState, Writer, Rescuer, Completer, Keepe
 use Rattle.run_machine.specs.Runs.{State}
 use Rattle.block_core.specs.Weights.{Rescued, Lined, sum_at, line_weight, carried_weight}
 use Rattle.block_core.specs.Charges.{may_pop, bio_charge, legs_charge, there, write_charge, todo_charge, end_charge, give_charge, held_charge, close_charge, charge, want_spent, doing_spent, task_spent, task_duties, task_charge}
-use Rattle.block_core.specs.Paying.{is_brought, paid_end}
-use Rattle.block_core.specs.Payers.{Paid, MissesAtOnce, IsPunted, IsPopped}
+use Rattle.block_core.specs.Paying.{bio_brought, paid_end}
+use Rattle.block_core.specs.Payers.{payer_at, Paid, MissesAtOnce, IsPunted, IsPopped}
 use Rattle.block_core.specs.Payers as paid
 use Rattle.block_core.proofs.moves.Moves.{with_line, HasLine, Wants, with_want, Tells, Hands}
 use Rattle.block_core.proofs.moves.Sums.{sum_at-upd}
@@ -30,7 +30,7 @@ use Rattle.block_core.proofs.sound.Places.{unless_less}
 module _ (price : Paid → ℕ) where
   -- bios are charged the same where they land
   pub charge_lands : (setup : Setup) → Priced price setup → IsLanding setup (charge price setup)
-  charge_lands setup p limit item is = ap (λ v. end_charge price + may_pop price limit item.share.no + v) (p.lands item.bio is)
+  charge_lands setup p limit item is = ap (λ v. end_charge price (payer_at item.share.no) + may_pop price limit item.share.no + v) (p.lands item.bio is)
 
   pub copies_charge : (setup : Setup) → Priced price setup → (limit : ℕ) (lists : TaskLists) (bio : Bio) (master leg : ℕ) → AreThere setup lists.list0 → AreThere setup lists.list1
       → line_weight (charge price setup) limit (copies setup lists bio master leg)
@@ -168,8 +168,8 @@ on_line scene s place x doing lists new lt is h =
 
 -- an end that a completer tells is paid for by what it carries; and where it is that of a bio, the bio is given back later
 pub tells_charge : (price : Paid → ℕ) (setup : Setup) (place : ℕ) (carried : Carried) (writer key : ℕ) (status : Status) (part : Option (Item Pad)) → Tells carried writer key status part
-    → carried_weight (charge price setup) place carried ≡ price (paid_end (is_brought carried)) + give_charge price part
-tells_charge price setup place (Brings bio ending) writer key status part t = ap (λ p. price paid.EndsItself + give_charge price p) (sym t.3)
+    → carried_weight (charge price setup) place carried ≡ price (paid_end (bio_brought carried)) + give_charge price part
+tells_charge price setup place (Brings bio ending) writer key status part t = ap (λ p. price (paid.EndsItself (payer_at bio.share.no)) + give_charge price p) (sym t.3)
 tells_charge price setup place (Carries of closed) writer key status part t =
     ap (λ parent. close_charge price parent + held_charge price closed.held) t.1 ∙ ap (λ held. price paid.EndsForParent + held_charge price held) t.4
     ∙ ap (λ p. price paid.EndsForParent + give_charge price p) (sym t.3)
@@ -186,7 +186,7 @@ hands_charge number old new (inl h) = rw (h.3, h.1) (omega arith)
 hands_charge number old new (inr (inl h)) = rw (h.3, h.1) (omega arith)
 hands_charge number old new (inr (inr h)) = rw (h.3, h.1) (omega arith)
 
-pub hands_back : (price : Paid → ℕ) (number : ℕ) (old new : Holding) → Hands old number new → held_charge price new + price paid.IsGiven ≡ held_charge price old
-hands_back price number old new (inl h) = rw (h.3, h.1) (omega arith)
-hands_back price number old new (inr (inl h)) = rw (h.3, h.1) (omega arith)
-hands_back price number old new (inr (inr h)) = rw (h.3, h.1) (omega arith)
+pub hands_back : (price : Paid → ℕ) (number : ℕ) (old new : Holding) → Hands old number new → held_charge price new + price (paid.IsGiven (payer_at number)) ≡ held_charge price old
+hands_back price number old new (inl h) = rw (h.3, h.2, h.1) (omega arith)
+hands_back price number old new (inr (inl h)) = rw (h.3, h.2, h.1) (omega arith)
+hands_back price number old new (inr (inr h)) = rw (h.3, h.2, h.1) (omega arith)

@@ -1,5 +1,5 @@
 -- Each step of a completer is one of the events.
-use Rattle.std.proofs.Common.{◌≡◌, ◌<◌, ℕ, Bool, Option, None, Some, inl, inr, refl, sym, ◌∙◌, ap}
+use Rattle.std.proofs.Common.{◌≡◌, ◌<◌, ℕ, Option, None, Some, inl, inr, refl, sym, ◌∙◌, ap}
 use Rattle.stack_base.specs.declared.ids.DevId.{DevId}
 use Rattle.stack_base.specs.declared.ids.Status.{Status}
 use Rattle.bio_records.specs.declared.bio.Pad.{Pad}
@@ -26,7 +26,7 @@ use Rattle.block_core.proofs.moves.StepsTold.{IsMove, touch_in, paid_in, state_i
 
 module _ (scene : Scene) (s : State) (f : Fair scene) (i : Kept scene s) (place : ℕ) (here : place < scene.tasks) (what : What) (new : State) where
   -- whether the task brings a bio
-  abbrev brought : Bool
+  abbrev brought : Option (Item Pad)
   brought = brings (s.task place)
 
   abbrev Goes : TaskState → Type 0

@@ -93,7 +93,7 @@ asks_line setup (Keeper keeping) doing lists h busy = absurd h
 
 module _ (scene : Scene) (s : State) (f : Fair scene) (i : Kept scene s) (place : ℕ) (here : place < scene.tasks) (what : What) (new : State) where
   -- whether the task brings a bio
-  abbrev brought : Bool
+  abbrev brought : Option (Item Pad)
   brought = brings (s.task place)
 
   abbrev Goes : TaskState → Type 0

@@ -1,12 +1,14 @@
 -- What is told of a step is told of its event: whose it is, what it does to a node and what is paid for it.
 use Rattle.std.proofs.Common.{◌≡◌, ℕ, Bool, true, false, Option, None, Some, refl, sym, ap}
 use Rattle.stack_base.specs.declared.ids.PoolId.{PoolId}
+use Rattle.bio_records.specs.declared.bio.Pad.{Pad}
+use Rattle.bio_records.specs.Items.{Item}
 use Rattle.bio_books.specs.Books.{told}
 use Rattle.run_machine.specs.Scene.{Scene}
 use Rattle.run_machine.specs.Tasks.{TaskState}
 use Rattle.run_machine.specs.Objects.{Objects}
 use Rattle.run_machine.specs.Runs.{State}
-use Rattle.block_core.specs.Payers.{Paid}
+use Rattle.block_core.specs.Payers.{payer_of, Paid}
 use Rattle.block_core.specs.Payers as paid
 use Rattle.block_core.specs.Paying.{brings, paid_as}
 use Rattle.block_core.specs.Touches.{Touch, Passes, touch_of}
@@ -35,15 +37,15 @@ take_passes true pool from = refl
 take_passes false pool from = refl
 
 -- what is paid for it
-abbrev pub paid_in : Bool → Option What → Paid
-paid_in brought None = paid.IsTaken
+abbrev pub paid_in : Option (Item Pad) → Option What → Paid
+paid_in brought None = paid.EndsForParent
 paid_in brought (Some what) = paid_as brought what
 
-pub take_ordinary : (brought waits : Bool) (pool : PoolId) → paid_as brought (take_of waits pool got.Ordinary) ≡ paid.IsTaken
+pub take_ordinary : (brought : Option (Item Pad)) (waits : Bool) (pool : PoolId) → paid_as brought (take_of waits pool got.Ordinary) ≡ paid.IsTaken (payer_of pool)
 take_ordinary brought true pool = refl
 take_ordinary brought false pool = refl
 
-pub take_spare : (brought waits : Bool) (pool : PoolId) → paid_as brought (take_of waits pool got.Spare) ≡ paid.IsTaken
+pub take_spare : (brought : Option (Item Pad)) (waits : Bool) (pool : PoolId) → paid_as brought (take_of waits pool got.Spare) ≡ paid.IsTaken (payer_of pool)
 take_spare brought true pool = refl
 take_spare brought false pool = refl
 
@@ -63,6 +65,6 @@ pub used_told : (used : Bool) (pool : PoolId) (what : What) → miss_of true use
 used_told true pool what told = refl
 used_told false pool what told = absurd (nothing_told what told)
 
-pub miss_pays : (brought used : Bool) (pool : PoolId) (what : What) → miss_of true used pool ≡ Some what → paid_as brought what ≡ paid.MissesWaiting
+pub miss_pays : (brought : Option (Item Pad)) (used : Bool) (pool : PoolId) (what : What) → miss_of true used pool ≡ Some what → paid_as brought what ≡ paid.MissesWaiting
 miss_pays brought true pool what told = sym (ap (paid_in brought) told)
 miss_pays brought false pool what told = absurd (nothing_told what told)

@@ -1,5 +1,5 @@
 -- Each step of a writer is one of the events.
-use Rattle.std.proofs.Common.{◌≡◌, ◌<◌, ◌≤◌, ℕ, Bool, true, false, List, [], ◌∷◌, None, Some, inr, refl, sym, ◌∙◌, ap, subst, arith}
+use Rattle.std.proofs.Common.{◌≡◌, ◌<◌, ◌≤◌, ℕ, Bool, true, false, List, [], ◌∷◌, Option, None, Some, inr, refl, sym, ◌∙◌, ap, subst, arith}
 use Rattle.stack_base.specs.declared.ids.PoolId.TheVariants.{FsBios, FsVecs}
 use Rattle.stack_base.specs.declared.ids.SetId.TheVariants.{Fs}
 use Rattle.mempool_core.specs.Move.{takes_ordinary, takes_spare}
@@ -31,7 +31,7 @@ use Rattle.block_core.proofs.moves.LineSteps.{submits}
 
 module _ (scene : Scene) (s : State) (f : Fair scene) (i : Kept scene s) (place : ℕ) (here : place < scene.tasks) (what : What) (new : State) where
   -- whether the task brings a bio
-  abbrev brought : Bool
+  abbrev brought : Option (Item Pad)
   brought = brings (s.task place)
 
   abbrev Goes : TaskState → Type 0
