@@ -2,26 +2,30 @@
 use Rattle.std.specs.Prelude.{◌≡◌, ◌-◌, ◌^◌, min, ℕ, Bool, true, false, List, length, map, Option, None, Some, Result, Ok, Err}
 use Rattle.stack_base.specs.declared.ids.DevId.{DevId}
 use Rattle.stack_base.specs.declared.ids.SetId.TheVariants.{Of}
+use Rattle.bio_records.specs.declared.bio.Pad.{Pad}
 use Rattle.bio_records.specs.declared.tasks.TaskLists.{TaskLists}
+use Rattle.bio_records.specs.Items.{Item}
 use Rattle.bio_books.specs.Links.{Made, NoRoom, Stray}
 use Rattle.run_machine.specs.declared.event.Breach.{Breach}
 use Rattle.run_machine.specs.declared.event.Breach.TheVariants as breach
 use Rattle.run_machine.specs.declared.event.TaskId.{TaskId}
 use Rattle.run_machine.specs.declared.event.What.TheVariants as what
+use Rattle.task_steps.specs.declared.submission.Doing.{Doing as RealDoing}
 use Rattle.task_steps.specs.declared.submission.HandedBack.{HandedBack}
 use Rattle.task_steps.specs.declared.submission.Want.{Want as RealWant}
+use Rattle.task_steps.specs.declared.objects.Objects.{Ghosts}
 use Rattle.task_steps.specs.declared.objects.Unmade.{Unmade}
 use Rattle.task_steps.specs.declared.objects.Unmade.TheVariants as unmade
 use Rattle.task_steps.specs.declared.step.Step.{Step}
 use Rattle.task_steps.specs.declared.step.Step.TheVariants.{Stepped}
-use Rattle.run_machine.specs.Scene.{Setup}
+use Rattle.run_machine.specs.Scene.{Setup, tree_at}
 use Rattle.run_machine.specs.Requests.{Request, Reply, Opening, TakeBio, Punt, Link, HadBio, Missed, Did, LinkedTo, Nothing, Spent}
-use Rattle.run_machine.specs.Lines.{Want, Links, Doing, Line, punted, not_punted, line_request, after_miss, line_answered}
+use Rattle.run_machine.specs.Lines.{Want, Links, Ask, Doing, Drives, Line, asks_at, punted, not_punted, line_request, after_miss, line_answered}
 use Rattle.task_steps.specs.Turns.{named, step_of}
 use Rattle.run_machine.specs.Kept.{Kept, KeptBio, holding_kept, opening_kept}
-use Rattle.task_steps.specs.LineViews.{want_of, unmade_kept, back_kept}
+use Rattle.task_steps.specs.LineViews.{line_of, want_of, unmade_kept, back_kept}
 use Rattle.task_steps.specs.Routed.{Routing, setup}
-use Rattle.task_steps.specs.Stage.{Stage, Fits, Owes}
+use Rattle.task_steps.specs.Stage.{Fits, Owes}
 
 -- a reply that is no look which found nothing
 abbrev pub finds : Reply → Bool
@@ -38,16 +42,29 @@ pub record Answers {S : Type 0} (serves : S → Request → Reply → S → Type
   pub goes_on : next ≡ line_answered setup doing lists reply
   pub tells : step ≡ step_of setup task (line_request setup doing lists) reply
 
--- the objects hold together, and may be asked this
-abbrev pub Ready : {S : Type 0} → (S → Type 0) → (S → Stage) → S → Request → Type 0
-Ready holds stage objects request = holds objects × Fits (stage objects) request
+-- objects that hold together, and may be asked this
+abbrev pub Ready : {S : Type 0} → Ghosts S → S → Request → Type 0
+Ready words objects request = words.holds objects × Fits (words.stage objects) request
+
+-- the same of what a submission asks for
+abbrev pub LineReady : {S : Type 0} → Ghosts S → S → Routing → Doing → TaskLists → Type 0
+LineReady words objects routing doing lists = Ready words objects (line_request (setup routing) doing lists)
+
+-- what the driver of a device asks for first, whatever bio it has
+abbrev pub AsksFirst : Routing → TaskLists → DevId → Ask → Type 0
+AsksFirst routing lists dev ask =
+    (item : Item Pad) → item.bio.dev ≡ dev → asks_at (setup routing) lists item (tree_at (setup routing) dev) ≡ Drives item ask
 
 -- a step of a submission over these objects, which hold together behind it too
-pub record Does {S : Type 0} (holds : S → Type 0) (stage : S → Stage) (serves : S → Request → Reply → S → Type 0) (routing : Routing) (task : TaskId)
-    (doing : Doing) (lists : TaskLists) (old : S) (next : Line) (new : S) (step : Step) : Type 0 where
-  pub answers : Answers serves (Owes (stage old)) (setup routing) task doing lists old next new step
-  pub held : holds new
-  pub same : stage new ≡ stage old
+pub record LineDoes {S : Type 0} (words : Ghosts S) (routing : Routing) (task : TaskId) (line : Line) (old : S) (next : Line) (new : S) (step : Step) : Type 0 where
+  pub answers : Answers words.serves (Owes (words.stage old)) (setup routing) task line.doing line.lists old next new step
+  pub held : words.holds new
+  pub same : words.stage new ≡ words.stage old
+
+-- the same of what was done and of the lists behind it
+abbrev pub Does : {S : Type 0} → Ghosts S → Routing → TaskId → Doing → TaskLists → S → RealDoing × Step → TaskLists → S → Type 0
+Does words routing task doing lists old done after new =
+    LineDoes words routing task (record { doing = doing; lists = lists }) old (line_of done.0 after) new done.1
 
 -- what is wanted behind an attempt at a bio: what was had is linked, and a miss is followed by what follows it
 abbrev pub WantsOn : Bool → Reply → Want → Type 0
@@ -68,19 +85,18 @@ abbrev pub IsSpent : {S : Type 0} → (S → Request → Reply → S → Type 0)
 IsSpent serves owes asked old new = serves old asked Spent new × owes asked Spent
 
 -- an attempt at a bio of a device's set
-abbrev pub Attempted : {S : Type 0} → (S → Request → Reply → S → Type 0) → (Request → Reply → Type 0) → TaskId → DevId → Bool → S → S
-    → Result (RealWant × Step) Unmade → Type 0
-Attempted serves owes task dev waits old new (Ok made) = Attempts serves owes task dev waits old (want_of made.0) new made.1
-Attempted serves owes task dev waits old new (Err back) = IsSpent serves owes (TakeBio (Of dev) waits) old new × (back ≡ unmade.Nothing)
+abbrev pub Attempted : {S : Type 0} → Ghosts S → TaskId → DevId → Bool → S → S → Result (RealWant × Step) Unmade → Type 0
+Attempted words task dev waits old new (Ok made) = Attempts words.serves (Owes (words.stage old)) task dev waits old (want_of made.0) new made.1
+Attempted words task dev waits old new (Err back) =
+    IsSpent words.serves (Owes (words.stage old)) (TakeBio (Of dev) waits) old new × (back ≡ unmade.Nothing)
 
 -- the bios of a device's set go from these lists to its rescuer
-abbrev pub PuntedAll : {S : Type 0} → (S → Request → Reply → S → Type 0) → (Request → Reply → Type 0) → TaskId → DevId → TaskLists → S → TaskLists → S
-    → Result Step Unmade → Type 0
-PuntedAll serves owes task dev lists old after new (Ok step) =
-    serves old (Punt dev (punted dev lists)) Did new × owes (Punt dev (punted dev lists)) Did × (after ≡ not_punted dev lists)
+abbrev pub PuntedAll : {S : Type 0} → Ghosts S → TaskId → DevId → TaskLists → S → TaskLists → S → Result Step Unmade → Type 0
+PuntedAll words task dev lists old after new (Ok step) =
+    words.serves old (Punt dev (punted dev lists)) Did new × Owes (words.stage old) (Punt dev (punted dev lists)) Did × (after ≡ not_punted dev lists)
     × (step ≡ Stepped (record { task = task; what = what.Punt dev (min (length (punted dev lists)) (2 ^ 64 - 1)) }))
-PuntedAll serves owes task dev lists old after new (Err back) =
-    IsSpent serves owes (Punt dev (punted dev lists)) old new × (after ≡ not_punted dev lists) × (unmade_kept back ≡ map KeptBio (punted dev lists))
+PuntedAll words task dev lists old after new (Err back) =
+    IsSpent words.serves (Owes (words.stage old)) (Punt dev (punted dev lists)) old new × (after ≡ not_punted dev lists) × (unmade_kept back ≡ map KeptBio (punted dev lists))
 
 -- why no node was opened, where none was
 abbrev pub refusal : Setup → ℕ → Opening → Reply → Option Breach
@@ -104,8 +120,8 @@ pub record IsRefused {S : Type 0} (serves : S → Request → Reply → S → Ty
   pub back : back_kept handed ≡ came_back opening reply
 
 -- a node is opened, or is not
-abbrev pub NodeOpened : {S : Type 0} → (S → Request → Reply → S → Type 0) → (Request → Reply → Type 0) → Setup → ℕ → Opening → S → S
-    → Result ℕ (Breach × HandedBack) → Type 0
-NodeOpened serves owes setup writer opening old new (Ok node) =
-    serves old (Link writer opening) (LinkedTo (Made node)) new × owes (Link writer opening) (LinkedTo (Made node))
-NodeOpened serves owes setup writer opening old new (Err refused) = IsRefused serves owes setup writer opening old refused.0 refused.1 new
+abbrev pub NodeOpened : {S : Type 0} → Ghosts S → Routing → ℕ → Opening → S → S → Result ℕ (Breach × HandedBack) → Type 0
+NodeOpened words routing writer opening old new (Ok node) =
+    words.serves old (Link writer opening) (LinkedTo (Made node)) new × Owes (words.stage old) (Link writer opening) (LinkedTo (Made node))
+NodeOpened words routing writer opening old new (Err refused) =
+    IsRefused words.serves (Owes (words.stage old)) (setup routing) writer opening old refused.0 refused.1 new

@@ -1,5 +1,6 @@
 -- What a completer carries, without its boxes.
-use Rattle.std.specs.Prelude.{◌≡◌, Bool, true, false, None, Some}
+use Rattle.std.specs.Prelude.{◌≡◌, ℕ, Bool, true, false, Option, None, Some}
+use Rattle.stack_base.specs.declared.ids.Status.{Status}
 use Rattle.elem_ledger.specs.declared.element.Element.{Element}
 use Rattle.bio_records.specs.declared.bio.Pad.{Pad}
 use Rattle.bio_records.specs.declared.bio.Slip.{Slip}
@@ -7,7 +8,7 @@ use Rattle.bio_records.specs.declared.segment.Vector.{Vector}
 use Rattle.bio_records.specs.declared.body.BioBody.{BioBody}
 use Rattle.bio_records.specs.Items.{item_of, IsAlone}
 use Rattle.bio_books.specs.declared.node.ClosedNode.{ClosedNode}
-use Rattle.bio_books.specs.Books.{Holding}
+use Rattle.bio_books.specs.Books.{Holding, nothing_held}
 use Rattle.bio_books.specs.Drops.{Closed}
 use Rattle.bio_books.specs.Views.{closed_node_of, holding_of, slip_item, IsAlonePart}
 use Rattle.task_steps.specs.declared.completer.Load.{Load}
@@ -60,6 +61,10 @@ abbrev pub with_slip : Element Slip → ClosedNode → Closed
 with_slip slip rest =
     let closed = closed_node_of rest in
     record closed { held = record closed.held { slip = Some (slip_item slip) } }
+
+-- what is left of a closed node of this write whose elements were all given back
+abbrev pub given_back : Option ℕ → ℕ → Status → Closed
+given_back parent write status = record { held = nothing_held; parent = parent; write = write; status = status }
 
 -- all that it held was given back
 pub record HoldsNothing (node : ClosedNode) : Type 0 where

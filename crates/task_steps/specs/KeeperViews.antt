@@ -1,5 +1,5 @@
 -- The keeper, as its definitions have it.
-use Rattle.std.specs.Prelude.{List, Option, None, Some}
+use Rattle.std.specs.Prelude.{ℕ, List, Option, None, Some, map, drop}
 use Rattle.run_machine.specs.declared.event.Breach.{Breach}
 use Rattle.task_steps.specs.declared.keeper.Duty as real
 use Rattle.task_steps.specs.declared.keeper.Duty.TheVariants as duty
@@ -8,6 +8,10 @@ use Rattle.run_machine.specs.Tasks.{Duty, Resizes, Starts, Keeping, Keeps, Stops
 abbrev pub duty_of : real.Duty → Duty
 duty_of (duty.Resizes pool min later) = Resizes pool min later
 duty_of (duty.Starts round later) = Starts round later
+
+-- the duties from a place on
+abbrev pub duties_from : ℕ → List real.Duty → List Duty
+duties_from next duties = map duty_of (drop next duties)
 
 -- a keeper with these duties, which may have broken off
 abbrev pub keeping_of : Option Breach → List Duty → Keeping

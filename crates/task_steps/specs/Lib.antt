@@ -11,6 +11,7 @@ pub mod LineViews
 pub mod Answers
 pub mod WriterViews
 pub mod RescuerViews
+pub mod TaskSteps
 pub mod TaskViews
 pub mod Named
 pub mod Laws

@@ -2,12 +2,15 @@
 use Rattle.std.specs.Prelude.{◌≡◌}
 use Rattle.stack_base.specs.declared.ids.DevId.{DevId}
 use Rattle.run_machine.specs.declared.event.TaskId.TheVariants as id
+use Rattle.task_steps.specs.declared.objects.Objects.{Ghosts}
 use Rattle.task_steps.specs.declared.step.Step.{Step}
 use Rattle.run_machine.specs.Scene.{Setup}
 use Rattle.run_machine.specs.Requests.{Request, Reply, Pop}
 use Rattle.run_machine.specs.Lines.{Rests, Line}
 use Rattle.run_machine.specs.Tasks.{TaskState, Rescuer, rescuer_answered}
 use Rattle.task_steps.specs.Turns.{Follows}
+use Rattle.task_steps.specs.Routed.{Routing, setup}
+use Rattle.task_steps.specs.Stage.{Owes}
 
 -- the rescuer of a device's set: the device, and its submission
 pub record RescuerState : Type 0 where
@@ -26,3 +29,8 @@ pub record PopAnswers {S : Type 0} (serves : S → Request → Reply → S → T
   pub owed : owes (Pop dev) reply
   pub goes_on : Rescuer dev next ≡ rescuer_answered setup dev Rests line reply
   pub follows : Follows serves setup (id.Rescuer dev) (Pop dev) reply middle new step
+
+-- the same of a rescuer over these objects
+abbrev pub RescuerPops : {S : Type 0} → Ghosts S → Routing → RescuerState → S → RescuerState → S → Step → Type 0
+RescuerPops words routing before old after new step =
+    PopAnswers words.serves (Owes (words.stage old)) (setup routing) before.dev before.line old after.line new step

@@ -1,9 +1,13 @@
 -- A writer outside of its submissions, without its boxes, and what its steps do there.
-use Rattle.std.specs.Prelude.{◌≡◌, ℕ, Bool, true, false, List, [], ◌∷◌, Option, None, Some, Result, Ok, Err}
-use Rattle.bio_records.specs.Items.{item_of, IsAlone}
+use Rattle.std.specs.Prelude.{◌≡◌, ℕ, Bool, true, false, List, [], ◌∷◌, Option, None, Some, Result, Ok, Err, drop}
+use Rattle.stack_base.specs.declared.ids.SetId.TheVariants.{Fs}
+use Rattle.bio_records.specs.declared.bio.Pad.{Pad}
+use Rattle.bio_records.specs.Items.{Item, item_of, IsAlone}
+use Rattle.bio_books.specs.Books.{VectorItem}
 use Rattle.bio_books.specs.Links.{Made, NoRoom, Stray}
 use Rattle.run_machine.specs.declared.event.Breach.TheVariants as breach
 use Rattle.run_machine.specs.declared.event.TaskId.TheVariants as id
+use Rattle.task_steps.specs.declared.objects.Objects.{Ghosts}
 use Rattle.task_steps.specs.declared.step.Step.{Step}
 use Rattle.task_steps.specs.declared.writer.begin.Taken.{Taken as RealTaken}
 use Rattle.task_steps.specs.declared.writer.begin.Taken.TheVariants as taken
@@ -12,11 +16,13 @@ use Rattle.task_steps.specs.declared.writer.begin.Attempt.TheVariants as attempt
 use Rattle.task_steps.specs.declared.writer.begin.Next.{Next}
 use Rattle.task_steps.specs.declared.writer.begin.Next.TheVariants as next
 use Rattle.run_machine.specs.Scene.{Setup}
-use Rattle.run_machine.specs.Requests.{Request, Reply, Opening, Link, LinkedTo, Spent}
+use Rattle.run_machine.specs.Requests.{Request, Reply, Opening, Write, TakeBio, TakeVec, Link, LinkedTo, Spent}
 use Rattle.run_machine.specs.Kept.{opening_kept}
 use Rattle.run_machine.specs.Lines.{Breaks, Line, refused}
-use Rattle.run_machine.specs.Tasks.{Todo, Taken, NoBio, HasBio, HasBoth, TaskState, Writer, write_answered}
+use Rattle.run_machine.specs.Tasks.{Todo, Taken, NoBio, HasBio, HasBoth, TaskState, Writer, filled_vector, write_answered, write_request}
 use Rattle.task_steps.specs.Turns.{step_of}
+use Rattle.task_steps.specs.Routed.{Routing, setup}
+use Rattle.task_steps.specs.Stage.{Owes}
 use Rattle.task_steps.specs.Views.{vec_item}
 use Rattle.task_steps.specs.Answers.{finds}
 
@@ -57,6 +63,10 @@ abbrev pub next_of : Next → ℕ → Todo → List Todo → Line → TaskState
 next_of next.Begins number todo later line = Writer number later NoBio line
 next_of (next.Waits taken) number todo later line = Writer number (todo ∷ later) (taken_of taken) line
 
+-- the same of a writer whose first write this is
+abbrev pub writer_next : Next → WriterState → Todo → TaskState
+writer_next next w todo = next_of next w.number todo (drop 1 w.todo) w.line
+
 abbrev pub IsNextAlone : Next → Type 0
 IsNextAlone next.Begins = Unit {0}
 IsNextAlone (next.Waits taken) = IsTakenAlone taken
@@ -87,11 +97,42 @@ pub record IsRefusedWrite {S : Type 0} (serves : S → Request → Reply → S �
   pub tells : step ≡ step_of setup (id.Writer number) (Link number opening) reply
 
 -- the node of a write is opened, or is not
-abbrev pub WriteOpened : {S : Type 0} → (S → Request → Reply → S → Type 0) → (Request → Reply → Type 0) → Setup → ℕ → Opening → Line → S → Line → S
-    → Result ℕ Step → Type 0
-WriteOpened serves owes setup number opening line old after new (Ok node) =
-    serves old (Link number opening) (LinkedTo (Made node)) new × owes (Link number opening) (LinkedTo (Made node)) × (after ≡ line)
-WriteOpened serves owes setup number opening line old after new (Err step) = IsRefusedWrite serves owes setup number opening line old after new step
+abbrev pub WriteOpened : {S : Type 0} → Ghosts S → Routing → ℕ → Opening → Line → S → Line → S → Result ℕ Step → Type 0
+WriteOpened words routing number opening line old after new (Ok node) =
+    words.serves old (Link number opening) (LinkedTo (Made node)) new × Owes (words.stage old) (Link number opening) (LinkedTo (Made node))
+    × (after ≡ line)
+WriteOpened words routing number opening line old after new (Err step) =
+    IsRefusedWrite words.serves (Owes (words.stage old)) (setup routing) number opening line old after new step
+
+-- a writer without a bio has tried to take that of its next write, whatever write that is
+abbrev pub TriesBio : {S : Type 0} → Ghosts S → ℕ → S → Attempt × Step → S → Type 0
+TriesBio words number old done new =
+    (setup : Setup) (todo : Todo) (later : List Todo) (line : Line)
+    → WriteAnswers words.serves (Owes (words.stage old)) setup number (TakeBio Fs true) (todo ∷ later) NoBio line old
+    (tried done.0 number (todo ∷ later) line) new done.1
+
+-- one with a bio has tried to take the vector of its next write
+abbrev pub TriesVector : {S : Type 0} → Ghosts S → ℕ → Item Pad → Line → S → RealTaken × Step → Line → S → Type 0
+TriesVector words number bio line old done after new =
+    (setup : Setup) (todo : Todo) (later : List Todo)
+    → WriteAnswers words.serves (Owes (words.stage old)) setup number TakeVec (todo ∷ later) (HasBio bio) line old
+    (Writer number (todo ∷ later) (taken_of done.0) after) new done.1
+
+-- one has asked for the node of its next write, for which it has this bio, and this vector if it needs one
+abbrev pub LinksWrite : {S : Type 0} → Ghosts S → Routing → ℕ → Todo → Item Pad → Option VectorItem → Line → S → Next × Step → Line → S → Type 0
+LinksWrite words routing number todo bio None line old done after new =
+    (later : List Todo) → WriteAnswers words.serves (Owes (words.stage old)) (setup routing) number (Link number (Write todo.number None))
+    (todo ∷ later) (HasBio bio) line old (next_of done.0 number todo later after) new done.1
+LinksWrite words routing number todo bio (Some vector) line old done after new =
+    (later : List Todo) → WriteAnswers words.serves (Owes (words.stage old)) (setup routing) number
+    (Link number (Write todo.number (Some (filled_vector todo vector)))) (todo ∷ later) (HasBoth bio vector) line old
+    (next_of done.0 number todo later after) new done.1
+
+-- one has asked for what its next write needs, for which it has taken this
+abbrev pub WriteGoesOn : {S : Type 0} → Ghosts S → Routing → ℕ → Todo → Taken → Line → S → Next × Step → Line → S → Type 0
+WriteGoesOn words routing number todo taken line old done after new =
+    (later : List Todo) → WriteAnswers words.serves (Owes (words.stage old)) (setup routing) number (write_request number (todo ∷ later) taken)
+    (todo ∷ later) taken line old (next_of done.0 number todo later after) new done.1
 
 -- whether it has taken a bio
 abbrev pub is_taken : Taken → Bool

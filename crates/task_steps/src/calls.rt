@@ -10,7 +10,7 @@ ghost use Rattle.task_steps.specs.Views.{opening_of, IsAskAlone};
 ghost use Rattle.task_steps.specs.Routed.{setup};
 ghost use Rattle.task_steps.specs.Turns.{named, step_by, idle_step};
 ghost use Rattle.task_steps.specs.LineViews.{want_of, IsWantAlone, IsAttemptAlone};
-ghost use Rattle.task_steps.specs.Answers.{Attempted, PuntedAll, NodeOpened};
+ghost use Rattle.task_steps.specs.Answers.{Attempted, PuntedAll, NodeOpened, Ready};
 
 use crate::objects::{Ask, Objects, Unmade};
 use crate::routes::Routes;
@@ -84,9 +84,8 @@ pub(crate) fn attempt<O: Objects>(
     dev: DevId,
     waits: bool,
 ) -> Result<(Want, Step), Unmade>
-    requires holds { O.holds objects.old }
-    requires fits { Fits (O.stage objects.old) (TakeBio (Of dev) waits) }
-    ensures step { Attempted O.serves (Owes (O.stage objects.old)) task dev waits objects.old objects.new result }
+    requires ready { Ready O.Objects objects.old (TakeBio (Of dev) waits) }
+    ensures step { Attempted O.Objects task dev waits objects.old objects.new result }
     ensures alone { IsAttemptAlone result }
     ensures kept { O.holds objects.new × (O.stage objects.new ≡ O.stage objects.old) }
 {
@@ -111,9 +110,8 @@ pub(crate) fn punt_all<O: Objects>(
     dev: DevId,
     lists: &mut TaskLists,
 ) -> Result<Step, Unmade>
-    requires holds { O.holds objects.old }
-    requires fits { Fits (O.stage objects.old) (Punt dev (punted dev lists.old)) }
-    ensures step { PuntedAll O.serves (Owes (O.stage objects.old)) task dev lists.old objects.old lists.new objects.new result }
+    requires ready { Ready O.Objects objects.old (Punt dev (punted dev lists.old)) }
+    ensures step { PuntedAll O.Objects task dev lists.old objects.old lists.new objects.new result }
     ensures kept { O.holds objects.new × (O.stage objects.new ≡ O.stage objects.old) }
 {
     let punted = lists.punt(SetId::Of(dev));
@@ -145,10 +143,9 @@ pub(crate) fn open_node<O: Objects>(
     writer: u32,
     ask: Ask,
 ) -> Result<u32, (Breach, HandedBack)>
-    requires holds { O.holds objects.old }
+    requires ready { Ready O.Objects objects.old (LinkOf writer (opening_of ask)) }
     requires alone { IsAskAlone ask }
-    requires fits { Fits (O.stage objects.old) (LinkOf writer (opening_of ask)) }
-    ensures opens { NodeOpened O.serves (Owes (O.stage objects.old)) (setup routes.now) writer (opening_of ask) objects.old objects.new result }
+    ensures opens { NodeOpened O.Objects routes.now writer (opening_of ask) objects.old objects.new result }
     ensures kept { O.holds objects.new × (O.stage objects.new ≡ O.stage objects.old) }
 {
     let node = named(&ask);

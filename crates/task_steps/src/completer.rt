@@ -11,6 +11,7 @@ ghost use Rattle.task_steps.specs.Stage.{Owes};
 ghost use Rattle.task_steps.specs.Homes.{IsTaskOf};
 ghost use Rattle.task_steps.specs.Turns.{completes, Chosen, Turns, step_of};
 ghost use Rattle.task_steps.specs.CarriedViews.{carried_of, put_back, is_busy, IsLoadAlone};
+ghost use Rattle.task_steps.specs.TaskSteps.{CompleterDoes, TaskReady};
 
 mod closed;
 mod ends;
@@ -122,11 +123,9 @@ pub(crate) fn carrying(writer: u32, node: ClosedNode) -> Carried
 pub(crate) fn step_of<O: Objects>(objects: &mut O, disk: DevId, load: Load) -> (Carried, Step)
     requires alone { IsLoadAlone load }
     requires busy { is_busy (carried_of load) ≡ true }
-    requires holds { O.holds objects.old }
-    requires fits { IsTaskOf (O.stage objects.old) (Completes disk (carried_of load)) }
-    ensures turns { Turns O.serves (Owes (O.stage objects.old)) (setup (O.stage objects.old).routing) (Completes disk (carried_of load)) objects.old (Completes disk result.0) objects.new result.1 }
+    requires ready { TaskReady O.Objects objects.old (Completes disk (carried_of load)) }
+    ensures does { CompleterDoes O.Objects disk (carried_of load) objects.old result objects.new }
     ensures completes_none { completes result.1 ≡ false }
-    ensures kept { O.holds objects.new × (O.stage objects.new ≡ O.stage objects.old) }
 {
     match load {
         Load::Empty => unreachable!(),
@@ -170,11 +169,9 @@ impl Carried {
         disk: DevId,
     ) -> Step
         requires empty { self.old ≡ Empty }
-        requires holds { O.holds objects.old }
-        requires fits { IsTaskOf (O.stage objects.old) (Completes disk Empty) }
-        ensures turns { Turns O.serves (Owes (O.stage objects.old)) (setup (O.stage objects.old).routing) (Completes disk Empty) objects.old (Completes disk self.new) objects.new result }
+        requires ready { TaskReady O.Objects objects.old (Completes disk Empty) }
+        ensures does { CompleterDoes O.Objects disk Empty objects.old (self.new, result) objects.new }
         ensures chosen { Chosen C.chooses (O.picks objects.old) disk chooser.old result chooser.new }
-        ensures kept { O.holds objects.new × (O.stage objects.new ≡ O.stage objects.old) }
     {
         match objects.complete(disk, chooser) {
             Ok(Some((index, Done { el, status }))) => {
@@ -210,11 +207,9 @@ impl Carried {
         chooser: &mut C,
         disk: DevId,
     ) -> Step
-        requires holds { O.holds objects.old }
-        requires fits { IsTaskOf (O.stage objects.old) (Completes disk self.old) }
-        ensures turns { Turns O.serves (Owes (O.stage objects.old)) (setup (O.stage objects.old).routing) (Completes disk self.old) objects.old (Completes disk self.new) objects.new result }
+        requires ready { TaskReady O.Objects objects.old (Completes disk self.old) }
+        ensures does { CompleterDoes O.Objects disk self.old objects.old (self.new, result) objects.new }
         ensures chosen { Chosen C.chooses (O.picks objects.old) disk chooser.old result chooser.new }
-        ensures kept { O.holds objects.new × (O.stage objects.new ≡ O.stage objects.old) }
     {
         if !self.is_busy() {
             return self.complete(objects, chooser, disk);

@@ -9,7 +9,9 @@ ghost use Rattle.task_steps.specs.Routed.{setup};
 ghost use Rattle.task_steps.specs.Stage.{Fits, Owes};
 ghost use Rattle.task_steps.specs.Homes.{DutyFits, IsTaskOf};
 ghost use Rattle.task_steps.specs.Turns.{Acts, Asks, Turns};
-ghost use Rattle.task_steps.specs.KeeperViews.{duty_of, keeping_of};
+ghost use Rattle.task_steps.specs.KeeperViews.{duty_of, keeping_of, duties_from};
+ghost use Rattle.task_steps.specs.TaskSteps.{KeeperActs, KeeperAsks, TaskDoes, TaskReady};
+ghost use Rattle.task_steps.specs.Answers.{Ready};
 
 use crate::objects::{Objects, Unmade};
 use crate::step::Step;
@@ -66,10 +68,8 @@ fn spent(nothing: Unmade) -> (Option<Breach>, Step)
 
 // Sets the reserve of a pool. It answers why the keeper cannot go on, where it cannot.
 fn resize<O: Objects>(objects: &mut O, pool: PoolId, min: u32) -> (Option<Breach>, Step)
-    requires holds { O.holds objects.old }
-    requires fits { Fits (O.stage objects.old) (Resize pool min) }
-    ensures asks { (later : ℕ) (duties : List DutyState) → Asks O.serves (Owes (O.stage objects.old)) (setup (O.stage objects.old).routing) (Resize pool min)
-        (Keeping' (Keeps (Resizes pool min later ∷ duties))) objects.old (Keeping' (keeping_of result.0 duties)) objects.new result.1 }
+    requires ready { Ready O.Objects objects.old (Resize pool min) }
+    ensures asks { (later : ℕ) → KeeperAsks O.Objects (Resize pool min) (Resizes pool min later) objects.old result objects.new }
     ensures kept { O.holds objects.new × (O.stage objects.new ≡ O.stage objects.old) }
 {
     match objects.resize(pool, min) {
@@ -85,8 +85,7 @@ fn resize<O: Objects>(objects: &mut O, pool: PoolId, min: u32) -> (Option<Breach
 // Starts the round of this number. It answers why the keeper cannot go on, where it cannot.
 fn start<O: Objects>(objects: &mut O, round: u32) -> (Option<Breach>, Step)
     requires holds { O.holds objects.old }
-    ensures asks { (later : ℕ) (duties : List DutyState) → Asks O.serves (Owes (O.stage objects.old)) (setup (O.stage objects.old).routing) (NextRound round)
-        (Keeping' (Keeps (Starts round later ∷ duties))) objects.old (Keeping' (keeping_of result.0 duties)) objects.new result.1 }
+    ensures asks { (later : ℕ) → KeeperAsks O.Objects (NextRound round) (Starts round later) objects.old result objects.new }
     ensures kept { O.holds objects.new × (O.stage objects.new ≡ O.stage objects.old) }
 {
     match objects.next_round() {
@@ -109,8 +108,7 @@ impl Duty {
     fn attend<O: Objects>(self, objects: &mut O) -> (Option<Breach>, Step)
         requires holds { O.holds objects.old }
         requires fits { DutyFits (O.stage objects.old) (duty_of self) }
-        ensures acts { (duties : List DutyState) → Acts O.serves (Owes (O.stage objects.old)) (setup (O.stage objects.old).routing)
-            (Keeping' (Keeps (duty_of self ∷ duties))) objects.old (Keeping' (keeping_of result.0 duties)) objects.new result.1 }
+        ensures acts { KeeperActs O.Objects (duty_of self) objects.old result objects.new }
         ensures kept { O.holds objects.new × (O.stage objects.new ≡ O.stage objects.old) }
     {
         match self {
@@ -123,8 +121,8 @@ impl Duty {
 // The duty at a place, if there is one.
 #[tactic(auto, using(crate::proofs::KeeperLemmas::duty_there, crate::proofs::KeeperLemmas::duties_over))]
 fn duty_at(duties: &[Duty], next: usize) -> Option<Duty>
-    ensures { MatchOption result (map duty_of (drop next duties.now) ≡ [])
-        (λ duty. map duty_of (drop next duties.now) ≡ duty_of duty ∷ map duty_of (drop (next + 1) duties.now)) }
+    ensures { MatchOption result (duties_from next duties.now ≡ [])
+        (λ duty. duties_from next duties.now ≡ duty_of duty ∷ duties_from (next + 1) duties.now) }
 {
     duties.get(next).copied()
 }
@@ -150,10 +148,8 @@ impl Keeper {
 
     /// A step of the keeper: it looks at the number of unfinished writes, and does what is next where none is left of the rounds so far.
     pub fn step<O: Objects>(&mut self, objects: &mut O) -> Step
-        requires holds { O.holds objects.old }
-        requires fits { IsTaskOf (O.stage objects.old) (Keeping' self.old) }
-        ensures turns { Turns O.serves (Owes (O.stage objects.old)) (setup (O.stage objects.old).routing) (Keeping' self.old) objects.old (Keeping' self.new) objects.new result }
-        ensures kept { O.holds objects.new × (O.stage objects.new ≡ O.stage objects.old) }
+        requires ready { TaskReady O.Objects objects.old (Keeping' self.old) }
+        ensures does { TaskDoes O.Objects (O.stage objects.old).routing (Keeping' self.old) objects.old (Keeping' self.new) objects.new result }
     {
         if let Some(breach) = self.broken {
             return Step::Broken(breach);

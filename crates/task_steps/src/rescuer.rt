@@ -6,7 +6,9 @@ ghost use Rattle.task_steps.specs.Routed.{setup};
 ghost use Rattle.task_steps.specs.Stage.{Fits, Owes};
 ghost use Rattle.task_steps.specs.Homes.{IsTaskOf};
 ghost use Rattle.task_steps.specs.Turns.{Turns};
-ghost use Rattle.task_steps.specs.RescuerViews.{rescuer_task, PopAnswers};
+ghost use Rattle.task_steps.specs.RescuerViews.{rescuer_task, PopAnswers, RescuerPops};
+ghost use Rattle.task_steps.specs.TaskSteps.{TaskDoes, TaskReady};
+ghost use Rattle.task_steps.specs.Answers.{Ready};
 
 use crate::calls::idle;
 use crate::objects::Objects;
@@ -52,11 +54,10 @@ impl Rescuer {
 
     // Submits the first bio that waits for it. Where none does, it has ended if no write is unfinished, and nothing moves.
     fn pop<O: Objects>(&mut self, objects: &mut O, routes: &Routes) -> Step
-        requires holds { O.holds objects.old }
+        requires ready { Ready O.Objects objects.old (Pop self.old.dev) }
         requires routing { (O.stage objects.old).routing ≡ routes.now }
         requires rests { self.old.line.doing ≡ Rests }
-        requires fits { Fits (O.stage objects.old) (Pop self.old.dev) }
-        ensures step { PopAnswers O.serves (Owes (O.stage objects.old)) (setup routes.now) self.old.dev self.old.line objects.old self.new.line objects.new result }
+        ensures step { RescuerPops O.Objects routes.now self.old objects.old self.new objects.new result }
         ensures dev { self.new.dev ≡ self.old.dev }
         ensures kept { O.holds objects.new × (O.stage objects.new ≡ O.stage objects.old) }
     {
@@ -80,11 +81,9 @@ impl Rescuer {
     /// Its next step: it asks one object once, for what its submission needs or for the next bio that waits for it, and goes on with the
     /// reply. Where none waits, it also looks at how many writes are unfinished.
     pub fn step<O: Objects>(&mut self, objects: &mut O, routes: &Routes) -> Step
-        requires holds { O.holds objects.old }
         requires routing { (O.stage objects.old).routing ≡ routes.now }
-        requires task { IsTaskOf (O.stage objects.old) (rescuer_task self.old) }
-        ensures turn { Turns O.serves (Owes (O.stage objects.old)) (setup routes.now) (rescuer_task self.old) objects.old (rescuer_task self.new) objects.new result }
-        ensures kept { O.holds objects.new × (O.stage objects.new ≡ O.stage objects.old) }
+        requires ready { TaskReady O.Objects objects.old (rescuer_task self.old) }
+        ensures does { TaskDoes O.Objects routes.now (rescuer_task self.old) objects.old (rescuer_task self.new) objects.new result }
     {
         if self.line.asks() {
             let task = TaskId::Rescuer(self.dev);

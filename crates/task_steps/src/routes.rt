@@ -5,7 +5,7 @@ ghost use Rattle.stack_base.specs.Stack.{IsStack};
 ghost use Rattle.run_machine.specs.Scene.{tree_at};
 ghost use Rattle.run_machine.specs.Lines.{first_waits, legs_of};
 ghost use Rattle.task_steps.specs.Within.{IsWithin, is_cut};
-ghost use Rattle.task_steps.specs.Routed.{setup, IsRoute, IsRouteOf, IsManner, IsFirst, HasNoFirst, IsBelow, Stays, IsLanded, IsCutAt, IsLegAt};
+ghost use Rattle.task_steps.specs.Routed.{setup, IsRoute, IsRouteOf, IsManner, IsFirst, HasNoFirst, IsBelow, Stays, IsLanded, IsCutAt, IsLegAt, Routing};
 
 pub(crate) mod driver;
 

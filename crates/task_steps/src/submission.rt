@@ -10,7 +10,7 @@ ghost use Rattle.task_steps.specs.Turns.{doing_breach};
 ghost use Rattle.task_steps.specs.LineViews.{unmade_kept, kept_of, doing_of, line_of, IsDoingAlone, is_asking};
 ghost use Rattle.run_machine.specs.Kept.{bio_kept};
 ghost use Rattle.bio_books.specs.Views.{bio_of};
-ghost use Rattle.task_steps.specs.Answers.{Answers};
+ghost use Rattle.task_steps.specs.Answers.{Answers, LineDoes};
 
 pub(crate) mod cut;
 pub(crate) mod dispatch;
@@ -235,8 +235,7 @@ impl Line {
         requires routing { (O.stage objects.old).routing ≡ routes.now }
         requires line { IsLineOf (O.stage objects.old) self.old }
         requires asks { is_asking self.old.doing ≡ true }
-        ensures step { Answers O.serves (Owes (O.stage objects.old)) (setup routes.now) task self.old.doing self.old.lists objects.old self.new objects.new result }
-        ensures kept { O.holds objects.new × (O.stage objects.new ≡ O.stage objects.old) }
+        ensures does { LineDoes O.Objects routes.now task self.old objects.old self.new objects.new result }
     {
         routes.known();
         lines_stay_home();

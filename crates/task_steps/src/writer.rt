@@ -7,7 +7,8 @@ ghost use Rattle.task_steps.specs.Routed.{setup};
 ghost use Rattle.task_steps.specs.Stage.{Owes};
 ghost use Rattle.task_steps.specs.Homes.{IsTaskOf};
 ghost use Rattle.task_steps.specs.Turns.{Acts, Turns};
-ghost use Rattle.task_steps.specs.WriterViews.{writer_task, next_of, tried, IsNextAlone, IsAttemptAtBioAlone, is_taken};
+ghost use Rattle.task_steps.specs.WriterViews.{writer_task, next_of, tried, IsNextAlone, IsAttemptAtBioAlone, is_taken, writer_next};
+ghost use Rattle.task_steps.specs.TaskSteps.{TaskActs, TaskDoes, TaskReady, TaskTurns};
 
 pub(crate) mod begin;
 mod first_bio;
@@ -73,7 +74,7 @@ impl Writer {
         requires todo { self.old.todo ≢ [] }
         requires none { self.old.taken ≡ NoBio }
         requires alone { IsNextAlone next }
-        ensures { (todo : TodoState) → self.old.todo ≡ todo ∷ drop 1 self.old.todo → writer_task self.new ≡ next_of next self.old.number todo (drop 1 self.old.todo) self.old.line }
+        ensures { (todo : TodoState) → self.old.todo ≡ todo ∷ drop 1 self.old.todo → writer_task self.new ≡ writer_next next self.old todo }
     {
         match next {
             Next::Begins => self.todo.advance(),
@@ -89,7 +90,7 @@ impl Writer {
         requires rests { self.old.line.doing ≡ Rests }
         requires first { self.old.todo ≡ todo.now ∷ drop 1 self.old.todo }
         requires some { is_taken self.old.taken ≡ true }
-        ensures acts { Acts O.serves (Owes (O.stage objects.old)) (setup routes.now) (writer_task self.old) objects.old (writer_task self.new) objects.new result }
+        ensures acts { TaskActs O.Objects (setup routes.now) (writer_task self.old) objects.old (writer_task self.new) objects.new result }
         ensures kept { O.holds objects.new × (O.stage objects.new ≡ O.stage objects.old) }
     {
         let taken = mem::replace(&mut self.taken, Taken::NoBio);
@@ -118,7 +119,7 @@ impl Writer {
         requires rests { self.old.line.doing ≡ Rests }
         requires none { self.old.taken ≡ NoBio }
         requires some { self.old.todo ≢ [] }
-        ensures acts { (setup : Setup) → Acts O.serves (Owes (O.stage objects.old)) setup (writer_task self.old) objects.old (writer_task self.new) objects.new result }
+        ensures acts { (setup : Setup) → TaskActs O.Objects setup (writer_task self.old) objects.old (writer_task self.new) objects.new result }
         ensures kept { O.holds objects.new × (O.stage objects.new ≡ O.stage objects.old) }
     {
         let (attempt, step) = take_bio(objects, self.number);
@@ -132,7 +133,7 @@ impl Writer {
         requires rests { self.old.line.doing ≡ Rests }
         requires first { self.old.todo ≡ todo.now ∷ drop 1 self.old.todo }
         requires none { is_taken self.old.taken ≡ false }
-        ensures turn { (setup : Setup) → Turns O.serves (Owes (O.stage objects.old)) setup (writer_task self.old) objects.old (writer_task self.new) objects.new result }
+        ensures turn { (setup : Setup) → TaskTurns O.Objects setup (writer_task self.old) objects.old (writer_task self.new) objects.new result }
         ensures kept { O.holds objects.new × (O.stage objects.new ≡ O.stage objects.old) }
     {
         let round = objects.round();
@@ -155,11 +156,9 @@ impl Writer {
     /// Its next step: it asks one object once, for what its submission or its next write needs, and goes on with the reply. Before the
     /// first take of a write it looks at the present round, and waits where the write is of a later one.
     pub fn step<O: Objects>(&mut self, objects: &mut O, routes: &Routes) -> Step
-        requires holds { O.holds objects.old }
         requires routing { (O.stage objects.old).routing ≡ routes.now }
-        requires task { IsTaskOf (O.stage objects.old) (writer_task self.old) }
-        ensures turn { Turns O.serves (Owes (O.stage objects.old)) (setup routes.now) (writer_task self.old) objects.old (writer_task self.new) objects.new result }
-        ensures kept { O.holds objects.new × (O.stage objects.new ≡ O.stage objects.old) }
+        requires ready { TaskReady O.Objects objects.old (writer_task self.old) }
+        ensures does { TaskDoes O.Objects routes.now (writer_task self.old) objects.old (writer_task self.new) objects.new result }
     {
         if self.line.asks() {
             let task = TaskId::Writer(self.number);

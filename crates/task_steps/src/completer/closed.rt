@@ -7,6 +7,8 @@ ghost use Rattle.task_steps.specs.Routed.{setup};
 ghost use Rattle.task_steps.specs.Stage.{Owes};
 ghost use Rattle.task_steps.specs.Homes.{IsTaskOf};
 ghost use Rattle.task_steps.specs.Turns.{Turns};
+ghost use Rattle.task_steps.specs.TaskSteps.{CompleterDoes, TaskReady};
+ghost use Rattle.task_steps.specs.CarriedViews.{given_back};
 
 use crate::completer::ends::drop_parent;
 use crate::completer::gives::{give_bio, give_slip, give_vector};
@@ -26,10 +28,8 @@ fn end_write<O: Objects>(
     write: u32,
     status: Status,
 ) -> (Carried, Step)
-    requires holds { O.holds objects.old }
-    requires fits { IsTaskOf (O.stage objects.old) (Completes disk (Carries writer (record { held = nothing_held; parent = None; write = write; status = status }))) }
-    ensures turns { Turns O.serves (Owes (O.stage objects.old)) (setup (O.stage objects.old).routing) (Completes disk (Carries writer (record { held = nothing_held; parent = None; write = write; status = status }))) objects.old (Completes disk result.0) objects.new result.1 }
-    ensures kept { O.holds objects.new × (O.stage objects.new ≡ O.stage objects.old) }
+    requires ready { TaskReady O.Objects objects.old (Completes disk (Carries writer (given_back None write status))) }
+    ensures does { CompleterDoes O.Objects disk (Carries writer (given_back None write status)) objects.old result objects.new }
 {
     match objects.done(write, status) {
         Ok(()) => {
@@ -52,10 +52,8 @@ pub(crate) fn finish<O: Objects>(
     node: ClosedNode,
 ) -> (Carried, Step)
     requires alone { IsAlonePart node.held.bio }
-    requires holds { O.holds objects.old }
-    requires fits { IsTaskOf (O.stage objects.old) (Completes disk (Carries writer (closed_node_of node))) }
-    ensures turns { Turns O.serves (Owes (O.stage objects.old)) (setup (O.stage objects.old).routing) (Completes disk (Carries writer (closed_node_of node))) objects.old (Completes disk result.0) objects.new result.1 }
-    ensures kept { O.holds objects.new × (O.stage objects.new ≡ O.stage objects.old) }
+    requires ready { TaskReady O.Objects objects.old (Completes disk (Carries writer (closed_node_of node))) }
+    ensures does { CompleterDoes O.Objects disk (Carries writer (closed_node_of node)) objects.old result objects.new }
 {
     let mut rest = node;
     if let Some(vector) = rest.held.vector.take() {

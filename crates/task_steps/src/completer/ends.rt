@@ -16,6 +16,8 @@ ghost use Rattle.task_steps.specs.Routed.{setup};
 ghost use Rattle.task_steps.specs.Stage.{Owes};
 ghost use Rattle.task_steps.specs.Homes.{IsTaskOf};
 ghost use Rattle.task_steps.specs.Turns.{Turns, step_of};
+ghost use Rattle.task_steps.specs.TaskSteps.{CompleterDoes, TaskReady, TellsDrop};
+ghost use Rattle.task_steps.specs.CarriedViews.{given_back};
 
 use crate::completer::{Carried, Load, carrying, failing, nothing_held, spent, step_of};
 use crate::objects::Objects;
@@ -58,7 +60,7 @@ fn drops(disk: DevId, writer: u32, node: u32, status: Status, end: End) -> Step
 fn told(disk: DevId, writer: u32, node: u32, status: Status, dropped: Dropped) -> (Carried, Step)
     requires { IsDroppedAlone dropped }
     ensures carried { result.0 ≡ after_drop writer node (ended_of dropped) }
-    ensures step { (part : Option (Item Pad')) → (s : Setup) → result.1 ≡ step_of s (TaskId'.Completer disk) (DropOf writer node status part) (DroppedTo (ended_of dropped)) }
+    ensures step { TellsDrop disk writer node status (ended_of dropped) result.1 }
 {
     match dropped {
         Dropped::Left => (
@@ -85,10 +87,8 @@ pub(crate) fn drop_part<O: Objects>(
     status: Status,
 ) -> (Carried, Step)
     requires alone { IsAlone bio }
-    requires holds { O.holds objects.old }
-    requires fits { IsTaskOf (O.stage objects.old) (Completes disk (Brings (item_of bio) status)) }
-    ensures turns { Turns O.serves (Owes (O.stage objects.old)) (setup (O.stage objects.old).routing) (Completes disk (Brings (item_of bio) status)) objects.old (Completes disk result.0) objects.new result.1 }
-    ensures kept { O.holds objects.new × (O.stage objects.new ≡ O.stage objects.old) }
+    requires ready { TaskReady O.Objects objects.old (Completes disk (Brings (item_of bio) status)) }
+    ensures does { CompleterDoes O.Objects disk (Brings (item_of bio) status) objects.old result objects.new }
 {
     let Bio { writer, node, .. } = bio.body.bio;
     match objects.drop_one(writer, node, status, Some(bio)) {
@@ -106,10 +106,8 @@ pub(crate) fn drop_parent<O: Objects>(
     write: u32,
     status: Status,
 ) -> (Carried, Step)
-    requires holds { O.holds objects.old }
-    requires fits { IsTaskOf (O.stage objects.old) (Completes disk (Carries writer (record { held = nothing_held; parent = Some parent; write = write; status = status }))) }
-    ensures turns { Turns O.serves (Owes (O.stage objects.old)) (setup (O.stage objects.old).routing) (Completes disk (Carries writer (record { held = nothing_held; parent = Some parent; write = write; status = status }))) objects.old (Completes disk result.0) objects.new result.1 }
-    ensures kept { O.holds objects.new × (O.stage objects.new ≡ O.stage objects.old) }
+    requires ready { TaskReady O.Objects objects.old (Completes disk (Carries writer (given_back (Some parent) write status))) }
+    ensures does { CompleterDoes O.Objects disk (Carries writer (given_back (Some parent) write status)) objects.old result objects.new }
 {
     match objects.drop_one(writer, parent, status, None) {
         Ok(dropped) => told(disk, writer, parent, status, dropped),

@@ -12,6 +12,7 @@ ghost use Rattle.task_steps.specs.Stage.{Owes};
 ghost use Rattle.task_steps.specs.Homes.{IsTaskOf};
 ghost use Rattle.task_steps.specs.Turns.{Turns};
 ghost use Rattle.task_steps.specs.CarriedViews.{with_bio, with_slip, with_vector, HoldsNothing};
+ghost use Rattle.task_steps.specs.TaskSteps.{CompleterDoes, TaskReady};
 
 use crate::completer::{Carried, carrying, spent};
 use crate::objects::Objects;
@@ -56,10 +57,8 @@ pub(crate) fn give_vector<O: Objects>(
 ) -> (Carried, Step)
     requires alone { IsAlonePart rest.held.bio }
     requires rest { rest.held.vector ≡ None }
-    requires holds { O.holds objects.old }
-    requires fits { IsTaskOf (O.stage objects.old) (Completes disk (Carries writer (with_vector vector rest))) }
-    ensures turns { Turns O.serves (Owes (O.stage objects.old)) (setup (O.stage objects.old).routing) (Completes disk (Carries writer (with_vector vector rest))) objects.old (Completes disk result.0) objects.new result.1 }
-    ensures kept { O.holds objects.new × (O.stage objects.new ≡ O.stage objects.old) }
+    requires ready { TaskReady O.Objects objects.old (Completes disk (Carries writer (with_vector vector rest))) }
+    ensures does { CompleterDoes O.Objects disk (Carries writer (with_vector vector rest)) objects.old result objects.new }
 {
     let pool = pool_of(vector.no());
     match objects.give_vec(vector) {
@@ -78,10 +77,8 @@ pub(crate) fn give_bio<O: Objects>(
 ) -> (Carried, Step)
     requires alone { IsAlone bio }
     requires rest { (rest.held.vector ≡ None) × (rest.held.bio ≡ None) }
-    requires holds { O.holds objects.old }
-    requires fits { IsTaskOf (O.stage objects.old) (Completes disk (Carries writer (with_bio bio rest))) }
-    ensures turns { Turns O.serves (Owes (O.stage objects.old)) (setup (O.stage objects.old).routing) (Completes disk (Carries writer (with_bio bio rest))) objects.old (Completes disk result.0) objects.new result.1 }
-    ensures kept { O.holds objects.new × (O.stage objects.new ≡ O.stage objects.old) }
+    requires ready { TaskReady O.Objects objects.old (Completes disk (Carries writer (with_bio bio rest))) }
+    ensures does { CompleterDoes O.Objects disk (Carries writer (with_bio bio rest)) objects.old result objects.new }
 {
     let pool = pool_of(bio.no());
     match objects.give_bio(bio) {
@@ -99,10 +96,8 @@ pub(crate) fn give_slip<O: Objects>(
     rest: ClosedNode,
 ) -> (Carried, Step)
     requires rest { HoldsNothing rest }
-    requires holds { O.holds objects.old }
-    requires fits { IsTaskOf (O.stage objects.old) (Completes disk (Carries writer (with_slip slip rest))) }
-    ensures turns { Turns O.serves (Owes (O.stage objects.old)) (setup (O.stage objects.old).routing) (Completes disk (Carries writer (with_slip slip rest))) objects.old (Completes disk result.0) objects.new result.1 }
-    ensures kept { O.holds objects.new × (O.stage objects.new ≡ O.stage objects.old) }
+    requires ready { TaskReady O.Objects objects.old (Completes disk (Carries writer (with_slip slip rest))) }
+    ensures does { CompleterDoes O.Objects disk (Carries writer (with_slip slip rest)) objects.old result objects.new }
 {
     let pool = pool_of(slip.no());
     match objects.give_slip(slip) {

@@ -7,7 +7,7 @@ ghost use Rattle.run_machine.specs.Scene.{Setup, tree_at};
 ghost use Rattle.run_machine.specs.Requests.{Punt, Link as LinkOf, Chain};
 ghost use Rattle.run_machine.specs.Lines.{Drives, ToCut, Punts, Links, punted};
 ghost use Rattle.task_steps.specs.Within.{IsWithin, ListsAreWithin, is_cut};
-ghost use Rattle.task_steps.specs.Routed.{setup, sent};
+ghost use Rattle.task_steps.specs.Routed.{setup, sent, Routing};
 ghost use Rattle.task_steps.specs.Stage.{Fits, Owes};
 ghost use Rattle.task_steps.specs.LineViews.{line_of, IsDoingAlone};
 ghost use Rattle.task_steps.specs.Answers.{Answers, Ready, Does};
@@ -31,12 +31,10 @@ pub(crate) fn punt_to_cut<O: Objects>(
     bio: BioElement,
     lists: &mut TaskLists,
 ) -> (Doing, Step)
-    requires holds { O.holds objects.old }
+    requires ready { Ready O.Objects objects.old (Punt (item_of bio).bio.dev (punted (item_of bio).bio.dev lists.old)) }
     requires alone { IsAlone bio }
-    requires fits { Fits (O.stage objects.old) (Punt (item_of bio).bio.dev (punted (item_of bio).bio.dev lists.old)) }
-    ensures step { (setup : Setup) → Answers O.serves (Owes (O.stage objects.old)) setup task (Drives (item_of bio) (ToCut Punts)) lists.old objects.old (line_of result.0 lists.new) objects.new result.1 }
+    ensures does { (routing : Routing) → Does O.Objects routing task (Drives (item_of bio) (ToCut Punts)) lists.old objects.old result lists.new objects.new }
     ensures alone { IsDoingAlone result.0 }
-    ensures kept { O.holds objects.new × (O.stage objects.new ≡ O.stage objects.old) }
 {
     match punt_all(objects, task, bio.body.bio.dev, lists) {
         Ok(step) => {
@@ -75,12 +73,12 @@ pub(crate) fn chain<O: Objects>(
     hand: BioElement,
     lists: &mut TaskLists,
 ) -> (Doing, Step)
-    requires ready { Ready O.holds O.stage objects.old (LinkOf (item_of bio).bio.writer (Chain (item_of bio).bio.node)) }
+    requires ready { Ready O.Objects objects.old (LinkOf (item_of bio).bio.writer (Chain (item_of bio).bio.node)) }
     requires alone { IsAlone bio × IsAlone hand }
     requires within { IsWithin routes.now.stack (item_of bio).bio }
     requires cut { is_cut (tree_at (setup routes.now) (item_of bio).bio.dev) (item_of bio).bio.range ≡ true }
     requires lists { ListsAreWithin routes.now.stack lists.old }
-    ensures does { Does O.holds O.stage O.serves routes.now task (Drives (item_of bio) (ToCut (Links (item_of hand)))) lists.old objects.old (line_of result.0 lists.new) objects.new result.1 }
+    ensures does { Does O.Objects routes.now task (Drives (item_of bio) (ToCut (Links (item_of hand)))) lists.old objects.old result lists.new objects.new }
     ensures alone { IsDoingAlone result.0 }
 {
     let whole = bio.body.bio;

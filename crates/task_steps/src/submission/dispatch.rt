@@ -8,7 +8,7 @@ ghost use Rattle.task_steps.specs.Within.{IsWithin, ListsAreWithin, is_cut, Doin
 ghost use Rattle.task_steps.specs.Routed.{setup};
 ghost use Rattle.task_steps.specs.Stage.{Fits, Owes};
 ghost use Rattle.task_steps.specs.LineViews.{want_of, attempt_of, ask_of, doing_of, line_of, IsWantAlone, IsAskOfAlone, IsDoingAlone, is_asking};
-ghost use Rattle.task_steps.specs.Answers.{Answers};
+ghost use Rattle.task_steps.specs.Answers.{Answers, AsksFirst, Does, LineReady};
 
 use crate::objects::Objects;
 use crate::routes::Routes;
@@ -26,7 +26,7 @@ use stack_base::DevId;
 // What the driver of a device does with a bio that has come to it.
 fn asked(routes: &Routes, dev: DevId, lists: &TaskLists) -> DriverAsk
     requires { dev.0 < length routes.now.stack.devices.items }
-    ensures asks { (item : Item Pad) → item.bio.dev ≡ dev → asks_at (setup routes.now) lists.now item (tree_at (setup routes.now) dev) ≡ Drives item (ask_of result) }
+    ensures asks { AsksFirst routes.now lists.now dev (ask_of result) }
     ensures alone { IsAskOfAlone result }
 {
     match routes.manner(dev) {
@@ -71,16 +71,14 @@ fn cut<O: Objects>(
     want: Want,
     lists: &mut TaskLists,
 ) -> (Doing, Step)
-    requires holds { O.holds objects.old }
+    requires ready { LineReady O.Objects objects.old routes.now (Drives (item_of bio) (ToCut (want_of want))) lists.old }
     requires alone { IsAlone bio × IsWantAlone want }
     requires no_attempt { attempt_of (Drives (item_of bio) (ToCut (want_of want))) ≡ None }
-    requires fits { Fits (O.stage objects.old) (line_request (setup routes.now) (Drives (item_of bio) (ToCut (want_of want))) lists.old) }
     requires within { IsWithin routes.now.stack (item_of bio).bio }
     requires cut { is_cut (tree_at (setup routes.now) (item_of bio).bio.dev) (item_of bio).bio.range ≡ true }
     requires lists { ListsAreWithin routes.now.stack lists.old }
-    ensures step { Answers O.serves (Owes (O.stage objects.old)) (setup routes.now) task (Drives (item_of bio) (ToCut (want_of want))) lists.old objects.old (line_of result.0 lists.new) objects.new result.1 }
+    ensures does { Does O.Objects routes.now task (Drives (item_of bio) (ToCut (want_of want))) lists.old objects.old result lists.new objects.new }
     ensures alone { IsDoingAlone result.0 }
-    ensures kept { O.holds objects.new × (O.stage objects.new ≡ O.stage objects.old) }
 {
     match want {
         Want::Takes { .. } => unreachable!(),
@@ -98,15 +96,13 @@ fn drive<O: Objects>(
     ask: DriverAsk,
     lists: &mut TaskLists,
 ) -> (Doing, Step)
-    requires holds { O.holds objects.old }
+    requires ready { LineReady O.Objects objects.old routes.now (Drives (item_of bio) (ask_of ask)) lists.old }
     requires alone { IsAlone bio × IsAskOfAlone ask }
     requires no_attempt { attempt_of (Drives (item_of bio) (ask_of ask)) ≡ None }
-    requires fits { Fits (O.stage objects.old) (line_request (setup routes.now) (Drives (item_of bio) (ask_of ask)) lists.old) }
     requires within { DoingFits routes.now.stack (Drives (item_of bio) (ask_of ask)) }
     requires lists { ListsAreWithin routes.now.stack lists.old }
-    ensures step { Answers O.serves (Owes (O.stage objects.old)) (setup routes.now) task (Drives (item_of bio) (ask_of ask)) lists.old objects.old (line_of result.0 lists.new) objects.new result.1 }
+    ensures does { Does O.Objects routes.now task (Drives (item_of bio) (ask_of ask)) lists.old objects.old result lists.new objects.new }
     ensures alone { IsDoingAlone result.0 }
-    ensures kept { O.holds objects.new × (O.stage objects.new ≡ O.stage objects.old) }
 {
     match ask {
         DriverAsk::ToPush => push(objects, routes, task, bio, lists),
@@ -125,15 +121,13 @@ fn copy<O: Objects>(
     want: Want,
     lists: &mut TaskLists,
 ) -> (Doing, Step)
-    requires holds { O.holds objects.old }
+    requires ready { LineReady O.Objects objects.old routes.now (Copies' run.bio run.master run.leg (want_of want)) lists.old }
     requires alone { IsWantAlone want }
     requires no_attempt { attempt_of (Copies' run.bio run.master run.leg (want_of want)) ≡ None }
-    requires fits { Fits (O.stage objects.old) (line_request (setup routes.now) (Copies' run.bio run.master run.leg (want_of want)) lists.old) }
     requires within { DoingFits routes.now.stack (Copies' run.bio run.master run.leg (want_of want)) }
     requires lists { ListsAreWithin routes.now.stack lists.old }
-    ensures step { Answers O.serves (Owes (O.stage objects.old)) (setup routes.now) task (Copies' run.bio run.master run.leg (want_of want)) lists.old objects.old (line_of result.0 lists.new) objects.new result.1 }
+    ensures does { Does O.Objects routes.now task (Copies' run.bio run.master run.leg (want_of want)) lists.old objects.old result lists.new objects.new }
     ensures alone { IsDoingAlone result.0 }
-    ensures kept { O.holds objects.new × (O.stage objects.new ≡ O.stage objects.old) }
 {
     match want {
         Want::Takes { .. } => unreachable!(),
@@ -150,15 +144,13 @@ pub(crate) fn turn<O: Objects>(
     doing: Doing,
     lists: &mut TaskLists,
 ) -> (Doing, Step)
-    requires holds { O.holds objects.old }
+    requires ready { LineReady O.Objects objects.old routes.now (doing_of doing) lists.old }
     requires alone { IsDoingAlone doing }
     requires asks { is_asking (doing_of doing) ≡ true }
     requires no_attempt { attempt_of (doing_of doing) ≡ None }
-    requires fits { Fits (O.stage objects.old) (line_request (setup routes.now) (doing_of doing) lists.old) }
     requires within { LineFits routes.now.stack (line_of doing lists.old) }
-    ensures step { Answers O.serves (Owes (O.stage objects.old)) (setup routes.now) task (doing_of doing) lists.old objects.old (line_of result.0 lists.new) objects.new result.1 }
+    ensures does { Does O.Objects routes.now task (doing_of doing) lists.old objects.old result lists.new objects.new }
     ensures alone { IsDoingAlone result.0 }
-    ensures kept { O.holds objects.new × (O.stage objects.new ≡ O.stage objects.old) }
 {
     match doing {
         Doing::Drives { bio, ask } => drive(objects, routes, task, bio, ask, lists),

@@ -7,10 +7,10 @@ ghost use Rattle.run_machine.specs.Scene.{Setup, tree_at};
 ghost use Rattle.run_machine.specs.Requests.{TakeSlip, Punt, Link as LinkOf, Master, Leg};
 ghost use Rattle.run_machine.specs.Lines.{Drives, ToRecord, ToMaster, Punts, Links, punted, legs_of, Copies, leg_at, copies};
 ghost use Rattle.task_steps.specs.Within.{IsWithin, ListsAreWithin};
-ghost use Rattle.task_steps.specs.Routed.{setup};
+ghost use Rattle.task_steps.specs.Routed.{setup, Routing};
 ghost use Rattle.task_steps.specs.Stage.{Fits, Owes};
 ghost use Rattle.task_steps.specs.LineViews.{line_of, IsDoingAlone};
-ghost use Rattle.task_steps.specs.Answers.{Answers, Ready, Does};
+ghost use Rattle.task_steps.specs.Answers.{Answers, Ready, Does, LineReady};
 
 use crate::calls::{had, missed, open_node, punt_all};
 use crate::objects::{Ask, Objects};
@@ -32,12 +32,10 @@ pub(crate) fn take_record<O: Objects>(
     bio: BioElement,
     lists: &mut TaskLists,
 ) -> (Doing, Step)
-    requires holds { O.holds objects.old }
+    requires ready { Ready O.Objects objects.old (TakeSlip (item_of bio).bio.dev) }
     requires alone { IsAlone bio }
-    requires fits { Fits (O.stage objects.old) (TakeSlip (item_of bio).bio.dev) }
-    ensures step { (setup : Setup) → Answers O.serves (Owes (O.stage objects.old)) setup task (Drives (item_of bio) ToRecord) lists.old objects.old (line_of result.0 lists.new) objects.new result.1 }
+    ensures does { (routing : Routing) → Does O.Objects routing task (Drives (item_of bio) ToRecord) lists.old objects.old result lists.new objects.new }
     ensures alone { IsDoingAlone result.0 }
-    ensures kept { O.holds objects.new × (O.stage objects.new ≡ O.stage objects.old) }
 {
     let dev = bio.body.bio.dev;
     let pool = PoolId::Records(dev);
@@ -71,11 +69,11 @@ pub(crate) fn master<O: Objects>(
     slip: SlipElement,
     lists: &mut TaskLists,
 ) -> (Doing, Step)
-    requires ready { Ready O.holds O.stage objects.old (LinkOf (item_of bio).bio.writer (Master (item_of bio).bio.node (item_of bio) (slip_item slip) (legs_of (tree_at (setup routes.now) (item_of bio).bio.dev)))) }
+    requires ready { LineReady O.Objects objects.old routes.now (Drives (item_of bio) (ToMaster (slip_item slip))) lists.old }
     requires alone { IsAlone bio }
     requires within { IsWithin routes.now.stack (item_of bio).bio }
     requires lists { ListsAreWithin routes.now.stack lists.old }
-    ensures does { Does O.holds O.stage O.serves routes.now task (Drives (item_of bio) (ToMaster (slip_item slip))) lists.old objects.old (line_of result.0 lists.new) objects.new result.1 }
+    ensures does { Does O.Objects routes.now task (Drives (item_of bio) (ToMaster (slip_item slip))) lists.old objects.old result lists.new objects.new }
     ensures alone { IsDoingAlone result.0 }
 {
     let whole = bio.body.bio;
@@ -152,11 +150,9 @@ pub(crate) fn punt_to_copy<O: Objects>(
     run: Copying,
     lists: &mut TaskLists,
 ) -> (Doing, Step)
-    requires holds { O.holds objects.old }
-    requires fits { Fits (O.stage objects.old) (Punt run.bio.dev (punted run.bio.dev lists.old)) }
-    ensures step { (setup : Setup) → Answers O.serves (Owes (O.stage objects.old)) setup task (Copies run.bio run.master run.leg Punts) lists.old objects.old (line_of result.0 lists.new) objects.new result.1 }
+    requires ready { Ready O.Objects objects.old (Punt run.bio.dev (punted run.bio.dev lists.old)) }
+    ensures does { (routing : Routing) → Does O.Objects routing task (Copies run.bio run.master run.leg Punts) lists.old objects.old result lists.new objects.new }
     ensures alone { IsDoingAlone result.0 }
-    ensures kept { O.holds objects.new × (O.stage objects.new ≡ O.stage objects.old) }
 {
     match punt_all(objects, task, run.bio.dev, lists) {
         Ok(step) => {
@@ -197,12 +193,12 @@ pub(crate) fn leg<O: Objects>(
     hand: BioElement,
     lists: &mut TaskLists,
 ) -> (Doing, Step)
-    requires ready { Ready O.holds O.stage objects.old (LinkOf run.bio.writer (Leg run.master)) }
+    requires ready { Ready O.Objects objects.old (LinkOf run.bio.writer (Leg run.master)) }
     requires alone { IsAlone hand }
     requires within { IsWithin routes.now.stack run.bio }
     requires leg { run.leg < legs_of (tree_at (setup routes.now) run.bio.dev) }
     requires lists { ListsAreWithin routes.now.stack lists.old }
-    ensures does { Does O.holds O.stage O.serves routes.now task (Copies run.bio run.master run.leg (Links (item_of hand))) lists.old objects.old (line_of result.0 lists.new) objects.new result.1 }
+    ensures does { Does O.Objects routes.now task (Copies run.bio run.master run.leg (Links (item_of hand))) lists.old objects.old result lists.new objects.new }
     ensures alone { IsDoingAlone result.0 }
 {
     let Copying { bio, master, leg } = run;

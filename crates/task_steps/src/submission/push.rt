@@ -23,10 +23,10 @@ pub(crate) fn push<O: Objects>(
     bio: BioElement,
     lists: &mut TaskLists,
 ) -> (Doing, Step)
-    requires ready { Ready O.holds O.stage objects.old (Push (item_of bio)) }
+    requires ready { Ready O.Objects objects.old (Push (item_of bio)) }
     requires alone { IsAlone bio }
     requires within { ListsAreWithin routes.now.stack lists.old }
-    ensures does { Does O.holds O.stage O.serves routes.now task (Drives (item_of bio) ToPush) lists.old objects.old (line_of result.0 lists.new) objects.new result.1 }
+    ensures does { Does O.Objects routes.now task (Drives (item_of bio) ToPush) lists.old objects.old result lists.new objects.new }
     ensures alone { IsDoingAlone result.0 }
 {
     let at = bio.body.bio.dev;

@@ -10,7 +10,8 @@ ghost use Rattle.task_steps.specs.declared.objects.Unmade.TheVariants as unmade;
 ghost use Rattle.bio_books.specs.Views.{bio_of};
 ghost use Rattle.task_steps.specs.Stage.{Fits, Owes};
 ghost use Rattle.task_steps.specs.LineViews.{want_of, attempt_of, wanting, doing_of, is_asking, IsWantAlone};
-ghost use Rattle.task_steps.specs.Answers.{Answers};
+ghost use Rattle.task_steps.specs.Answers.{Answers, LineDoes, Ready};
+ghost use Rattle.task_steps.specs.Routed.{Routing};
 
 use crate::calls::attempt;
 use crate::objects::{Objects, Unmade};
@@ -93,12 +94,10 @@ impl Line {
         dev: DevId,
         waits: bool,
     ) -> Step
-        requires holds { O.holds objects.old }
+        requires ready { Ready O.Objects objects.old (TakeBio (Of dev) waits) }
         requires attempts { attempt_of self.old.doing ≡ Some (dev, waits) }
         requires asks { is_asking self.old.doing ≡ true }
-        requires fits { Fits (O.stage objects.old) (TakeBio (Of dev) waits) }
-        ensures step { (setup : Setup) → Answers O.serves (Owes (O.stage objects.old)) setup task self.old.doing self.old.lists objects.old self.new objects.new result }
-        ensures kept { O.holds objects.new × (O.stage objects.new ≡ O.stage objects.old) }
+        ensures does { (routing : Routing) → LineDoes O.Objects routing task self.old objects.old self.new objects.new result }
     {
         match attempt(objects, task, dev, waits) {
             Ok((want, step)) => {

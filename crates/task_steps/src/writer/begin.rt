@@ -15,7 +15,8 @@ ghost use Rattle.task_steps.specs.Routed.{setup};
 ghost use Rattle.task_steps.specs.Stage.{Fits, Owes, has_book, is_vecs, IsHome};
 ghost use Rattle.task_steps.specs.Homes.{TodoFits, TakenIsHome};
 ghost use Rattle.task_steps.specs.Views.{vec_item};
-ghost use Rattle.task_steps.specs.WriterViews.{taken_of, is_taken, IsTakenAlone, tried, IsAttemptAtBioAlone, next_of, IsNextAlone, WriteAnswers, WriteOpened};
+ghost use Rattle.task_steps.specs.WriterViews.{taken_of, is_taken, IsTakenAlone, tried, IsAttemptAtBioAlone, next_of, IsNextAlone, WriteAnswers, WriteOpened, LinksWrite, TriesBio, TriesVector, WriteGoesOn};
+ghost use Rattle.task_steps.specs.Answers.{Ready};
 
 use crate::calls::{had, missed};
 use crate::objects::{Ask, Objects};
@@ -63,7 +64,7 @@ pub(crate) enum Attempt {
 // Takes the bio of a write, and waits for it (`bio_alloc_bioset`, `block/bio.c`).
 pub(crate) fn take_bio<O: Objects>(objects: &mut O, number: u32) -> (Attempt, Step)
     requires holds { O.holds objects.old }
-    ensures step { (setup : Setup) (todo : TodoState) (later : List TodoState) (line : LineState) → WriteAnswers O.serves (Owes (O.stage objects.old)) setup number (TakeBio Fs true) (todo ∷ later) NoBio line objects.old (tried result.0 number (todo ∷ later) line) objects.new result.1 }
+    ensures step { TriesBio O.Objects number objects.old result objects.new }
     ensures alone { IsAttemptAtBioAlone result.0 }
     ensures kept { O.holds objects.new × (O.stage objects.new ≡ O.stage objects.old) }
 {
@@ -90,7 +91,7 @@ fn take_vector<O: Objects>(
     requires holds { O.holds objects.old }
     requires alone { IsAlone bio }
     requires rests { line.old.doing ≡ Rests }
-    ensures step { (setup : Setup) (todo : TodoState) (later : List TodoState) → WriteAnswers O.serves (Owes (O.stage objects.old)) setup number TakeVec (todo ∷ later) (HasBio (item_of bio)) line.old objects.old (WriterTask number (todo ∷ later) (taken_of result.0) line.new) objects.new result.1 }
+    ensures step { TriesVector O.Objects number (item_of bio) line.old objects.old result line.new objects.new }
     ensures alone { IsTakenAlone result.0 }
     ensures kept { O.holds objects.new × (O.stage objects.new ≡ O.stage objects.old) }
 {
@@ -138,10 +139,9 @@ fn open_write<O: Objects>(
     vector: Option<VecElement>,
     line: &mut Line,
 ) -> Result<u32, Step>
-    requires holds { O.holds objects.old }
+    requires ready { Ready O.Objects objects.old (LinkOf writer (WriteOf write (vector_of vector))) }
     requires rests { line.old.doing ≡ Rests }
-    requires fits { Fits (O.stage objects.old) (LinkOf writer (WriteOf write (vector_of vector))) }
-    ensures opens { WriteOpened O.serves (Owes (O.stage objects.old)) (setup routes.now) writer (WriteOf write (vector_of vector)) line.old objects.old line.new objects.new result }
+    ensures opens { WriteOpened O.Objects routes.now writer (WriteOf write (vector_of vector)) line.old objects.old line.new objects.new result }
     ensures kept { O.holds objects.new × (O.stage objects.new ≡ O.stage objects.old) }
 {
     match objects.link(writer, Ask::Write { write, vector }) {
@@ -186,7 +186,7 @@ fn link_short<O: Objects>(
     requires short { needs_vector todo.now.write ≡ false }
     requires todo { TodoFits (O.stage objects.old) todo.now }
     requires book { IsTrue (has_book (O.stage objects.old) number) }
-    ensures step { (later : List TodoState) → WriteAnswers O.serves (Owes (O.stage objects.old)) (setup routes.now) number (LinkOf number (WriteOf todo.now.number None)) (todo.now ∷ later) (HasBio (item_of bio)) line.old objects.old (next_of result.0 number todo.now later line.new) objects.new result.1 }
+    ensures step { LinksWrite O.Objects routes.now number todo.now (item_of bio) None line.old objects.old result line.new objects.new }
     ensures alone { IsNextAlone result.0 }
     ensures kept { O.holds objects.new × (O.stage objects.new ≡ O.stage objects.old) }
 {
@@ -217,7 +217,7 @@ fn link_long<O: Objects>(
     requires todo { TodoFits (O.stage objects.old) todo.now }
     requires book { IsTrue (has_book (O.stage objects.old) number) }
     requires home { IsHome (O.stage objects.old) is_vecs vector.share }
-    ensures step { (later : List TodoState) → WriteAnswers O.serves (Owes (O.stage objects.old)) (setup routes.now) number (LinkOf number (WriteOf todo.now.number (Some (filled_vector todo.now (vec_item vector))))) (todo.now ∷ later) (HasBoth (item_of bio) (vec_item vector)) line.old objects.old (next_of result.0 number todo.now later line.new) objects.new result.1 }
+    ensures step { LinksWrite O.Objects routes.now number todo.now (item_of bio) (Some (vec_item vector)) line.old objects.old result line.new objects.new }
     ensures alone { IsNextAlone result.0 }
     ensures kept { O.holds objects.new × (O.stage objects.new ≡ O.stage objects.old) }
 {
@@ -249,7 +249,7 @@ pub(crate) fn go_on<O: Objects>(
     requires todo { TodoFits (O.stage objects.old) todo.now }
     requires book { IsTrue (has_book (O.stage objects.old) number) }
     requires home { TakenIsHome (O.stage objects.old) (taken_of taken) }
-    ensures step { (later : List TodoState) → WriteAnswers O.serves (Owes (O.stage objects.old)) (setup routes.now) number (write_request number (todo.now ∷ later) (taken_of taken)) (todo.now ∷ later) (taken_of taken) line.old objects.old (next_of result.0 number todo.now later line.new) objects.new result.1 }
+    ensures step { WriteGoesOn O.Objects routes.now number todo.now (taken_of taken) line.old objects.old result line.new objects.new }
     ensures alone { IsNextAlone result.0 }
     ensures kept { O.holds objects.new × (O.stage objects.new ≡ O.stage objects.old) }
 {

@@ -1,4 +1,4 @@
-use Rattle.std.proofs.Common.{◌≡◌, Some, refl, ap, subst}
+use Rattle.std.proofs.Common.{◌≡◌, Some, refl, ap, subst, rules}
 use Rattle.bio_records.specs.declared.bio.Pad.{Pad}
 use Rattle.bio_records.specs.declared.body.BioBody.{BioBody, out-BioBody}
 use Rattle.bio_records.specs.Items.{item_of}
@@ -11,23 +11,29 @@ use Rattle.task_steps.specs.Stage.{Owes}
 use Rattle.task_steps.specs.Turns.{step_of}
 use Rattle.task_steps.proofs.completer.ends.drop_part.Goals as goal
 
-pub returns-in-Ok-clause-turns : goal.returns-in-Ok-clause-turns
-returns-in-Ok-clause-turns g c =
+pub returns-in-Ok : goal.returns-in-Ok
+returns-in-Ok g c =
     let stage = g.O.Objects.stage c.args.objects.now in
     let asked : BioBody Pad → Request = λ body.
     Drop (out-BioBody Pad body).bio.writer (out-BioBody Pad body).bio.node c.args.status (Some (item_of c.args.bio)) in
     let told : BioBody Pad → Carried = λ body.
     after_drop (out-BioBody Pad body).bio.writer (out-BioBody Pad body).bio.node (ended_of c.in-Ok.dropped) in
     record {
-      reply = DroppedTo (ended_of c.in-Ok.dropped);
-      middle = c.drop_one.new.self;
-      replied = subst (λ body. g.O.Objects.serves c.args.objects.now (asked body) (DroppedTo (ended_of c.in-Ok.dropped)) c.drop_one.new.self)
-          c.deref.ensures c.in-Ok.ensures.serves;
-      owed = subst (λ body. Owes stage (asked body) (DroppedTo (ended_of c.in-Ok.dropped))) c.deref.ensures c.in-Ok.ensures.owed;
-      goes_on = ap (Completer c.args.disk) (subst (λ body. c.told.result.0 ≡ told body) c.deref.ensures c.told.ensures.carried);
-      follows = (
-        refl,
-        subst (λ body. c.told.result.1 ≡ step_of (setup stage.routing) (Completer' c.args.disk) (asked body) (DroppedTo (ended_of c.in-Ok.dropped)))
-            c.deref.ensures (c.told.ensures.step (Some (item_of c.args.bio)) (setup stage.routing)),
-      );
+      does = record {
+        turns = record {
+          reply = DroppedTo (ended_of c.in-Ok.dropped);
+          middle = c.drop_one.new.self;
+          replied = subst (λ body. g.O.Objects.serves c.args.objects.now (asked body) (DroppedTo (ended_of c.in-Ok.dropped)) c.drop_one.new.self)
+              c.deref.ensures c.in-Ok.ensures.serves;
+          owed = subst (λ body. Owes stage (asked body) (DroppedTo (ended_of c.in-Ok.dropped))) c.deref.ensures c.in-Ok.ensures.owed;
+          goes_on = ap (Completer c.args.disk) (subst (λ body. c.told.result.0 ≡ told body) c.deref.ensures c.told.ensures.carried);
+          follows = (
+            refl,
+            subst (λ body. c.told.result.1 ≡ step_of (setup stage.routing) (Completer' c.args.disk) (asked body) (DroppedTo (ended_of c.in-Ok.dropped)))
+                c.deref.ensures (c.told.ensures.step (Some (item_of c.args.bio)) (setup stage.routing)),
+          );
+        };
+        held = search rules;
+        same = search rules;
+      };
     }

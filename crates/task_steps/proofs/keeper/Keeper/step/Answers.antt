@@ -1,4 +1,4 @@
-use Rattle.std.proofs.Common.{◌+◌, ◌∷◌, ◌∙◌, map, drop, sym, subst}
+use Rattle.std.proofs.Common.{◌+◌, ◌∷◌, ◌∙◌, map, drop, sym, subst, rules}
 use Rattle.std.proofs.lemmas.List.Elements.{All-head}
 use Rattle.run_machine.specs.Tasks.{Keeps, Keeper}
 use Rattle.task_steps.specs.Routed.{setup}
@@ -18,12 +18,12 @@ attend-broken-requires-clause-fits g c =
     let stage = g.O.Objects.stage c.args.objects.now in
     let is = has_next duties c.deref.result.now next c.self.inside.broken c.args.self.now duty c.self.view_is c.in_default.is c.deref.ensures.value
     c.in-Some-duty_at.ensures in
-    let fits : KeepingFits stage (Keeps (duty_of duty ∷ map duty_of (drop (next + 1) duties))) = subst (KeepingFits stage) is c.requires.fits in
+    let fits : KeepingFits stage (Keeps (duty_of duty ∷ map duty_of (drop (next + 1) duties))) = subst (KeepingFits stage) is c.requires.ready.1 in
     subst (λ stage. DutyFits stage (duty_of duty)) (sym c.left.ensures.kept.1)
     (All-head (DutyFits stage) (duty_of duty) (map duty_of (drop (next + 1) duties)) fits)
 
-pub returns-clause-turns : goal.returns-clause-turns
-returns-clause-turns g c =
+pub returns : goal.returns
+returns g c =
     let duties = c.self.inside.duties.items in
     let next = c.self.inside.next in
     let duty = c.in-Some-duty_at.duty in
@@ -31,9 +31,15 @@ returns-clause-turns g c =
     let stage = g.O.Objects.stage c.args.objects.now in
     let is = has_next duties c.deref.result.now next c.self.inside.broken c.args.self.now duty c.self.view_is c.in_default.is c.deref.ensures.value
     c.in-Some-duty_at.ensures in
-    attends g.O.Objects.serves (Owes stage) (setup stage.routing) c.args.self.now duty rest c.attend-broken.result.0 c.args.objects.now
-    c.left.new.self c.attend-broken.new.objects c.attend-broken.result.1 c.left.result is c.left.ensures.serves
-    (c.if-left-later.false ∙ c.later.ensures)
-    (subst (λ (stage : Stage). Acts g.O.Objects.serves (Owes stage) (setup stage.routing) (Keeper (Keeps (duty_of duty ∷ rest))) c.left.new.self
-    (Keeper (keeping_of c.attend-broken.result.0 rest)) c.attend-broken.new.objects c.attend-broken.result.1)
-    c.left.ensures.kept.1 (c.attend-broken.ensures.acts rest))
+    record {
+      does = record {
+        turns = attends g.O.Objects.serves (Owes stage) (setup stage.routing) c.args.self.now duty rest c.attend-broken.result.0 c.args.objects.now
+            c.left.new.self c.attend-broken.new.objects c.attend-broken.result.1 c.left.result is c.left.ensures.serves
+            (c.if-left-later.false ∙ c.later.ensures)
+            (subst (λ (stage : Stage). Acts g.O.Objects.serves (Owes stage) (setup stage.routing) (Keeper (Keeps (duty_of duty ∷ rest))) c.left.new.self
+            (Keeper (keeping_of c.attend-broken.result.0 rest)) c.attend-broken.new.objects c.attend-broken.result.1)
+            c.left.ensures.kept.1 (c.attend-broken.ensures.acts rest));
+        held = search rules;
+        same = search rules;
+      };
+    }

@@ -7,14 +7,20 @@ use Rattle.task_steps.proofs.TurnLemmas.{line_turns_rescuer}
 use Rattle.task_steps.proofs.rescuer.Rescuer.step.Goals as goal
 
 -- the step of its submission is its own
-pub returns-then-asks-clause-turn : goal.returns-then-asks-clause-turn
-returns-then-asks-clause-turn g c =
+pub returns-then-asks : goal.returns-then-asks
+returns-then-asks g c =
     let serves = g.O.Objects.serves in
     let owes = Owes (g.O.Objects.stage c.args.objects.now) in
     let known = setup c.args.routes.now in
     let dev = c.self.inside.dev in
     let next = c.step.new.self in
-    subst (λ (r : RescuerState). Turns serves owes known (rescuer_task r) c.args.objects.now (rescuer_task (record { dev = dev; line = next })) c.step.new.objects c.step.result)
-    c.self.view_is
-    (line_turns_rescuer serves owes known dev c.self.inside.line next c.args.objects.now c.step.new.objects c.step.result
-    (sym c.asks.ensures ∙ c.if-asks.true) c.step.ensures.step)
+    record {
+      does = record {
+        turns = subst (λ (r : RescuerState). Turns serves owes known (rescuer_task r) c.args.objects.now (rescuer_task (record { dev = dev; line = next })) c.step.new.objects c.step.result)
+            c.self.view_is
+            (line_turns_rescuer serves owes known dev c.self.inside.line next c.args.objects.now c.step.new.objects c.step.result
+            (sym c.asks.ensures ∙ c.if-asks.true) c.step.ensures.does.answers);
+        held = c.step.ensures.does.held;
+        same = c.step.ensures.does.same;
+      };
+    }

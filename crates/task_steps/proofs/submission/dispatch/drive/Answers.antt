@@ -1,5 +1,4 @@
-use Rattle.task_steps.specs.Routed.{setup}
 use Rattle.task_steps.proofs.submission.dispatch.drive.Goals as goal
 
-pub returns-in-ToRecord-clause-step : goal.returns-in-ToRecord-clause-step
-returns-in-ToRecord-clause-step g c = rw c.in-ToRecord.is (c.take_record.ensures.step (setup c.args.routes.now))
+pub returns-in-ToRecord-clause-does : goal.returns-in-ToRecord-clause-does
+returns-in-ToRecord-clause-does g c = rw c.in-ToRecord.is (c.take_record.ensures.does c.args.routes.now)

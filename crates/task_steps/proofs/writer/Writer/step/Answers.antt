@@ -7,14 +7,20 @@ use Rattle.task_steps.proofs.TurnLemmas.{line_turns_writer}
 use Rattle.task_steps.proofs.writer.Writer.step.Goals as goal
 
 -- the step of its submission is its own
-pub returns-then-asks-clause-turn : goal.returns-then-asks-clause-turn
-returns-then-asks-clause-turn g c =
+pub returns-then-asks : goal.returns-then-asks
+returns-then-asks g c =
     let serves = g.O.Objects.serves in
     let owes = Owes (g.O.Objects.stage c.args.objects.now) in
     let known = setup c.args.routes.now in
     let w = c.self.inside in
     let next = c.step.new.self in
     let after : WriterState = record { number = w.number; todo = w.todo; taken = taken_of w.taken; line = next } in
-    subst (λ (s : WriterState). Turns serves owes known (writer_task s) c.args.objects.now (writer_task after) c.step.new.objects c.step.result) c.self.view_is
-    (line_turns_writer serves owes known w.number w.todo (taken_of w.taken) w.line next c.args.objects.now c.step.new.objects c.step.result
-    (sym c.asks.ensures ∙ c.if-asks.true) c.step.ensures.step)
+    record {
+      does = record {
+        turns = subst (λ (s : WriterState). Turns serves owes known (writer_task s) c.args.objects.now (writer_task after) c.step.new.objects c.step.result) c.self.view_is
+            (line_turns_writer serves owes known w.number w.todo (taken_of w.taken) w.line next c.args.objects.now c.step.new.objects c.step.result
+            (sym c.asks.ensures ∙ c.if-asks.true) c.step.ensures.does.answers);
+        held = c.step.ensures.does.held;
+        same = c.step.ensures.does.same;
+      };
+    }

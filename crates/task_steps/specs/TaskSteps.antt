@@ -1,0 +1,58 @@
+-- A step of a task over any objects: what it asks of them, and what it does.
+use Rattle.std.specs.Prelude.{◌≡◌, ℕ, ◌∷◌, List, Option}
+use Rattle.stack_base.specs.declared.ids.DevId.{DevId}
+use Rattle.stack_base.specs.declared.ids.Status.{Status}
+use Rattle.bio_records.specs.declared.bio.Pad.{Pad}
+use Rattle.bio_records.specs.Items.{Item}
+use Rattle.bio_books.specs.Drops.{Ended}
+use Rattle.run_machine.specs.declared.event.Breach.{Breach}
+use Rattle.run_machine.specs.declared.event.TaskId.TheVariants as id
+use Rattle.task_steps.specs.declared.objects.Objects.{Ghosts}
+use Rattle.task_steps.specs.declared.step.Step.{Step}
+use Rattle.run_machine.specs.Requests.{Request, Drop, DroppedTo}
+use Rattle.run_machine.specs.Scene.{Setup}
+use Rattle.run_machine.specs.Tasks.{TaskState, Carried, Completer, Duty, Keeper, Keeps}
+use Rattle.task_steps.specs.Homes.{IsTaskOf}
+use Rattle.task_steps.specs.KeeperViews.{keeping_of}
+use Rattle.task_steps.specs.Routed.{Routing, setup}
+use Rattle.task_steps.specs.Stage.{Owes}
+use Rattle.task_steps.specs.Turns.{Acts, Asks, Turns, step_of}
+
+-- objects that hold together, with a task that is one of theirs
+abbrev pub TaskReady : {S : Type 0} → Ghosts S → S → TaskState → Type 0
+TaskReady words objects task = words.holds objects × IsTaskOf (words.stage objects) task
+
+-- a task over these objects has asked for what it asks for next
+abbrev pub TaskActs : {S : Type 0} → Ghosts S → Setup → TaskState → S → TaskState → S → Step → Type 0
+TaskActs words setup task old next new step = Acts words.serves (Owes (words.stage old)) setup task old next new step
+
+-- the same where it looks at something first
+abbrev pub TaskTurns : {S : Type 0} → Ghosts S → Setup → TaskState → S → TaskState → S → Step → Type 0
+TaskTurns words setup task old next new step = Turns words.serves (Owes (words.stage old)) setup task old next new step
+
+-- a step of a task over these objects, which hold together behind it too
+pub record TaskDoes {S : Type 0} (words : Ghosts S) (routing : Routing) (task : TaskState) (old : S) (next : TaskState) (new : S) (step : Step) : Type 0 where
+  pub turns : TaskTurns words (setup routing) task old next new step
+  pub held : words.holds new
+  pub same : words.stage new ≡ words.stage old
+
+-- a step of the completer of a disk, which carries this
+abbrev pub CompleterDoes : {S : Type 0} → Ghosts S → DevId → Carried → S → Carried × Step → S → Type 0
+CompleterDoes words disk carried old done new = TaskDoes words (words.stage old).routing (Completer disk carried) old (Completer disk done.0) new done.1
+
+-- the step of a completer that told a node of an end
+abbrev pub TellsDrop : DevId → ℕ → ℕ → Status → Ended → Step → Type 0
+TellsDrop disk writer node status ended step =
+    (part : Option (Item Pad)) → (s : Setup) → step ≡ step_of s (id.Completer disk) (Drop writer node status part) (DroppedTo ended)
+
+-- the keeper has asked this for its next duty, whatever there is behind it, and goes on with the reply
+abbrev pub KeeperAsks : {S : Type 0} → Ghosts S → Request → Duty → S → Option Breach × Step → S → Type 0
+KeeperAsks words asked duty old done new =
+    (duties : List Duty) → Asks words.serves (Owes (words.stage old)) (setup (words.stage old).routing) asked (Keeper (Keeps (duty ∷ duties))) old
+    (Keeper (keeping_of done.0 duties)) new done.1
+
+-- it has asked what this duty is
+abbrev pub KeeperActs : {S : Type 0} → Ghosts S → Duty → S → Option Breach × Step → S → Type 0
+KeeperActs words duty old done new =
+    (duties : List Duty) → Acts words.serves (Owes (words.stage old)) (setup (words.stage old).routing) (Keeper (Keeps (duty ∷ duties))) old
+    (Keeper (keeping_of done.0 duties)) new done.1
