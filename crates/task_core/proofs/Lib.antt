@@ -1,5 +1,6 @@
 pub mod TableLemmas
 pub mod PoolLemmas
+pub mod StageBooks
 pub mod Keeping
 pub mod Quiet
 pub mod opened

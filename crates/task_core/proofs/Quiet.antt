@@ -1,37 +1,25 @@
 -- A reply by which nothing has happened: it leaves task and objects as they are, and no other reply is an event there but an ordinary take.
-use Rattle.std.proofs.Common.{◌≡◌, ◌≢◌, ◌⊎◌, ◌+◌, if◌then◌else◌, ℕ, Bool, true, false, List, [], ◌∷◌, Option, None, Some, inl, inr, refl, sym, ◌∙◌, ap, subst, arith, true≢false}
+use Rattle.std.proofs.Common.{◌≡◌, ℕ, Bool, true, false, None, Some, inl, inr, refl, sym, ◌∙◌, subst, arith, true≢false}
 use Rattle.std.specs.Prelude.{IsTrue}
-use Rattle.std.proofs.lemmas.Bool.{cases_eq}
 use Rattle.elem_ledger.specs.Ledger.{LedgerId}
-use Rattle.stack_base.specs.declared.ids.DevId.{DevId}
 use Rattle.stack_base.specs.PoolId.{pool_number}
-use Rattle.stack_base.specs.declared.ids.PoolId.{PoolId}
 use Rattle.stack_base.specs.declared.ids.PoolId.TheVariants.{FsVecs, Records}
-use Rattle.mempool_core.specs.Move.{PoolState, misses, takes_spare, CanMove, after_move, missed}
-use Rattle.mempool_core.specs.Position.{uses_entry}
-use Rattle.bio_records.specs.declared.bio.Pad.{Pad}
-use Rattle.bio_records.specs.declared.tasks.TaskLists.{TaskLists}
-use Rattle.bio_records.specs.Items.{Item}
+use Rattle.mempool_core.specs.Move.{PoolState, misses, takes_spare, CanMove}
 use Rattle.bioset_pools.specs.Sets.{bios_of}
-use Rattle.bio_books.specs.Books.{VectorItem, SlipItem}
 use Rattle.bio_books.specs.Drops.{Closed}
 use Rattle.bio_books.specs.Drops as end
 use Rattle.bio_books.specs.Links.{Made, NoRoom, Stray}
 use Rattle.run_machine.specs.declared.event.Got.TheVariants.{Ordinary, Spare}
 use Rattle.run_machine.specs.declared.event.Got.TheVariants as got
 use Rattle.run_machine.specs.declared.event.What.{What}
-use Rattle.run_machine.specs.Maps.{upd}
 use Rattle.run_machine.specs.Scene.{Setup}
-use Rattle.run_machine.specs.Lines.{Takes, Punts, Links, ToPush, ToCut, ToRecord, ToMaster, Doing, Rests, Drives, Copies, Breaks, Line, line_request, line_answered}
 use Rattle.run_machine.specs.Requests as requests
 use Rattle.run_machine.specs.Requests.{Request, Reply}
-use Rattle.run_machine.specs.Tasks.{TaskState, Writer, Rescuer, Completer, Keeper, Keeps, Stops, Duty, Resizes, Starts, Todo, Taken, NoBio, HasBio, HasBoth, Empty, Brings, Carries, Fails, request, answered, with_bio, needs_vector, closed_request}
 use Rattle.run_machine.specs.Objects.{Objects, Serves}
 use Rattle.run_machine.specs.Events.{what_of}
 use Rattle.task_core.specs.PlainSteps.{IsStill, is_ordinary}
 use Rattle.task_steps.specs.Turns.{silent_step}
 use Rattle.run_machine.proofs.Blocked.{empty_waits, idle_waits}
-use Rattle.run_machine.proofs.Frames.{upd_same, upd_other}
 use Rattle.run_machine.proofs.Idle.{IsFair, IsIdle, same_pool}
 
 -- what is told is something

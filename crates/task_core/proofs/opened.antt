@@ -1,8 +1,11 @@
 pub mod Filling
 pub mod NewPools
+pub mod OwedLedgers
 pub mod Seen
 pub mod Begins
 pub mod NewObjects
+pub mod PoolsBehind
+pub mod ScriptsBehind
 pub mod Behind
 pub mod Sharing
 pub mod Rounding

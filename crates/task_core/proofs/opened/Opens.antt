@@ -45,7 +45,9 @@ use Rattle.task_steps.specs.Stage.{Stage, has_book, is_pool}
 use Rattle.task_steps.specs.TaskViews.{TaskOf}
 use Rattle.run_machine.specs.Tasks.{Todo, NoBio, Empty, Duty, Resizes, Starts, TaskState, Writer, Rescuer, Completer, Keeper, Keeps}
 use Rattle.task_steps.specs.Within.{IsItemWithin}
-use Rattle.task_core.proofs.opened.Behind.{all_flat, fit_work, is_below, pool_known, pool_there, shared}
+use Rattle.task_core.proofs.opened.Behind.{fit_work, shared}
+use Rattle.task_core.proofs.opened.ScriptsBehind.{all_flat}
+use Rattle.task_core.proofs.opened.PoolsBehind.{is_below, pool_known, pool_there}
 use Rattle.task_core.proofs.opened.NewPools.{widest_least}
 use Rattle.task_core.proofs.opened.Sharing.{any_some, numbered_all, numbers_below}
 

@@ -3,10 +3,7 @@ use Rattle.std.proofs.Common.{◌≡◌, ◌⊎◌, ◌<◌, ◌==◌, if◌then
 use Rattle.std.specs.Prelude.{IsTrue, sum}
 use Rattle.elem_ledger.specs.Ledger.{LedgerId}
 use Rattle.fail_script.specs.Script.{only_tail}
-use Rattle.stack_base.specs.PoolId.{pool_number}
-use Rattle.stack_base.specs.declared.ids.PoolId.TheVariants.{FsVecs, Records}
 use Rattle.mempool_core.specs.Move.{opened}
-use Rattle.bioset_pools.specs.Sets.{bios_of}
 use Rattle.bio_books.specs.Drops as end
 use Rattle.bio_books.specs.Links.{NoRoom, Stray}
 use Rattle.run_machine.specs.declared.event.Breach.{Breach}
@@ -22,7 +19,7 @@ use Rattle.run_machine.specs.Lines.{Doing, Rests, Drives, Copies, Breaks}
 use Rattle.run_machine.specs.Requests as requests
 use Rattle.run_machine.specs.Requests.{Request, Reply}
 use Rattle.run_machine.specs.Tasks.{TaskState, Writer, Rescuer, Completer, Keeper, Keeps, Stops, Todo, Taken, NoBio, HasBio, HasBoth, request, writer_look, look_of, lets, answered}
-use Rattle.run_machine.specs.Objects.{Objects, Serves, clear_bio, clear_vector, clear_slip}
+use Rattle.run_machine.specs.Objects.{Objects, Serves}
 use Rattle.run_machine.specs.Events.{id_of, what_of}
 use Rattle.run_machine.specs.Runs.{IsLet, Steps}
 use Rattle.task_core.specs.Plains.{objects_of, stage_of, Tells, StaysLast}
@@ -33,6 +30,7 @@ use Rattle.task_steps.specs.Turns.{silent_step, step_by, step_of, resting_step, 
 use Rattle.run_machine.proofs.Idle.{IsFair, fair_task, task_stays}
 use Rattle.task_core.proofs.Quiet.{quiet, passed}
 use Rattle.task_steps.proofs.Turned.{acts}
+use Rattle.task_core.proofs.opened.OwedLedgers.{of_ledgers}
 
 -- what a task looks at
 abbrev IsLook : Request → Type 0
@@ -117,60 +115,6 @@ looks_any : (objects : Objects) (look : Request) → IsLook look → HasRound ob
 looks_any objects requests.LookRound is = tt
 looks_any objects requests.LookLeft is = tt
 looks_any objects _ is = absurd is
-
--- what is owed is of the ledgers that it is owed of
-module _ (stage : Stage) (ledger : ℕ → LedgerId) (old new : Objects) where
-  of_ledgers : (request : Request) (reply : Reply) → Owes stage request reply → Serves ledger old request reply new
-      → Serves stage.ledger old request reply new
-  of_ledgers (requests.TakeBio set waits) (requests.HadBio got bio) owed serves =
-      let n = pool_number (bios_of set) in
-      let same : ledger n ≡ stage.ledger n = sym (ap (λ b. b.share) serves.1) ∙ owed.home.ledger ∙ ap stage.ledger owed.numbered in
-      (serves.0, serves.1 ∙ ap clear_bio same)
-  of_ledgers (requests.TakeBio set waits) (requests.Missed used) owed serves = serves
-  of_ledgers (requests.TakeBio set waits) _ owed serves = absurd serves
-  of_ledgers requests.TakeVec (requests.HadVec got vector) owed serves =
-      let n = pool_number FsVecs in
-      let same : ledger n ≡ stage.ledger n = sym (ap (λ v. v.share) serves.1) ∙ owed.home.ledger ∙ ap stage.ledger owed.numbered in
-      (serves.0, serves.1 ∙ ap clear_vector same)
-  of_ledgers requests.TakeVec (requests.Missed used) owed serves = serves
-  of_ledgers requests.TakeVec _ owed serves = absurd serves
-  of_ledgers (requests.TakeSlip dev) (requests.HadSlip got slip) owed serves =
-      let n = pool_number (Records dev) in
-      let same : ledger n ≡ stage.ledger n = sym (ap (λ s. s.share) serves.1) ∙ owed.home.ledger ∙ ap stage.ledger owed.numbered in
-      (serves.0, serves.1 ∙ ap clear_slip same)
-  of_ledgers (requests.TakeSlip dev) (requests.Missed used) owed serves = serves
-  of_ledgers (requests.TakeSlip dev) _ owed serves = absurd serves
-  of_ledgers (requests.GiveBio bio) requests.Did owed serves = serves
-  of_ledgers (requests.GiveBio bio) _ owed serves = absurd serves
-  of_ledgers (requests.GiveVec vector) requests.Did owed serves = serves
-  of_ledgers (requests.GiveVec vector) _ owed serves = absurd serves
-  of_ledgers (requests.GiveSlip slip) requests.Did owed serves = serves
-  of_ledgers (requests.GiveSlip slip) _ owed serves = absurd serves
-  of_ledgers (requests.Punt dev moved) requests.Did owed serves = serves
-  of_ledgers (requests.Punt dev moved) _ owed serves = absurd serves
-  of_ledgers (requests.Pop dev) (requests.Popped bio) owed serves = serves
-  of_ledgers (requests.Pop dev) requests.Nothing owed serves = serves
-  of_ledgers (requests.Pop dev) _ owed serves = absurd serves
-  of_ledgers (requests.Push bio) requests.Did owed serves = serves
-  of_ledgers (requests.Push bio) _ owed serves = absurd serves
-  of_ledgers (requests.Complete disk) (requests.Completed index bio status) owed serves = serves
-  of_ledgers (requests.Complete disk) requests.Nothing owed serves = serves
-  of_ledgers (requests.Complete disk) _ owed serves = absurd serves
-  of_ledgers (requests.Link writer opening) (requests.LinkedTo answer) owed serves = serves
-  of_ledgers (requests.Link writer opening) _ owed serves = absurd serves
-  of_ledgers (requests.Drop writer node status part) (requests.DroppedTo ended) owed serves = serves
-  of_ledgers (requests.Drop writer node status part) _ owed serves = absurd serves
-  of_ledgers (requests.Done write status) requests.Did owed serves = serves
-  of_ledgers (requests.Done write status) _ owed serves = absurd serves
-  of_ledgers (requests.Resize pool min) (requests.OutIs out) owed serves = serves
-  of_ledgers (requests.Resize pool min) _ owed serves = absurd serves
-  of_ledgers (requests.NextRound round) requests.Did owed serves = serves
-  of_ledgers (requests.NextRound round) _ owed serves = absurd serves
-  of_ledgers requests.LookRound (requests.Present round) owed serves = serves
-  of_ledgers requests.LookRound _ owed serves = absurd serves
-  of_ledgers requests.LookLeft (requests.LeftOver count) owed serves = serves
-  of_ledgers requests.LookLeft _ owed serves = absurd serves
-  of_ledgers requests.Rest reply owed serves = absurd serves
 
 -- what follows a reply
 module _ {S : Type 0} (serves : S → Request → Reply → S → Type 0) (setup : Setup) (task : TaskId) (asked : Request) (middle new : S) (step : Step) where

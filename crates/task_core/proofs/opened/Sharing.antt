@@ -2,7 +2,7 @@
 use Rattle.std.proofs.Common.{◌≡◌, inl, inr, ◌+◌, ◌<◌, ◌≤◌, ◌++◌, ◌^◌, ℕ, suc, Bool, true, false, List, [], ◌∷◌, length, map, filter, take, get_or, set, refl, sym, ap, subst, ◌∙◌, arith}
 use Rattle.std.specs.Prelude.{All, sum_by, zip}
 use Rattle.std.specs.List.{list_any, range_with_len}
-use Rattle.std.proofs.lemmas.List.{append_assoc, append-nil, get_or-map, get_or-set_same, get_or-set_other, length-set, map-append, take_all}
+use Rattle.std.proofs.lemmas.List.{append_assoc, get_or-map, get_or-set_same, get_or-set_other, length-set, map-append, take_all}
 use Rattle.std.proofs.lemmas.List.Elements.{All-cons, All-filter, All-head, All-nil, All-tail, All-weaker, filter_more}
 use Rattle.std.proofs.lemmas.List.FromFn.{get_or-range_with_len, length-range_with_len}
 use Rattle.std.proofs.lemmas.List.Sums.{sum_by-cons}
