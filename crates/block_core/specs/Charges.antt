@@ -1,6 +1,6 @@
 -- What everything in a state is charged: no fewer events than can still come of it. Each event lowers the rank of the state, which is the
 -- sum of these charges without what is spent of them.
-use Rattle.std.specs.Prelude.{◌+◌, ◌-◌, ◌*◌, ◌≤◌, ◌==◌, ◌&&◌, not, if◌then◌else◌, nat_lt, ℕ, true, false, List, [], ◌∷◌, length, sum_by, Option, None, Some}
+use Rattle.std.specs.Prelude.{◌+◌, ◌-◌, ◌*◌, ◌≤◌, ◌==◌, ◌&&◌, not, if◌then◌else◌, nat_lt, ℕ, Bool, true, false, List, [], ◌∷◌, length, sum_by, Option, None, Some}
 use Rattle.std.specs.List.{range_with_len}
 use Rattle.elem_ledger.specs.Ledger.{LedgerId}
 use Rattle.fail_script.specs.Script.{entries_of}
@@ -20,6 +20,7 @@ use Rattle.run_machine.specs.Tasks.{Todo, Taken, NoBio, HasBio, HasBoth, Duty, R
 use Rattle.run_machine.specs.Opened.{Scenario, scene, start}
 use Rattle.run_machine.specs.Runs.{State, IsRun}
 use Rattle.block_core.specs.Payers.{Payer, WriteBio, WriteVector, Record, PieceBio, Fragment, ScriptEntry, LaterRound, ReserveChange, payer_at, Paid, MissesAtOnce, IsPunted, IsTaken, IsLinked, IsPopped, IsCompleted, EndsItself, EndsForParent, IsGiven, IsDone, cost, unit_price}
+use Rattle.block_core.specs.Touches.{is_master, none_was}
 use Rattle.block_core.specs.Weights.{Weight, Spot, Lined, Rescued, Pending, Brought, sum_at, total, weigh_option, legs_left}
 use Rattle.block_core.specs.Scenarios.{IsScenario, IsNaming}
 
@@ -98,21 +99,23 @@ held_charge price held =
     give_charge price held.bio + weigh_option (λ (vector : VectorItem). price (IsGiven (payer_at vector.share.no))) held.vector
     + weigh_option (λ (slip : SlipItem). price (IsGiven (payer_at slip.share.no))) held.slip
 
--- and the end of a node is told to its parent, or is that of its write
-abbrev pub close_charge : (Paid → ℕ) → Option ℕ → ℕ
-close_charge price None = price IsDone
-close_charge price (Some parent) = price EndsForParent
+-- and the end of a node is told to its parent, by whether it is a master, or is that of its write
+abbrev pub close_charge : (Paid → ℕ) → Bool → Option ℕ → ℕ
+close_charge price of_master None = price IsDone
+close_charge price true (Some parent) = price (EndsForParent Record)
+close_charge price false (Some parent) = price (EndsForParent PieceBio)
 
-abbrev pub charge : (Paid → ℕ) → Setup → Weight
-charge price setup = record {
+-- where what is left of a node that a task carries was a master as this says, by the places of tasks
+abbrev pub charge : (Paid → ℕ) → (ℕ → Bool) → Setup → Weight
+charge price was_master setup = record {
   todo = λ writer todos taken. todo_charge price setup todos taken;
   bio = bio_charge price setup;
   copy = λ bio master leg. legs_charge price setup bio leg;
   hand = λ bio. 0;
   vector = λ vector. 0;
   slip = λ slip. 0;
-  node = λ writer place node. close_charge price (parent_of node.role) + held_charge price node.held;
-  closed = λ task writer closed. close_charge price closed.parent + held_charge price closed.held;
+  node = λ writer place node. close_charge price (is_master node.role) (parent_of node.role) + held_charge price node.held;
+  closed = λ task writer closed. close_charge price (was_master task) closed.parent + held_charge price closed.held;
 }
 
 -- what a task has spent on the element that it asks for: an attempt that does not wait and missed, a punt and a take
@@ -167,21 +170,21 @@ entries_left pool = entries_of pool.script - pool.facts.pos
 abbrev pub most_pools : ℕ
 most_pools = 66
 
-abbrev pub charged : (Paid → ℕ) → Scene → State → ℕ
-charged price scene s =
-    total scene (charge price scene.setup) s + cost price ScriptEntry * sum_at (λ number pool. entries_left pool) most_pools s.objects.pool
+abbrev pub charged : (Paid → ℕ) → (ℕ → Bool) → Scene → State → ℕ
+charged price was_master scene s =
+    total scene (charge price was_master scene.setup) s + cost price ScriptEntry * sum_at (λ number pool. entries_left pool) most_pools s.objects.pool
     + sum_at (λ place task. task_charge price task) scene.tasks s.task
 
 abbrev pub spent : (Paid → ℕ) → Scene → State → ℕ
 spent price scene s = sum_at (λ place task. task_spent price task) scene.tasks s.task
 
 -- the charges of a state that are still open: all of them, without what is spent
-abbrev pub open_charges : (Paid → ℕ) → Scene → State → ℕ
-open_charges price scene s = charged price scene s - spent price scene s
+abbrev pub open_charges : (Paid → ℕ) → (ℕ → Bool) → Scene → State → ℕ
+open_charges price was_master scene s = charged price was_master scene s - spent price scene s
 
--- and where each event costs one
+-- and where each event costs one, an end of a master as another one
 abbrev pub rank : Scene → State → ℕ
-rank scene s = open_charges unit_price scene s
+rank scene s = open_charges unit_price none_was scene s
 
 -- Of each reached state: as many events as come behind it lower its rank by as many at least. So each event lowers the rank.
 abbrev pub EventsLowerRank : Type 0

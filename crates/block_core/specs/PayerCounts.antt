@@ -15,6 +15,7 @@ use Rattle.run_machine.specs.Runs.{State, IsRun}
 use Rattle.block_core.specs.Payers.{Payer, WriteBio, WriteVector, Record, PieceBio, Fragment, ScriptEntry, LaterRound, ReserveChange, Paid, cost}
 use Rattle.block_core.specs.Payers as paid
 use Rattle.block_core.specs.Paying.{costs, all_costs}
+use Rattle.block_core.specs.Touches.{none_was}
 use Rattle.block_core.specs.Scenarios.{IsScenario, IsNaming}
 
 -- the records of mirrors that begin at sector s of a run that starts at r, here and below
@@ -77,32 +78,31 @@ abbrev pub is_kind : Paid → Paid → Bool
 is_kind (paid.IsTaken payer) (paid.IsTaken other) = is_payer payer other
 is_kind (paid.IsLinked payer) (paid.IsLinked other) = is_payer payer other
 is_kind (paid.EndsItself payer) (paid.EndsItself other) = is_payer payer other
+is_kind (paid.EndsForParent payer) (paid.EndsForParent other) = is_payer payer other
 is_kind (paid.IsGiven payer) (paid.IsGiven other) = is_payer payer other
 is_kind paid.MissesAtOnce paid.MissesAtOnce = true
 is_kind paid.IsPunted paid.IsPunted = true
 is_kind paid.IsPopped paid.IsPopped = true
 is_kind paid.IsPushed paid.IsPushed = true
 is_kind paid.IsCompleted paid.IsCompleted = true
-is_kind paid.EndsForParent paid.EndsForParent = true
 is_kind paid.IsDone paid.IsDone = true
 is_kind paid.MissesWaiting paid.MissesWaiting = true
 is_kind paid.Starts paid.Starts = true
 is_kind paid.Resizes paid.Resizes = true
 is_kind kind other = false
 
--- Of each kind no more events come than there are of what pays for it, so no more punts and pops than bios of pieces and legs. Only of the ends that
--- nodes tell it is not said which are those of records.
+-- Of each kind no more events come than there are of what pays for it, so no more punts and pops than bios of pieces and legs.
 abbrev pub most_times : Scenario → Paid → ℕ
 most_times s (paid.IsTaken payer) = payers s payer
 most_times s (paid.IsLinked payer) = payers s payer
 most_times s (paid.EndsItself payer) = payers s payer
+most_times s (paid.EndsForParent payer) = payers s payer
 most_times s (paid.IsGiven payer) = payers s payer
 most_times s paid.MissesAtOnce = payers s PieceBio
 most_times s paid.IsPunted = payers s PieceBio
 most_times s paid.IsPopped = payers s PieceBio
 most_times s paid.IsPushed = payers s Fragment
 most_times s paid.IsCompleted = payers s Fragment
-most_times s paid.EndsForParent = payers s Record + payers s PieceBio
 most_times s paid.IsDone = payers s WriteBio
 most_times s paid.MissesWaiting = payers s ScriptEntry
 most_times s paid.Starts = payers s LaterRound
@@ -112,4 +112,4 @@ most_times s paid.Resizes = payers s ReserveChange
 abbrev pub EachKindIsFew : Type 0
 EachKindIsFew = (s : Scenario) (ledger : ℕ → LedgerId) (events : List Event) (state : State) → IsScenario s → IsNaming ledger
     → (run : IsRun (scene s ledger) (start s) events state) → (kind : Paid)
-    → costs (λ other. if is_kind kind other then 1 else 0) (scene s ledger) (start s) events state run ≤ most_times s kind
+    → costs (λ other. if is_kind kind other then 1 else 0) (scene s ledger) none_was (start s) events state run ≤ most_times s kind

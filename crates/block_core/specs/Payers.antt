@@ -30,18 +30,18 @@ abbrev pub payer_at : ℕ → Payer
 payer_at number = payer_of (pool_of number)
 
 pub data Paid : Type 0 where
-  -- an element of this kind is taken, its node is linked, the end of a bio's own fragment is told to its node, and the element is given back
+  -- an element of this kind is taken, its node is linked, the end of a bio's own fragment is told to its node, the end of its node is told to the
+  -- parent, or for a record to the parent's own part, and the element is given back
   IsTaken : Payer → Paid
   IsLinked : Payer → Paid
   EndsItself : Payer → Paid
+  EndsForParent : Payer → Paid
   IsGiven : Payer → Paid
   MissesAtOnce : Paid
   IsPunted : Paid
   IsPopped : Paid
   IsPushed : Paid
   IsCompleted : Paid
-  -- the end of a node is told to its parent, or for a record to the parent's own part
-  EndsForParent : Paid
   IsDone : Paid
   MissesWaiting : Paid
   Starts : Paid
@@ -51,9 +51,9 @@ pub data Paid : Type 0 where
 abbrev pub pays_for : Payer → List Paid
 pays_for WriteBio = IsTaken WriteBio ∷ IsLinked WriteBio ∷ EndsItself WriteBio ∷ IsGiven WriteBio ∷ IsDone ∷ []
 pays_for WriteVector = IsTaken WriteVector ∷ IsGiven WriteVector ∷ []
-pays_for Record = IsTaken Record ∷ IsLinked Record ∷ IsGiven Record ∷ EndsForParent ∷ []
+pays_for Record = IsTaken Record ∷ IsLinked Record ∷ IsGiven Record ∷ EndsForParent Record ∷ []
 pays_for PieceBio =
-    MissesAtOnce ∷ IsPunted ∷ IsTaken PieceBio ∷ IsLinked PieceBio ∷ IsPopped ∷ EndsItself PieceBio ∷ IsGiven PieceBio ∷ EndsForParent ∷ []
+    MissesAtOnce ∷ IsPunted ∷ IsTaken PieceBio ∷ IsLinked PieceBio ∷ IsPopped ∷ EndsItself PieceBio ∷ IsGiven PieceBio ∷ EndsForParent PieceBio ∷ []
 pays_for Fragment = IsPushed ∷ IsCompleted ∷ []
 pays_for ScriptEntry = MissesWaiting ∷ []
 pays_for LaterRound = Starts ∷ []

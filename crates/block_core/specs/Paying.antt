@@ -1,5 +1,5 @@
 -- How the events of a run are paid for: each by a charge of its own.
-use Rattle.std.specs.Prelude.{◌+◌, ◌-◌, ◌*◌, ◌≤◌, ℕ, List, [], ◌∷◌, sum_by, Option, None, Some}
+use Rattle.std.specs.Prelude.{◌+◌, ◌-◌, ◌*◌, ◌≤◌, ℕ, Bool, true, false, List, [], ◌∷◌, sum_by}
 use Rattle.std.specs.List.{range_with_len}
 use Rattle.elem_ledger.specs.Ledger.{LedgerId}
 use Rattle.fail_script.specs.Script.{Answers, entries_of}
@@ -7,8 +7,6 @@ use Rattle.stack_base.specs.declared.ids.PoolId.{PoolId}
 use Rattle.stack_base.specs.declared.stack.Stack.{Stack}
 use Rattle.stack_base.specs.Tree.{tree}
 use Rattle.layout_model.specs.declared.write.Write.{Write}
-use Rattle.bio_records.specs.declared.bio.Pad.{Pad}
-use Rattle.bio_records.specs.Items.{Item}
 use Rattle.run_machine.specs.declared.event.Event.{Event}
 use Rattle.run_machine.specs.declared.event.Got.TheVariants as got
 use Rattle.run_machine.specs.declared.event.How.{How}
@@ -18,29 +16,23 @@ use Rattle.run_machine.specs.declared.event.What.TheVariants as what
 use Rattle.run_machine.specs.Opened.{Change, Scenario, round_count, scene, start}
 use Rattle.run_machine.specs.Runs.{State, IsRun}
 use Rattle.run_machine.specs.Scene.{Scene}
-use Rattle.run_machine.specs.Tasks.{Carried, Empty, Brings, Carries, Fails, TaskState, Writer, Rescuer, Completer, Keeper}
+use Rattle.run_machine.specs.Tasks.{Carried, Empty, Brings, TaskState, Completer}
 use Rattle.block_core.specs.Charges.{run_charge, vector_charge, charged, spent, open_charges}
 use Rattle.block_core.specs.Payers.{Payer, WriteBio, Record, PieceBio, ScriptEntry, LaterRound, ReserveChange, payer_of, payer_at, Paid, cost}
 use Rattle.block_core.specs.Payers as paid
+use Rattle.block_core.specs.Touches.{touch_of, masters_after, were_masters, none_was}
 use Rattle.block_core.specs.Scenarios.{IsScenario, IsNaming}
 
--- the bio that a task brings, of which it tells the end next
-abbrev pub bio_brought : Carried → Option (Item Pad)
-bio_brought Empty = None
-bio_brought (Brings bio status) = Some bio
-bio_brought (Carries writer closed) = None
-bio_brought (Fails breach kept) = None
+-- the kind of an end that a task tells next: of a bio that it brings, or of a node that has closed, by whether that was a master
+abbrev pub end_carried : Bool → Carried → Paid
+end_carried was_master (Brings bio status) = paid.EndsItself (payer_at bio.share.no)
+end_carried true carried = paid.EndsForParent Record
+end_carried false carried = paid.EndsForParent PieceBio
 
-abbrev pub brings : TaskState → Option (Item Pad)
-brings (Writer number todo taken line) = None
-brings (Rescuer dev line) = None
-brings (Completer disk carried) = bio_brought carried
-brings (Keeper keeping) = None
-
--- an end is told of a bio, or of a node
-abbrev pub paid_end : Option (Item Pad) → Paid
-paid_end (Some bio) = paid.EndsItself (payer_at bio.share.no)
-paid_end None = paid.EndsForParent
+-- only completers tell ends
+abbrev pub end_told : Bool → TaskState → Paid
+end_told was_master (Completer disk carried) = end_carried was_master carried
+end_told was_master task = end_carried was_master Empty
 
 -- what a node is opened for: a write, the first piece of a bio or a leg, or a mirror's record
 abbrev pub linked_for : How → Payer
@@ -49,28 +41,29 @@ linked_for how.Chain = PieceBio
 linked_for how.Master = Record
 linked_for how.Leg = PieceBio
 
--- the kind of event that is paid for, by the bio that its task brings
-abbrev pub paid_as : Option (Item Pad) → What → Paid
-paid_as brought (what.Take pool got.Missed) = paid.MissesWaiting
-paid_as brought (what.Take pool got) = paid.IsTaken (payer_of pool)
-paid_as brought (what.Try pool got.Missed) = paid.MissesAtOnce
-paid_as brought (what.Try pool got) = paid.IsTaken (payer_of pool)
-paid_as brought (what.Give pool) = paid.IsGiven (payer_of pool)
-paid_as brought (what.Punt dev moved) = paid.IsPunted
-paid_as brought (what.Pop dev) = paid.IsPopped
-paid_as brought (what.Push disk at len leg) = paid.IsPushed
-paid_as brought (what.Complete disk index status) = paid.IsCompleted
-paid_as brought (what.Link writer opening node) = paid.IsLinked (linked_for opening)
-paid_as brought (what.Drop writer node status end) = paid_end brought
-paid_as brought (what.Done write status) = paid.IsDone
-paid_as brought (what.Resize pool min) = paid.Resizes
-paid_as brought (what.Round round) = paid.Starts
+-- the kind of event that is paid for, by that of the end which its task tells
+abbrev pub paid_as : Paid → What → Paid
+paid_as end (what.Take pool got.Missed) = paid.MissesWaiting
+paid_as end (what.Take pool got) = paid.IsTaken (payer_of pool)
+paid_as end (what.Try pool got.Missed) = paid.MissesAtOnce
+paid_as end (what.Try pool got) = paid.IsTaken (payer_of pool)
+paid_as end (what.Give pool) = paid.IsGiven (payer_of pool)
+paid_as end (what.Punt dev moved) = paid.IsPunted
+paid_as end (what.Pop dev) = paid.IsPopped
+paid_as end (what.Push disk at len leg) = paid.IsPushed
+paid_as end (what.Complete disk index status) = paid.IsCompleted
+paid_as end (what.Link writer opening node) = paid.IsLinked (linked_for opening)
+paid_as end (what.Drop writer node status ended) = end
+paid_as end (what.Done write status) = paid.IsDone
+paid_as end (what.Resize pool min) = paid.Resizes
+paid_as end (what.Round round) = paid.Starts
 
--- what the events of a run cost together
-abbrev pub costs : (Paid → ℕ) → (scene : Scene) (old : State) (events : List Event) (new : State) → IsRun scene old events new → ℕ
-costs price scene old [] new run = 0
-costs price scene old (event ∷ events) new (next, (place, steps), run) =
-    price (paid_as (brings (old.task place)) event.what) + costs price scene next events new run
+-- what the events of a run cost together, where what is left of a node that a task carries was a master as this says, by the places of tasks
+abbrev pub costs : (Paid → ℕ) → (scene : Scene) → (ℕ → Bool) → (old : State) (events : List Event) (new : State) → IsRun scene old events new → ℕ
+costs price scene was_master old [] new run = 0
+costs price scene was_master old (event ∷ events) new (next, (place, steps), run) =
+    price (paid_as (end_told (was_master place) (old.task place)) event.what)
+    + costs price scene (masters_after old place (touch_of event.what) was_master) next events new run
 
 -- what all that pays is charged: the writes, with the bios, the records and the fragments that they come to, the entries of scripts, the rounds behind
 -- the first, and the changes of reserves
@@ -87,15 +80,19 @@ all_costs price s =
 -- no more events come than there are charges for it, and no two events need the same.
 abbrev pub EachHasItsCharge : Type 0
 EachHasItsCharge = (s : Scenario) (ledger : ℕ → LedgerId) (events : List Event) (state : State) → IsScenario s → IsNaming ledger
-    → (run : IsRun (scene s ledger) (start s) events state) → (price : Paid → ℕ) → costs price (scene s ledger) (start s) events state run ≤ all_costs price s
+    → (run : IsRun (scene s ledger) (start s) events state) → (price : Paid → ℕ)
+    → costs price (scene s ledger) none_was (start s) events state run ≤ all_costs price s
 
 -- No more is ever spent than is charged, so what is charged without what is spent is all that is left.
 abbrev pub NoMoreIsSpent : Type 0
 NoMoreIsSpent = (s : Scenario) (ledger : ℕ → LedgerId) (events : List Event) (state : State) → IsScenario s → IsNaming ledger
-    → IsRun (scene s ledger) (start s) events state → (price : Paid → ℕ) → spent price (scene s ledger) state ≤ charged price (scene s ledger) state
+    → (run : IsRun (scene s ledger) (start s) events state) → (price : Paid → ℕ)
+    → spent price (scene s ledger) state ≤ charged price (were_masters (scene s ledger) (start s) events state run none_was) (scene s ledger) state
 
 -- And so it is from each reached state, with the charges that it has still open: the events behind it use up as much of them as they cost.
 abbrev pub EventsUseUpCharges : Type 0
 EventsUseUpCharges = (s : Scenario) (ledger : ℕ → LedgerId) (before later : List Event) (old new : State) → IsScenario s → IsNaming ledger
-    → IsRun (scene s ledger) (start s) before old → (run : IsRun (scene s ledger) old later new) → (price : Paid → ℕ)
-    → costs price (scene s ledger) old later new run + open_charges price (scene s ledger) new ≤ open_charges price (scene s ledger) old
+    → (first : IsRun (scene s ledger) (start s) before old) → (run : IsRun (scene s ledger) old later new) → (price : Paid → ℕ)
+    → let then = were_masters (scene s ledger) (start s) before old first none_was in
+    let now = were_masters (scene s ledger) old later new run then in
+    costs price (scene s ledger) then old later new run + open_charges price now (scene s ledger) new ≤ open_charges price then (scene s ledger) old

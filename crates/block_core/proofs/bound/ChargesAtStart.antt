@@ -14,6 +14,7 @@ use Rattle.layout_model.proofs.RangeSums.{sum_next}
 use Rattle.model_disks.specs.Disks.{DiskState}
 use Rattle.run_machine.specs.Lines.{rests}
 use Rattle.run_machine.specs.Tasks.{TaskState, Writer, Rescuer, Completer, Duty, Resizes, Starts, Keeps, Keeper, Todo, NoBio, Empty}
+use Rattle.block_core.specs.Touches.{none_was}
 use Rattle.block_core.specs.Weights.{Pending, Rescued, total, sum_at, task_weight, book_weight}
 use Rattle.block_core.specs.Charges.{write_charge, todo_charge, charge, duty_charge, task_charge, task_spent, entries_left, charged, spent}
 use Rattle.block_core.proofs.moves.Sums.{same_or_not}
@@ -171,21 +172,21 @@ module _ (s : Scenario) (good : IsScenario s) (ledger : ℕ → LedgerId) where
         grouped (λ (todo : Todo). todo.write.task) (write_charge price (setup_in s)) 8 (todos s) in
         omega (arith, a, b, c, d, todos_charge)
 
-    tasks_charge : sum_at (task_weight (charge price (setup_in s))) (length (opened_tasks s)) (start s).task ≤ sum_by (write_cost price s.stack) s.writes
+    tasks_charge : sum_at (task_weight (charge price none_was (setup_in s))) (length (opened_tasks s)) (start s).task ≤ sum_by (write_cost price s.stack) s.writes
     tasks_charge =
-        let G : TaskState → ℕ = λ x. task_weight (charge price (setup_in s)) 0 x in
-        let same : sum_at (task_weight (charge price (setup_in s))) (length (opened_tasks s)) (start s).task ≡ sum_at (λ place x. G x) (length (opened_tasks s)) (start s).task = refl in
+        let G : TaskState → ℕ = λ x. task_weight (charge price none_was (setup_in s)) 0 x in
+        let same : sum_at (task_weight (charge price none_was (setup_in s))) (length (opened_tasks s)) (start s).task ≡ sum_at (λ place x. G x) (length (opened_tasks s)) (start s).task = refl in
         let writer_same = same_sum (λ writer. G (Writer writer (todos_of s writer) NoBio rests)) (λ writer. todo_charge price (setup_in s) (todos_of s writer) NoBio) (writers s) (λ writer. omega arith) in
         omega (arith, same, placed_sum G, opened_sum G (λ dev. refl) (λ dev. refl), writer_same, writers_charge, keeper_charge (duties s))
       where
-        keeper_charge : (ds : List Duty) → sum_by (λ x. task_weight (charge price (setup_in s)) 0 x) (keepers ds) ≡ 0
+        keeper_charge : (ds : List Duty) → sum_by (λ x. task_weight (charge price none_was (setup_in s)) 0 x) (keepers ds) ≡ 0
         keeper_charge [] = refl
         keeper_charge (duty ∷ ds) = refl
 
-    total_charge : total (scene s ledger) (charge price (setup_in s)) (start s) ≤ sum_by (write_cost price s.stack) s.writes
+    total_charge : total (scene s ledger) (charge price none_was (setup_in s)) (start s) ≤ sum_by (write_cost price s.stack) s.writes
     total_charge =
         let o = start_opened s good ledger in
-        let w = charge price (setup_in s) in
+        let w = charge price none_was (setup_in s) in
         omega (
           arith,
           tasks_charge,
@@ -241,7 +242,7 @@ module _ (s : Scenario) (good : IsScenario s) (ledger : ℕ → LedgerId) where
         keeper_duties (duty ∷ ds) = omega (arith, sum_by-cons (task_charge price) (Keeper (Keeps (duty ∷ ds))) [])
 
     -- at the start no more is charged than all that pays, and nothing is spent
-    pub start_charge : charged price (scene s ledger) (start s) ≤ all_costs price s
+    pub start_charge : charged price none_was (scene s ledger) (start s) ≤ all_costs price s
     start_charge = omega (arith, total_charge price, mul-le-mul_left (cost price ScriptEntry) entries_charge, duties_charge)
 
     pub start_spent : spent price (scene s ledger) (start s) ≡ 0

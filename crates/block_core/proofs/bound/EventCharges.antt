@@ -8,7 +8,7 @@ use Rattle.bio_records.specs.declared.bio.Pad.{Pad}
 use Rattle.bio_records.specs.declared.tasks.TaskLists.{TaskLists}
 use Rattle.bio_records.specs.Items.{Item}
 use Rattle.bio_lists.specs.Submission.{submitted}
-use Rattle.bio_books.specs.Books.{VectorItem, keeping, told}
+use Rattle.bio_books.specs.Books.{VectorItem, parent_of, keeping, told}
 use Rattle.bio_books.specs.Drops.{closed_of}
 use Rattle.run_machine.specs.Maps.{upd}
 use Rattle.run_machine.specs.Scene.{Scene, tree_at}
@@ -16,13 +16,17 @@ use Rattle.run_machine.specs.Lines.{Want, Takes, Punts as WantsPunt, Links, ToPu
 use Rattle.run_machine.specs.Tasks.{TaskState, Writer, Rescuer, Completer, Keeper, Keeps, Resizes, Starts, Todo, NoBio, HasBio, HasBoth, Empty, Brings, Carries}
 use Rattle.run_machine.specs.Objects.{clear_bio, clear_vector, clear_slip}
 use Rattle.run_machine.specs.Runs.{State}
-use Rattle.block_core.specs.Weights.{Weight, Rescued, Lined, sum_at, doing_weight, task_weight, line_weight}
-use Rattle.block_core.specs.Charges.{bio_charge, write_run, vector_charge, end_charge, close_charge, charge, want_spent, doing_spent, task_spent, duty_charge, task_charge, charged, spent}
+use Rattle.block_core.specs.Weights.{Weight, Rescued, Lined, sum_at, doing_weight, carried_weight, task_weight, line_weight}
+use Rattle.block_core.specs.Touches.{is_master}
+use Rattle.block_core.specs.Charges.{bio_charge, write_run, vector_charge, end_charge, held_charge, close_charge, charge, want_spent, doing_spent, task_spent, duty_charge, task_charge, charged, spent}
 use Rattle.block_core.specs.Payers.{Paid, WriteBio, WriteVector, ScriptEntry, PieceBio, cost}
 use Rattle.block_core.specs.Payers as paid
-use Rattle.block_core.proofs.moves.Moves.{Move, Can, after, limit_of, HasLine, with_want, filled_of, cut_lists, piece}
+use Rattle.block_core.proofs.moves.Moves.{Move, place_of, Can, after, limit_of, HasLine, with_want, filled_of, cut_lists, piece}
 use Rattle.block_core.proofs.moves.PaidKinds.{kind_of}
 use Rattle.block_core.proofs.moves.Moves as moves
+use Rattle.block_core.proofs.moves.Sums.{upd-same, upd-other}
+use Rattle.block_core.proofs.sound.Misplaced.{was_after}
+use Rattle.block_core.proofs.sound.Splitting.{IsSameButClosed, total_but}
 use Rattle.block_core.proofs.sound.Facts.{TaskFits, DoingFits, Kept}
 use Rattle.block_core.proofs.sound.Orders.{Each, IsOwn, AskFits, DoingPlaced, TodoThere, TaskPlaced, Placed, Ground}
 use Rattle.block_core.proofs.bound.TaskCharges.{charge_lands, copies_charge, pops_once, pops_not, punts_charge, later_charge, takes_spent, want_spends, new_spends, wants_below, on_tasks, on_line, tells_charge, later_give, hands_back}
@@ -45,19 +49,21 @@ costs_less each old new le = mul-le-mul_left each le
 costs_one : (each old new : ℕ) → new + 1 ≤ old → each * new + each ≤ each * old
 costs_one each old new le = let all : each * (new + 1) ≤ each * old = mul-le-mul_left each le in omega (arith, all, mul-add each new 1)
 
-module _ (price : Paid → ℕ) (scene : Scene) (s : State) (g : Ground scene.setup) (p : Priced price scene.setup) (i : Kept scene s) (a : Placed scene.setup s) where
+module _ (price : Paid → ℕ) (was_master : ℕ → Bool) (scene : Scene) (s : State) (g : Ground scene.setup) (p : Priced price scene.setup) (i : Kept scene s) (a : Placed scene.setup s) where
   abbrev w : Weight
-  w = charge price scene.setup
+  w = charge price was_master scene.setup
 
   -- an event lowers what is charged and not spent by its price
   abbrev Lowers : Move → Type 0
-  Lowers m = charged price scene (after scene s m) + spent price scene s + price (kind_of m) ≤ charged price scene s + spent price scene (after scene s m)
+  Lowers m =
+      charged price (was_after was_master m) scene (after scene s m) + spent price scene s + price (kind_of (was_master (place_of m)) m)
+      ≤ charged price was_master scene s + spent price scene (after scene s m)
 
   has : (place : ℕ) (x : TaskState) (doing : Doing) (lists : TaskLists) → s.task place ≡ x → HasLine x doing lists → DoingPlaced scene.setup (limit_of x) doing lists
   has place x doing lists is h = line_placed scene.setup x doing lists (subst (TaskPlaced scene.setup) is (a.tasks place)) h
 
   lands : IsLanding scene.setup w
-  lands = charge_lands price scene.setup p
+  lands = charge_lands price was_master scene.setup p
 
   -- the entries that are left cost no more than before
   fewer : (number : ℕ) (move : PoolMove)
@@ -258,7 +264,7 @@ module _ (price : Paid → ℕ) (scene : Scene) (s : State) (g : Ground scene.se
         delta scene w s (moves.Mastered place x bio lists slip key node) c,
         (t.0 price).0,
         (t.0 price).1,
-        copies_charge price scene.setup p (limit_of x) lists bio.bio key 0 (none_there scene.setup (limit_of x) lists d.0) (all_there scene.setup (limit_of x) lists.list1 d.1.1),
+        copies_charge price was_master scene.setup p (limit_of x) lists bio.bio key 0 (none_there scene.setup (limit_of x) lists d.0) (all_there scene.setup (limit_of x) lists.list1 d.1.1),
         mirror_charge price (tree_at scene.setup bio.bio.dev) bio.bio.range bio.bio.dev.0 slip d.3 is.some,
         ap (λ payer. price (paid.IsGiven payer)) (is_record slip.share.no bio.bio.dev.0 (by_tree (tree_at scene.setup bio.bio.dev) d.3) (omega (arith, known, few))),
       )
@@ -282,7 +288,7 @@ module _ (price : Paid → ℕ) (scene : Scene) (s : State) (g : Ground scene.se
         delta scene w s (moves.Legged place x bio lists master leg hand key node) c,
         (t.0 price).0,
         (t.0 price).1,
-        copies_charge price scene.setup p (limit_of x) more bio master (leg + 1) first (all_there scene.setup (limit_of x) lists.list1 d.3),
+        copies_charge price was_master scene.setup p (limit_of x) more bio master (leg + 1) first (all_there scene.setup (limit_of x) lists.list1 d.3),
         sum_by_push (bio_charge price scene.setup (Lined (limit_of x))) lists.list0 item,
         p.leg bio hand leg key d.0 lt,
         legs_next price (tree_at scene.setup bio.dev) bio.range leg lt,
@@ -298,22 +304,35 @@ module _ (price : Paid → ℕ) (scene : Scene) (s : State) (g : Ground scene.se
         delta scene w s (moves.Told place disk carried writer key status part node) c,
         on_tasks (task_spent price) scene s place x y c.0 c.1,
         on_tasks (task_charge price) scene s place x y c.0 c.1,
-        tells_charge price scene.setup place carried writer key status part c.2,
+        tells_charge price was_master scene.setup place carried writer key status part c.2,
         later_give price node.held.bio part,
       )
   -- drops that close a node
   lowers (moves.Closes place disk carried writer key status part node) c =
+      let m : Move = moves.Closes place disk carried writer key status part node in
       let x = Completer disk carried in
       let y = Completer disk (Carries writer (closed_of (told node status part))) in
+      let other = upd was_master place (is_master node.role) in
+      let new = charge price other scene.setup in
+      let here : task_weight new place (s.task place) ≡ carried_weight new place carried = ap (task_weight new place) c.1 in
+      let old : task_weight w place (s.task place) ≡ carried_weight w place carried = ap (task_weight w place) c.1 in
+      let kind : close_charge price (other place) (parent_of node.role) ≡ close_charge price (is_master node.role) (parent_of node.role) =
+      ap (λ b. close_charge price b (parent_of node.role)) (upd-same was_master place (is_master node.role)) in
+      let same : IsSameButClosed new w = record { todo = refl; bio = refl; copy = refl; hand = refl; vector = refl; slip = refl; node = refl } in
+      let off = total_but new w same scene s place c.0
+      (λ j ne of closed. ap (λ b. close_charge price b closed.parent + held_charge price closed.held) (upd-other was_master place (is_master node.role) j ne)) in
       omega (
         arith,
-        delta scene w s (moves.Closes place disk carried writer key status part node) c,
+        delta scene new s m c,
+        here,
+        old,
+        kind,
+        off,
         on_tasks (task_spent price) scene s place x y c.0 c.1,
         on_tasks (task_charge price) scene s place x y c.0 c.1,
-        tells_charge price scene.setup place carried writer key status part c.2,
+        tells_charge price was_master scene.setup place carried writer key status part c.2,
         later_give price node.held.bio part,
       )
-  -- gives
   lowers (moves.Gives place disk writer number closed held) c =
       let x = Completer disk (Carries writer closed) in
       let y = Completer disk (Carries writer (record closed { held = held })) in
@@ -329,7 +348,7 @@ module _ (price : Paid → ℕ) (scene : Scene) (s : State) (g : Ground scene.se
   lowers (moves.Ends place disk writer closed) c =
       let x = Completer disk (Carries writer closed) in
       let y = Completer disk Empty in
-      let top : close_charge price closed.parent ≡ price paid.IsDone = ap (close_charge price) c.3 in
+      let top : close_charge price (was_master place) closed.parent ≡ price paid.IsDone = ap (close_charge price (was_master place)) c.3 in
       omega (
         arith,
         top,
@@ -390,5 +409,5 @@ module _ (price : Paid → ℕ) (scene : Scene) (s : State) (g : Ground scene.se
   tasks_cover zero = omega arith
   tasks_cover (suc n) = omega (arith, tasks_cover n, task_covers n (s.task n) (a.tasks n) (i.tasks n))
 
-  pub covers : spent price scene s ≤ charged price scene s
+  pub covers : spent price scene s ≤ charged price was_master scene s
   covers = omega (arith, tasks_cover scene.tasks)

@@ -14,27 +14,27 @@ module _ (s : Scenario) where
   pays kind = sum_by (λ payer. cost (λ other. cond (is_kind kind other) 1 0) payer * payers s payer) every_payer
 
   by_payer : (payer : Payer) → (pays (paid.IsTaken payer) ≤ payers s payer) × (pays (paid.IsLinked payer) ≤ payers s payer)
-      × (pays (paid.EndsItself payer) ≤ payers s payer) × (pays (paid.IsGiven payer) ≤ payers s payer)
-  by_payer WriteBio = (omega arith, omega arith, omega arith, omega arith)
-  by_payer WriteVector = (omega arith, omega arith, omega arith, omega arith)
-  by_payer Record = (omega arith, omega arith, omega arith, omega arith)
-  by_payer PieceBio = (omega arith, omega arith, omega arith, omega arith)
-  by_payer Fragment = (omega arith, omega arith, omega arith, omega arith)
-  by_payer ScriptEntry = (omega arith, omega arith, omega arith, omega arith)
-  by_payer LaterRound = (omega arith, omega arith, omega arith, omega arith)
-  by_payer ReserveChange = (omega arith, omega arith, omega arith, omega arith)
+      × (pays (paid.EndsItself payer) ≤ payers s payer) × (pays (paid.EndsForParent payer) ≤ payers s payer) × (pays (paid.IsGiven payer) ≤ payers s payer)
+  by_payer WriteBio = (omega arith, omega arith, omega arith, omega arith, omega arith)
+  by_payer WriteVector = (omega arith, omega arith, omega arith, omega arith, omega arith)
+  by_payer Record = (omega arith, omega arith, omega arith, omega arith, omega arith)
+  by_payer PieceBio = (omega arith, omega arith, omega arith, omega arith, omega arith)
+  by_payer Fragment = (omega arith, omega arith, omega arith, omega arith, omega arith)
+  by_payer ScriptEntry = (omega arith, omega arith, omega arith, omega arith, omega arith)
+  by_payer LaterRound = (omega arith, omega arith, omega arith, omega arith, omega arith)
+  by_payer ReserveChange = (omega arith, omega arith, omega arith, omega arith, omega arith)
 
   of_kind : (kind : Paid) → pays kind ≤ most_times s kind
   of_kind (paid.IsTaken payer) = (by_payer payer).0
   of_kind (paid.IsLinked payer) = (by_payer payer).1
   of_kind (paid.EndsItself payer) = (by_payer payer).2
-  of_kind (paid.IsGiven payer) = (by_payer payer).3
+  of_kind (paid.EndsForParent payer) = (by_payer payer).3
+  of_kind (paid.IsGiven payer) = (by_payer payer).4
   of_kind paid.MissesAtOnce = omega arith
   of_kind paid.IsPunted = omega arith
   of_kind paid.IsPopped = omega arith
   of_kind paid.IsPushed = omega arith
   of_kind paid.IsCompleted = omega arith
-  of_kind paid.EndsForParent = omega arith
   of_kind paid.IsDone = omega arith
   of_kind paid.MissesWaiting = omega arith
   of_kind paid.Starts = omega arith

@@ -17,7 +17,7 @@ use Rattle.run_machine.specs.Tasks.{TaskState, Writer, Rescuer, Completer, Keepe
 use Rattle.run_machine.specs.Runs.{State}
 use Rattle.block_core.specs.Weights.{Rescued, Lined, sum_at, line_weight, carried_weight}
 use Rattle.block_core.specs.Charges.{may_pop, bio_charge, legs_charge, there, write_charge, todo_charge, end_charge, give_charge, held_charge, close_charge, charge, want_spent, doing_spent, task_spent, task_duties, task_charge}
-use Rattle.block_core.specs.Paying.{bio_brought, paid_end}
+use Rattle.block_core.specs.Paying.{end_carried}
 use Rattle.block_core.specs.Payers.{payer_at, Paid, MissesAtOnce, IsPunted, IsPopped}
 use Rattle.block_core.specs.Payers as paid
 use Rattle.block_core.proofs.moves.Moves.{with_line, HasLine, Wants, with_want, Tells, Hands}
@@ -29,16 +29,16 @@ use Rattle.block_core.proofs.sound.Places.{unless_less}
 
 module _ (price : Paid → ℕ) where
   -- bios are charged the same where they land
-  pub charge_lands : (setup : Setup) → Priced price setup → IsLanding setup (charge price setup)
-  charge_lands setup p limit item is = ap (λ v. end_charge price (payer_at item.share.no) + may_pop price limit item.share.no + v) (p.lands item.bio is)
+  pub charge_lands : (was_master : ℕ → Bool) (setup : Setup) → Priced price setup → IsLanding setup (charge price was_master setup)
+  charge_lands was_master setup p limit item is = ap (λ v. end_charge price (payer_at item.share.no) + may_pop price limit item.share.no + v) (p.lands item.bio is)
 
-  pub copies_charge : (setup : Setup) → Priced price setup → (limit : ℕ) (lists : TaskLists) (bio : Bio) (master leg : ℕ) → AreThere setup lists.list0 → AreThere setup lists.list1
-      → line_weight (charge price setup) limit (copies setup lists bio master leg)
+  pub copies_charge : (was_master : ℕ → Bool) (setup : Setup) → Priced price setup → (limit : ℕ) (lists : TaskLists) (bio : Bio) (master leg : ℕ) → AreThere setup lists.list0 → AreThere setup lists.list1
+      → line_weight (charge price was_master setup) limit (copies setup lists bio master leg)
       ≤ legs_charge price setup bio leg + sum_by (bio_charge price setup (Lined limit)) lists.list0 + sum_by (bio_charge price setup (Lined limit)) lists.list1
-  copies_charge setup p limit lists bio master leg first second =
+  copies_charge was_master setup p limit lists bio master leg first second =
       omega (
         arith,
-        copies_there setup (charge price setup) (charge_lands setup p) limit lists bio master leg first second,
+        copies_there setup (charge price was_master setup) (charge_lands was_master setup p) limit lists bio master leg first second,
         unless_less (leg == legs_of (tree_at setup bio.dev)) (legs_charge price setup bio leg),
       )
 
@@ -167,14 +167,19 @@ on_line scene s place x doing lists new lt is h =
     )
 
 -- an end that a completer tells is paid for by what it carries; and where it is that of a bio, the bio is given back later
-pub tells_charge : (price : Paid → ℕ) (setup : Setup) (place : ℕ) (carried : Carried) (writer key : ℕ) (status : Status) (part : Option (Item Pad)) → Tells carried writer key status part
-    → carried_weight (charge price setup) place carried ≡ price (paid_end (bio_brought carried)) + give_charge price part
-tells_charge price setup place (Brings bio ending) writer key status part t = ap (λ p. price (paid.EndsItself (payer_at bio.share.no)) + give_charge price p) (sym t.3)
-tells_charge price setup place (Carries of closed) writer key status part t =
-    ap (λ parent. close_charge price parent + held_charge price closed.held) t.1 ∙ ap (λ held. price paid.EndsForParent + held_charge price held) t.4
-    ∙ ap (λ p. price paid.EndsForParent + give_charge price p) (sym t.3)
-tells_charge price setup place Empty writer key status part t = absurd t
-tells_charge price setup place (Fails breach kept) writer key status part t = absurd t
+pub tells_charge : (price : Paid → ℕ) (was_master : ℕ → Bool) (setup : Setup) (place : ℕ) (carried : Carried) (writer key : ℕ) (status : Status) (part : Option (Item Pad))
+    → Tells carried writer key status part → carried_weight (charge price was_master setup) place carried ≡ price (end_carried (was_master place) carried) + give_charge price part
+tells_charge price was_master setup place (Brings bio ending) writer key status part t = ap (λ p. price (paid.EndsItself (payer_at bio.share.no)) + give_charge price p) (sym t.3)
+tells_charge price was_master setup place (Carries of closed) writer key status part t =
+    let kind = end_carried (was_master place) (Carries of closed) in
+    ap (λ parent. close_charge price (was_master place) parent + held_charge price closed.held) t.1 ∙ ap (λ n. n + held_charge price closed.held) (by_kind (was_master place))
+    ∙ ap (λ held. price kind + held_charge price held) t.4 ∙ ap (λ p. price kind + give_charge price p) (sym t.3)
+  where
+    by_kind : (b : Bool) → close_charge price b (Some key) ≡ price (end_carried b (Carries of closed))
+    by_kind true = refl
+    by_kind false = refl
+tells_charge price was_master setup place Empty writer key status part t = absurd t
+tells_charge price was_master setup place (Fails breach kept) writer key status part t = absurd t
 
 pub later_give : (price : Paid → ℕ) (held part : Option (Item Pad)) → give_charge price (later_part held part) ≤ give_charge price held + give_charge price part
 later_give price held None = omega arith

@@ -13,11 +13,17 @@ use Rattle.stack_base.specs.declared.ids.PoolId.TheVariants.{FsBios}
 use Rattle.block_core.specs.Exact.{starts_round}
 use Rattle.block_core.specs.Payers.{WriteBio, WriteVector, Record, PieceBio, Fragment, pays_for, unit_price}
 use Rattle.block_core.specs.Charges.{begun_charge, run_charge, rank}
+use Rattle.block_core.specs.PayerCounts.{records_begun, pieces_begun, record_count, piece_count}
 
 -- a record and two legs, of a fragment each, as the table has it
 of_a_run : run_charge unit_price mirror 0 1 ≡ length (pays_for Record) + 2 * length (pays_for PieceBio) + 2 * length (pays_for Fragment)
 unfolding begun_charge run_charge
 of_a_run = refl
+
+-- which are one record and two bios
+of_payers : (record_count mirror 0 1 ≡ 1) × (piece_count mirror 0 1 ≡ 2)
+unfolding records_begun pieces_begun record_count piece_count
+of_payers = (refl, refl)
 
 module _ (some : LedgerId) where
   abbrev scene : Scene

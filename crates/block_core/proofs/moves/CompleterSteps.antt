@@ -1,5 +1,5 @@
 -- Each step of a completer is one of the events.
-use Rattle.std.proofs.Common.{◌≡◌, ◌<◌, ℕ, Option, None, Some, inl, inr, refl, sym, ◌∙◌, ap}
+use Rattle.std.proofs.Common.{◌≡◌, ◌<◌, ℕ, Bool, Option, None, Some, inl, inr, refl, sym, ◌∙◌, ap}
 use Rattle.stack_base.specs.declared.ids.DevId.{DevId}
 use Rattle.stack_base.specs.declared.ids.Status.{Status}
 use Rattle.bio_records.specs.declared.bio.Pad.{Pad}
@@ -9,7 +9,8 @@ use Rattle.run_machine.specs.Maps.{upd}
 use Rattle.run_machine.specs.Scene.{Scene}
 use Rattle.run_machine.specs.Tasks.{TaskState, Completer, Carried, Empty, Brings, Carries}
 use Rattle.run_machine.specs.Runs.{State}
-use Rattle.block_core.specs.Paying.{brings, paid_end}
+use Rattle.block_core.specs.Paying.{end_told}
+use Rattle.block_core.specs.Payers.{Paid}
 use Rattle.block_core.proofs.moves.Moves.{Tells}
 use Rattle.block_core.proofs.moves.Moves as moves
 use Rattle.block_core.proofs.sound.Facts.{TaskFits, Fair, Kept}
@@ -25,9 +26,9 @@ use Rattle.block_core.proofs.stuck.Idle.{open_in_books}
 use Rattle.block_core.proofs.moves.StepsTold.{IsMove, touch_in, paid_in, state_is, nothing_told}
 
 module _ (scene : Scene) (s : State) (f : Fair scene) (i : Kept scene s) (place : ℕ) (here : place < scene.tasks) (what : What) (new : State) where
-  -- whether the task brings a bio
-  abbrev brought : Option (Item Pad)
-  brought = brings (s.task place)
+  -- the kind of an end that the task tells next
+  abbrev its_end : Bool → Paid
+  its_end was_master = end_told was_master (s.task place)
 
   abbrev Goes : TaskState → Type 0
   Goes y = new.task ≡ upd s.task place y
@@ -56,7 +57,7 @@ module _ (scene : Scene) (s : State) (f : Fair scene) (i : Kept scene s) (place 
             is = state_is new _ _ (objects ∙ ap (λ b. record s.objects { book = upd s.objects.book writer b }) drops.1) goes;
             at = refl;
             touches = sym (ap touch_in told_it);
-            pays = sym (ap (paid_in brought) told_it) ∙ ap (λ x. paid_end (brings x)) is;
+            pays = λ was_master. sym (ap (paid_in (its_end was_master)) told_it) ∙ ap (end_told was_master) is;
           }
       at_node (Some node) at (end.Up closed) told_it drops objects goes =
           record {
@@ -66,7 +67,7 @@ module _ (scene : Scene) (s : State) (f : Fair scene) (i : Kept scene s) (place 
                 (goes ∙ ap (λ c. upd s.task place (Completer disk (Carries writer c))) drops.2);
             at = refl;
             touches = sym (ap touch_in told_it);
-            pays = sym (ap (paid_in brought) told_it) ∙ ap (λ x. paid_end (brings x)) is;
+            pays = λ was_master. sym (ap (paid_in (its_end was_master)) told_it) ∙ ap (end_told was_master) is;
           }
       at_node (Some node) at (end.Top closed) told_it drops objects goes =
           record {
@@ -76,7 +77,7 @@ module _ (scene : Scene) (s : State) (f : Fair scene) (i : Kept scene s) (place 
                 (goes ∙ ap (λ c. upd s.task place (Completer disk (Carries writer c))) drops.2);
             at = refl;
             touches = sym (ap touch_in told_it);
-            pays = sym (ap (paid_in brought) told_it) ∙ ap (λ x. paid_end (brings x)) is;
+            pays = λ was_master. sym (ap (paid_in (its_end was_master)) told_it) ∙ ap (end_told was_master) is;
           }
       at_node found at (end.Stray back) told_it drops objects goes = absurd (nothing_told what told_it)
       at_node None at end.Left told_it drops objects goes = absurd drops
@@ -85,7 +86,7 @@ module _ (scene : Scene) (s : State) (f : Fair scene) (i : Kept scene s) (place 
 
   pub completes : (disk : DevId) → s.task place ≡ Completer disk Empty → TaskFits scene (Completer disk Empty) → (reply : Reply) → Moved (Completer disk Empty) reply
   completes disk is fits (requests.Completed index bio status) told serves goes =
-      record { move = moves.Completed place disk index bio status (new.objects.disk disk.0); can = (here, is, fits, serves.0); is = state_is new _ _ serves.1 goes; at = refl; touches = sym (ap touch_in told); pays = sym (ap (paid_in brought) told) }
+      record { move = moves.Completed place disk index bio status (new.objects.disk disk.0); can = (here, is, fits, serves.0); is = state_is new _ _ serves.1 goes; at = refl; touches = sym (ap touch_in told); pays = λ was_master. sym (ap (paid_in (its_end was_master)) told) }
   completes disk is fits requests.Nothing told serves goes = absurd (nothing_told what told)
   completes disk is fits _ told serves goes = absurd serves
 
@@ -104,7 +105,7 @@ module _ (scene : Scene) (s : State) (f : Fair scene) (i : Kept scene s) (place 
         is = state_is new _ _ serves.1 goes;
         at = refl;
         touches = sym (ap touch_in told_it);
-        pays = sym (ap (paid_in brought) told_it);
+        pays = λ was_master. sym (ap (paid_in (its_end was_master)) told_it);
       }
   carries disk writer None (Some b) slip parent write status is requests.Did told_it serves goes =
       record {
@@ -113,7 +114,7 @@ module _ (scene : Scene) (s : State) (f : Fair scene) (i : Kept scene s) (place 
         is = state_is new _ _ serves.1 goes;
         at = refl;
         touches = sym (ap touch_in told_it);
-        pays = sym (ap (paid_in brought) told_it);
+        pays = λ was_master. sym (ap (paid_in (its_end was_master)) told_it);
       }
   carries disk writer None None (Some r) parent write status is requests.Did told_it serves goes =
       record {
@@ -122,7 +123,7 @@ module _ (scene : Scene) (s : State) (f : Fair scene) (i : Kept scene s) (place 
         is = state_is new _ _ serves.1 goes;
         at = refl;
         touches = sym (ap touch_in told_it);
-        pays = sym (ap (paid_in brought) told_it);
+        pays = λ was_master. sym (ap (paid_in (its_end was_master)) told_it);
       }
   carries disk writer None None None (Some parent) write status is (requests.DroppedTo ended) told_it serves goes =
       tells disk (Carries writer (record { held = record { bio = None; vector = None; slip = None }; parent = Some parent; write = write; status = status })) writer parent status None ended is
@@ -134,7 +135,7 @@ module _ (scene : Scene) (s : State) (f : Fair scene) (i : Kept scene s) (place 
         is = state_is new _ _ serves goes;
         at = refl;
         touches = sym (ap touch_in told_it);
-        pays = sym (ap (paid_in brought) told_it);
+        pays = λ was_master. sym (ap (paid_in (its_end was_master)) told_it);
       }
   carries disk writer (Some v) bio slip parent write status is _ told_it serves goes = absurd serves
   carries disk writer None (Some b) slip parent write status is _ told_it serves goes = absurd serves

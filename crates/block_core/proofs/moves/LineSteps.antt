@@ -16,7 +16,8 @@ use Rattle.run_machine.specs.Scene.{Setup, Scene, tree_at}
 use Rattle.run_machine.specs.Lines.{Want, Takes, Punts as WantsPunt, Links, ToPush, ToCut, ToRecord, ToMaster, Doing, Rests, Drives, Copies, Breaks, Line, legs_of, punted, not_punted}
 use Rattle.run_machine.specs.Tasks.{TaskState, Writer, Rescuer, Completer, Keeper}
 use Rattle.run_machine.specs.Runs.{State}
-use Rattle.block_core.specs.Paying.{brings}
+use Rattle.block_core.specs.Paying.{end_told}
+use Rattle.block_core.specs.Payers.{Paid}
 use Rattle.block_core.proofs.moves.Moves.{IsTaking, with_line, HasLine, Wants, with_want}
 use Rattle.block_core.proofs.moves.Moves as moves
 use Rattle.block_core.proofs.sound.Facts.{Suits, TaskFits, DoingIsIn, IsIn, Fair, Kept}
@@ -92,9 +93,9 @@ asks_line setup (Completer disk carried) doing lists h busy = absurd h
 asks_line setup (Keeper keeping) doing lists h busy = absurd h
 
 module _ (scene : Scene) (s : State) (f : Fair scene) (i : Kept scene s) (place : ℕ) (here : place < scene.tasks) (what : What) (new : State) where
-  -- whether the task brings a bio
-  abbrev brought : Option (Item Pad)
-  brought = brings (s.task place)
+  -- the kind of an end that the task tells next
+  abbrev its_end : Bool → Paid
+  its_end was_master = end_told was_master (s.task place)
 
   abbrev Goes : TaskState → Type 0
   Goes y = new.task ≡ upd s.task place y
@@ -124,10 +125,10 @@ module _ (scene : Scene) (s : State) (f : Fair scene) (i : Kept scene s) (place 
       → ((used : Bool) → reply ≡ requests.Missed used → Goes (with_line x (record { doing = with_want doing (after_miss waits); lists = lists }))) → IsMove scene s place what new
   takes_sub x doing lists dev waits is h wants own (requests.HadBio got.Ordinary hand) told serves had missed =
       let goes2 = had got.Ordinary hand refl ∙ ap (λ item. upd s.task place (with_line x (record { doing = with_want doing (Links item); lists = lists }))) serves.1 in
-      record { move = moves.TakesSub place x doing lists dev waits takes_ordinary; can = (here, is, h, wants, tt, serves.0.0); is = state_is new _ _ serves.0.1 goes2; at = refl; touches = sym (ap touch_in told) ∙ take_passes waits (Bios dev) got.Ordinary; pays = sym (ap (paid_in brought) told) ∙ take_ordinary brought waits (Bios dev) }
+      record { move = moves.TakesSub place x doing lists dev waits takes_ordinary; can = (here, is, h, wants, tt, serves.0.0); is = state_is new _ _ serves.0.1 goes2; at = refl; touches = sym (ap touch_in told) ∙ take_passes waits (Bios dev) got.Ordinary; pays = λ was_master. sym (ap (paid_in (its_end was_master)) told) ∙ take_ordinary (its_end was_master) waits (Bios dev) }
   takes_sub x doing lists dev waits is h wants own (requests.HadBio got.Spare hand) told serves had missed =
       let goes2 = had got.Spare hand refl ∙ ap (λ item. upd s.task place (with_line x (record { doing = with_want doing (Links item); lists = lists }))) serves.1 in
-      record { move = moves.TakesSub place x doing lists dev waits takes_spare; can = (here, is, h, wants, tt, serves.0.0); is = state_is new _ _ serves.0.1 goes2; at = refl; touches = sym (ap touch_in told) ∙ take_passes waits (Bios dev) got.Spare; pays = sym (ap (paid_in brought) told) ∙ take_spare brought waits (Bios dev) }
+      record { move = moves.TakesSub place x doing lists dev waits takes_spare; can = (here, is, h, wants, tt, serves.0.0); is = state_is new _ _ serves.0.1 goes2; at = refl; touches = sym (ap touch_in told) ∙ take_passes waits (Bios dev) got.Spare; pays = λ was_master. sym (ap (paid_in (its_end was_master)) told) ∙ take_spare (its_end was_master) waits (Bios dev) }
   takes_sub x doing lists dev waits is h wants own (requests.HadBio got.Missed hand) told serves had missed = absurd serves.0
   takes_sub x doing lists dev true is h wants own (requests.Missed used) told serves had missed =
       let stays = ap (λ d. with_line x (record { doing = d; lists = lists })) own ∙ same_line x doing lists h in
@@ -144,24 +145,24 @@ module _ (scene : Scene) (s : State) (f : Fair scene) (i : Kept scene s) (place 
         is = state_is new _ _ serves.1 (missed used refl ∙ ap (upd s.task place) stays);
         at = refl;
         touches = sym (ap touch_in told) ∙ miss_passes true used (Bios dev);
-        pays = miss_pays brought used (Bios dev) what told;
+        pays = λ was_master. miss_pays (its_end was_master) used (Bios dev) what told;
       }
   takes_sub x doing lists dev false is h wants own (requests.Missed used) told serves had missed =
-      record { move = moves.MissesTry place x doing lists dev used; can = (here, is, h, wants, serves.0); is = state_is new _ _ serves.1 (missed used refl); at = refl; touches = sym (ap touch_in told) ∙ miss_passes false used (Bios dev); pays = sym (ap (paid_in brought) told) }
+      record { move = moves.MissesTry place x doing lists dev used; can = (here, is, h, wants, serves.0); is = state_is new _ _ serves.1 (missed used refl); at = refl; touches = sym (ap touch_in told) ∙ miss_passes false used (Bios dev); pays = λ was_master. sym (ap (paid_in (its_end was_master)) told) }
   takes_sub x doing lists dev waits is h wants own _ told serves had missed = absurd serves
 
   punts : (x : TaskState) (doing : Doing) (lists : TaskLists) (dev : DevId) → s.task place ≡ x → HasLine x doing lists → Wants doing dev WantsPunt → dev.0 < scene.setup.count → (reply : Reply)
       → what_of (requests.Punt dev (punted dev lists)) reply ≡ Some what → Serves scene.ledger s.objects (requests.Punt dev (punted dev lists)) reply new.objects
       → (reply ≡ requests.Did → Goes (with_line x (record { doing = with_want doing (Takes true); lists = not_punted dev lists }))) → IsMove scene s place what new
   punts x doing lists dev is h wants there requests.Did told serves goes =
-      record { move = moves.Punts place x doing lists dev; can = (here, is, h, wants, there); is = state_is new _ _ serves (goes refl); at = refl; touches = sym (ap touch_in told); pays = sym (ap (paid_in brought) told) }
+      record { move = moves.Punts place x doing lists dev; can = (here, is, h, wants, there); is = state_is new _ _ serves (goes refl); at = refl; touches = sym (ap touch_in told); pays = λ was_master. sym (ap (paid_in (its_end was_master)) told) }
   punts x doing lists dev is h wants there _ told serves goes = absurd serves
 
   pushes : (x : TaskState) (bio : Item Pad) (lists : TaskLists) → s.task place ≡ x → HasLine x (Drives bio ToPush) lists → (reply : Reply)
       → what_of (requests.Push bio) reply ≡ Some what → Serves scene.ledger s.objects (requests.Push bio) reply new.objects
       → Goes (with_line x (line_answered scene.setup (Drives bio ToPush) lists reply)) → IsMove scene s place what new
   pushes x bio lists is h requests.Did told serves goes =
-      record { move = moves.Pushes place x bio lists; can = (here, is, h, there x (Drives bio ToPush) lists is h); is = state_is new _ _ serves goes; at = refl; touches = sym (ap touch_in told); pays = sym (ap (paid_in brought) told) }
+      record { move = moves.Pushes place x bio lists; can = (here, is, h, there x (Drives bio ToPush) lists is h); is = state_is new _ _ serves goes; at = refl; touches = sym (ap touch_in told); pays = λ was_master. sym (ap (paid_in (its_end was_master)) told) }
   pushes x bio lists is h _ told serves goes = absurd serves
 
   takes_slip : (x : TaskState) (bio : Item Pad) (lists : TaskLists) → s.task place ≡ x → HasLine x (Drives bio ToRecord) lists → (reply : Reply)
@@ -169,10 +170,10 @@ module _ (scene : Scene) (s : State) (f : Fair scene) (i : Kept scene s) (place 
       → Goes (with_line x (line_answered scene.setup (Drives bio ToRecord) lists reply)) → what_of (requests.TakeSlip bio.bio.dev) reply ≡ Some what → IsMove scene s place what new
   takes_slip x bio lists is h (requests.HadSlip got.Ordinary slip) serves goes told =
       let goes2 = goes ∙ ap (λ r. upd s.task place (with_line x (record { doing = Drives bio (ToMaster r); lists = lists }))) serves.1 in
-      record { move = moves.TakesSlip place x bio lists takes_ordinary; can = (here, is, h, tt, serves.0.0); is = state_is new _ _ serves.0.1 goes2; at = refl; touches = sym (ap touch_in told); pays = sym (ap (paid_in brought) told) }
+      record { move = moves.TakesSlip place x bio lists takes_ordinary; can = (here, is, h, tt, serves.0.0); is = state_is new _ _ serves.0.1 goes2; at = refl; touches = sym (ap touch_in told); pays = λ was_master. sym (ap (paid_in (its_end was_master)) told) }
   takes_slip x bio lists is h (requests.HadSlip got.Spare slip) serves goes told =
       let goes2 = goes ∙ ap (λ r. upd s.task place (with_line x (record { doing = Drives bio (ToMaster r); lists = lists }))) serves.1 in
-      record { move = moves.TakesSlip place x bio lists takes_spare; can = (here, is, h, tt, serves.0.0); is = state_is new _ _ serves.0.1 goes2; at = refl; touches = sym (ap touch_in told); pays = sym (ap (paid_in brought) told) }
+      record { move = moves.TakesSlip place x bio lists takes_spare; can = (here, is, h, tt, serves.0.0); is = state_is new _ _ serves.0.1 goes2; at = refl; touches = sym (ap touch_in told); pays = λ was_master. sym (ap (paid_in (its_end was_master)) told) }
   takes_slip x bio lists is h (requests.HadSlip got.Missed slip) serves goes told = absurd serves.0
   takes_slip x bio lists is h (requests.Missed used) serves goes told =
       record {
@@ -188,7 +189,7 @@ module _ (scene : Scene) (s : State) (f : Fair scene) (i : Kept scene s) (place 
         is = state_is new _ _ serves.1 (goes ∙ ap (upd s.task place) (same_line x (Drives bio ToRecord) lists h));
         at = refl;
         touches = sym (ap touch_in told) ∙ miss_passes true used (Records bio.bio.dev);
-        pays = miss_pays brought used (Records bio.bio.dev) what told;
+        pays = λ was_master. miss_pays (its_end was_master) used (Records bio.bio.dev) what told;
       }
   takes_slip x bio lists is h _ serves goes told = absurd serves
 
@@ -214,7 +215,7 @@ module _ (scene : Scene) (s : State) (f : Fair scene) (i : Kept scene s) (place 
             is = state_is new _ _ objects goes2;
             at = refl;
             touches = sym (ap touch_in told);
-            pays = sym (ap (paid_in brought) told);
+            pays = λ was_master. sym (ap (paid_in (its_end was_master)) told);
           }
   chains x bio lists hand is h fits (requests.LinkedTo (NoRoom back)) told serves goes = absurd (nothing_told what told)
   chains x bio lists hand is h fits (requests.LinkedTo (Stray back)) told serves goes = absurd (nothing_told what told)
@@ -237,7 +238,7 @@ module _ (scene : Scene) (s : State) (f : Fair scene) (i : Kept scene s) (place 
             is = state_is new _ _ (serves.1 ∙ ap (λ b. record s.objects { book = upd s.objects.book bio.bio.writer b }) c.1) goes;
             at = refl;
             touches = sym (ap touch_in told);
-            pays = sym (ap (paid_in brought) told);
+            pays = λ was_master. sym (ap (paid_in (its_end was_master)) told);
           }
   masters x bio lists slip is h (requests.LinkedTo (NoRoom back)) told serves goes = absurd (nothing_told what told)
   masters x bio lists slip is h (requests.LinkedTo (Stray back)) told serves goes = absurd (nothing_told what told)
@@ -260,7 +261,7 @@ module _ (scene : Scene) (s : State) (f : Fair scene) (i : Kept scene s) (place 
             is = state_is new _ _ (serves.1 ∙ ap (λ b. record s.objects { book = upd s.objects.book bio.writer b }) c.1) goes;
             at = refl;
             touches = sym (ap touch_in told);
-            pays = sym (ap (paid_in brought) told);
+            pays = λ was_master. sym (ap (paid_in (its_end was_master)) told);
           }
   legs x bio master leg lists hand is h (requests.LinkedTo (NoRoom back)) told serves goes = absurd (nothing_told what told)
   legs x bio master leg lists hand is h (requests.LinkedTo (Stray back)) told serves goes = absurd (nothing_told what told)

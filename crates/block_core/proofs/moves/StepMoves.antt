@@ -1,8 +1,6 @@
 -- Each step of a run is one of the events.
-use Rattle.std.proofs.Common.{◌≡◌, ◌<◌, ◌==◌, ℕ, Bool, true, false, List, [], ◌∷◌, Option, Some, refl, sym, ◌∙◌, ap, subst, arith, cond}
+use Rattle.std.proofs.Common.{◌≡◌, ◌<◌, ◌==◌, ℕ, Bool, true, false, List, [], ◌∷◌, Some, refl, sym, ◌∙◌, ap, subst, arith, cond}
 use Rattle.std.specs.Prelude.{sum}
-use Rattle.bio_records.specs.declared.bio.Pad.{Pad}
-use Rattle.bio_records.specs.Items.{Item}
 use Rattle.stack_base.specs.declared.ids.DevId.{DevId}
 use Rattle.stack_base.specs.declared.ids.PoolId.{PoolId}
 use Rattle.stack_base.specs.PoolId.{pool_number}
@@ -15,7 +13,8 @@ use Rattle.run_machine.specs.Scene.{Scene}
 use Rattle.run_machine.specs.Lines.{Doing, Rests, Drives, Copies, Breaks, rests}
 use Rattle.run_machine.specs.Tasks.{TaskState, Writer, Rescuer, Completer, Keeper, Keeping, Keeps, Stops, Duty, Resizes, Starts, Empty, Brings, Carries, Fails}
 use Rattle.run_machine.specs.Runs.{State}
-use Rattle.block_core.specs.Paying.{brings}
+use Rattle.block_core.specs.Paying.{end_told}
+use Rattle.block_core.specs.Payers.{Paid}
 use Rattle.block_core.proofs.moves.Moves as moves
 use Rattle.block_core.proofs.sound.Facts.{TaskFits, Fair, Kept}
 use Rattle.run_machine.specs.declared.event.Event.{Event}
@@ -32,9 +31,9 @@ use Rattle.block_core.proofs.moves.WriterSteps.{writes}
 use Rattle.block_core.proofs.moves.CompleterSteps.{completes, ends_bio, carries}
 
 module _ (scene : Scene) (s : State) (f : Fair scene) (i : Kept scene s) (place : ℕ) (here : place < scene.tasks) (what : What) (new : State) where
-  -- whether the task brings a bio
-  abbrev brought : Option (Item Pad)
-  brought = brings (s.task place)
+  -- the kind of an end that the task tells next
+  abbrev its_end : Bool → Paid
+  its_end was_master = end_told was_master (s.task place)
 
   abbrev Goes : TaskState → Type 0
   Goes y = new.task ≡ upd s.task place y
@@ -46,7 +45,7 @@ module _ (scene : Scene) (s : State) (f : Fair scene) (i : Kept scene s) (place 
 
   pops : (dev : DevId) → s.task place ≡ Rescuer dev rests → dev.0 < scene.setup.count → (reply : Reply) → Moved (Rescuer dev rests) reply
   pops dev is lt (requests.Popped bio) told serves goes =
-      record { move = moves.Pops place dev bio (new.objects.rescue dev.0); can = (here, is, lt, serves.0); is = state_is new _ _ serves.1 goes; at = refl; touches = sym (ap touch_in told); pays = sym (ap (paid_in brought) told) }
+      record { move = moves.Pops place dev bio (new.objects.rescue dev.0); can = (here, is, lt, serves.0); is = state_is new _ _ serves.1 goes; at = refl; touches = sym (ap touch_in told); pays = λ was_master. sym (ap (paid_in (its_end was_master)) told) }
   pops dev is lt requests.Nothing told serves goes = absurd (nothing_told what told)
   pops dev is lt _ told serves goes = absurd serves
 
@@ -72,7 +71,7 @@ module _ (scene : Scene) (s : State) (f : Fair scene) (i : Kept scene s) (place 
       → Goes (Keeper (after_resize none pool out duties)) → IsMove scene s place what new
   keeps_pool pool min later duties is done out true zero_out told out_is objects goes =
       let z : out ≡ 0 = search (zero_out, arith) in
-      record { move = moves.Resized place pool min later duties; can = (here, is, sym out_is ∙ z, done); is = state_is new _ _ objects goes; at = refl; touches = sym (ap touch_in told); pays = sym (ap (paid_in brought) told) }
+      record { move = moves.Resized place pool min later duties; can = (here, is, sym out_is ∙ z, done); is = state_is new _ _ objects goes; at = refl; touches = sym (ap touch_in told); pays = λ was_master. sym (ap (paid_in (its_end was_master)) told) }
   keeps_pool pool min later duties is done out false some told out_is objects goes = absurd (nothing_told what told)
 
   keeps_on : (keeping : Keeping) → s.task place ≡ Keeper keeping → TaskFits scene (Keeper keeping) → IsLet scene.ledger s.objects (Keeper keeping) (look_of (Keeper keeping)) → (reply : Reply) → Moved (Keeper keeping) reply
@@ -81,7 +80,7 @@ module _ (scene : Scene) (s : State) (f : Fair scene) (i : Kept scene s) (place 
       keeps_pool pool min later duties is (seen_left (Resizes pool min later) duties see) out (out == 0) refl told serves.0 serves.1 goes
   keeps_on (Keeps (Resizes pool min later ∷ duties)) is fits see _ told serves goes = absurd serves
   keeps_on (Keeps (Starts round later ∷ duties)) is fits see requests.Did told serves goes =
-      record { move = moves.Started place round later duties; can = (here, is, serves.0, seen_left (Starts round later) duties see); is = state_is new _ _ serves.1 goes; at = refl; touches = sym (ap touch_in told); pays = sym (ap (paid_in brought) told) }
+      record { move = moves.Started place round later duties; can = (here, is, serves.0, seen_left (Starts round later) duties see); is = state_is new _ _ serves.1 goes; at = refl; touches = sym (ap touch_in told); pays = λ was_master. sym (ap (paid_in (its_end was_master)) told) }
   keeps_on (Keeps (Starts round later ∷ duties)) is fits see _ told serves goes = absurd serves
   keeps_on (Stops breach) is fits see reply told serves goes = absurd fits
 

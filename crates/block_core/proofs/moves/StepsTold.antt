@@ -1,8 +1,6 @@
 -- What is told of a step is told of its event: whose it is, what it does to a node and what is paid for it.
 use Rattle.std.proofs.Common.{◌≡◌, ℕ, Bool, true, false, Option, None, Some, refl, sym, ap}
 use Rattle.stack_base.specs.declared.ids.PoolId.{PoolId}
-use Rattle.bio_records.specs.declared.bio.Pad.{Pad}
-use Rattle.bio_records.specs.Items.{Item}
 use Rattle.bio_books.specs.Books.{told}
 use Rattle.run_machine.specs.Scene.{Scene}
 use Rattle.run_machine.specs.Tasks.{TaskState}
@@ -10,7 +8,7 @@ use Rattle.run_machine.specs.Objects.{Objects}
 use Rattle.run_machine.specs.Runs.{State}
 use Rattle.block_core.specs.Payers.{payer_of, Paid}
 use Rattle.block_core.specs.Payers as paid
-use Rattle.block_core.specs.Paying.{brings, paid_as}
+use Rattle.block_core.specs.Paying.{end_told, paid_as}
 use Rattle.block_core.specs.Touches.{Touch, Passes, touch_of}
 use Rattle.block_core.proofs.moves.Moves.{Move, place_of, touch_by, Can, after}
 use Rattle.block_core.proofs.moves.PaidKinds.{kind_of}
@@ -25,7 +23,7 @@ pub record IsMove (scene : Scene) (s : State) (place : ℕ) (what : What) (new :
   pub is : new ≡ after scene s move
   pub at : place_of move ≡ place
   pub touches : touch_of what ≡ touch_by move
-  pub pays : paid_as (brings (s.task place)) what ≡ kind_of move
+  pub pays : (was_master : Bool) → paid_as (end_told was_master (s.task place)) what ≡ kind_of was_master move
 
 -- what is told of a take touches no node
 abbrev pub touch_in : Option What → Touch
@@ -37,17 +35,17 @@ take_passes true pool from = refl
 take_passes false pool from = refl
 
 -- what is paid for it
-abbrev pub paid_in : Option (Item Pad) → Option What → Paid
-paid_in brought None = paid.EndsForParent
-paid_in brought (Some what) = paid_as brought what
+abbrev pub paid_in : Paid → Option What → Paid
+paid_in end None = end
+paid_in end (Some what) = paid_as end what
 
-pub take_ordinary : (brought : Option (Item Pad)) (waits : Bool) (pool : PoolId) → paid_as brought (take_of waits pool got.Ordinary) ≡ paid.IsTaken (payer_of pool)
-take_ordinary brought true pool = refl
-take_ordinary brought false pool = refl
+pub take_ordinary : (end : Paid) (waits : Bool) (pool : PoolId) → paid_as end (take_of waits pool got.Ordinary) ≡ paid.IsTaken (payer_of pool)
+take_ordinary end true pool = refl
+take_ordinary end false pool = refl
 
-pub take_spare : (brought : Option (Item Pad)) (waits : Bool) (pool : PoolId) → paid_as brought (take_of waits pool got.Spare) ≡ paid.IsTaken (payer_of pool)
-take_spare brought true pool = refl
-take_spare brought false pool = refl
+pub take_spare : (end : Paid) (waits : Bool) (pool : PoolId) → paid_as end (take_of waits pool got.Spare) ≡ paid.IsTaken (payer_of pool)
+take_spare end true pool = refl
+take_spare end false pool = refl
 
 pub miss_passes : (waits used : Bool) (pool : PoolId) → touch_in (miss_of waits used pool) ≡ Passes
 miss_passes true true pool = refl
@@ -65,6 +63,6 @@ pub used_told : (used : Bool) (pool : PoolId) (what : What) → miss_of true use
 used_told true pool what told = refl
 used_told false pool what told = absurd (nothing_told what told)
 
-pub miss_pays : (brought : Option (Item Pad)) (used : Bool) (pool : PoolId) (what : What) → miss_of true used pool ≡ Some what → paid_as brought what ≡ paid.MissesWaiting
-miss_pays brought true pool what told = sym (ap (paid_in brought) told)
-miss_pays brought false pool what told = absurd (nothing_told what told)
+pub miss_pays : (end : Paid) (used : Bool) (pool : PoolId) (what : What) → miss_of true used pool ≡ Some what → paid_as end what ≡ paid.MissesWaiting
+miss_pays end true pool what told = sym (ap (paid_in end) told)
+miss_pays end false pool what told = absurd (nothing_told what told)

@@ -1,5 +1,5 @@
 -- Each step of a writer is one of the events.
-use Rattle.std.proofs.Common.{◌≡◌, ◌<◌, ◌≤◌, ℕ, Bool, true, false, List, [], ◌∷◌, Option, None, Some, inr, refl, sym, ◌∙◌, ap, subst, arith}
+use Rattle.std.proofs.Common.{◌≡◌, ◌<◌, ◌≤◌, ℕ, Bool, true, false, List, [], ◌∷◌, None, Some, inr, refl, sym, ◌∙◌, ap, subst, arith}
 use Rattle.stack_base.specs.declared.ids.PoolId.TheVariants.{FsBios, FsVecs}
 use Rattle.stack_base.specs.declared.ids.SetId.TheVariants.{Fs}
 use Rattle.mempool_core.specs.Move.{takes_ordinary, takes_spare}
@@ -13,7 +13,8 @@ use Rattle.run_machine.specs.Scene.{Scene}
 use Rattle.run_machine.specs.Lines.{Doing, Rests, Drives, Copies, Breaks, rests}
 use Rattle.run_machine.specs.Tasks.{TaskState, Writer, Todo, Taken, NoBio, HasBio, HasBoth}
 use Rattle.run_machine.specs.Runs.{State}
-use Rattle.block_core.specs.Paying.{brings}
+use Rattle.block_core.specs.Paying.{end_told}
+use Rattle.block_core.specs.Payers.{Paid}
 use Rattle.block_core.proofs.moves.Moves.{IsTaking}
 use Rattle.block_core.proofs.moves.Moves as moves
 use Rattle.block_core.proofs.sound.Facts.{TaskFits, Fair, Kept}
@@ -30,9 +31,9 @@ use Rattle.block_core.proofs.moves.StepsTold.{IsMove, touch_in, paid_in, miss_pa
 use Rattle.block_core.proofs.moves.LineSteps.{submits}
 
 module _ (scene : Scene) (s : State) (f : Fair scene) (i : Kept scene s) (place : ℕ) (here : place < scene.tasks) (what : What) (new : State) where
-  -- whether the task brings a bio
-  abbrev brought : Option (Item Pad)
-  brought = brings (s.task place)
+  -- the kind of an end that the task tells next
+  abbrev its_end : Bool → Paid
+  its_end was_master = end_told was_master (s.task place)
 
   abbrev Goes : TaskState → Type 0
   Goes y = new.task ≡ upd s.task place y
@@ -48,7 +49,7 @@ module _ (scene : Scene) (s : State) (f : Fair scene) (i : Kept scene s) (place 
         is = state_is new _ _ serves.0.1 (goes ∙ ap (λ item. upd s.task place (Writer number (todo ∷ later) (HasBio item) rests)) serves.1);
         at = refl;
         touches = sym (ap touch_in told);
-        pays = sym (ap (paid_in brought) told);
+        pays = λ was_master. sym (ap (paid_in (its_end was_master)) told);
       }
   takes_first number todo later is now (requests.HadBio got.Spare hand) told serves goes =
       record {
@@ -57,11 +58,11 @@ module _ (scene : Scene) (s : State) (f : Fair scene) (i : Kept scene s) (place 
         is = state_is new _ _ serves.0.1 (goes ∙ ap (λ item. upd s.task place (Writer number (todo ∷ later) (HasBio item) rests)) serves.1);
         at = refl;
         touches = sym (ap touch_in told);
-        pays = sym (ap (paid_in brought) told);
+        pays = λ was_master. sym (ap (paid_in (its_end was_master)) told);
       }
   takes_first number todo later is now (requests.HadBio got.Missed hand) told serves goes = absurd serves.0
   takes_first number todo later is now (requests.Missed used) told serves goes =
-      record { move = moves.MissesOne place (Writer number (todo ∷ later) NoBio rests) 65 used; can = (here, is, serves.0, tt, used_told used FsBios what told, inr (omega arith)); is = state_is new _ _ serves.1 goes; at = refl; touches = sym (ap touch_in told) ∙ miss_passes true used FsBios; pays = miss_pays brought used FsBios what told }
+      record { move = moves.MissesOne place (Writer number (todo ∷ later) NoBio rests) 65 used; can = (here, is, serves.0, tt, used_told used FsBios what told, inr (omega arith)); is = state_is new _ _ serves.1 goes; at = refl; touches = sym (ap touch_in told) ∙ miss_passes true used FsBios; pays = λ was_master. miss_pays (its_end was_master) used FsBios what told }
   takes_first number todo later is now _ told serves goes = absurd serves
 
   -- its vector, or the write's node
@@ -76,7 +77,7 @@ module _ (scene : Scene) (s : State) (f : Fair scene) (i : Kept scene s) (place 
         is = state_is new _ _ serves.0.1 (goes ∙ ap (λ v. upd s.task place (Writer number (todo ∷ later) (HasBoth item v) rests)) serves.1);
         at = refl;
         touches = sym (ap touch_in told);
-        pays = sym (ap (paid_in brought) told);
+        pays = λ was_master. sym (ap (paid_in (its_end was_master)) told);
       }
   goes_with true number todo later item needs is lt (requests.HadVec got.Spare vector) told serves goes =
       record {
@@ -85,15 +86,15 @@ module _ (scene : Scene) (s : State) (f : Fair scene) (i : Kept scene s) (place 
         is = state_is new _ _ serves.0.1 (goes ∙ ap (λ v. upd s.task place (Writer number (todo ∷ later) (HasBoth item v) rests)) serves.1);
         at = refl;
         touches = sym (ap touch_in told);
-        pays = sym (ap (paid_in brought) told);
+        pays = λ was_master. sym (ap (paid_in (its_end was_master)) told);
       }
   goes_with true number todo later item needs is lt (requests.HadVec got.Missed vector) told serves goes = absurd serves.0
   goes_with true number todo later item needs is lt (requests.Missed used) told serves goes =
-      record { move = moves.MissesOne place (Writer number (todo ∷ later) (HasBio item) rests) 64 used; can = (here, is, serves.0, subst (λ b. IsTaking (with_bio number b todo)) (sym needs) tt, used_told used FsVecs what told, inr (omega arith)); is = state_is new _ _ serves.1 goes; at = refl; touches = sym (ap touch_in told) ∙ miss_passes true used FsVecs; pays = miss_pays brought used FsVecs what told }
+      record { move = moves.MissesOne place (Writer number (todo ∷ later) (HasBio item) rests) 64 used; can = (here, is, serves.0, subst (λ b. IsTaking (with_bio number b todo)) (sym needs) tt, used_told used FsVecs what told, inr (omega arith)); is = state_is new _ _ serves.1 goes; at = refl; touches = sym (ap touch_in told) ∙ miss_passes true used FsVecs; pays = λ was_master. miss_pays (its_end was_master) used FsVecs what told }
   goes_with true number todo later item needs is lt _ told serves goes = absurd serves
   goes_with false number todo later item needs is lt (requests.LinkedTo (Made key)) told serves goes =
       let objects = serves.1 ∙ ap (λ b. record s.objects { book = upd s.objects.book number b }) serves.0.1 in
-      record { move = moves.Begins place number todo later item None key; can = (here, is, lt, serves.0.0, needs); is = state_is new _ _ objects goes; at = refl; touches = sym (ap touch_in told); pays = sym (ap (paid_in brought) told) }
+      record { move = moves.Begins place number todo later item None key; can = (here, is, lt, serves.0.0, needs); is = state_is new _ _ objects goes; at = refl; touches = sym (ap touch_in told); pays = λ was_master. sym (ap (paid_in (its_end was_master)) told) }
   goes_with false number todo later item needs is lt (requests.LinkedTo (NoRoom back)) told serves goes = absurd (nothing_told what told)
   goes_with false number todo later item needs is lt (requests.LinkedTo (Stray back)) told serves goes = absurd (nothing_told what told)
   goes_with false number todo later item needs is lt _ told serves goes = absurd serves
@@ -104,7 +105,7 @@ module _ (scene : Scene) (s : State) (f : Fair scene) (i : Kept scene s) (place 
       → Goes (answered scene.setup (Writer number (todo ∷ later) (HasBoth item vector) rests) reply) → IsMove scene s place what new
   begins_both number todo later item vector is lt (requests.LinkedTo (Made key)) told serves goes =
       let objects = serves.1 ∙ ap (λ b. record s.objects { book = upd s.objects.book number b }) serves.0.1 in
-      record { move = moves.Begins place number todo later item (Some vector) key; can = (here, is, lt, serves.0.0, tt); is = state_is new _ _ objects goes; at = refl; touches = sym (ap touch_in told); pays = sym (ap (paid_in brought) told) }
+      record { move = moves.Begins place number todo later item (Some vector) key; can = (here, is, lt, serves.0.0, tt); is = state_is new _ _ objects goes; at = refl; touches = sym (ap touch_in told); pays = λ was_master. sym (ap (paid_in (its_end was_master)) told) }
   begins_both number todo later item vector is lt (requests.LinkedTo (NoRoom back)) told serves goes = absurd (nothing_told what told)
   begins_both number todo later item vector is lt (requests.LinkedTo (Stray back)) told serves goes = absurd (nothing_told what told)
   begins_both number todo later item vector is lt _ told serves goes = absurd serves

@@ -185,3 +185,14 @@ module _ (u v : Weight) (same : IsSameButClosed u v) where
         ap (λ f. sum_at (λ dev (disk : DiskState). sum_by (f Pending) disk.pending) scene.setup.count s.objects.disk) same.bio,
         ap (λ f. sum_at (λ writer (book : BookState). sum_at (λ place. weigh_option (f writer place)) (length book.nodes) (node_at book)) scene.books s.objects.book) same.node,
       )
+
+  -- and where they differ nowhere
+  pub total_like : (scene : Scene) (s : State) → ((i writer : ℕ) (closed : Closed) → u.closed i writer closed ≡ v.closed i writer closed) → total scene u s ≡ total scene v s
+  total_like scene s is =
+      omega (
+        arith,
+        at_but (task_weight u) (task_weight v) scene.tasks s.task scene.tasks (λ i ne. task_but i (s.task i) (is i)) (omega arith),
+        ap (λ f. sum_at (λ dev bios. sum_by (f Rescued) bios) scene.setup.count s.objects.rescue) same.bio,
+        ap (λ f. sum_at (λ dev (disk : DiskState). sum_by (f Pending) disk.pending) scene.setup.count s.objects.disk) same.bio,
+        ap (λ f. sum_at (λ writer (book : BookState). sum_at (λ place. weigh_option (f writer place)) (length book.nodes) (node_at book)) scene.books s.objects.book) same.node,
+      )

@@ -215,7 +215,7 @@ stays_standing scene s was_master i t m c = record {
 }
 
 -- an event closes a master exactly where its move does
-closed_so : (scene : Scene) (s : State) (was_master : ℕ → Bool) (m : Move) → Can scene s m → masters_after s (place_of m) (touch_by m) was_master ≡ was_after was_master m
+pub closed_so : (scene : Scene) (s : State) (was_master : ℕ → Bool) (m : Move) → Can scene s m → masters_after s (place_of m) (touch_by m) was_master ≡ was_after was_master m
 closed_so scene s was_master (moves.Closes place disk carried writer key status part node) c = ap (λ found. upd was_master place (is_master_at found)) c.4
 closed_so scene s was_master (moves.TakesFirst place writer todo later move) c = refl
 closed_so scene s was_master (moves.TakesVector place writer todo later item move) c = refl
