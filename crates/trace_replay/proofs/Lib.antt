@@ -9,5 +9,6 @@ mod Examples
 mod NameExamples
 pub mod renaming
 pub mod TextLines
+pub mod ScenarioLines
 pub mod Traced
 pub mod ReportLines

@@ -1,5 +1,5 @@
 -- The lines of a text that is put together of whole lines, and those of them that tell events.
-use Rattle.std.proofs.Common.{◌≡◌, ◌+◌, ◌==◌, if◌then◌else◌, not, ℕ, Bool, true, false, List, [], ◌∷◌, ◌++◌, length, filter, map, refl, sym, ap, ◌∙◌, arith}
+use Rattle.std.proofs.Common.{◌≡◌, ◌+◌, ◌==◌, if◌then◌else◌, not, ℕ, Bool, true, false, List, [], ◌∷◌, ◌++◌, length, filter, map, refl, sym, ap, ◌∙◌, subst, arith}
 use Rattle.std.specs.List.{list_all, slice_split, onto_first, count_by}
 use Rattle.std.proofs.lemmas.List.{append-nil}
 use Rattle.std.proofs.lemmas.List.Sums.{AllPass-from_list_all}
@@ -11,6 +11,7 @@ use Rattle.trace_text.specs.Laws.{is_line_byte}
 use Rattle.trace_text.proofs.NameWords.{list_all_follows}
 use Rattle.block_core.proofs.start.FactsAtStart.{all_map}
 use Rattle.trace_replay.specs.Lines.{is_told, told_lines}
+use Rattle.trace_replay.specs.Traces.{in_whole_lines}
 
 abbrev ends_line : ℕ → Bool
 ends_line byte = byte == 10
@@ -72,6 +73,97 @@ lines_of_two body back =
     joined : (bytes : List ℕ) → (bytes ++ 10 ∷ []) ++ back ≡ bytes ++ 10 ∷ back
     joined [] = refl
     joined (byte ∷ bytes) = ap (λ all. byte ∷ all) (joined bytes)
+
+-- parts of a text with a byte: they are not one empty part
+abbrev IsMore : List (List ℕ) → Type 0
+IsMore [] = ⊥
+IsMore ([] ∷ []) = ⊥
+IsMore ([] ∷ part ∷ parts) = Unit {0}
+IsMore ((byte ∷ part) ∷ parts) = Unit {0}
+
+end_more : (parts : List (List ℕ)) → IsSome parts → IsMore ([] ∷ parts)
+end_more [] some = absurd some
+end_more (part ∷ parts) some = tt
+
+byte_more : (byte : ℕ) (parts : List (List ℕ)) → IsSome parts → IsMore (onto_first byte parts)
+byte_more byte [] some = absurd some
+byte_more byte (part ∷ parts) some = tt
+
+more_parts : (byte : ℕ) (more : List ℕ) → IsMore (slice_split ends_line (byte ∷ more))
+more_parts byte more = by (ends_line byte) refl
+  where
+    by : (ends : Bool) → ends_line byte ≡ ends → IsMore (slice_split ends_line (byte ∷ more))
+    by true is = subst IsMore (sym (slice_split-cons_yes ends_line byte more is)) (end_more (slice_split ends_line more) (some_parts more))
+    by false is = subst IsMore (sym (slice_split-cons_no ends_line byte more is)) (byte_more byte (slice_split ends_line more) (some_parts more))
+
+onto_lines : (byte : ℕ) (parts : List (List ℕ)) → IsMore parts → without_empty_end (onto_first byte parts) ≡ onto_first byte (without_empty_end parts)
+unfolding without_empty_end
+onto_lines byte [] more = absurd more
+onto_lines byte ([] ∷ []) more = absurd more
+onto_lines byte ([] ∷ part ∷ parts) more = refl
+onto_lines byte ((inner ∷ part) ∷ parts) more = refl
+
+some_lines : (parts : List (List ℕ)) → IsMore parts → IsSome (without_empty_end parts)
+unfolding without_empty_end
+some_lines [] more = absurd more
+some_lines ([] ∷ []) more = absurd more
+some_lines ([] ∷ part ∷ parts) more = tt
+some_lines ((inner ∷ part) ∷ parts) more = tt
+
+-- a byte before a text with one
+byte_first : (byte next : ℕ) (more : List ℕ) → ends_line byte ≡ false → lines (byte ∷ next ∷ more) ≡ onto_first byte (lines (next ∷ more))
+byte_first byte next more is =
+    ap without_empty_end (slice_split-cons_no ends_line byte (next ∷ more) is) ∙ onto_lines byte (slice_split ends_line (next ∷ more)) (more_parts next more)
+
+-- a line of one byte
+one_byte : (byte : ℕ) → ends_line byte ≡ false → lines (byte ∷ []) ≡ (byte ∷ []) ∷ []
+unfolding without_empty_end
+one_byte byte is = ap without_empty_end (slice_split-cons_no ends_line byte [] is)
+
+is_end : (byte : ℕ) → ends_line byte ≡ true → byte ≡ 10
+is_end byte is = grind (arith, nat_tests, is)
+
+whole_begins : (next : ℕ) (more : List ℕ) → (tail : List ℕ) × (in_whole_lines (next ∷ more) ≡ next ∷ tail)
+unfolding in_whole_lines
+whole_begins next [] = by (next == 10)
+  where
+    by : (ends : Bool) → (tail : List ℕ) × ((if ends then next ∷ [] else next ∷ 10 ∷ []) ≡ next ∷ tail)
+    by true = ([], refl)
+    by false = (10 ∷ [], refl)
+whole_begins next (byte ∷ more) = (in_whole_lines (byte ∷ more), refl)
+
+-- a text in whole lines has its own lines, and those of what stands behind it
+pub whole_first : (text back : List ℕ) → lines (in_whole_lines text ++ back) ≡ lines text ++ lines back
+unfolding in_whole_lines
+whole_first [] back = ap (λ all. all ++ lines back) (sym no_lines)
+whole_first (byte ∷ []) back = by (ends_line byte) refl
+  where
+    by : (ends : Bool) → ends_line byte ≡ ends → lines ((if ends then byte ∷ [] else byte ∷ 10 ∷ []) ++ back) ≡ lines (byte ∷ []) ++ lines back
+    by true is = subst (λ b. lines (b ∷ back) ≡ lines (b ∷ []) ++ lines back) (sym (is_end byte is)) (lines_of_two [] back)
+    by false is =
+        lines_at (byte ∷ []) back ∙ ap (λ parts. parts ++ lines back) (slice_split-cons_no ends_line byte [] is)
+        ∙ ap (λ parts. parts ++ lines back) (sym (one_byte byte is))
+whole_first (byte ∷ next ∷ more) back = by (ends_line byte) refl (whole_first (next ∷ more) back) (whole_begins next more)
+  where
+    by : (ends : Bool) → ends_line byte ≡ ends → lines (in_whole_lines (next ∷ more) ++ back) ≡ lines (next ∷ more) ++ lines back
+        → (tail : List ℕ) × (in_whole_lines (next ∷ more) ≡ next ∷ tail)
+        → lines (byte ∷ (in_whole_lines (next ∷ more) ++ back)) ≡ lines (byte ∷ next ∷ more) ++ lines back
+    by true is all begins =
+        let whole = in_whole_lines (next ∷ more) ++ back in
+        subst (λ b. lines (b ∷ whole) ≡ lines (b ∷ next ∷ more) ++ lines back) (sym (is_end byte is))
+        (lines_at [] whole ∙ ap (λ ls. [] ∷ ls) all ∙ ap (λ ls. ls ++ lines back) (sym (lines_at [] (next ∷ more))))
+    by false is all (tail, begins) =
+        subst (λ w. lines (byte ∷ (w ++ back)) ≡ onto_first byte (lines (w ++ back))) (sym begins) (byte_first byte next (tail ++ back) is)
+        ∙ ap (onto_first byte) all
+        ∙ onto byte (lines (next ∷ more)) (lines back) (some_lines (slice_split ends_line (next ∷ more)) (more_parts next more))
+        ∙ ap (λ ls. ls ++ lines back) (sym (byte_first byte next more is))
+
+-- a text that ends with a line's end is in whole lines
+pub whole_stays : (body : List ℕ) → in_whole_lines (body ++ 10 ∷ []) ≡ body ++ 10 ∷ []
+unfolding in_whole_lines
+whole_stays [] = refl
+whole_stays (byte ∷ []) = refl
+whole_stays (byte ∷ next ∷ body) = ap (λ all. byte ∷ all) (whole_stays (next ∷ body))
 
 -- a byte within a line
 abbrev pub is_inner : ℕ → Bool

@@ -1,5 +1,5 @@
 -- The trace of a run is replayed to its end.
-use Rattle.std.proofs.Common.{◌≡◌, ◌<◌, ℕ, true, List, [], ◌∷◌, ◌++◌, length, filter, map, inl, inr, refl, sym, ap, ◌∙◌, subst, arith}
+use Rattle.std.proofs.Common.{◌≡◌, ◌<◌, ℕ, true, List, [], ◌∷◌, ◌++◌, length, filter, map, refl, sym, ap, ◌∙◌, subst, arith}
 use Rattle.std.specs.Prelude.{All, sum, drop, slice_index_or}
 use Rattle.std.specs.List.{before_first}
 use Rattle.std.proofs.lemmas.List.{append_assoc, append-nil, length-map}
@@ -26,12 +26,12 @@ use Rattle.trace_replay.specs.Exact.{IsReplayOf, TellRun, RunsHaveNoBadLine}
 use Rattle.trace_replay.specs.Lines.{is_told, told_in}
 use Rattle.trace_replay.specs.Names.{Names, no_names, after}
 use Rattle.trace_replay.specs.Replay.{AreLinesOf, IsFinish}
-use Rattle.trace_replay.specs.Traces.{AreRead, IsReadAsRun, trace_of, IsOfWholeLines, HasTrace, IsReplayable, IsReplayedWhole, TracesReplay, ReportsTellNoEvent, ReportedRunsReplay}
+use Rattle.trace_replay.specs.Traces.{AreRead, IsReadAsRun, trace_of, HasTrace, AcceptedTextsTellNoEvent, IsReplayable, IsReplayedWhole, TracesReplay, ReportsTellNoEvent, ReportedRunsReplay}
 use Rattle.trace_replay.specs.declared.walk.Finish.{Finish}
 use Rattle.trace_replay.specs.declared.walk.Finish.TheVariants.{Ended, Open, Stuck}
 use Rattle.trace_replay.specs.declared.walk.Replayed.{Replayed}
 use Rattle.trace_replay.proofs.Exact.{no_bad_line, none_left, one_told}
-use Rattle.trace_replay.proofs.TextLines.{no_lines, line_first, lines_of_two, told_are, none_told}
+use Rattle.trace_replay.proofs.TextLines.{line_first, whole_first, told_are, none_told}
 use Rattle.trace_replay.proofs.renaming.Runs.{runs_are_read_by_names}
 
 -- a line of an event begins with its word
@@ -62,14 +62,13 @@ module _ (stack : Stack) (named : IsNamed stack) (text_lines : LinesAreText) whe
   all_told [] = refl
   all_told (event ∷ events) = ap (λ all. line_of stack event ∷ all) (all_told events)
 
-  scenario_first : (scenario back : List ℕ) → IsOfWholeLines scenario → lines (scenario ++ back) ≡ lines scenario ++ lines back
-  scenario_first scenario back (inl none) = subst (λ text. lines (text ++ back) ≡ lines text ++ lines back) (sym none) (ap (λ all. all ++ lines back) (sym no_lines))
-  scenario_first scenario back (inr (body, is)) = subst (λ text. lines (text ++ back) ≡ lines text ++ lines back) (sym is) (lines_of_two body back)
+  module _ (accepted_none : AcceptedTextsTellNoEvent) (events : List Event) (text scenario report : List ℕ) (has : HasTrace stack events text scenario report) where
+    abbrev before : NonePass is_told (lines scenario)
+    before = accepted_none scenario has.accepted
 
-  module _ (events : List Event) (text scenario report : List ℕ) (has : HasTrace stack events text scenario report) where
     all_lines : lines text ≡ lines scenario ++ (map (line_of stack) events ++ lines report)
     all_lines =
-        ap lines has.is ∙ scenario_first scenario (trace_of stack events ++ report) has.whole
+        ap lines has.is ∙ whole_first scenario (trace_of stack events ++ report)
         ∙ ap (λ all. lines scenario ++ all) (trace_lines events report has.named has.fits)
 
     pub told_are_its : NonePass is_told (lines report) → map (λ (line : ℕ × List ℕ). line.1) (told_in 1 text) ≡ map (line_of stack) events
@@ -77,7 +76,7 @@ module _ (stack : Stack) (named : IsNamed stack) (text_lines : LinesAreText) whe
         told_are 1 (lines text)
         ∙ ap (filter is_told) all_lines
         ∙ filter-append is_told (lines scenario) (map (line_of stack) events ++ lines report)
-        ∙ ap (λ all. all ++ filter is_told (map (line_of stack) events ++ lines report)) (none_told (lines scenario) has.before)
+        ∙ ap (λ all. all ++ filter is_told (map (line_of stack) events ++ lines report)) (none_told (lines scenario) before)
         ∙ filter-append is_told (map (line_of stack) events) (lines report)
         ∙ ap (λ all. filter is_told (map (line_of stack) events) ++ all) (none_told (lines report) none)
         ∙ append-nil (filter is_told (map (line_of stack) events))
@@ -89,7 +88,7 @@ module _ (stack : Stack) (named : IsNamed stack) (text_lines : LinesAreText) whe
 
     pub scenario_ends : 0 < length events → before_first is_told (lines text) ≡ lines scenario
     scenario_ends some =
-        ap (before_first is_told) all_lines ∙ before_is is_told (lines scenario) (map (line_of stack) events ++ lines report) has.before (begins events some)
+        ap (before_first is_told) all_lines ∙ before_is is_told (lines scenario) (map (line_of stack) events ++ lines report) before (begins events some)
 
   -- these lines tell what the events are read as
   pub read_lines : (names last : Names) (events read : List Event) (told : List (ℕ × List ℕ)) → All (IsEventOf stack) events → All Fits events
@@ -139,7 +138,7 @@ ends_so s state Ended is ended = refl
 ends_so s state Open is ended = absurd (is.0 ended)
 ends_so s state Stuck is ended = let none = ended.writes in let some = is.0 in absurd (omega (arith, none, some))
 
-module _ (apart : EventsAreApart) (text_lines : LinesAreText) (s : Scenario) (ledger : ℕ → LedgerId) (events : List Event) (state : State) (text scenario report : List ℕ)
+module _ (accepted_none : AcceptedTextsTellNoEvent) (apart : EventsAreApart) (text_lines : LinesAreText) (s : Scenario) (ledger : ℕ → LedgerId) (events : List Event) (state : State) (text scenario report : List ℕ)
     (good : IsScenario s) (naming : IsNaming ledger) (named : IsNamed s.stack) (run : IsRun (scene s ledger) (start s) events state) (has : HasTrace s.stack events text scenario report)
     (none : NonePass is_told (lines report)) where
   abbrev as_run : IsReadAsRun s events state
@@ -147,14 +146,14 @@ module _ (apart : EventsAreApart) (text_lines : LinesAreText) (s : Scenario) (le
 
   lines_tell : AreLinesOf s.stack no_names (told_in 1 text) as_run.events as_run.names
   lines_tell =
-      read_lines s.stack named text_lines no_names as_run.names events as_run.events (told_in 1 text) has.named has.fits (told_are_its s.stack named text_lines events text scenario report has none)
+      read_lines s.stack named text_lines no_names as_run.names events as_run.events (told_in 1 text) has.named has.fits (told_are_its s.stack named text_lines accepted_none events text scenario report has none)
       as_run.read
 
   tell_run : TellRun s (told_in 1 text)
   tell_run = record { events = as_run.events; names = as_run.names; said = lines_tell; state = as_run.other; run = as_run.run }
 
   pub replayable : IsReplayable s events text scenario
-  replayable = record { scenario_is = scenario_ends s.stack named text_lines events text scenario report has; tells = tell_run }
+  replayable = record { scenario_is = scenario_ends s.stack named text_lines accepted_none events text scenario report has; tells = tell_run }
 
   pub replayed_whole : (replayed : Replayed) → IsReplayOf s (told_in 1 text) replayed → IsReplayedWhole events state replayed
   replayed_whole replayed is =
@@ -166,7 +165,7 @@ module _ (apart : EventsAreApart) (text_lines : LinesAreText) (s : Scenario) (le
       let same : is.events ≡ as_run.events = same_events s.stack no_names as_run.names is.names (told_in 1 text) as_run.events is.events apart named lines_tell said in
       let left : is.state ≡ as_run.other =
       runs_lead_to_one_state.one s ledger_of as_run.events is.state as_run.other (subst (λ (es : List Event). IsRun (scene s ledger_of) (start s) es is.state) same is.run) as_run.run in
-      let told = ap length (told_are_its s.stack named text_lines events text scenario report has none) in
+      let told = ap length (told_are_its s.stack named text_lines accepted_none events text scenario report has none) in
       let long = length-map (told_in 1 text) (λ (line : ℕ × List ℕ). line.1) in
       let many = length-map events (line_of s.stack) in
       record {
@@ -178,12 +177,12 @@ module _ (apart : EventsAreApart) (text_lines : LinesAreText) (s : Scenario) (le
         }));
       }
 
-pub traces_replay : EventsAreApart → LinesAreText → TracesReplay
-traces_replay apart text_lines = record {
+pub traces_replay : AcceptedTextsTellNoEvent → EventsAreApart → LinesAreText → TracesReplay
+traces_replay accepted_none apart text_lines = record {
   text = λ s events state text scenario behind t none.
-      replayable apart text_lines s t.ledger events state text scenario behind t.good t.naming t.stack t.run t.trace none;
+      replayable accepted_none apart text_lines s t.ledger events state text scenario behind t.good t.naming t.stack t.run t.trace none;
   whole = λ s events state text scenario behind replayed t none is.
-      replayed_whole apart text_lines s t.ledger events state text scenario behind t.good t.naming t.stack t.run t.trace none replayed is;
+      replayed_whole accepted_none apart text_lines s t.ledger events state text scenario behind t.good t.naming t.stack t.run t.trace none replayed is;
 }
 
 pub reported_runs_replay : TracesReplay → ReportsTellNoEvent → ReportedRunsReplay

@@ -1,10 +1,11 @@
 -- That the trace of a run is replayed to its end, at whatever places the run had its nodes.
-use Rattle.std.specs.Prelude.{◌≡◌, ◌⊎◌, ◌<◌, ◌++◌, ℕ, All, List, [], ◌∷◌, length, None, Some}
+use Rattle.std.specs.Prelude.{◌≡◌, ◌==◌, ◌<◌, ◌++◌, if◌then◌else◌, ℕ, Bool, All, List, [], ◌∷◌, length, None, Some}
 use Rattle.std.specs.List.{flat_map}
 use Rattle.elem_ledger.specs.Ledger.{LedgerId}
 use Rattle.stack_base.specs.declared.stack.Stack.{Stack}
 use Rattle.decl_text.specs.Reading.{NonePass}
 use Rattle.decl_text.specs.Text.{lines}
+use Rattle.work_text.specs.Whole.{text_refusal_by}
 use Rattle.bio_books.specs.Links.{IsVacant}
 use Rattle.run_machine.specs.declared.event.Event.{Event}
 use Rattle.run_machine.specs.declared.event.How.{How}
@@ -61,19 +62,28 @@ NextPlacesAreVacant = (s : Scenario) (ledger : ℕ → LedgerId) (told events : 
 abbrev pub trace_of : Stack → List Event → List ℕ
 trace_of stack events = flat_map (λ event. line_of stack event ++ 10 ∷ []) events
 
--- a text without a byte, or one whose last line has its byte 10
-abbrev pub IsOfWholeLines : List ℕ → Type 0
-IsOfWholeLines text = (text ≡ []) ⊎ ((body : List ℕ) × (text ≡ body ++ 10 ∷ []))
+-- a text with the byte 10 that its last line may lack
+unfoldable pub in_whole_lines : List ℕ → List ℕ
+in_whole_lines [] = []
+in_whole_lines (byte ∷ []) = if byte == 10 then byte ∷ [] else byte ∷ 10 ∷ []
+in_whole_lines (byte ∷ next ∷ more) = byte ∷ in_whole_lines (next ∷ more)
 
 -- no line of a text begins with the word `event`
 abbrev pub TellsNoEvent : List ℕ → Type 0
 TellsNoEvent text = NonePass is_told (lines text)
 
--- A scenario, the trace of a run of it and what stands behind the trace.
+-- a text that is not refused, by all checks or by the loose ones
+abbrev pub IsAccepted : List ℕ → Type 0
+IsAccepted text = (loose : Bool) × (text_refusal_by loose text ≡ None)
+
+-- No line of such a text begins so.
+abbrev pub AcceptedTextsTellNoEvent : Type 0
+AcceptedTextsTellNoEvent = (text : List ℕ) → IsAccepted text → TellsNoEvent text
+
+-- The text of a scenario, the trace of a run and what stands behind the trace.
 pub record HasTrace (stack : Stack) (events : List Event) (text scenario behind : List ℕ) : Type 0 where
-  pub is : text ≡ scenario ++ (trace_of stack events ++ behind)
-  pub whole : IsOfWholeLines scenario
-  pub before : TellsNoEvent scenario
+  pub is : text ≡ in_whole_lines scenario ++ (trace_of stack events ++ behind)
+  pub accepted : IsAccepted scenario
   -- each event names what the stack has, by numbers that fit its fields
   pub named : All (IsEventOf stack) events
   pub fits : All Fits events

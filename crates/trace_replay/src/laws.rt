@@ -1,6 +1,6 @@
 //! What holds of every replay, as functions that do nothing.
 ghost use Rattle.trace_replay.specs.Exact.{NoneIsStuck, RunsHaveNoBadLine};
-ghost use Rattle.trace_replay.specs.Traces.{NextPlacesAreVacant, ReportedRunsReplay, ReportsTellNoEvent, RunsAreReadByNames, TracesReplay};
+ghost use Rattle.trace_replay.specs.Traces.{AcceptedTextsTellNoEvent, NextPlacesAreVacant, ReportedRunsReplay, ReportsTellNoEvent, RunsAreReadByNames, TracesReplay};
 
 use trace_text::laws::{events_are_apart, lines_are_text};
 
@@ -27,12 +27,18 @@ pub fn next_places_are_vacant()
     ensures { NextPlacesAreVacant }
 {}
 
-/// So the trace of every run of every scenario, between the scenario and lines that tell no event, is replayed to its end:
-/// no line is bad, all events are counted, and the replay has ended where the run has. The scenario ends where the trace
-/// begins.
+/// No line of a text that is not refused begins with the word `event`, whether all checks are made or the loose ones.
+pub fn accepted_texts_tell_no_event()
+    ensures { AcceptedTextsTellNoEvent }
+{}
+
+/// So the trace of every run of every scenario, between a text that is not refused and lines that tell no event, is
+/// replayed to its end: no line is bad, all events are counted, and the replay has ended where the run has. The scenario
+/// ends where the trace begins.
 pub fn traces_replay()
     ensures { TracesReplay }
 {
+    accepted_texts_tell_no_event();
     events_are_apart();
     lines_are_text();
 }
