@@ -1,5 +1,5 @@
-//! Runs by threads: the same steps over objects behind a `Mutex` each, where each event draws a ticket of one clock. Workers sweep over their tasks, and
-//! sleep at a bell where a sweep met nothing. Nothing is traced.
+//! Runs by threads: the same steps over objects behind a `Mutex` each, where each event draws a ticket of one clock. Workers sweep over their tasks, step
+//! each on while it meets events, and sleep at a bell where a sweep met nothing. Nothing is traced.
 use super::*;
 use std::sync::atomic::{AtomicU64, AtomicUsize, Ordering};
 use std::sync::{Condvar, Mutex};
@@ -457,20 +457,29 @@ impl Bell {
     }
 }
 
-/// Sweeps over these tasks until none goes on. Answers how many events they had.
+/// How often a visit steps a task at the most.
+const MOST_STEPS: u32 = 64;
+
+/// Sweeps over these tasks until none goes on: visits each, and steps it on while it meets events. Answers how many events they had.
 fn finish(shared: &Shared, tasks: &mut [Task], bell: &Bell) -> u64 {
     let mut events = 0;
     loop {
         let heard = bell.rings.load(Ordering::SeqCst);
         let (mut met, mut over) = (false, true);
         for task in tasks.iter_mut() {
-            let came = shared.step(task);
-            if came == Came::Event {
+            let mut came = shared.step(task);
+            over &= came == Came::Over;
+            let mut steps = 1;
+            while came == Came::Event {
                 events += 1;
                 met = true;
                 bell.ring();
+                if steps == MOST_STEPS {
+                    break;
+                }
+                came = shared.step(task);
+                steps += 1;
             }
-            over &= came == Came::Over;
         }
         if over {
             return events;

@@ -12,8 +12,11 @@ use std::sync::atomic::{AtomicU64, Ordering};
 ///   Where it finds some, it wakes all that sleep, and who is about to sleep finds another number.
 ///   Where it finds none, the worker counts itself only after that read, hence after the ring: so it finds another number, and does not sleep.
 ///
+/// So it does not matter how many steps a worker makes at a task before it looks at the next one: each event is rung by itself, before the next
+/// step, which may wait for others at its lock or at a gate.
+///
 /// `park` compares the low 32 bits alone. So a sleep would be begun wrongly only where a whole multiple of 2^32 rings falls between the read
-/// and the sleep, which is a sweep of at most 41 tasks long.
+/// and the sleep, in which a worker looks at each of its tasks once.
 #[derive(Drop)]
 pub struct Bell {
     // How often it rang, modulo 2^64.

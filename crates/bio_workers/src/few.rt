@@ -2,16 +2,21 @@
 ghost use Rattle.std.specs.Prelude.{◌≡◌, ◌++◌, ◌+◌, ◌<◌, ◌≤◌, ◌↔◌, [], ◌∷◌, All, IsNone, length, map, option_to_list, take};
 ghost use Rattle.bio_workers.specs.declared.work.Progress.TheVariants.{Over};
 
+use crate::bell::Bell;
+use crate::visit::visit;
 use crate::work::{Progress, Work};
 use arrayvec::ArrayVec;
 use std::marker::Model;
 use std::sync::Wait;
 
-/// A list of at most 41 tasks, which takes no memory: no run has more. Contracts see the list.
+/// The most tasks that a run has: eight writers, a rescuer or a completer for each of 32 devices, and the keeper of rounds.
+pub const MOST_TASKS: usize = 41;
+
+/// A list of tasks, as many as a run has at the most, which takes no memory. Contracts see the list.
 #[derive(Drop)]
 pub struct Few<T: Drop> {
     // All of them are there. An unused place of the vector holds a blank, which a task has none of.
-    slots: ArrayVec<Option<T>, 41>,
+    slots: ArrayVec<Option<T>, MOST_TASKS>,
 }
 
 impl<T: Drop> Model for Few<T> {
@@ -38,14 +43,14 @@ impl<T: Drop> Few<T> {
     /// How many tasks there are.
     pub fn len(&self) -> usize
         ensures same { result ≡ length self.now }
-        ensures few { result ≤ 41 }
+        ensures few { result ≤ MOST_TASKS }
     {
         self.slots.len()
     }
 
     /// Adds a task.
     pub fn push(&mut self, task: T)
-        requires { length self.old < 41 }
+        requires { length self.old < MOST_TASKS }
         ensures { self.new ≡ self.old ++ task ∷ [] }
     {
         self.slots.push(Some(task));
@@ -62,8 +67,14 @@ impl<T: Drop> Few<T> {
         }
     }
 
-    // Steps the task at a place, where it stays.
-    pub(crate) fn step_at<R: Wait, W: Work<T>>(&mut self, rt: &R, work: &W, at: usize) -> Progress
+    // Visits the task at a place, where it stays. Rings behind each event.
+    pub(crate) fn visit_at<R: Wait, W: Work<T>>(
+        &mut self,
+        rt: &R,
+        work: &W,
+        bell: &Bell,
+        at: usize,
+    ) -> Progress
         requires at { at < length self.old }
         requires can { All (W.can work.now) (map W.key self.old) }
         ensures keys { map W.key self.new ≡ map W.key self.old }
@@ -75,7 +86,7 @@ impl<T: Drop> Few<T> {
         let Some(task) = slot.take() else {
             unreachable!()
         };
-        let (task, came) = work.step(rt, task);
+        let (task, came) = visit(rt, work, bell, task);
         *slot = Some(task);
         came
     }

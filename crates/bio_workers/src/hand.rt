@@ -1,6 +1,7 @@
 //! The tasks of one worker.
 ghost use Rattle.std.specs.Prelude.{◌≡◌, ◌++◌, ◌+◌, ◌<◌, ◌≤◌, ◌%◌, ◌≢◌, All, IsPermutation, length};
 ghost use Rattle.bio_workers.specs.Parting.{PutBy};
+ghost use Rattle.bio_workers.specs.declared.few.TheConstants.{MOST_TASKS};
 
 use crate::few::Few;
 use crate::work::Work;
@@ -14,7 +15,7 @@ pub struct Hand<T: Drop> {
 
 /// All tasks of both.
 pub(crate) fn joined<T: Drop>(tasks: Few<T>, others: Few<T>) -> Few<T>
-    requires { length tasks + length others ≤ 41 }
+    requires { length tasks + length others ≤ MOST_TASKS }
     ensures { IsPermutation (others ++ tasks) result }
 {
     let mut tasks = tasks;
@@ -60,7 +61,7 @@ fn put_by<T: Drop, W: Work<T>>(
     others: &mut Few<T>,
 )
     requires some { 1 ≤ workers }
-    requires room { length own.old + length others.old < 41 }
+    requires room { length own.old + length others.old < MOST_TASKS }
     ensures { PutBy (λ t. W.number (W.key t) % workers ≡ worker) task own.old others.old own.new others.new }
 {
     if work.number(&task) % workers == worker {

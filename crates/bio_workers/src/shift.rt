@@ -4,9 +4,9 @@ ghost use Rattle.bio_workers.specs.Room.{HasRoom};
 ghost use Rattle.bio_workers.specs.declared.work.Progress.TheVariants.{Over};
 
 use crate::bell::Bell;
-use crate::crew::{Job, run};
-use crate::few::Few;
+use crate::few::{Few, MOST_TASKS};
 use crate::hand::{Hand, joined, parted};
+use crate::job::{Job, run};
 use crate::work::{Progress, Work};
 use std::mem;
 use std::sync::Wait;
@@ -25,7 +25,7 @@ struct Shift<'a, W> {
 }
 
 impl<'a, W> Shift<'a, W> {
-    // Steps each task once, and rings where that met an event.
+    // Visits each task once.
     fn sweep<T: Drop, R: Wait>(&self, rt: &R, tasks: &mut Few<T>) -> Progress
     where
         W: Work<T>,
@@ -35,23 +35,7 @@ impl<'a, W> Shift<'a, W> {
     {
         let mut came = Progress::Over;
         for at in 0..tasks.len() {
-            came = came.and(self.step(rt, tasks, at));
-        }
-        came
-    }
-
-    // Steps the task at a place, and rings where that was an event.
-    fn step<T: Drop, R: Wait>(&self, rt: &R, tasks: &mut Few<T>, at: usize) -> Progress
-    where
-        W: Work<T>,
-        requires at { at < length tasks.old }
-        requires can { All (W.can self.now.work.now) (map W.key tasks.old) }
-        ensures keys { map W.key tasks.new ≡ map W.key tasks.old }
-        ensures over { result ≡ Over → All W.is_over (take at tasks.old) → All W.is_over (take (at + 1) tasks.new) }
-    {
-        let came = tasks.step_at(rt, self.work, at);
-        if came == Progress::Event {
-            self.bell.ring();
+            came = came.and(tasks.visit_at(rt, self.work, &self.bell, at));
         }
         came
     }
@@ -83,12 +67,13 @@ impl<'a, W> Shift<'a, W> {
 
 impl<'a, T: Drop, W: Work<T>> Job<Hand<T>> for Shift<'a, W> {
     ghost use Rattle.std.specs.Prelude.{◌≡◌, ◌%◌, map};
+    ghost use Rattle.bio_workers.specs.declared.few.TheConstants.{MOST_TASKS};
 
     type Key = W::Key;
 
     ghost keys = { λ hand. map W.key hand.tasks };
 
-    ghost most = { 41 };
+    ghost most = { MOST_TASKS };
 
     ghost can = { λ shift key. W.can shift.work.now key };
 
@@ -145,7 +130,7 @@ pub fn run_tasks<R: Threads + Wait + Sync, T: Send + Drop, W: Work<T> + Sync>(
     ensures over { All W.is_over result }
 {
     let count = tasks.len();
-    prove!(count <= 41);
+    prove!(count <= MOST_TASKS);
     let shift = Shift {
         work,
         workers,

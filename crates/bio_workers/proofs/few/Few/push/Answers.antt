@@ -1,13 +1,14 @@
 use Rattle.std.proofs.Common.{◌++◌, ◌<◌, [], ◌∷◌, length, All, Some, arith, ap, sym, subst, ◌∙◌}
 use Rattle.std.proofs.lemmas.List.Elements.{All-push}
 use Rattle.bio_workers.specs.Somes.{somes, There}
+use Rattle.bio_workers.specs.declared.few.TheConstants.{MOST_TASKS}
 use Rattle.bio_workers.proofs.Somes.{somes_append, as_long}
 use Rattle.bio_workers.proofs.few.Few.push.Goals as goal
 
 pub push-requires : goal.push-requires
 push-requires g c =
     let long = as_long c.self.inside.slots.items c.self.invariant in
-    let room : length (somes c.self.inside.slots.items) < 41 = rw c.self.view_is c.requires in
+    let room : length (somes c.self.inside.slots.items) < MOST_TASKS = rw c.self.view_is c.requires in
     omega arith
 
 pub invariant_of-self : goal.invariant_of-self

@@ -1,12 +1,15 @@
-use Rattle.std.proofs.Common.{rules, IsPermutation, arith, ap, subst, ◌∙◌}
+use Rattle.std.proofs.Common.{rules, IsPermutation, All, inr, arith, ap, sym, subst, ◌∙◌}
 use Rattle.std.proofs.lemmas.List.Sorted.{IsPermutation-refl, IsPermutation-trans, length_permutation}
 use Rattle.bio_workers.proofs.Dealing.{hand_can, rest_can, in_all, comes_back, back_can, back_in_all}
-use Rattle.bio_workers.proofs.crew.+start.Goals as goal
+use Rattle.bio_workers.proofs.job.+start.Goals as goal
 
 pub spawn_with-requires-clause-runs : goal.spawn_with-requires-clause-runs
 spawn_with-requires-clause-runs g t c κs within =
     let keys = g.J.Job.keys in
-    hand_can (g.J.Job.can c.args.job.now) (keys c.args.all) (keys c.deal-hand.result) (keys c.deal-hand.new.all) c.deal-hand.ensures.whole c.requires.can
+    let hand = c.deal-hand.result in (
+      hand_can (g.J.Job.can c.args.job.now) (keys c.args.all) (keys hand) (keys c.deal-hand.new.all) c.deal-hand.ensures.whole c.requires.can,
+      inr (subst (λ worker. All (λ key. g.J.Job.falls c.args.job.now key worker) (keys hand)) (sym c.deal-hand.ensures.holder) c.deal-hand.ensures.own),
+    )
 
 pub start-rest-requires-clause-can : goal.start-rest-requires-clause-can
 start-rest-requires-clause-can g t c κs within =
@@ -34,7 +37,8 @@ pub work-back-requires : goal.work-back-requires
 work-back-requires g t c κs within =
     let keys = g.J.Job.keys in
     let can = hand_can (g.J.Job.can c.args.job.now) (keys c.args.all) (keys c.deal-hand.result) (keys c.deal-hand.new.all) c.deal-hand.ensures.whole c.requires.can in
-    (search rules, (search rules, (search rules, (search rules, rw (c.in-Err.ensures.err) can))))
+    let own = subst (λ worker. All (λ key. g.J.Job.falls c.args.job.now key worker) (keys c.deal-hand.result)) (sym c.deal-hand.ensures.holder) c.deal-hand.ensures.own in
+    (search rules, (search rules, (search rules, (search rules, rw (c.in-Err.ensures.err) (can, inr own)))))
 
 pub absorb-all-requires : goal.absorb-all-requires
 absorb-all-requires g t c =
@@ -50,7 +54,7 @@ start-requires-clause-can g t c κs within =
     let keys = g.J.Job.keys in
     let same = ap (λ w. w.2) c.in-Err.ensures.err in
     back_can (g.J.Job.can c.args.job.now) (keys c.args.all) (keys c.deal-hand.result) (keys c.deal-hand.new.all) (keys c.work-back.result) (keys c.absorb-all.result) c.deal-hand.ensures.whole
-    (subst (λ h. IsPermutation (keys h) (keys c.work-back.result)) same c.work-back.ensures) c.absorb-all.ensures c.requires.can
+    (subst (λ h. IsPermutation (keys h) (keys c.work-back.result)) same c.work-back.ensures) c.absorb-all.ensures.whole c.requires.can
 
 pub start-requires-clause-few : goal.start-requires-clause-few
 start-requires-clause-few g t c κs within =
@@ -59,7 +63,7 @@ start-requires-clause-few g t c κs within =
     let few = c.requires.few in
     let whole = length_permutation (keys c.args.all) (keys c.absorb-all.result)
     (comes_back (keys c.args.all) (keys c.deal-hand.result) (keys c.deal-hand.new.all) (keys c.work-back.result) (keys c.deal-hand.new.all) (keys c.absorb-all.result) c.deal-hand.ensures.whole
-    (subst (λ h. IsPermutation (keys h) (keys c.work-back.result)) same c.work-back.ensures) (IsPermutation-refl (keys c.deal-hand.new.all)) c.absorb-all.ensures) in
+    (subst (λ h. IsPermutation (keys h) (keys c.work-back.result)) same c.work-back.ensures) (IsPermutation-refl (keys c.deal-hand.new.all)) c.absorb-all.ensures.whole) in
     omega arith
 
 pub returns-in-Ok : goal.returns-in-Ok
@@ -67,7 +71,7 @@ returns-in-Ok g t c =
     let keys = g.J.Job.keys in
     let same = ap (λ p. p.hand.value) c.in-Ok.ensures.ok ∙ c.of-2.ensures in
     comes_back (keys c.args.all) (keys c.deal-hand.result) (keys c.deal-hand.new.all) (keys c.join-back.result) (keys c.start-rest.result) (keys c.absorb.result) c.deal-hand.ensures.whole
-    (subst (λ h. IsPermutation (keys h) (keys c.join-back.result)) same c.join-back.ensures) c.start-rest.ensures c.absorb.ensures
+    (subst (λ h. IsPermutation (keys h) (keys c.join-back.result)) same c.join-back.ensures) c.start-rest.ensures c.absorb.ensures.whole
 
 pub returns-in-Err : goal.returns-in-Err
 returns-in-Err g t c =
@@ -75,4 +79,4 @@ returns-in-Err g t c =
     let same = ap (λ w. w.2) c.in-Err.ensures.err in
     IsPermutation-trans (keys c.args.all) (keys c.absorb-all.result) (keys c.start.result)
     (comes_back (keys c.args.all) (keys c.deal-hand.result) (keys c.deal-hand.new.all) (keys c.work-back.result) (keys c.deal-hand.new.all) (keys c.absorb-all.result) c.deal-hand.ensures.whole
-    (subst (λ h. IsPermutation (keys h) (keys c.work-back.result)) same c.work-back.ensures) (IsPermutation-refl (keys c.deal-hand.new.all)) c.absorb-all.ensures) c.start.ensures
+    (subst (λ h. IsPermutation (keys h) (keys c.work-back.result)) same c.work-back.ensures) (IsPermutation-refl (keys c.deal-hand.new.all)) c.absorb-all.ensures.whole) c.start.ensures

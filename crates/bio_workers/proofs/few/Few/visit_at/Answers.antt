@@ -4,7 +4,7 @@ use Rattle.std.proofs.Math.Seq.{map-set_same}
 use Rattle.bio_workers.specs.Somes.{somes}
 use Rattle.bio_workers.proofs.Somes.{as_long, some_at, some_set, mapped_at}
 use Rattle.bio_workers.proofs.Sweeps.{more_over}
-use Rattle.bio_workers.proofs.few.Few.step_at.Goals as goal
+use Rattle.bio_workers.proofs.few.Few.visit_at.Goals as goal
 
 pub unreachable-requires : goal.unreachable-requires
 unreachable-requires g c =
@@ -14,8 +14,8 @@ unreachable-requires g c =
     let some = c.in_default.ensures.variant.1 (omega arith) in
     absurd (cc)
 
-pub step-task-requires : goal.step-task-requires
-step-task-requires g c =
+pub visit-task-requires : goal.visit-task-requires
+visit-task-requires g c =
     let slots = c.self.inside.slots.items in
     let same = ap length c.self.view_is in
     let long = as_long slots c.self.invariant in
@@ -36,8 +36,8 @@ returns-clause-keys g c =
     let task = c.in-Some-take.task in
     let here = sym c.in-Some.ensures.value ∙ sym c.take.ensures.value ∙ c.in-Some-take.is in
     let stands = some_at slots c.args.at task task c.in-Some.slot.now c.self.invariant (omega arith) here in
-    ap (map g.W.Work.key) (some_set slots c.args.at c.step-task.result.0 c.self.invariant)
-    ∙ map-set_same g.W.Work.key (somes slots) c.args.at c.step-task.result.0 task (c.step-task.ensures.key ∙ ap g.W.Work.key (sym stands))
+    ap (map g.W.Work.key) (some_set slots c.args.at c.visit-task.result.0 c.self.invariant)
+    ∙ map-set_same g.W.Work.key (somes slots) c.args.at c.visit-task.result.0 task (c.visit-task.ensures.key ∙ ap g.W.Work.key (sym stands))
     ∙ ap (map g.W.Work.key) c.self.view_is
 
 pub returns-clause-over : goal.returns-clause-over
@@ -46,5 +46,5 @@ returns-clause-over g c = λ over before.
     let same = ap length c.self.view_is in
     let long = as_long slots c.self.invariant in
     let below = c.requires.at in
-    subst (λ l. All g.W.Work.is_over (take (c.args.at + 1) l)) (sym (some_set slots c.args.at c.step-task.result.0 c.self.invariant))
-    (more_over g.W.Work.is_over (somes slots) c.args.at c.step-task.result.0 (omega arith) (subst (λ l. All g.W.Work.is_over (take c.args.at l)) (sym c.self.view_is) before) (c.step-task.ensures.over over))
+    subst (λ l. All g.W.Work.is_over (take (c.args.at + 1) l)) (sym (some_set slots c.args.at c.visit-task.result.0 c.self.invariant))
+    (more_over g.W.Work.is_over (somes slots) c.args.at c.visit-task.result.0 (omega arith) (subst (λ l. All g.W.Work.is_over (take c.args.at l)) (sym c.self.view_is) before) (c.visit-task.ensures.over over))

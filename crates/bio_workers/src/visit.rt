@@ -1,0 +1,58 @@
+//! A worker's visit of a task.
+ghost use Rattle.std.specs.Prelude.{◌≡◌};
+ghost use Rattle.bio_workers.specs.declared.work.Progress.TheVariants.{Over};
+
+use crate::bell::Bell;
+use crate::work::{Progress, Work};
+use std::sync::Wait;
+
+/// How often a visit steps a task at the most. With one step a visit, each event of a task would cost a look at each task that waits for it; and
+/// without an end, the others would wait for a task that never does.
+const MOST_STEPS: u32 = 64;
+
+// Steps a task, and rings where that was an event.
+fn step<T: Drop, R: Wait, W: Work<T>>(rt: &R, work: &W, bell: &Bell, task: T) -> (T, Progress)
+    requires { W.can work.now (W.key task) }
+    ensures key { W.key result.0 ≡ W.key task }
+    ensures over { result.1 ≡ Over → W.is_over result.0 }
+{
+    let (task, came) = work.step(rt, task);
+    if came == Progress::Event {
+        bell.ring();
+    }
+    (task, came)
+}
+
+// Steps a task that has had an event until it meets none, or until the visit has had its steps.
+fn step_on<T: Drop, R: Wait, W: Work<T>>(rt: &R, work: &W, bell: &Bell, task: T) -> T
+    requires { W.can work.now (W.key task) }
+    ensures { W.key result ≡ W.key task }
+{
+    let mut task = task;
+    for _ in 1..MOST_STEPS {
+        let (next, came) = step(rt, work, bell, task);
+        task = next;
+        if came != Progress::Event {
+            break;
+        }
+    }
+    task
+}
+
+/// Steps a task, and steps it on while that meets events, so often at most. Rings behind each of them. Answers what the first step came to.
+pub(crate) fn visit<T: Drop, R: Wait, W: Work<T>>(
+    rt: &R,
+    work: &W,
+    bell: &Bell,
+    task: T,
+) -> (T, Progress)
+    requires { W.can work.now (W.key task) }
+    ensures key { W.key result.0 ≡ W.key task }
+    ensures over { result.1 ≡ Over → W.is_over result.0 }
+{
+    let (task, came) = step(rt, work, bell, task);
+    if came == Progress::Event {
+        return (step_on(rt, work, bell, task), came);
+    }
+    (task, came)
+}
