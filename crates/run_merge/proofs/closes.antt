@@ -1,6 +1,7 @@
 -- What a close of shared objects shows is enough for an ended run.
 pub mod Kinds
 pub mod Breaking
+pub mod Events
 pub mod Walks
 pub mod Drawn
 pub mod Objects
@@ -14,4 +15,5 @@ pub mod Spending
 pub mod Looks
 pub mod Stopping
 pub mod Counting
+pub mod DrewEvents
 pub mod Closes

@@ -64,7 +64,8 @@ pub record IsClosed (s : Scenario) (ledger : ℕ → LedgerId) (histories : Hist
   -- beside the tickets of entries there is no more than one a task
   pub few : length drawn ≤ length (all_of histories) + length (tasks s)
 
--- Their merge is the entries of a run, which has ended, and leaves the objects and tasks as they are; no task broke off, and no draw failed.
+-- The merge of the histories is the entries of a run. It has ended and leaves the objects and tasks as they are; no task broke off, and no draw of
+-- a ticket failed.
 pub record HasMerged (s : Scenario) (ledger : ℕ → LedgerId) (histories : Histories) (drawn : List ℕ) (last : State) : Type 0 where
   pub run : AreOfRun s ledger (entries_of (sorted (all_of histories))) last
   pub ended : HasEnded last

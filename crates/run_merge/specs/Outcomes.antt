@@ -3,6 +3,7 @@ use Rattle.std.specs.Prelude.{◌≡◌, ℕ, false, List, All, IfSome, length, 
 use Rattle.std.specs.Option.{is_some}
 use Rattle.elem_ledger.specs.Ledger.{LedgerId}
 use Rattle.run_machine.specs.declared.event.Event.{Event}
+use Rattle.run_machine.specs.Laws.{Object}
 use Rattle.run_machine.specs.Named.{IsEventOf}
 use Rattle.run_machine.specs.Opened.{Scenario, at, no_task, scene, start}
 use Rattle.run_machine.specs.Runs.{State, IsRun, HasEnded}
@@ -21,7 +22,7 @@ use Rattle.run_merge.specs.declared.outcome.Outcome.{Outcome}
 use Rattle.run_merge.specs.Entries.{entries_in}
 use Rattle.run_merge.specs.Merging.{Histories, entries_of, sorted, all_of, done_by}
 use Rattle.run_merge.specs.ObjectsByName.{made_of}
-use Rattle.run_merge.specs.SharedObjects.{merged_histories, seen_at}
+use Rattle.run_merge.specs.SharedObjects.{DrewAsEvent, entry_histories, seen_at}
 
 -- the scenario that was shared, and the ledgers of its pools
 abbrev pub scenario_of : Closed → Scenario
@@ -30,13 +31,13 @@ scenario_of closed = scenario_in closed.told.value
 abbrev pub ledger_of : Closed → ℕ → LedgerId
 ledger_of closed = (stage_of closed.told.value.objects).ledger
 
--- the events in the history of each object
+-- the entries of the history of each object that carry a ticket
 abbrev pub histories_in : Closed → Histories
-histories_in closed = merged_histories (names_in closed) (history_in closed)
+histories_in closed = entry_histories (names_in closed) (history_in closed)
 
 -- those of them that seats show
 abbrev pub histories_by : Closed → TaskSeats → Histories
-histories_by closed seats = merged_histories (names_in closed) (calls_at (calls_of seats))
+histories_by closed seats = entry_histories (names_in closed) (calls_at (calls_of seats))
 
 -- the closed objects and tasks, as a state of runs
 abbrev pub state_in : Closed → State
@@ -52,6 +53,8 @@ pub record IsMerged (closed : Closed) (outcome : Outcome) : Type 0 where
   pub run : IsRun (scene (scenario_of closed) (ledger_of closed)) (start (scenario_of closed)) events (state_in closed)
   pub merges : entries_in (scene (scenario_of closed) (ledger_of closed)) (start (scenario_of closed)) events (state_in closed) run
       ≡ entries_of (sorted (all_of (histories_in closed)))
+  -- those entries are the events among all calls: looks carry no ticket
+  pub tickets : (name : Object) → All DrewAsEvent (history_in closed name)
   pub shows : (place : ℕ) (task : ClosedTask) → slice_get closed.tasks.items place ≡ Some task
       → done_by place (histories_in closed) ≡ sorted (all_of (histories_by closed task.seats.value))
   pub ends : HasEnded (state_in closed)

@@ -1,5 +1,6 @@
 -- What is left of objects that were shared, as histories of entries and as a state of runs.
 use Rattle.std.specs.Prelude.{◌≡◌, ◌-◌, ◌≤◌, ℕ, List, All, map, slice_index_or}
+use Rattle.std.specs.Option.{is_some}
 use Rattle.tick_clock.specs.declared.ticking.Ticket.{Ticket}
 use Rattle.tick_clock.specs.Tickets.{PassState}
 use Rattle.run_machine.specs.Laws.{Object, OfPool, OfRescuer, OfDisk, OfBook, OfTally, OfNone}
@@ -10,27 +11,27 @@ use Rattle.task_steps.specs.Routed.{setup}
 use Rattle.task_core.specs.declared.opening.Opened.{Opened}
 use Rattle.task_core.specs.Plains.{stage_of}
 use Rattle.task_core.specs.opened.OfOne.{IsOpened, scenario_in, states}
-use Rattle.object_things.specs.Histories.{Call, or_last}
+use Rattle.object_things.specs.Histories.{Call, drawn_in, or_last}
 use Rattle.object_things.specs.Stamps.{ThingState}
 use Rattle.shared_objects.specs.Closes.{Returned, ClosesAs}
 use Rattle.shared_objects.specs.Kinds.{ThingAt}
-use Rattle.shared_objects.specs.Logs.{events_in}
+use Rattle.shared_objects.specs.Logs.{is_event}
 use Rattle.shared_objects.specs.Passes.{found_by}
 use Rattle.run_merge.specs.Closing.{HasMerged}
 use Rattle.run_merge.specs.Merging.{Ticketed, Histories}
 use Rattle.run_merge.specs.ObjectsByName.{StateAt, made_of}
 
--- a call with its ticket, which each event has; the seats of the task at a place have the number that is one more
+-- a call as an entry with its ticket; the seats of the task at a place have the number that is one more
 abbrev pub ticketed : Call → Ticketed
 ticketed call = record { entry = record { place = call.by - 1; asked = call.asked; reply = call.told.reply }; ticket = or_last 0 call.told.ticket }
 
--- the events among calls
-abbrev pub ticketed_events : List Call → List Ticketed
-ticketed_events calls = map ticketed (events_in calls)
+-- The histories of these objects, as the entries that carry a ticket. Looks carry none, and are dropped.
+abbrev pub entry_histories : List Object → (Object → List Call) → Histories
+entry_histories names history = map (λ name. (name, map ticketed (drawn_in (history name)))) names
 
--- the events of the history of each of these objects
-abbrev pub merged_histories : List Object → (Object → List Call) → Histories
-merged_histories names history = map (λ name. (name, ticketed_events (history name))) names
+-- a call drew a ticket exactly where it is an event: each event has one, and no look
+abbrev pub DrewAsEvent : Call → Type 0
+DrewAsEvent call = is_some call.told.ticket ≡ is_event call.asked call.told.reply
 
 -- what a thing is as an object of runs
 abbrev pub seen_at : (name : Object) → ThingAt name → StateAt name
@@ -52,12 +53,13 @@ state_left left tasks =
 abbrev pub numbers_of : List Ticket → List ℕ
 numbers_of tickets = map (λ (ticket : Ticket). ticket.number) tickets
 
--- What a close shows of objects and tasks as they were opened of a text, where the first pass has found what those
--- of the tasks have: the merge of the histories is a run that has ended and leaves what is left.
+-- What a close shows of objects and tasks as they were opened of a text, where the first pass has found what those of the tasks have: the merge of
+-- the histories is a run that has ended and leaves what is left, and its entries, which are those that carry a ticket, are the events among all calls.
 abbrev pub ClosesAreRuns : Type 0
 ClosesAreRuns = (opened : Opened) (names : List Object) (history : Object → List Call) (left : (name : Object) → ThingState (ThingAt name))
     (tasks : List Returned) (pass : PassState) → IsOpened opened
     → map (λ (task : Returned). task.first) tasks ≡ states opened.tasks.items
     → ClosesAs (setup (stage_of opened.objects).routing) opened.objects names history left tasks pass
     → All (λ (task : Returned). found_by task.desk.pass ≤ pass.known) tasks
-    → HasMerged (scenario_in opened) (stage_of opened.objects).ledger (merged_histories names history) (numbers_of pass.drawn) (state_left left tasks)
+    → HasMerged (scenario_in opened) (stage_of opened.objects).ledger (entry_histories names history) (numbers_of pass.drawn) (state_left left tasks)
+    × ((name : Object) → All DrewAsEvent (history name))

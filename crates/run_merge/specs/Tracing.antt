@@ -18,7 +18,7 @@ use Rattle.shared_objects.specs.Noting.{notes_of}
 use Rattle.run_merge.specs.Joining.{IsJoined}
 use Rattle.run_merge.specs.Merging.{entries_of, sorted, all_of}
 use Rattle.run_merge.specs.Products.{AreOfRun}
-use Rattle.run_merge.specs.SharedObjects.{merged_histories}
+use Rattle.run_merge.specs.SharedObjects.{entry_histories}
 
 -- the events that the calls of these tasks were, each with its ticket, task by task
 abbrev pub notes_in : Setup → List Returned → List (ℕ × Event)
@@ -31,5 +31,5 @@ NotesAreRuns = (opened : Opened) (names : List Object) (history : Object → Lis
     (tasks : List Returned) (pass : PassState) → IsOpened opened → map (λ (task : Returned). task.first) tasks ≡ states opened.tasks.items
     → ClosesAs (setup (stage_of opened.objects).routing) opened.objects names history left tasks pass
     → (joined : List Event) (last : State) → IsJoined (notes_in (setup (stage_of opened.objects).routing) tasks) joined
-    → (run : AreOfRun (scenario_in opened) (stage_of opened.objects).ledger (entries_of (sorted (all_of (merged_histories names history)))) last)
+    → (run : AreOfRun (scenario_in opened) (stage_of opened.objects).ledger (entries_of (sorted (all_of (entry_histories names history)))) last)
     → run.0 ≡ joined

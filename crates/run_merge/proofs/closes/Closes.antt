@@ -21,6 +21,7 @@ use Rattle.task_core.specs.declared.plain.Plain.{Plain}
 use Rattle.task_core.specs.Plains.{list_number, objects_of, stage_of}
 use Rattle.task_core.specs.Tables.{has_number}
 use Rattle.task_core.specs.opened.OfOne.{scenario_in}
+use Rattle.block_core.specs.Breaks.{is_broken}
 use Rattle.block_core.proofs.claim.Runnable.{accepted_texts_are_runnable}
 use Rattle.object_things.specs.Histories.{Call, drawn_in, or_last}
 use Rattle.object_things.specs.Stamps.{ThingState}
@@ -29,15 +30,17 @@ use Rattle.shared_objects.specs.Closes.{Returned, ClosesAs}
 use Rattle.shared_objects.specs.Kinds.{ThingAt, opened_at, unasked}
 use Rattle.shared_objects.specs.Logs.{LogLeads}
 use Rattle.shared_objects.specs.Passes.{found_by}
-use Rattle.run_merge.specs.Closing.{IsThrough, IsRefused, HasLast, IsClosed}
+use Rattle.run_merge.specs.Closing.{IsThrough, IsRefused, HasLast, IsClosed, HasMerged}
 use Rattle.run_merge.specs.Machines.{LeadsObject}
 use Rattle.run_merge.specs.Merging.{Ticketed, Rises, entries_of, history_of, done_by, LetsAsk, Shown}
 use Rattle.run_merge.specs.ObjectsByName.{get, made_of}
 use Rattle.run_merge.specs.Products.{LeadsTask, led_by, task_behind}
-use Rattle.run_merge.specs.SharedObjects.{ticketed, ticketed_events, merged_histories, seen_at, tasks_of, state_left, numbers_of, ClosesAreRuns}
+use Rattle.run_merge.specs.SharedObjects.{ticketed, seen_at, tasks_of, state_left, numbers_of, ClosesAreRuns}
 use Rattle.run_merge.proofs.closes.Counting.{walked, first_is, done_at, rounds_few, few_drawn, image_at, image_none}
 use Rattle.run_merge.proofs.closes.Drawing.{in_row}
+use Rattle.run_merge.proofs.closes.DrewEvents.{drew_as_events}
 use Rattle.run_merge.proofs.closes.Drawn.{events_told, events_untold, rises_events}
+use Rattle.run_merge.proofs.closes.Events.{ticketed_events, event_histories, histories_are}
 use Rattle.run_merge.proofs.closes.Looks.{lets_ask}
 use Rattle.run_merge.proofs.closes.Merged.{history_is, all_events, are_apart, are_tagged}
 use Rattle.run_merge.proofs.closes.Objects.{keeps, told_drew, IsReady, object_leads}
@@ -158,20 +161,20 @@ module _ (s : Scenario) (plain : Plain) (names : List Object) (history : Object 
   -- what is shown of the task at each place
   record IsShownAt (place : ℕ) : Type 0 where
     now : TaskState
-    leads : LeadsTask (setup s) ((start s).task place) (entries_of (done_by place (merged_histories names history))) now
-    looks : (mine rest : List Ticketed) (n : Ticketed) → done_by place (merged_histories names history) ≡ mine ++ n ∷ rest
-        → let task = task_behind s place (entries_of mine) in LetsAsk s (stage_of plain).ledger (history_of OfTally (merged_histories names history)) n.ticket task (look_of task)
-    comes : ((get_or (tasks_of tasks) place no_task ≡ now) × IsThrough s (stage_of plain).ledger (merged_histories names history) now)
-        ⊎ (IsRefused s (stage_of plain).ledger (merged_histories names history) place now (get_or (tasks_of tasks) place no_task) ⊎ HasLast (numbers_of pass.drawn))
+    leads : LeadsTask (setup s) ((start s).task place) (entries_of (done_by place (event_histories names history))) now
+    looks : (mine rest : List Ticketed) (n : Ticketed) → done_by place (event_histories names history) ≡ mine ++ n ∷ rest
+        → let task = task_behind s place (entries_of mine) in LetsAsk s (stage_of plain).ledger (history_of OfTally (event_histories names history)) n.ticket task (look_of task)
+    comes : ((get_or (tasks_of tasks) place no_task ≡ now) × IsThrough s (stage_of plain).ledger (event_histories names history) now)
+        ⊎ (IsRefused s (stage_of plain).ledger (event_histories names history) place now (get_or (tasks_of tasks) place no_task) ⊎ HasLast (numbers_of pass.drawn))
 
   shown_task : (place : ℕ) (task : Returned) → slice_get tasks place ≡ Some task → IsShownAt place
   shown_task place task at = record {
     now = w.now;
-    leads = subst (λ t. LeadsTask (setup s) t (entries_of (done_by place (merged_histories names history))) w.now) (sym first)
+    leads = subst (λ t. LeadsTask (setup s) t (entries_of (done_by place (event_histories names history))) w.now) (sym first)
         (subst (λ ns. LeadsTask (setup s) task.first (entries_of ns) w.now) (sym done) w.leads);
     looks = λ mine rest n is. by_cut mine n (cut_at task.log mine rest n (sym done ∙ is));
-    comes = subst (λ t. ((t ≡ w.now) × IsThrough s (stage_of plain).ledger (merged_histories names history) w.now)
-        ⊎ (IsRefused s (stage_of plain).ledger (merged_histories names history) place w.now t ⊎ HasLast (numbers_of pass.drawn)))
+    comes = subst (λ t. ((t ≡ w.now) × IsThrough s (stage_of plain).ledger (event_histories names history) w.now)
+        ⊎ (IsRefused s (stage_of plain).ledger (event_histories names history) place w.now t ⊎ HasLast (numbers_of pass.drawn)))
         (sym (image_at (λ (task : Returned). task.task) no_task tasks place task at))
         (comes_to s plain names history left tasks pass c (stage_of plain).ledger begins ready found place task at done w.now w.end);
   }
@@ -182,11 +185,11 @@ module _ (s : Scenario) (plain : Plain) (names : List Object) (history : Object 
       first : (start s).task place ≡ task.first
       first = first_is s plain names history left tasks pass c firsts place task at
 
-      done : done_by place (merged_histories names history) ≡ ticketed_events task.log
+      done : done_by place (event_histories names history) ≡ ticketed_events task.log
       done = done_at s plain names history left tasks pass c firsts place task at
 
       by_cut : (mine : List Ticketed) (n : Ticketed) → IsCutAt task.log mine n
-          → let task = task_behind s place (entries_of mine) in LetsAsk s (stage_of plain).ledger (history_of OfTally (merged_histories names history)) n.ticket task (look_of task)
+          → let task = task_behind s place (entries_of mine) in LetsAsk s (stage_of plain).ledger (history_of OfTally (event_histories names history)) n.ticket task (look_of task)
       by_cut mine n cut =
           let within : Contains task.log cut.call = subst (λ l. Contains l cut.call) (sym cut.is) (Contains-append_right cut.before (cut.call ∷ cut.after) cut.call (0, omega arith, refl)) in
           let led = λ (t : TaskState) (ns : List Ticketed). led_by (setup s) t (entries_of ns) in
@@ -198,9 +201,9 @@ module _ (s : Scenario) (plain : Plain) (names : List Object) (history : Object 
           (λ x inside. subst (λ l. Contains l x) (sym cut.is) (Contains-append_left cut.before (cut.call ∷ cut.after) x inside))
           (led task.first (ticketed_events cut.before)) cut.call (or_last 0 cut.call.told.ticket) (ticket_is cut.call.told.ticket has)
           (look_of (led task.first (ticketed_events cut.before))) refl looked in
-          subst (λ t. LetsAsk s (stage_of plain).ledger (history_of OfTally (merged_histories names history)) n.ticket (led t mine) (look_of (led t mine))) (sym first)
-          (subst (λ ns. LetsAsk s (stage_of plain).ledger (history_of OfTally (merged_histories names history)) n.ticket (led task.first ns) (look_of (led task.first ns))) cut.events
-          (subst (λ (x : Ticketed). LetsAsk s (stage_of plain).ledger (history_of OfTally (merged_histories names history)) x.ticket (led task.first (ticketed_events cut.before)) (look_of (led task.first (ticketed_events cut.before)))) cut.here lets))
+          subst (λ t. LetsAsk s (stage_of plain).ledger (history_of OfTally (event_histories names history)) n.ticket (led t mine) (look_of (led t mine))) (sym first)
+          (subst (λ ns. LetsAsk s (stage_of plain).ledger (history_of OfTally (event_histories names history)) n.ticket (led task.first ns) (look_of (led task.first ns))) cut.events
+          (subst (λ (x : Ticketed). LetsAsk s (stage_of plain).ledger (history_of OfTally (event_histories names history)) x.ticket (led task.first (ticketed_events cut.before)) (look_of (led task.first (ticketed_events cut.before)))) cut.here lets))
 
   shown_none : (place : ℕ) → length tasks ≤ place → IsShownAt place
   shown_none place le = record {
@@ -213,7 +216,7 @@ module _ (s : Scenario) (plain : Plain) (names : List Object) (history : Object 
       first : (start s).task place ≡ no_task
       first = ap (λ l. get_or l place no_task) (sym firsts) ∙ image_none (λ (task : Returned). task.first) no_task tasks place le
 
-      done : done_by place (merged_histories names history) ≡ []
+      done : done_by place (event_histories names history) ≡ []
       done = done_is names history place [] c.apart
           (λ name. All-weaker (λ (call : Call). (0 < call.by) × (call.by ≤ length tasks)) (λ (call : Call). 0 < call.by) (λ call h. h.0) (history name) (c.numbers name))
           (λ name. none_by place (history name)
@@ -235,7 +238,7 @@ module _ (s : Scenario) (plain : Plain) (names : List Object) (history : Object 
   reached : State
   reached = record { objects = made_of (λ name. seen_at name (run name).0); task = λ place. (shown_at place).now }
 
-  shown : Shown s (stage_of plain).ledger (merged_histories names history) reached
+  shown : Shown s (stage_of plain).ledger (event_histories names history) reached
   unfolding reached
   shown = record {
     events = all_events history names;
@@ -245,7 +248,7 @@ module _ (s : Scenario) (plain : Plain) (names : List Object) (history : Object 
         (rises_events 0 (left name).note (history name) ((keeps name).rises (unasked (opened_at plain name)) (left name) (history name) (c.things name))
         (told_drew name (unasked (opened_at plain name)) (left name) (history name) (c.things name)));
     objects = λ name.
-        subst (λ o. LeadsObject (stage_of plain).ledger name (get (start s).objects name) (entries_of (history_of name (merged_histories names history))) o)
+        subst (λ o. LeadsObject (stage_of plain).ledger name (get (start s).objects name) (entries_of (history_of name (event_histories names history))) o)
         (sym (get_made (λ name. seen_at name (run name).0) name))
         (subst (λ ns. LeadsObject (stage_of plain).ledger name (get (start s).objects name) (entries_of ns) (seen_at name (run name).0)) (sym (history_is history name names (c.others name)))
         (subst (λ o. LeadsObject (stage_of plain).ledger name o (entries_of (ticketed_events (history name))) (seen_at name (run name).0)) (sym (begins name)) (run name).1));
@@ -263,7 +266,7 @@ module _ (s : Scenario) (plain : Plain) (names : List Object) (history : Object 
       by_test false is =
           inl (get_made (λ name. seen_at name (left name).object) name ∙ ap (seen_at name) (sym ((run name).2 is)) ∙ sym (get_made (λ name. seen_at name (run name).0) name))
 
-  pub is_closed : IsClosed s (stage_of plain).ledger (merged_histories names history) (numbers_of pass.drawn) (state_left left tasks)
+  pub is_closed : IsClosed s (stage_of plain).ledger (event_histories names history) (numbers_of pass.drawn) (state_left left tasks)
   unfolding reached
   is_closed = record {
     reached = reached;
@@ -277,7 +280,15 @@ module _ (s : Scenario) (plain : Plain) (names : List Object) (history : Object 
 pub closes_are_runs : ClosesAreRuns
 closes_are_runs opened names history left tasks pass is firsts c found =
     let s = scenario_in opened in
+    let ledger = (stage_of opened.objects).ledger in
     let runnable = (accepted_texts_are_runnable opened.accepted.value opened.work.value is.read).0 in
-    closed_runs_end s (stage_of opened.objects).ledger (merged_histories names history) (numbers_of pass.drawn) (state_left left tasks) runnable is.rescuers is.one.holds.numbered
-    (is_closed s opened.objects names history left tasks pass (subst (λ setup. ClosesAs setup opened.objects names history left tasks pass) is.setup c) (firsts ∙ is.tasks)
-    (λ name. ap (λ (o : Objects). get o name) (sym is.objects) ∙ opened_is opened.objects name) found)
+    let closes = subst (λ setup. ClosesAs setup opened.objects names history left tasks pass) is.setup c in
+    let merged = closed_runs_end s ledger (event_histories names history) (numbers_of pass.drawn) (state_left left tasks) runnable is.rescuers is.one.holds.numbered
+    (is_closed s opened.objects names history left tasks pass closes (firsts ∙ is.tasks)
+    (λ name. ap (λ (o : Objects). get o name) (sym is.objects) ∙ opened_is opened.objects name) found) in
+    let drew = drew_as_events s opened.objects names history left tasks pass closes
+    (λ place task at. ap is_broken (sym (image_at (λ (task : Returned). task.task) no_task tasks place task at)) ∙ merged.unbroken place) in
+    (
+      subst (λ histories. HasMerged s ledger histories (numbers_of pass.drawn) (state_left left tasks)) (sym (histories_are names history drew)) merged,
+      drew,
+    )

@@ -26,10 +26,11 @@ use Rattle.shared_objects.specs.Logs.{is_event, is_refused, is_stop, is_glance, 
 use Rattle.run_merge.specs.Entries.{Entry}
 use Rattle.run_merge.specs.Merging.{Ticketed, Rises, entries_of, all_of, done_by}
 use Rattle.run_merge.specs.Products.{starts_round}
-use Rattle.run_merge.specs.SharedObjects.{ticketed, ticketed_events, merged_histories, numbers_of}
+use Rattle.run_merge.specs.SharedObjects.{ticketed, numbers_of}
 use Rattle.run_merge.proofs.closes.Breaking.{broken_rests, stop_breaks}
 use Rattle.run_merge.proofs.closes.Drawing.{drawn_of, drew_of, numbers_is}
 use Rattle.run_merge.proofs.closes.Drawn.{HasTicket, rises_events}
+use Rattle.run_merge.proofs.closes.Events.{ticketed_events, event_histories}
 use Rattle.run_merge.proofs.closes.Objects as calls
 use Rattle.run_merge.proofs.closes.Objects.{told_drew}
 use Rattle.run_merge.proofs.closes.Owners.{logged, kept, ask_some, named, IsInPlace, in_place}
@@ -92,7 +93,7 @@ module _ (setup : Setup) where
           (All-tail (λ (c : Call). object_of c.asked ≡ OfNone → ⊥) call calls some) (All-tail GlanceNone call calls none) leads) in
           omega (arith, behind, first_ticket call calls)
 
-refused_stops : (asked : Request) (reply : Reply) → is_refused asked reply ≡ true → is_stop asked reply ≡ true
+pub refused_stops : (asked : Request) (reply : Reply) → is_refused asked reply ≡ true → is_stop asked reply ≡ true
 refused_stops LookRound reply is = absurd (true≢false (sym is))
 refused_stops LookLeft reply is = absurd (true≢false (sym is))
 refused_stops asked reply is = ap (λ b. b || is_spent reply) is
@@ -147,7 +148,7 @@ module _ (s : Scenario) (plain : Plain) (names : List Object) (history : Object 
       let l = (logged s plain names history left tasks pass c place task at).0 in rises_events 0 l.end task.log l.rises (log_drew place task at)
 
   -- what a task did, by tickets
-  pub done_at : (place : ℕ) (task : Returned) → slice_get tasks place ≡ Some task → done_by place (merged_histories names history) ≡ ticketed_events task.log
+  pub done_at : (place : ℕ) (task : Returned) → slice_get tasks place ≡ Some task → done_by place (event_histories names history) ≡ ticketed_events task.log
   done_at place task at =
       done_is names history place task.log c.apart number_some (λ name. c.calls name place task at)
       (All-map (λ (n : Ticketed). list_any (λ name. is_same name (object_of n.entry.asked)) names ≡ true) ticketed (events_in task.log)
@@ -163,7 +164,7 @@ module _ (s : Scenario) (plain : Plain) (names : List Object) (history : Object 
       let p = λ (n : Ticketed). starts_round n.entry.asked in
       let events = ticketed_events task.log in
       let mine : filter (is_by place) (ticketed_events (history OfTally)) ≡ filter (is_at OfTally) events =
-      picks_mine place (history OfTally) (number_some OfTally) ∙ ap ticketed_events (c.calls OfTally place task at) ∙ events_to OfTally task.log in
+      picks_mine is_told place (history OfTally) (number_some OfTally) ∙ ap ticketed_events (c.calls OfTally place task at) ∙ events_to OfTally task.log in
       let same : length (filter (is_by place) (filter p (ticketed_events (history OfTally)))) ≡ length (filter (is_at OfTally) (filter p events)) =
       ap (λ (l : List Ticketed). length l)
       (filter_swap (is_by place) p (ticketed_events (history OfTally)) ∙ ap (filter p) mine ∙ filter_swap p (is_at OfTally) events) in
@@ -198,10 +199,10 @@ module _ (s : Scenario) (plain : Plain) (names : List Object) (history : Object 
           by_two (inl (task, less, at, same)) = at_task k task at
           by_two (inr (le, none)) = absurd (omega (arith, lt, le))
 
-  pub all_placed : (ns : List Object) → All (λ (x : Ticketed). x.entry.place < length tasks) (all_of (merged_histories ns history))
+  pub all_placed : (ns : List Object) → All (λ (x : Ticketed). x.entry.place < length tasks) (all_of (event_histories ns history))
   all_placed [] = All-nil (λ (x : Ticketed). x.entry.place < length tasks)
   all_placed (name ∷ ns) =
-      All-append (λ (x : Ticketed). x.entry.place < length tasks) (ticketed_events (history name)) (all_of (merged_histories ns history)) (placed name) (all_placed ns)
+      All-append (λ (x : Ticketed). x.entry.place < length tasks) (ticketed_events (history name)) (all_of (event_histories ns history)) (placed name) (all_placed ns)
 
   -- a call that left its task as it was drew no ticket
   glance_none : (place : ℕ) (task : Returned) → slice_get tasks place ≡ Some task → (call : Call) → Contains task.log call → GlanceNone call
@@ -223,20 +224,20 @@ module _ (s : Scenario) (plain : Plain) (names : List Object) (history : Object 
           absurd (true≢false (sym glance ∙ ap (λ b. not (is_told call || b)) stop ∙ ap (λ b. not (b || true)) untold))
 
   one_more : (place : ℕ) (task : Returned) → slice_get tasks place ≡ Some task
-      → length (numbers_of (drawn_of task)) ≤ length (filter (is_by place) (all_of (merged_histories names history))) + 1
+      → length (numbers_of (drawn_of task)) ≤ length (filter (is_by place) (all_of (event_histories names history))) + 1
   one_more place task at =
       let tickets = ap (λ (l : List ℕ). length l) (drew_of s plain names history left tasks pass c place task at) in
       let few = few_tickets (setup s) [] task.first task.log task.task (ask_some s plain names history left tasks pass c place task at)
       (All-weaker (Contains task.log) GlanceNone (glance_none place task at) task.log (All-contains_itself task.log)) (logged s plain names history left tasks pass c place task at).0.leads in
       let events = length-map (events_in task.log) ticketed in
       let done = ap (λ (l : List Ticketed). length l) (done_at place task at) in
-      let order = sorted_length (filter (is_by place) (all_of (merged_histories names history))) in
+      let order = sorted_length (filter (is_by place) (all_of (event_histories names history))) in
       omega (arith, tickets, few, events, done, order)
 
-  pub few_drawn : length (numbers_of pass.drawn) ≤ length (all_of (merged_histories names history)) + length (opened.tasks s)
+  pub few_drawn : length (numbers_of pass.drawn) ≤ length (all_of (event_histories names history)) + length (opened.tasks s)
   few_drawn =
       let all = ap (λ (l : List ℕ). length l) (numbers_is s plain names history left tasks pass c) ∙ length-flat_map (λ (task : Returned). numbers_of (drawn_of task)) tasks in
-      let most = sum_most (λ (task : Returned). length (numbers_of (drawn_of task))) (λ place. length (filter (is_by place) (all_of (merged_histories names history)))) tasks one_more in
-      let split = by_places (length tasks) (all_of (merged_histories names history)) (all_placed names) in
+      let most = sum_most (λ (task : Returned). length (numbers_of (drawn_of task))) (λ place. length (filter (is_by place) (all_of (event_histories names history)))) tasks one_more in
+      let split = by_places (length tasks) (all_of (event_histories names history)) (all_placed names) in
       let same = long in
       omega (arith, all, most, split, same)

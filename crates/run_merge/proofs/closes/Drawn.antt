@@ -8,7 +8,8 @@ use Rattle.std.proofs.lemmas.List.Elements.{All-head, All-tail, All-cons, All-ni
 use Rattle.object_things.specs.Histories.{Call, IsNext, or_last, TicketsRise}
 use Rattle.shared_objects.specs.Logs.{events_in}
 use Rattle.run_merge.specs.Merging.{Ticketed, Rises}
-use Rattle.run_merge.specs.SharedObjects.{ticketed, ticketed_events}
+use Rattle.run_merge.specs.SharedObjects.{ticketed}
+use Rattle.run_merge.proofs.closes.Events.{ticketed_events}
 use Rattle.run_merge.proofs.closes.Walks.{is_told, told_first, untold_first}
 use Rattle.run_merge.proofs.closing.Early.{rises_from}
 

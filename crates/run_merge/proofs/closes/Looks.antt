@@ -22,8 +22,9 @@ use Rattle.shared_objects.specs.Logs.{is_event, Looked}
 use Rattle.run_merge.specs.Machines.{TallyServes, LeadsObject}
 use Rattle.run_merge.specs.Merging.{Ticketed, entries_of, history_of, TallyThen, LetsAsk}
 use Rattle.run_merge.specs.ObjectsByName.{get}
-use Rattle.run_merge.specs.SharedObjects.{ticketed_events, merged_histories, seen_at}
+use Rattle.run_merge.specs.SharedObjects.{seen_at}
 use Rattle.run_merge.proofs.closes.Drawn.{events_around, none_greater}
+use Rattle.run_merge.proofs.closes.Events.{ticketed_events, event_histories}
 use Rattle.run_merge.proofs.closes.Merged.{history_is}
 use Rattle.run_merge.proofs.closes.Objects.{keeps, told_drew, IsReady, ready_first, drawn_leads, tally_drawn}
 use Rattle.run_merge.proofs.closes.Owners.{kept, IsInPlace, in_place}
@@ -93,13 +94,13 @@ module _ (s : Scenario) (plain : Plain) (names : List Object) (history : Object 
       subst (IsReady ledger name (opened_at plain name)) (ap drawn_in is ∙ filter-append (λ (call : Call). is_some call.told.ticket) before after) (ready name)
 
   pub history_parts : (name : Object) (call : Call) (p : IsInPlace s plain names history left tasks pass c name call) → is_told call ≡ false
-      → history_of name (merged_histories names history) ≡ ticketed_events p.before ++ ticketed_events p.after
+      → history_of name (event_histories names history) ≡ ticketed_events p.before ++ ticketed_events p.after
   history_parts name call p untold =
       history_is history name names (c.others name) ∙ ap ticketed_events p.is ∙ events_around p.before p.after call untold
 
   -- the tally at a look
   pub record IsSeen (call : Call) : Type 0 where
-    pub was : TallyThen s ledger (history_of OfTally (merged_histories names history))
+    pub was : TallyThen s ledger (history_of OfTally (event_histories names history))
     pub few : All (λ (n : Ticketed). n.ticket ≤ call.told.note) was.seen
     pub serves : TallyServes was.shown call.asked call.told.reply was.shown
     pub found : is_spent call.told.reply ≡ false
@@ -136,7 +137,7 @@ module _ (s : Scenario) (plain : Plain) (names : List Object) (history : Object 
   -- a look that lets a task ask
   pub lets_ask : (place : ℕ) (task : Returned) → slice_get tasks place ≡ Some task → (before : List Call) → ((x : Call) → Contains before x → Contains task.log x)
       → (now : TaskState) (call : Call) (n : ℕ) → call.told.ticket ≡ Some n → (look : Option Request) → look_of now ≡ look → Looked before now call look
-      → LetsAsk s ledger (history_of OfTally (merged_histories names history)) n now look
+      → LetsAsk s ledger (history_of OfTally (event_histories names history)) n now look
   lets_ask place task at before inside now call n ticket None is looked = tt
   lets_ask place task at before inside now call n ticket (Some look) is (seen, there, asks, may, less) = (
     was.was,

@@ -23,8 +23,9 @@ use Rattle.shared_objects.specs.Kinds.{ThingAt, serves_at, looks_at, answers_at}
 use Rattle.run_merge.specs.Machines.{ServesAt, LeadsObject}
 use Rattle.run_merge.specs.Merging.{entries_of}
 use Rattle.run_merge.specs.Products.{starts_round}
-use Rattle.run_merge.specs.SharedObjects.{ticketed_events, seen_at}
+use Rattle.run_merge.specs.SharedObjects.{seen_at}
 use Rattle.run_merge.proofs.closes.Drawn.{HasTicket, events_told, events_untold}
+use Rattle.run_merge.proofs.closes.Events.{ticketed_events}
 use Rattle.run_merge.proofs.closes.Kinds.{pool_is, pool_stays, pool_ledger, list_is, list_stays, disk_is, disk_stays, book_is, book_stays, HasNext, tally_is, tally_stays}
 use Rattle.run_merge.proofs.closes.Walks.{is_told}
 

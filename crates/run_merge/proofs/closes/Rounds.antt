@@ -31,8 +31,9 @@ use Rattle.shared_objects.specs.Logs.{is_event}
 use Rattle.run_merge.specs.Entries.{Entry, AreEvents}
 use Rattle.run_merge.specs.Merging.{Ticketed}
 use Rattle.run_merge.specs.Products.{LeadsTask, starts_round}
-use Rattle.run_merge.specs.SharedObjects.{ticketed, ticketed_events}
+use Rattle.run_merge.specs.SharedObjects.{ticketed}
 use Rattle.run_merge.proofs.closes.Drawn.{events_told, events_untold}
+use Rattle.run_merge.proofs.closes.Events.{ticketed_events}
 use Rattle.run_merge.proofs.closes.Objects as calls
 use Rattle.run_merge.proofs.closes.Walks.{is_told}
 use Rattle.run_merge.proofs.products.Asking.{is_keeping, writer_keeps_none, rescuer_keeps_none, completer_keeps_none}

@@ -13,8 +13,9 @@ use Rattle.shared_objects.specs.Calls.{calls_to, is_same}
 use Rattle.shared_objects.specs.Names.{Apart}
 use Rattle.shared_objects.specs.Logs.{events_in}
 use Rattle.run_merge.specs.Merging.{Ticketed, insert, sorted, Rises, all_of, done_by}
-use Rattle.run_merge.specs.SharedObjects.{ticketed, ticketed_events, merged_histories}
+use Rattle.run_merge.specs.SharedObjects.{ticketed}
 use Rattle.run_merge.proofs.closes.Drawn.{events_told, events_untold, rises_above}
+use Rattle.run_merge.proofs.closes.Events.{ticketed_events, event_histories}
 use Rattle.run_merge.proofs.closes.Owners.{or_first, or_second, turned}
 use Rattle.run_merge.proofs.closes.Walks.{is_told}
 use Rattle.run_merge.proofs.merging.Picked.{is_at, is_by}
@@ -39,27 +40,29 @@ mine_is place (suc by) some = by_test (place == by) refl
 abbrev mine : ℕ → Call → Bool
 mine place call = nat_lt 0 (count call.by ((place + 1) ∷ []))
 
-pub picks_mine : (place : ℕ) (calls : List Call) → All (λ (call : Call). 0 < call.by) calls
-    → filter (is_by place) (ticketed_events calls) ≡ ticketed_events (calls_by ((place + 1) ∷ []) calls)
-picks_mine place [] some = refl
-picks_mine place (call ∷ calls) some =
-    by_two (is_told call) (mine place call) refl refl (picks_mine place calls (All-tail (λ (c : Call). 0 < c.by) call calls some))
+-- those of a task among calls of some kind
+pub picks_mine : (p : Call → Bool) (place : ℕ) (calls : List Call) → All (λ (call : Call). 0 < call.by) calls
+    → filter (is_by place) (map ticketed (filter p calls)) ≡ map ticketed (filter p (calls_by ((place + 1) ∷ []) calls))
+picks_mine p place [] some = refl
+picks_mine p place (call ∷ calls) some =
+    by_two (p call) (mine place call) refl (mine_is place call.by (All-head (λ (c : Call). 0 < c.by) call calls some))
+    (picks_mine p place calls (All-tail (λ (c : Call). 0 < c.by) call calls some))
   where
     rest : List Call
     rest = calls_by ((place + 1) ∷ []) calls
 
-    here : is_by place (ticketed call) ≡ mine place call
-    here = mine_is place call.by (All-head (λ (c : Call). 0 < c.by) call calls some)
+    picked : List Ticketed
+    picked = filter (is_by place) (map ticketed (filter p calls))
 
-    by_two : (told own : Bool) → is_told call ≡ told → mine place call ≡ own → filter (is_by place) (ticketed_events calls) ≡ ticketed_events rest
-        → filter (is_by place) (map ticketed (cond told (call ∷ events_in calls) (events_in calls))) ≡ ticketed_events (cond own (call ∷ rest) rest)
-    by_two true true t m is =
-        ap (λ b. cond b (ticketed call ∷ filter (is_by place) (ticketed_events calls)) (filter (is_by place) (ticketed_events calls))) (here ∙ m)
-        ∙ ap (λ l. ticketed call ∷ l) is ∙ sym (events_told call rest t)
-    by_two true false t m is =
-        ap (λ b. cond b (ticketed call ∷ filter (is_by place) (ticketed_events calls)) (filter (is_by place) (ticketed_events calls))) (here ∙ m) ∙ is
-    by_two false true t m is = is ∙ sym (events_untold call rest t)
-    by_two false false t m is = is
+    more : (b : Bool) → p call ≡ b → map ticketed (filter p (call ∷ rest)) ≡ map ticketed (cond b (call ∷ filter p rest) (filter p rest))
+    more b is = ap (λ b. map ticketed (cond b (call ∷ filter p rest) (filter p rest))) is
+
+    by_two : (has own : Bool) → p call ≡ has → is_by place (ticketed call) ≡ own → picked ≡ map ticketed (filter p rest)
+        → filter (is_by place) (map ticketed (cond has (call ∷ filter p calls) (filter p calls))) ≡ map ticketed (filter p (cond own (call ∷ rest) rest))
+    by_two true true h m is = ap (λ b. cond b (ticketed call ∷ picked) picked) m ∙ ap (λ l. ticketed call ∷ l) is ∙ sym (more true h)
+    by_two true false h m is = ap (λ b. cond b (ticketed call ∷ picked) picked) m ∙ is
+    by_two false true h m is = is ∙ sym (more false h)
+    by_two false false h m is = is
 
 -- of the calls at an object the events are those among all that are at it
 pub events_to : (name : Object) (log : List Call) → ticketed_events (calls_to name log) ≡ filter (is_at name) (ticketed_events log)
@@ -159,13 +162,13 @@ pub done_is : (names : List Object) (history : Object → List Call) (place : �
     → ((name : Object) → All (λ (call : Call). 0 < call.by) (history name))
     → ((name : Object) → calls_by ((place + 1) ∷ []) (history name) ≡ calls_to name log)
     → All (λ (n : Ticketed). list_any (λ name. is_same name (object_of n.entry.asked)) names ≡ true) (ticketed_events log)
-    → Rises 0 (ticketed_events log) → done_by place (merged_histories names history) ≡ ticketed_events log
+    → Rises 0 (ticketed_events log) → done_by place (event_histories names history) ≡ ticketed_events log
 done_is names history place log apart some calls there rises = ap sorted (picked names) ∙ sorted_parts names 0 (ticketed_events log) apart there rises
   where
-    picked : (names : List Object) → filter (is_by place) (all_of (merged_histories names history)) ≡ parts names (ticketed_events log)
+    picked : (names : List Object) → filter (is_by place) (all_of (event_histories names history)) ≡ parts names (ticketed_events log)
     picked [] = refl
     picked (name ∷ names) =
-        filter-append (is_by place) (ticketed_events (history name)) (all_of (merged_histories names history))
-        ∙ ap (λ l. l ++ filter (is_by place) (all_of (merged_histories names history)))
-        (picks_mine place (history name) (some name) ∙ ap ticketed_events (calls name) ∙ events_to name log)
+        filter-append (is_by place) (ticketed_events (history name)) (all_of (event_histories names history))
+        ∙ ap (λ l. l ++ filter (is_by place) (all_of (event_histories names history)))
+        (picks_mine is_told place (history name) (some name) ∙ ap ticketed_events (calls name) ∙ events_to name log)
         ∙ ap (λ l. filter (is_at name) (ticketed_events log) ++ l) (picked names)

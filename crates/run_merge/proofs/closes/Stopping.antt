@@ -22,9 +22,10 @@ use Rattle.run_merge.specs.Closing.{IsThrough, IsRefused, HasLast}
 use Rattle.run_merge.specs.Machines.{ServesAt, TallyServes, LeadsObject}
 use Rattle.run_merge.specs.Merging.{Ticketed, entries_of, done_by}
 use Rattle.run_merge.specs.ObjectsByName.{get}
-use Rattle.run_merge.specs.SharedObjects.{ticketed, ticketed_events, merged_histories, numbers_of, seen_at}
+use Rattle.run_merge.specs.SharedObjects.{ticketed, numbers_of, seen_at}
 use Rattle.run_merge.proofs.closes.Drawing.{last_drawn}
 use Rattle.run_merge.proofs.closes.Drawn.{HasTicket, events_append, events_untold, rises_events, none_greater, rises_above, rises_parts}
+use Rattle.run_merge.proofs.closes.Events.{ticketed_events, event_histories}
 use Rattle.run_merge.proofs.closes.Looks.{parts_ready, history_parts, IsSeen, seen_then, left_look, lets_ask}
 use Rattle.run_merge.proofs.closes.Objects.{keeps, told_drew, IsReady, ready_first, ready_behind, serves_is, serves_none, drawn_leads}
 use Rattle.run_merge.proofs.closes.Owners.{first_there, logged, kept, IsInPlace, in_place}
@@ -70,7 +71,7 @@ module _ (s : Scenario) (plain : Plain) (names : List Object) (history : Object 
       All-contains HasTicket (history name) call (told_drew name (unasked (opened_at plain name)) (left name) (history name) (c.things name))
       (kept s plain names history left tasks pass c place task at call within)
 
-  module _ (place : ℕ) (task : Returned) (at : slice_get tasks place ≡ Some task) (done : done_by place (merged_histories names history) ≡ ticketed_events task.log)
+  module _ (place : ℕ) (task : Returned) (at : slice_get tasks place ≡ Some task) (done : done_by place (event_histories names history) ≡ ticketed_events task.log)
       (now : TaskState) where
     module _ (st : IsStopped (setup s) [] task.log now task.task) where
       inside : Contains task.log st.call
@@ -83,7 +84,7 @@ module _ (s : Scenario) (plain : Plain) (names : List Object) (history : Object 
       p = in_place s plain names history left tasks pass c (object_of st.call.asked) st.call there
 
       refused : (n : ℕ) → st.call.told.ticket ≡ Some n
-          → IsRefused s ledger (merged_histories names history) place now task.task
+          → IsRefused s ledger (event_histories names history) place now task.task
       refused n ticket = record {
         asked = st.call.asked;
         reply = st.call.told.reply;
@@ -151,18 +152,18 @@ module _ (s : Scenario) (plain : Plain) (names : List Object) (history : Object 
               (All-weaker (λ (x : Ticketed). x.ticket ≤ parts.0) (λ (x : Ticketed). x.ticket < n) (λ x le. omega (arith, le, lt)) (ticketed_events st.here)
               (none_greater 0 parts.0 st.here parts.1 has_here).1)
 
-      stopped : IsRefused s ledger (merged_histories names history) place now task.task ⊎ HasLast (numbers_of pass.drawn)
+      stopped : IsRefused s ledger (event_histories names history) place now task.task ⊎ HasLast (numbers_of pass.drawn)
       stopped = by_ticket st.call.told.ticket refl
         where
           by_ticket : (ticket : Option ℕ) → st.call.told.ticket ≡ ticket
-              → IsRefused s ledger (merged_histories names history) place now task.task ⊎ HasLast (numbers_of pass.drawn)
+              → IsRefused s ledger (event_histories names history) place now task.task ⊎ HasLast (numbers_of pass.drawn)
           by_ticket (Some n) t = inl (refused n t)
           by_ticket None t =
               let step = subst (λ x. StepOf (serves_at (object_of st.call.asked)) (looks_at (object_of st.call.asked)) p.here st.call.asked st.call.told.reply x p.next) t p.answers.step in
               inr (said_last (object_of st.call.asked) st.call there (stop_spent (object_of st.call.asked) p.here p.next st.call.asked st.call.told.reply step.0 st.stop))
 
     -- it has nothing to ask for, or saw no unfinished write
-    through : HasStopped (setup s) task.log now → IsThrough s ledger (merged_histories names history) now
+    through : HasStopped (setup s) task.log now → IsThrough s ledger (event_histories names history) now
     through (inl rests) = inl rests
     through (inr (call, within, asks, says)) =
         inr (seen.was, sym (subst (λ r. TallyServes seen.was.shown LookLeft r seen.was.shown) says (subst (λ a. TallyServes seen.was.shown a call.told.reply seen.was.shown) asks seen.serves)).0)
@@ -172,7 +173,7 @@ module _ (s : Scenario) (plain : Plain) (names : List Object) (history : Object 
             (subst (λ a. Contains (history (object_of a)) call) asks (kept s plain names history left tasks pass c place task at call within))
 
     pub comes_to : (task.task ≡ now) ⊎ IsStopped (setup s) [] task.log now task.task
-        → ((task.task ≡ now) × IsThrough s ledger (merged_histories names history) now)
-        ⊎ (IsRefused s ledger (merged_histories names history) place now task.task ⊎ HasLast (numbers_of pass.drawn))
+        → ((task.task ≡ now) × IsThrough s ledger (event_histories names history) now)
+        ⊎ (IsRefused s ledger (event_histories names history) place now task.task ⊎ HasLast (numbers_of pass.drawn))
     comes_to (inl is) = inl (is, through (subst (HasStopped (setup s) task.log) is (logged s plain names history left tasks pass c place task at).1))
     comes_to (inr st) = inr (stopped st)

@@ -13,8 +13,9 @@ use Rattle.shared_objects.specs.Calls.{struck}
 use Rattle.shared_objects.specs.Logs.{is_event, is_stop, is_glance, events_in, Looked, LogLeads}
 use Rattle.run_merge.specs.Merging.{Ticketed, entries_of}
 use Rattle.run_merge.specs.Products.{LeadsTask, led_by}
-use Rattle.run_merge.specs.SharedObjects.{ticketed, ticketed_events}
+use Rattle.run_merge.specs.SharedObjects.{ticketed}
 use Rattle.run_merge.proofs.closes.Breaking.{broken_rests, stop_breaks}
+use Rattle.run_merge.proofs.closes.Events.{ticketed_events}
 
 abbrev pub is_told : Call → Bool
 is_told call = is_event call.asked call.told.reply

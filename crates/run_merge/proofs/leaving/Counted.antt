@@ -15,8 +15,9 @@ use Rattle.shared_objects.specs.Kinds.{ThingAt}
 use Rattle.shared_objects.specs.Logs.{events_in}
 use Rattle.shared_objects.specs.Rows.{Abreast}
 use Rattle.run_merge.specs.Merging.{Ticketed, all_of}
-use Rattle.run_merge.specs.SharedObjects.{ticketed, merged_histories}
+use Rattle.run_merge.specs.SharedObjects.{ticketed}
 use Rattle.run_merge.proofs.closes.Counting.{all_placed, done_at}
+use Rattle.run_merge.proofs.closes.Events.{event_histories}
 use Rattle.run_merge.proofs.closes.Places.{total, by_places}
 use Rattle.run_merge.proofs.closing.Counts.{sorted_length}
 use Rattle.run_merge.proofs.merging.Picked.{is_by}
@@ -33,17 +34,17 @@ total_same f g (x ∷ xs) each =
 module _ (s : Scenario) (plain : Plain) (names : List Object) (history : Object → List Call) (left : (name : Object) → ThingState (ThingAt name)) (tasks : List Returned)
     (pass : PassState) (c : ClosesAs (setup s) plain names history left tasks pass) (firsts : map (λ (task : Returned). task.first) tasks ≡ opened.tasks s) where
   one_task : (place : ℕ) (task : Returned) → slice_get tasks place ≡ Some task
-      → length (events_in task.log) ≡ length (filter (is_by place) (all_of (merged_histories names history)))
+      → length (events_in task.log) ≡ length (filter (is_by place) (all_of (event_histories names history)))
   one_task place task at =
       let done = ap (λ (l : List Ticketed). length l) (done_at s plain names history left tasks pass c firsts place task at) in
-      let order = sorted_length (filter (is_by place) (all_of (merged_histories names history))) in
+      let order = sorted_length (filter (is_by place) (all_of (event_histories names history))) in
       let events = length-map (events_in task.log) ticketed in
       omega (arith, done, order, events)
 
-  pub all_tasks : sum_by (λ (task : Returned). length (events_in task.log)) tasks ≡ length (all_of (merged_histories names history))
+  pub all_tasks : sum_by (λ (task : Returned). length (events_in task.log)) tasks ≡ length (all_of (event_histories names history))
   all_tasks =
-      total_same (λ (task : Returned). length (events_in task.log)) (λ place. length (filter (is_by place) (all_of (merged_histories names history)))) tasks one_task
-      ∙ by_places (length tasks) (all_of (merged_histories names history)) (all_placed s plain names history left tasks pass c firsts names)
+      total_same (λ (task : Returned). length (events_in task.log)) (λ place. length (filter (is_by place) (all_of (event_histories names history)))) tasks one_task
+      ∙ by_places (length tasks) (all_of (event_histories names history)) (all_placed s plain names history left tasks pass c firsts names)
 
 -- sums of numbers that stop at a largest one
 module _ {X Y : Type 0} (f : X → ℕ) (g : Y → ℕ) (most : ℕ) where

@@ -1,5 +1,6 @@
 -- The merge of closed objects: its run, what its tasks show, and what it leaves.
 use Rattle.std.proofs.Common.{◌≡◌, ◌⊎◌, ◌+◌, ◌-◌, ◌^◌, ◌<◌, ◌≤◌, ◌++◌, ℕ, suc, List, [], ◌∷◌, None, Some, length, map, filter, get_or, inl, inr, refl, sym, ◌∙◌, ap, subst, arith}
+use Rattle.std.specs.Option.{is_some}
 use Rattle.std.specs.Prelude.{All, min, slice_get, slice_index_or, sum_by}
 use Rattle.std.proofs.lemmas.List.Elements.{All-weaker, filter-append}
 use Rattle.std.proofs.lemmas.Option.{IfSome_then, slice_get_cases, slice_get_within, get_or_from_slice_get}
@@ -15,7 +16,7 @@ use Rattle.task_steps.specs.Routed.{setup}
 use Rattle.block_core.specs.Runnable.{IsRunnable}
 use Rattle.block_core.proofs.bound.Bounded.{runs_are_bounded}
 use Rattle.block_core.proofs.claim.Runnable.{accepted_texts_are_runnable, steps_are_few}
-use Rattle.object_things.specs.Histories.{Call}
+use Rattle.object_things.specs.Histories.{Call, drawn_in}
 use Rattle.seat_lock.specs.History.{calls_by}
 use Rattle.shared_objects.specs.Calls.{calls_at, calls_to}
 use Rattle.shared_objects.specs.Closed.{history_in, left_in, names_in}
@@ -31,11 +32,12 @@ use Rattle.run_merge.specs.declared.outcome.Outcome.{Outcome}
 use Rattle.run_merge.specs.Closing.{HasMerged}
 use Rattle.run_merge.specs.Falling.{with_facts, falling_below}
 use Rattle.run_merge.specs.Listing.{IsTrace}
-use Rattle.run_merge.specs.Merging.{all_of, done_by, sorted}
+use Rattle.run_merge.specs.Merging.{Ticketed, all_of, done_by, sorted}
 use Rattle.run_merge.specs.ObjectsByName.{made_of}
 use Rattle.run_merge.specs.Outcomes.{scenario_of, ledger_of, histories_in, histories_by, state_in, IsMerged}
-use Rattle.run_merge.specs.SharedObjects.{merged_histories, numbers_of, seen_at, state_left, ticketed_events}
+use Rattle.run_merge.specs.SharedObjects.{DrewAsEvent, entry_histories, numbers_of, seen_at, state_left, ticketed}
 use Rattle.run_merge.proofs.closes.Closes.{closes_are_runs}
+use Rattle.run_merge.proofs.closes.Events.{histories_are}
 use Rattle.run_merge.proofs.closes.Sorting.{picks_mine}
 use Rattle.run_merge.proofs.closing.Counts.{merge_length}
 use Rattle.run_merge.proofs.leaving.Counted.{all_tasks, sums_stop}
@@ -86,6 +88,9 @@ module _ (closed : Closed) (has : HasClosed closed) where
   some_by name =
       All-weaker (λ (call : Call). (0 < call.by) × (call.by ≤ length has.returned)) (λ (call : Call). 0 < call.by) (λ call h. h.0) (history_in closed name) (has.closes.numbers name)
 
+  abbrev drawn : List Call → List Ticketed
+  drawn calls = map ticketed (drawn_in calls)
+
   -- the events of a task are those that its seats show
   module _ (place : ℕ) (task : ClosedTask) (at : slice_get closed.tasks.items place ≡ Some task) where
     within : place < length closed.tasks.items
@@ -115,13 +120,13 @@ module _ (closed : Closed) (has : HasClosed closed) where
             subst (λ (r : Returned). calls_at r.desk.calls name ≡ calls_to name r.log) (get_or_from_slice_get has.returned place returned returned is)
             ((has.closes.logged place returned (slice_get_within has.returned place returned is)).0.calls name)
 
-    picked : (names : List Object) → filter (is_by place) (all_of (merged_histories names (history_in closed))) ≡ all_of (merged_histories names (calls_at (calls_of task.seats.value)))
+    picked : (names : List Object) → filter (is_by place) (all_of (entry_histories names (history_in closed))) ≡ all_of (entry_histories names (calls_at (calls_of task.seats.value)))
     picked [] = refl
     picked (name ∷ names) =
-        filter-append (is_by place) (ticketed_events (history_in closed name)) (all_of (merged_histories names (history_in closed)))
-        ∙ ap (λ l. l ++ filter (is_by place) (all_of (merged_histories names (history_in closed))))
-        (picks_mine place (history_in closed name) (some_by name) ∙ ap ticketed_events (calls_are name))
-        ∙ ap (λ l. ticketed_events (calls_at (calls_of task.seats.value) name) ++ l) (picked names)
+        filter-append (is_by place) (drawn (history_in closed name)) (all_of (entry_histories names (history_in closed)))
+        ∙ ap (λ l. l ++ filter (is_by place) (all_of (entry_histories names (history_in closed))))
+        (picks_mine (λ (call : Call). is_some call.told.ticket) place (history_in closed name) (some_by name) ∙ ap drawn (calls_are name))
+        ∙ ap (λ l. drawn (calls_at (calls_of task.seats.value) name) ++ l) (picked names)
 
     pub task_shows : done_by place (histories_in closed) ≡ sorted (all_of (histories_by closed task.seats.value))
     task_shows = ap sorted (picked (names_in closed))
@@ -129,23 +134,29 @@ module _ (closed : Closed) (has : HasClosed closed) where
   runnable : IsRunnable (scenario_of closed)
   runnable = (accepted_texts_are_runnable closed.told.value.accepted.value closed.told.value.work.value has.opened.read).0
 
+  closes : HasMerged (scenario_of closed) (ledger_of closed) (histories_in closed) (numbers_of closed.pass.value.drawn)
+      (state_left (left_in closed closed.told.value.objects) has.returned)
+      × ((name : Object) → All DrewAsEvent (history_in closed name))
+  closes =
+      closes_are_runs closed.told.value (names_in closed) (history_in closed) (left_in closed closed.told.value.objects) has.returned closed.pass.value
+      has.opened has.firsts has.closes has.found
+
   merged : HasMerged (scenario_of closed) (ledger_of closed) (histories_in closed) (numbers_of closed.pass.value.drawn) (state_in closed)
   merged =
-      subst (HasMerged (scenario_of closed) (ledger_of closed) (histories_in closed) (numbers_of closed.pass.value.drawn)) state_is
-      (closes_are_runs closed.told.value (names_in closed) (history_in closed) (left_in closed closed.told.value.objects) has.returned closed.pass.value
-      has.opened has.firsts has.closes has.found)
+      subst (HasMerged (scenario_of closed) (ledger_of closed) (histories_in closed) (numbers_of closed.pass.value.drawn)) state_is closes.0
 
   -- as many events as the tasks had together
   counted : min (sum_by (λ (task : ClosedTask). task.events) closed.tasks.items) (2 ^ 64 - 1) ≡ length merged.run.0
   counted =
       let all = all_tasks (scenario_of closed) closed.told.value.objects (names_in closed) (history_in closed) (left_in closed closed.told.value.objects) has.returned closed.pass.value closes_in firsts_in in
+      let same = ap (λ histories. length (all_of histories)) (histories_are (names_in closed) (history_in closed) closes.1) in
       let long = merge_length (scenario_of closed) (ledger_of closed) (all_of (histories_in closed)) (state_in closed) merged.run in
       let bounded = runs_are_bounded (scenario_of closed) (ledger_of closed) merged.run.0 (state_in closed) runnable.scenario has.opened.one.holds.numbered merged.run.1 in
       let few = steps_are_few (scenario_of closed) runnable in
       let sums = sums_stop (λ (task : ClosedTask). task.events) (λ (task : Returned). length (events_in task.log)) (2 ^ 64 - 1) closed.tasks.items has.returned
       (abreast_weaker (IsReturned now) (λ (task : ClosedTask) (returned : Returned). task.events ≡ min (length (events_in returned.log)) (2 ^ 64 - 1)) closed.tasks.items has.returned
-      (λ task returned is. is.events) has.tasks) (omega (arith, all, long, bounded, few)) in
-      omega (arith, sums, all, long, bounded, few)
+      (λ task returned is. is.events) has.tasks) (omega (arith, all, same, long, bounded, few)) in
+      omega (arith, sums, all, same, long, bounded, few)
 
   pub is_merged : (outcome : Outcome) → outcome.ended.statuses.items ≡ closed.tally.thing.object.statuses
       → outcome.ended.disks.items ≡ map (λ disk. disk.thing.object) closed.disks.items
@@ -158,6 +169,7 @@ module _ (closed : Closed) (has : HasClosed closed) where
         events = merged.run.0;
         run = merged.run.1;
         merges = merged.run.2;
+        tickets = closes.1;
         shows = task_shows;
         ends = merged.ended;
         unbroken = merged.unbroken;

@@ -52,6 +52,19 @@ pub all_sorted : (P : Ticketed → Type 0) (xs : List Ticketed) → All P xs →
 all_sorted P [] a = a
 all_sorted P (x ∷ xs) a = all_insert P x (sorted xs) (All-head P x xs a) (all_sorted P xs (All-tail P x xs a))
 
+-- and what is so of them in order is so of all
+of_insert : (P : Ticketed → Type 0) (x : Ticketed) (xs : List Ticketed) → All P (insert x xs) → P x × All P xs
+of_insert P x [] a = (All-head P x [] a, All-nil P)
+of_insert P x (y ∷ ys) a = placed (nat_lt y.ticket x.ticket) a (of_insert P x ys)
+  where
+    placed : (b : Bool) → All P (cond b (y ∷ insert x ys) (x ∷ y ∷ ys)) → (All P (insert x ys) → P x × All P ys) → P x × All P (y ∷ ys)
+    placed true i more = let r = more (All-tail P y (insert x ys) i) in (r.0, All-cons P y ys (All-head P y (insert x ys) i) r.1)
+    placed false i more = (All-head P x (y ∷ ys) i, All-tail P x (y ∷ ys) i)
+
+pub of_sorted : (P : Ticketed → Type 0) (xs : List Ticketed) → All P (sorted xs) → All P xs
+of_sorted P [] a = a
+of_sorted P (x ∷ xs) a = let r = of_insert P x (sorted xs) a in All-cons P x xs r.0 (of_sorted P xs r.1)
+
 module _ (p : Ticketed → Bool) where
   filtered : (n : ℕ) (x : Ticketed) (ys : List Ticketed) (b : Bool) → n ≤ x.ticket → Ordered x.ticket ys → Ordered n (cond b (x ∷ ys) ys)
   filtered n x ys true l o = (l, o)

@@ -42,7 +42,7 @@ is_none (x ∷ xs) = false
 
 -- the parts of a run from any state
 module _ (scene : Scene) where
-  run_events : (old : State) (events : List Event) (new : State) (run : IsRun scene old events new) → AreEvents (entries_in scene old events new run)
+  pub run_events : (old : State) (events : List Event) (new : State) (run : IsRun scene old events new) → AreEvents (entries_in scene old events new run)
   run_events old [] new run = All-nil (λ (x : Entry). IsTrue (is_event x.asked x.reply))
   run_events old (event ∷ events) new (next, (place, steps), run) =
       All-cons (λ (x : Entry). IsTrue (is_event x.asked x.reply)) (entry_of scene old place event next steps) (entries_in scene next events new run)

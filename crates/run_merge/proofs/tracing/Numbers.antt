@@ -21,10 +21,11 @@ use Rattle.shared_objects.specs.Closes.{Returned, ClosesAs}
 use Rattle.shared_objects.specs.Kinds.{ThingAt}
 use Rattle.shared_objects.specs.Logs.{tickets_in}
 use Rattle.run_merge.specs.Merging.{Ticketed, sorted, all_of}
-use Rattle.run_merge.specs.SharedObjects.{ticketed, ticketed_events, merged_histories, numbers_of}
+use Rattle.run_merge.specs.SharedObjects.{ticketed, numbers_of}
 use Rattle.run_merge.proofs.closes.Counting.{done_at, image_at, all_placed, log_drew}
 use Rattle.run_merge.proofs.closes.Drawing.{drawn_of, drew_of, numbers_is}
 use Rattle.run_merge.proofs.closes.Drawn.{HasTicket, events_told, events_untold}
+use Rattle.run_merge.proofs.closes.Events.{ticketed_events, event_histories}
 use Rattle.run_merge.proofs.closes.Places.{total, total_most, total_list, by_places}
 use Rattle.run_merge.proofs.closes.Walks.{is_told}
 use Rattle.run_merge.proofs.merging.Picked.{is_by, filter_swap, merge_by}
@@ -108,7 +109,7 @@ ordered_falls last (n ∷ ns) ordered =
 module _ (s : Scenario) (plain : Plain) (names : List Object) (history : Object → List Call) (left : (name : Object) → ThingState (ThingAt name)) (tasks : List Returned)
     (pass : PassState) (c : ClosesAs (setup s) plain names history left tasks pass) (firsts : map (λ (task : Returned). task.first) tasks ≡ opened.tasks s) where
   abbrev pub merged : List Ticketed
-  merged = sorted (all_of (merged_histories names history))
+  merged = sorted (all_of (event_histories names history))
 
   -- how often a task drew a ticket
   abbrev pub drew : ℕ → Returned → ℕ
@@ -130,14 +131,14 @@ module _ (s : Scenario) (plain : Plain) (names : List Object) (history : Object 
 
   pub merged_placed : All (λ (n : Ticketed). n.entry.place < length tasks) merged
   merged_placed =
-      all_sorted (λ (n : Ticketed). n.entry.place < length tasks) (all_of (merged_histories names history)) (all_placed s plain names history left tasks pass c firsts names)
+      all_sorted (λ (n : Ticketed). n.entry.place < length tasks) (all_of (event_histories names history)) (all_placed s plain names history left tasks pass c firsts names)
 
   merged_at : (number place : ℕ) (task : Returned) → slice_get tasks place ≡ Some task → length (filter (is_by place) (filter (has_number number) merged)) ≤ drew number task
   merged_at number place task at =
       let same : length (filter (is_by place) (filter (has_number number) merged)) ≡ length (filter (has_number number) (ticketed_events task.log)) =
       ap (λ (l : List Ticketed). length l)
       (filter_swap (is_by place) (has_number number) merged
-      ∙ ap (filter (has_number number)) (merge_by (merged_histories names history) place ∙ done_at s plain names history left tasks pass c firsts place task at)) in
+      ∙ ap (filter (has_number number)) (merge_by (event_histories names history) place ∙ done_at s plain names history left tasks pass c firsts place task at)) in
       let count = count_is number (ticketed_events task.log) in
       let few = few_at number place task at in
       omega (arith, same, count, few)
@@ -165,7 +166,7 @@ module _ (s : Scenario) (plain : Plain) (names : List Object) (history : Object 
 
   -- so the tickets of the merge rise
   pub merged_climbs : Climbs (tickets_of merged)
-  merged_climbs = climbs (tickets_of merged) (ordered_falls 0 merged (sorted_ordered (all_of (merged_histories names history)))).1 merged_once
+  merged_climbs = climbs (tickets_of merged) (ordered_falls 0 merged (sorted_ordered (all_of (event_histories names history)))).1 merged_once
 
   -- and of parts of which none has a ticket that its task did not draw, no two have the same
   pub parts_once : (f : Returned → List ℕ)

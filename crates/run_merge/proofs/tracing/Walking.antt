@@ -19,9 +19,10 @@ use Rattle.shared_objects.specs.Logs.{is_event, is_stop, LogLeads}
 use Rattle.shared_objects.specs.Noting.{noted_as, notes_of}
 use Rattle.run_merge.specs.Entries.{Entry, entries_in}
 use Rattle.run_merge.specs.Merging.{Ticketed, entries_of}
-use Rattle.run_merge.specs.SharedObjects.{ticketed, ticketed_events}
+use Rattle.run_merge.specs.SharedObjects.{ticketed}
 use Rattle.run_merge.proofs.closes.Breaking.{stop_breaks}
 use Rattle.run_merge.proofs.closes.Drawn.{events_told, events_untold}
+use Rattle.run_merge.proofs.closes.Events.{ticketed_events}
 use Rattle.run_merge.proofs.closes.Walks.{is_told, AskSome, glance_untold, is_one, only_looks}
 use Rattle.run_merge.proofs.merging.Picked.{is_by}
 use Rattle.run_merge.proofs.products.Behind.{entry_of}
