@@ -30,7 +30,7 @@ use Rattle.report_text.proofs.LeftLemmas.{left_of, told_is}
 use Rattle.shared_objects.specs.declared.closed.Closed.{Closed}
 use Rattle.shared_objects.specs.Left.{HasClosed}
 use Rattle.bio_workers.specs.Gates.{showing}
-use Rattle.run_merge.specs.Outcomes.{IsMerged, ledger_of, state_in}
+use Rattle.run_merge.specs.Outcomes.{IsOutcomeOf, shared_ledger, state_in}
 use Rattle.run_merge.specs.declared.outcome.Outcome.{Outcome}
 use Rattle.biostack_top.specs.Scene.{Says}
 use Rattle.biostack_top.specs.Running.{ByNumber, ByThreads, EveryRunIsAsClaimed, HasOutcome, HasRun, IsShownOf, IsTold, Maker, sectors, stream_of}
@@ -117,9 +117,9 @@ has_run happens opened number stream before after now ended is same ran =
 
 -- what threads have left, and the merge of that
 module _ (closed : Closed) (held : HasClosed closed) where
-  has_merged : (outcome : Outcome) (is : IsMerged closed outcome) → HasRun (scenario_in closed.told.value) (ByThreads (showing closed)) is.events outcome.ended
+  has_merged : (outcome : Outcome) (is : IsOutcomeOf closed outcome) → HasRun (scenario_in closed.told.value) (ByThreads (showing closed)) is.events outcome.ended
   has_merged outcome is = record {
-    ledger = ledger_of closed;
+    ledger = shared_ledger closed;
     naming = is.naming;
     state = state_in closed;
     run = is.run;
@@ -130,7 +130,7 @@ module _ (closed : Closed) (held : HasClosed closed) where
     named = is.named;
   }
 
-  outcome_is : {E : Type 0} (trace : Bool) (result : Result Outcome E) → closed.trace ≡ trace → IfOk result (IsMerged closed)
+  outcome_is : {E : Type 0} (trace : Bool) (result : Result Outcome E) → closed.trace ≡ trace → IfOk result (IsOutcomeOf closed)
       → (closed.trace ≡ false → IsOk result) → HasOutcome (scenario_in closed.told.value) trace (showing closed) result
   outcome_is trace (Ok outcome) same is fine = (is.events, has_merged outcome is, (is.traced ∙ same, is.trace))
   outcome_is true (Err lacking) same is fine = refl
@@ -138,7 +138,7 @@ module _ (closed : Closed) (held : HasClosed closed) where
 
   -- of what was shared as this
   pub has_outcome : {E : Type 0} (shared : Opened) (trace : Bool) (result : Result Outcome E) → closed.told.value ≡ shared → closed.trace ≡ trace
-      → IfOk result (IsMerged closed) → (closed.trace ≡ false → IsOk result)
+      → IfOk result (IsOutcomeOf closed) → (closed.trace ≡ false → IsOk result)
       → IsShownOf (scenario_in shared) (showing closed) × HasOutcome (scenario_in shared) trace (showing closed) result
   has_outcome shared trace result told same is fine =
       subst (λ (o : Opened). IsShownOf (scenario_in o) (showing closed) × HasOutcome (scenario_in o) trace (showing closed) result) told

@@ -13,7 +13,7 @@ use Rattle.block_core.specs.Runnable.{IsRunnable}
 use Rattle.block_core.specs.Scenarios.{IsNaming}
 use Rattle.shared_objects.specs.Calls.{struck}
 use Rattle.run_merge.specs.Machines.{ServesAt, LeadsObject}
-use Rattle.run_merge.specs.Merging.{Ticketed, Histories, entries_of, sorted, all_of, history_of, done_by, TallyThen, LetsAsk, Shown}
+use Rattle.run_merge.specs.Merging.{Ticketed, Histories, without_tickets, sorted, all_of, history_of, done_by, TallyThen, LetsAsk, Shown}
 use Rattle.run_merge.specs.ObjectsByName.{StateAt, get}
 use Rattle.run_merge.specs.Products.{AreOfRun}
 
@@ -23,7 +23,7 @@ IsThrough s ledger histories task =
     (request (setup s) task ≡ Rest) ⊎ ((was : TallyThen s ledger (history_of OfTally histories)) × (sum was.shown.left ≡ 0))
 
 -- Its last call was refused, behind all that it did: its object replied so at this place of its history, and the task broke off.
-pub record IsRefused (s : Scenario) (ledger : ℕ → LedgerId) (histories : Histories) (place : ℕ) (task now : TaskState) : Type 0 where
+pub record WasRefused (s : Scenario) (ledger : ℕ → LedgerId) (histories : Histories) (place : ℕ) (task now : TaskState) : Type 0 where
   pub asked : Request
   pub reply : Reply
   -- which the call drew
@@ -37,7 +37,7 @@ pub record IsRefused (s : Scenario) (ledger : ℕ → LedgerId) (histories : His
   pub smaller : All (λ (n : Ticketed). n.ticket < ticket) before
   pub greater : All (λ (n : Ticketed). ticket < n.ticket) later
   pub object : StateAt (object_of asked)
-  pub leads : LeadsObject ledger (object_of asked) (get (start s).objects (object_of asked)) (entries_of before) object
+  pub leads : LeadsObject ledger (object_of asked) (get (start s).objects (object_of asked)) (without_tickets before) object
   pub serves : ServesAt ledger (object_of asked) object asked reply object
   pub goes_on : now ≡ answered (setup s) task reply
   pub broken : is_broken now ≡ true
@@ -59,19 +59,19 @@ pub record IsClosed (s : Scenario) (ledger : ℕ → LedgerId) (histories : Hist
   pub object : (name : Object) → (get last.objects name ≡ get reached.objects name) ⊎ HasLast drawn
   -- and each task is left so and through, unless it was refused, or a draw of its own failed.
   pub task : (place : ℕ) → ((last.task place ≡ reached.task place) × IsThrough s ledger histories (reached.task place))
-      ⊎ (IsRefused s ledger histories place (reached.task place) (last.task place) ⊎ HasLast drawn)
+      ⊎ (WasRefused s ledger histories place (reached.task place) (last.task place) ⊎ HasLast drawn)
   pub row : AreInRow drawn
   -- beside the tickets of entries there is no more than one a task
   pub few : length drawn ≤ length (all_of histories) + length (tasks s)
 
 -- The merge of the histories is the entries of a run. It has ended and leaves the objects and tasks as they are; no task broke off, and no draw of
 -- a ticket failed.
-pub record HasMerged (s : Scenario) (ledger : ℕ → LedgerId) (histories : Histories) (drawn : List ℕ) (last : State) : Type 0 where
-  pub run : AreOfRun s ledger (entries_of (sorted (all_of histories))) last
+pub record MergeIsEndedRun (s : Scenario) (ledger : ℕ → LedgerId) (histories : Histories) (drawn : List ℕ) (last : State) : Type 0 where
+  pub run : AreOfRun s ledger (without_tickets (sorted (all_of histories))) last
   pub ended : HasEnded last
   pub unbroken : (place : ℕ) → is_broken (last.task place) ≡ false
   pub tickets : HasLast drawn → ⊥
 
 abbrev pub ClosedRunsEnd : Type 0
 ClosedRunsEnd = (s : Scenario) (ledger : ℕ → LedgerId) (histories : Histories) (drawn : List ℕ) (last : State) → IsRunnable s → HasRescuers s.stack
-    → IsNaming ledger → IsClosed s ledger histories drawn last → HasMerged s ledger histories drawn last
+    → IsNaming ledger → IsClosed s ledger histories drawn last → MergeIsEndedRun s ledger histories drawn last

@@ -44,16 +44,16 @@ pub record AreInner (count : ℕ) (nodes : List Head) (Are : ℕ → Type 0) : T
   pub long : length nodes ≡ count + count
   pub inner : (number : ℕ) → 1 ≤ number → number < count → Are number → node nodes number ≡ smaller (node nodes (2 * number)) (node nodes (2 * number + 1))
 
-abbrev pub Holds : ℕ → List Head → Type 0
-Holds count nodes = AreInner count nodes (λ number. Unit {0})
+abbrev pub IsTournament : ℕ → List Head → Type 0
+IsTournament count nodes = AreInner count nodes (λ number. Unit {0})
 
 -- but for the one above a node
-abbrev pub HoldsBut : ℕ → List Head → ℕ → Type 0
-HoldsBut count nodes below = AreInner count nodes (λ number. (below ≢ 2 * number) × (below ≢ 2 * number + 1))
+abbrev pub IsTournamentBut : ℕ → List Head → ℕ → Type 0
+IsTournamentBut count nodes below = AreInner count nodes (λ number. (below ≢ 2 * number) × (below ≢ 2 * number + 1))
 
 -- the leaf of each list is its head from a place on
 pub record Stands {T : Type 0} (rows : List (List (ℕ × T))) (at : ℕ → ℕ) (nodes : List Head) : Type 0 where
-  pub holds : Holds (length rows) nodes
+  pub holds : IsTournament (length rows) nodes
   pub leaf : (list : ℕ) → list < length rows → node nodes (length rows + list) ≡ head_at rows list (at list)
 
 -- the one of the root, which has a ticket
@@ -61,15 +61,15 @@ abbrev pub with_ticket : Head → Option ℕ → Option Head
 with_ticket head None = None
 with_ticket head (Some ticket) = Some head
 
-abbrev pub first_in : Option Head → Option Head
-first_in None = None
-first_in (Some head) = with_ticket head head.ticket
+abbrev pub ticketed_head : Option Head → Option Head
+ticketed_head None = None
+ticketed_head (Some head) = with_ticket head head.ticket
 
-abbrev pub first_of : List Head → Option Head
-first_of nodes = first_in (slice_get nodes 1)
+abbrev pub winner_of : List Head → Option Head
+winner_of nodes = ticketed_head (slice_get nodes 1)
 
 -- the head of its list was taken
-pub record GoesOn {T : Type 0} (rows : List (List (ℕ × T))) (head : Head) (old new : List Head) : Type 0 where
-  pub holds : Holds (length rows) new
+pub record TakesHead {T : Type 0} (rows : List (List (ℕ × T))) (head : Head) (old new : List Head) : Type 0 where
+  pub holds : IsTournament (length rows) new
   pub here : node new (length rows + head.list) ≡ head_at rows head.list (head.at + 1)
   pub others : (list : ℕ) → list ≢ head.list → node new (length rows + list) ≡ node old (length rows + list)

@@ -32,7 +32,7 @@ abbrev pub noted_in : List ClosedTask → List (ℕ × Event)
 noted_in tasks = flat_map (λ (task : ClosedTask). list_in task.noted) tasks
 
 -- these are the lists of tasks, and are whole
-pub record AreLists (tasks : List ClosedTask) (lists : List (Vec (ℕ × Event))) : Type 0 where
+pub record AreWholeLists (tasks : List ClosedTask) (lists : List (Vec (ℕ × Event))) : Type 0 where
   pub whole : AreWhole tasks
   pub all : all_in lists ≡ noted_in tasks
 

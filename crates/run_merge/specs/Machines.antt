@@ -27,52 +27,52 @@ PoolHas old Ordinary new = PoolGoes old takes_ordinary new
 PoolHas old Spare new = PoolGoes old takes_spare new
 PoolHas old got.Missed new = ⊥
 
-abbrev pub PoolServes : LedgerId → PoolState → Request → Reply → PoolState → Type 0
-PoolServes ledger old (TakeBio set waits) (HadBio got bio) new = PoolHas old got new × (bio ≡ clear_bio ledger)
-PoolServes ledger old (TakeBio set waits) (Missed used) new = PoolGoes old (misses used) new
-PoolServes ledger old TakeVec (HadVec got vector) new = PoolHas old got new × (vector ≡ clear_vector ledger)
-PoolServes ledger old TakeVec (Missed used) new = PoolGoes old (misses used) new
-PoolServes ledger old (TakeSlip dev) (HadSlip got slip) new = PoolHas old got new × (slip ≡ clear_slip ledger)
-PoolServes ledger old (TakeSlip dev) (Missed used) new = PoolGoes old (misses used) new
-PoolServes ledger old (GiveBio bio) Did new = PoolGoes old gives new
-PoolServes ledger old (GiveVec vector) Did new = PoolGoes old gives new
-PoolServes ledger old (GiveSlip slip) Did new = PoolGoes old gives new
-PoolServes ledger old (Resize pool min) (OutIs out) new =
+abbrev pub PoolMachine : LedgerId → PoolState → Request → Reply → PoolState → Type 0
+PoolMachine ledger old (TakeBio set waits) (HadBio got bio) new = PoolHas old got new × (bio ≡ clear_bio ledger)
+PoolMachine ledger old (TakeBio set waits) (Missed used) new = PoolGoes old (misses used) new
+PoolMachine ledger old TakeVec (HadVec got vector) new = PoolHas old got new × (vector ≡ clear_vector ledger)
+PoolMachine ledger old TakeVec (Missed used) new = PoolGoes old (misses used) new
+PoolMachine ledger old (TakeSlip dev) (HadSlip got slip) new = PoolHas old got new × (slip ≡ clear_slip ledger)
+PoolMachine ledger old (TakeSlip dev) (Missed used) new = PoolGoes old (misses used) new
+PoolMachine ledger old (GiveBio bio) Did new = PoolGoes old gives new
+PoolMachine ledger old (GiveVec vector) Did new = PoolGoes old gives new
+PoolMachine ledger old (GiveSlip slip) Did new = PoolGoes old gives new
+PoolMachine ledger old (Resize pool min) (OutIs out) new =
     (out ≡ old.facts.out) × (new ≡ (if out == 0 then after_move old (resizes min) else old))
-PoolServes ledger old request reply new = ⊥
+PoolMachine ledger old request reply new = ⊥
 
 -- the list of a rescuer
-abbrev pub RescueServes : List (Item Pad) → Request → Reply → List (Item Pad) → Type 0
-RescueServes old (Punt dev moved) Did new = new ≡ old ++ moved
-RescueServes old (Pop dev) (Popped bio) new = old ≡ bio ∷ new
-RescueServes old (Pop dev) Nothing new = (old ≡ []) × (new ≡ old)
-RescueServes old request reply new = ⊥
+abbrev pub RescuerMachine : List (Item Pad) → Request → Reply → List (Item Pad) → Type 0
+RescuerMachine old (Punt dev moved) Did new = new ≡ old ++ moved
+RescuerMachine old (Pop dev) (Popped bio) new = old ≡ bio ∷ new
+RescuerMachine old (Pop dev) Nothing new = (old ≡ []) × (new ≡ old)
+RescuerMachine old request reply new = ⊥
 
-abbrev pub DiskServes : DiskState → Request → Reply → DiskState → Type 0
-DiskServes old (Push bio) Did new = new ≡ pushed bio old
-DiskServes old (Complete disk) (Completed index bio status) new = Completes old index bio status new
-DiskServes old (Complete disk) Nothing new = (old.pending ≡ []) × (new ≡ old)
-DiskServes old request reply new = ⊥
+abbrev pub DiskMachine : DiskState → Request → Reply → DiskState → Type 0
+DiskMachine old (Push bio) Did new = new ≡ pushed bio old
+DiskMachine old (Complete disk) (Completed index bio status) new = Completes old index bio status new
+DiskMachine old (Complete disk) Nothing new = (old.pending ≡ []) × (new ≡ old)
+DiskMachine old request reply new = ⊥
 
-abbrev pub BookServes : BookState → Request → Reply → BookState → Type 0
-BookServes old (Link writer opening) (LinkedTo answer) new = Opened old opening answer new
-BookServes old (Drop writer node status part) (DroppedTo ended) new = Drops old node status part ended new
-BookServes old request reply new = ⊥
+abbrev pub BookMachine : BookState → Request → Reply → BookState → Type 0
+BookMachine old (Link writer opening) (LinkedTo answer) new = Opened old opening answer new
+BookMachine old (Drop writer node status part) (DroppedTo ended) new = Drops old node status part ended new
+BookMachine old request reply new = ⊥
 
-abbrev pub TallyServes : TallyState → Request → Reply → TallyState → Type 0
-TallyServes old (Done write status) Did new = new ≡ done_one write status old
-TallyServes old (NextRound round) Did new = (old.round + 1 < length old.left) × (new ≡ record old { round = old.round + 1 })
-TallyServes old LookRound (Present round) new = (round ≡ old.round) × (new ≡ old)
-TallyServes old LookLeft (LeftOver count) new = (count ≡ sum old.left) × (new ≡ old)
-TallyServes old request reply new = ⊥
+abbrev pub TallyMachine : TallyState → Request → Reply → TallyState → Type 0
+TallyMachine old (Done write status) Did new = new ≡ done_one write status old
+TallyMachine old (NextRound round) Did new = (old.round + 1 < length old.left) × (new ≡ record old { round = old.round + 1 })
+TallyMachine old LookRound (Present round) new = (round ≡ old.round) × (new ≡ old)
+TallyMachine old LookLeft (LeftOver count) new = (count ≡ sum old.left) × (new ≡ old)
+TallyMachine old request reply new = ⊥
 
 -- what a request makes of the object of this name, with this reply
 abbrev pub ServesAt : (ℕ → LedgerId) → (name : Object) → StateAt name → Request → Reply → StateAt name → Type 0
-ServesAt ledger (OfPool number) old request reply new = PoolServes (ledger number) old request reply new
-ServesAt ledger (OfRescuer dev) old request reply new = RescueServes old request reply new
-ServesAt ledger (OfDisk dev) old request reply new = DiskServes old request reply new
-ServesAt ledger (OfBook writer) old request reply new = BookServes old request reply new
-ServesAt ledger OfTally old request reply new = TallyServes old request reply new
+ServesAt ledger (OfPool number) old request reply new = PoolMachine (ledger number) old request reply new
+ServesAt ledger (OfRescuer dev) old request reply new = RescuerMachine old request reply new
+ServesAt ledger (OfDisk dev) old request reply new = DiskMachine old request reply new
+ServesAt ledger (OfBook writer) old request reply new = BookMachine old request reply new
+ServesAt ledger OfTally old request reply new = TallyMachine old request reply new
 ServesAt ledger OfNone old request reply new = ⊥
 
 -- these entries, one after the other, lead it on

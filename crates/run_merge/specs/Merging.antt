@@ -11,7 +11,7 @@ use Rattle.block_core.specs.Scenarios.{IsScenario, IsNaming}
 use Rattle.shared_objects.specs.Calls.{is_same}
 use Rattle.shared_objects.specs.Logs.{is_event}
 use Rattle.run_merge.specs.Entries.{Entry}
-use Rattle.run_merge.specs.Machines.{TallyServes, LeadsObject}
+use Rattle.run_merge.specs.Machines.{TallyMachine, LeadsObject}
 use Rattle.run_merge.specs.ObjectsByName.{get}
 use Rattle.run_merge.specs.Products.{LeadsTask, task_behind, AreOfRun}
 
@@ -20,13 +20,13 @@ pub record Ticketed : Type 0 where
   pub entry : Entry
   pub ticket : ℕ
 
-abbrev pub entries_of : List Ticketed → List Entry
-entries_of ns = map (λ (n : Ticketed). n.entry) ns
+abbrev pub without_tickets : List Ticketed → List Entry
+without_tickets ns = map (λ (n : Ticketed). n.entry) ns
 
 -- each ticket is greater than `last` and than the one before
-abbrev pub Rises : ℕ → List Ticketed → Type 0
-Rises last [] = Unit {0}
-Rises last (n ∷ ns) = (last < n.ticket) × Rises n.ticket ns
+abbrev pub RiseFrom : ℕ → List Ticketed → Type 0
+RiseFrom last [] = Unit {0}
+RiseFrom last (n ∷ ns) = (last < n.ticket) × RiseFrom n.ticket ns
 
 -- in the order of tickets, where each is put before the first that has no smaller one
 abbrev pub insert : Ticketed → List Ticketed → List Ticketed
@@ -50,9 +50,9 @@ history_of name [] = []
 history_of name (h ∷ hs) = if is_same name h.0 then h.1 else history_of name hs
 
 -- no two are of one object
-abbrev pub AreApart : Histories → Type 0
-AreApart [] = Unit {0}
-AreApart (h ∷ hs) = All (λ (other : Object × List Ticketed). is_same h.0 other.0 ≡ false) hs × AreApart hs
+abbrev pub AreOfDifferentObjects : Histories → Type 0
+AreOfDifferentObjects [] = Unit {0}
+AreOfDifferentObjects (h ∷ hs) = All (λ (other : Object × List Ticketed). is_same h.0 other.0 ≡ false) hs × AreOfDifferentObjects hs
 
 -- the entries of each are at its object
 abbrev pub AreTagged : Histories → Type 0
@@ -69,30 +69,30 @@ pub record TallyThen (s : Scenario) (ledger : ℕ → LedgerId) (tally : List Ti
   pub later : List Ticketed
   pub history : tally ≡ seen ++ later
   pub shown : TallyState
-  pub leads : LeadsObject ledger OfTally (start s).objects.tally (entries_of seen) shown
+  pub leads : LeadsObject ledger OfTally (start s).objects.tally (without_tickets seen) shown
 
 -- What a task looks at lets it ask: so the tally replied as it was behind entries with smaller tickets than the one that the task then drew.
 abbrev pub LetsAsk : Scenario → (ℕ → LedgerId) → List Ticketed → ℕ → TaskState → Option Request → Type 0
 LetsAsk s ledger tally ticket task None = Unit {0}
 LetsAsk s ledger tally ticket task (Some look) =
     (was : TallyThen s ledger tally) × All (λ (n : Ticketed). n.ticket < ticket) was.seen
-    × (reply : Reply) × TallyServes was.shown look reply was.shown × IsTrue (lets task reply)
+    × (reply : Reply) × TallyMachine was.shown look reply was.shown × IsTrue (lets task reply)
 
 -- What histories show of a run, with the objects and tasks that they leave.
 pub record Shown (s : Scenario) (ledger : ℕ → LedgerId) (histories : Histories) (last : State) : Type 0 where
   pub events : All (λ (n : Ticketed). IsTrue (is_event n.entry.asked n.entry.reply)) (all_of histories)
-  pub apart : AreApart histories
+  pub apart : AreOfDifferentObjects histories
   pub tagged : AreTagged histories
   -- tickets rise along each object, and its entries are a run of its machine
-  pub rises : (name : Object) → Rises 0 (history_of name histories)
-  pub objects : (name : Object) → LeadsObject ledger name (get (start s).objects name) (entries_of (history_of name histories)) (get last.objects name)
+  pub rises : (name : Object) → RiseFrom 0 (history_of name histories)
+  pub objects : (name : Object) → LeadsObject ledger name (get (start s).objects name) (without_tickets (history_of name histories)) (get last.objects name)
   -- what each task did, in the order of its tickets, leads it on
-  pub tasks : (place : ℕ) → LeadsTask (setup s) ((start s).task place) (entries_of (done_by place histories)) (last.task place)
+  pub tasks : (place : ℕ) → LeadsTask (setup s) ((start s).task place) (without_tickets (done_by place histories)) (last.task place)
   -- and each looked before it asked, where it has to
   pub looks : (place : ℕ) (mine rest : List Ticketed) (n : Ticketed) → done_by place histories ≡ mine ++ n ∷ rest
-      → let task = task_behind s place (entries_of mine) in LetsAsk s ledger (history_of OfTally histories) n.ticket task (look_of task)
+      → let task = task_behind s place (without_tickets mine) in LetsAsk s ledger (history_of OfTally histories) n.ticket task (look_of task)
 
 -- The merge of them is the entries of a run, which leaves these objects and tasks.
 abbrev pub MergesAreRuns : Type 0
 MergesAreRuns = (s : Scenario) (ledger : ℕ → LedgerId) (histories : Histories) (last : State) → IsScenario s → IsNaming ledger
-    → Shown s ledger histories last → AreOfRun s ledger (entries_of (sorted (all_of histories))) last
+    → Shown s ledger histories last → AreOfRun s ledger (without_tickets (sorted (all_of histories))) last

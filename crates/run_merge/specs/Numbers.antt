@@ -10,15 +10,15 @@ use Rattle.run_machine.specs.Runs.{State, IsRun}
 use Rattle.block_core.specs.Scenarios.{IsScenario, IsNaming}
 
 -- the numbers of the rounds that events start, in the order of the events
-abbrev pub round_in : What → List ℕ
-round_in (what.Round number) = number ∷ []
-round_in what = []
+abbrev pub round_told : What → List ℕ
+round_told (what.Round number) = number ∷ []
+round_told what = []
 
-abbrev pub rounds_in : List Event → List ℕ
-rounds_in [] = []
-rounds_in (event ∷ events) = round_in event.what ++ rounds_in events
+abbrev pub rounds_told : List Event → List ℕ
+rounds_told [] = []
+rounds_told (event ∷ events) = round_told event.what ++ rounds_told events
 
 -- The first event of a run that starts a round starts round 1, and each later one the next round.
 abbrev pub RoundsAreNumbered : Type 0
 RoundsAreNumbered = (s : Scenario) (ledger : ℕ → LedgerId) (events : List Event) (last : State) → IsScenario s → IsNaming ledger
-    → IsRun (scene s ledger) (start s) events last → rounds_in events ≡ range_with_len 1 (length (rounds_in events))
+    → IsRun (scene s ledger) (start s) events last → rounds_told events ≡ range_with_len 1 (length (rounds_told events))

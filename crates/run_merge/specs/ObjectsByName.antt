@@ -28,13 +28,13 @@ get objects OfTally = objects.tally
 get objects OfNone = tt
 
 -- all of them, with another one of this name
-abbrev pub put : Objects → (name : Object) → StateAt name → Objects
-put objects (OfPool number) pool = record objects { pool = upd objects.pool number pool }
-put objects (OfRescuer dev) bios = record objects { rescue = upd objects.rescue dev bios }
-put objects (OfDisk dev) disk = record objects { disk = upd objects.disk dev disk }
-put objects (OfBook writer) book = record objects { book = upd objects.book writer book }
-put objects OfTally tally = record objects { tally = tally }
-put objects OfNone none = objects
+abbrev pub put_object : Objects → (name : Object) → StateAt name → Objects
+put_object objects (OfPool number) pool = record objects { pool = upd objects.pool number pool }
+put_object objects (OfRescuer dev) bios = record objects { rescue = upd objects.rescue dev bios }
+put_object objects (OfDisk dev) disk = record objects { disk = upd objects.disk dev disk }
+put_object objects (OfBook writer) book = record objects { book = upd objects.book writer book }
+put_object objects OfTally tally = record objects { tally = tally }
+put_object objects OfNone none = objects
 
 -- and made of one for each name
 abbrev pub made_of : ((name : Object) → StateAt name) → Objects

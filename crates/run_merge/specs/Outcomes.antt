@@ -20,16 +20,16 @@ use Rattle.shared_objects.specs.declared.closed.ClosedTask.{ClosedTask}
 use Rattle.shared_objects.specs.declared.seats.TaskSeats.{TaskSeats}
 use Rattle.run_merge.specs.declared.outcome.Outcome.{Outcome}
 use Rattle.run_merge.specs.Entries.{entries_in}
-use Rattle.run_merge.specs.Merging.{Histories, entries_of, sorted, all_of, done_by}
+use Rattle.run_merge.specs.Merging.{Histories, without_tickets, sorted, all_of, done_by}
 use Rattle.run_merge.specs.ObjectsByName.{made_of}
 use Rattle.run_merge.specs.SharedObjects.{DrewAsEvent, entry_histories, seen_at}
 
 -- the scenario that was shared, and the ledgers of its pools
-abbrev pub scenario_of : Closed → Scenario
-scenario_of closed = scenario_in closed.told.value
+abbrev pub shared_scenario : Closed → Scenario
+shared_scenario closed = scenario_in closed.told.value
 
-abbrev pub ledger_of : Closed → ℕ → LedgerId
-ledger_of closed = (stage_of closed.told.value.objects).ledger
+abbrev pub shared_ledger : Closed → ℕ → LedgerId
+shared_ledger closed = (stage_of closed.told.value.objects).ledger
 
 -- the entries of the history of each object that carry a ticket
 abbrev pub histories_in : Closed → Histories
@@ -48,11 +48,11 @@ state_in closed = record {
 
 -- The merge of the histories is the entries of a run from the opened state, which has ended and leaves the closed objects and tasks. No task broke
 -- off, and the events of each are those that its seats show.
-pub record IsMerged (closed : Closed) (outcome : Outcome) : Type 0 where
+pub record IsOutcomeOf (closed : Closed) (outcome : Outcome) : Type 0 where
   pub events : List Event
-  pub run : IsRun (scene (scenario_of closed) (ledger_of closed)) (start (scenario_of closed)) events (state_in closed)
-  pub merges : entries_in (scene (scenario_of closed) (ledger_of closed)) (start (scenario_of closed)) events (state_in closed) run
-      ≡ entries_of (sorted (all_of (histories_in closed)))
+  pub run : IsRun (scene (shared_scenario closed) (shared_ledger closed)) (start (shared_scenario closed)) events (state_in closed)
+  pub merges : entries_in (scene (shared_scenario closed) (shared_ledger closed)) (start (shared_scenario closed)) events (state_in closed) run
+      ≡ without_tickets (sorted (all_of (histories_in closed)))
   -- those entries are the events among all calls: looks carry no ticket
   pub tickets : (name : Object) → All DrewAsEvent (history_in closed name)
   pub shows : (place : ℕ) (task : ClosedTask) → slice_get closed.tasks.items place ≡ Some task
@@ -60,11 +60,11 @@ pub record IsMerged (closed : Closed) (outcome : Outcome) : Type 0 where
   pub ends : HasEnded (state_in closed)
   pub unbroken : (place : ℕ) → is_broken ((state_in closed).task place) ≡ false
   -- this is what the run leaves
-  pub left : IsLeft (scenario_of closed).stack (state_in closed).objects (length events) outcome.ended
+  pub left : IsLeft (shared_scenario closed).stack (state_in closed).objects (length events) outcome.ended
   -- the ledger of each pool and each disk have their own number, and each event names what the stack has
-  pub naming : IsNaming (ledger_of closed)
+  pub naming : IsNaming (shared_ledger closed)
   pub disks : (number : ℕ) → ((state_in closed).objects.disk number).dev ≡ at number
-  pub named : All (IsEventOf (scenario_of closed).stack) events
+  pub named : All (IsEventOf (shared_scenario closed).stack) events
   -- where there is a trace, and nowhere else, its events come with it
   pub traced : is_some outcome.events ≡ closed.trace
   pub trace : IfSome outcome.events (λ list. list.items ≡ events)

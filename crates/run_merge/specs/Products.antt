@@ -36,9 +36,9 @@ abbrev pub task_behind : Scenario → ℕ → List Entry → TaskState
 task_behind s place mine = led_by (setup s) ((start s).task place) mine
 
 -- which entries start a round, change a reserve, or end the write of this number
-abbrev pub starts_round : Request → Bool
-starts_round (NextRound round) = true
-starts_round request = false
+abbrev pub is_next_round : Request → Bool
+is_next_round (NextRound round) = true
+is_next_round request = false
 
 abbrev pub changes_reserve : Request → Bool
 changes_reserve (Resize pool min) = true
@@ -50,7 +50,7 @@ ends_write write request = false
 
 -- how many rounds have started behind the first one, with which runs begin
 abbrev pub rounds_started : List Entry → ℕ
-rounds_started before = length (filter (λ (e : Entry). starts_round e.asked) before)
+rounds_started before = length (filter (λ (e : Entry). is_next_round e.asked) before)
 
 -- every write of the rounds before this one is done
 abbrev pub AreDone : Scenario → ℕ → List Entry → Type 0
@@ -82,7 +82,7 @@ pub record IsProduct (s : Scenario) (ledger : ℕ → LedgerId) (entries : List 
   -- the first take of each write, a missed one too, stands behind the start of the write's round
   pub takes : AtEach entries (λ before e. MayBegin (task_behind s e.place (entries_by e.place before)) before)
   -- the start of each round stands behind the end of every write of the rounds before it
-  pub rounds : AtEach entries (λ before e. IsTrue (starts_round e.asked) → AreDone s (rounds_started before + 1) before)
+  pub rounds : AtEach entries (λ before e. IsTrue (is_next_round e.asked) → AreDone s (rounds_started before + 1) before)
   -- and each change of a reserve behind the end of every write of the rounds before the one that starts next
   pub resizes : AtEach entries (λ before e. IsTrue (changes_reserve e.asked) → AreDone s (rounds_started before + 1) before)
 

@@ -1,7 +1,6 @@
 -- What is left of objects that were shared, as histories of entries and as a state of runs.
 use Rattle.std.specs.Prelude.{◌≡◌, ◌-◌, ◌≤◌, ℕ, List, All, map, slice_index_or}
 use Rattle.std.specs.Option.{is_some}
-use Rattle.tick_clock.specs.declared.ticking.Ticket.{Ticket}
 use Rattle.tick_clock.specs.Tickets.{PassState}
 use Rattle.run_machine.specs.Laws.{Object, OfPool, OfRescuer, OfDisk, OfBook, OfTally, OfNone}
 use Rattle.run_machine.specs.Opened.{no_task}
@@ -16,8 +15,8 @@ use Rattle.object_things.specs.Stamps.{ThingState}
 use Rattle.shared_objects.specs.Closes.{Returned, ClosesAs}
 use Rattle.shared_objects.specs.Kinds.{ThingAt}
 use Rattle.shared_objects.specs.Logs.{is_event}
-use Rattle.shared_objects.specs.Passes.{found_by}
-use Rattle.run_merge.specs.Closing.{HasMerged}
+use Rattle.shared_objects.specs.Passes.{found_by, numbers_of}
+use Rattle.run_merge.specs.Closing.{MergeIsEndedRun}
 use Rattle.run_merge.specs.Merging.{Ticketed, Histories}
 use Rattle.run_merge.specs.ObjectsByName.{StateAt, made_of}
 
@@ -43,15 +42,12 @@ seen_at OfTally tally = tally
 seen_at OfNone none = none
 
 -- what is left, as a state of runs
-abbrev pub tasks_of : List Returned → List TaskState
-tasks_of tasks = map (λ (task : Returned). task.task) tasks
+abbrev pub tasks_left : List Returned → List TaskState
+tasks_left tasks = map (λ (task : Returned). task.task) tasks
 
 abbrev pub state_left : ((name : Object) → ThingState (ThingAt name)) → List Returned → State
 state_left left tasks =
-    record { objects = made_of (λ name. seen_at name (left name).object); task = λ place. slice_index_or (tasks_of tasks) place no_task }
-
-abbrev pub numbers_of : List Ticket → List ℕ
-numbers_of tickets = map (λ (ticket : Ticket). ticket.number) tickets
+    record { objects = made_of (λ name. seen_at name (left name).object); task = λ place. slice_index_or (tasks_left tasks) place no_task }
 
 -- What a close shows of objects and tasks as they were opened of a text, where the first pass has found what those of the tasks have: the merge of
 -- the histories is a run that has ended and leaves what is left, and its entries, which are those that carry a ticket, are the events among all calls.
@@ -61,5 +57,5 @@ ClosesAreRuns = (opened : Opened) (names : List Object) (history : Object → Li
     → map (λ (task : Returned). task.first) tasks ≡ states opened.tasks.items
     → ClosesAs (setup (stage_of opened.objects).routing) opened.objects names history left tasks pass
     → All (λ (task : Returned). found_by task.desk.pass ≤ pass.known) tasks
-    → HasMerged (scenario_in opened) (stage_of opened.objects).ledger (entry_histories names history) (numbers_of pass.drawn) (state_left left tasks)
+    → MergeIsEndedRun (scenario_in opened) (stage_of opened.objects).ledger (entry_histories names history) (numbers_of pass.drawn) (state_left left tasks)
     × ((name : Object) → All DrewAsEvent (history name))

@@ -4,7 +4,7 @@
 //! node `count + k`. Each inner node has the head of the two below it that comes first. So a list that goes on plays again on its way to the root
 //! alone, which is the logarithm of the number of lists.
 ghost use Rattle.std.specs.Prelude.{◌≡◌, ◌+◌, ◌*◌, ◌<◌, ◌≤◌, [], ℕ, IfOk, length, slice_index_or, slice_set};
-ghost use Rattle.run_merge.specs.Heads.{AreAdded, GoesOn, Holds, HoldsBut, Stands, first_of, head_at, node, rows, smaller};
+ghost use Rattle.run_merge.specs.Heads.{AreAdded, TakesHead, IsTournament, IsTournamentBut, Stands, winner_of, head_at, node, rows, smaller};
 
 use std::alloc::{AllocError, Global};
 
@@ -77,8 +77,8 @@ pub(crate) fn open_heads<T>(alloc: Global, lists: &[Vec<(u64, T)>]) -> Result<Ve
 // Plays again all matches above a leaf.
 fn replay(nodes: &mut Vec<Head>, leaf: usize, count: usize)
     requires leaf { (1 ≤ leaf) × (count ≤ leaf) × (leaf < count + count) }
-    requires holds { HoldsBut count nodes.old.items leaf }
-    ensures holds { Holds count nodes.new.items }
+    requires holds { IsTournamentBut count nodes.old.items leaf }
+    ensures holds { IsTournament count nodes.new.items }
     ensures leaves { (number : ℕ) → count ≤ number → node nodes.new.items number ≡ node nodes.old.items number }
 {
     let mut number = leaf;
@@ -89,8 +89,8 @@ fn replay(nodes: &mut Vec<Head>, leaf: usize, count: usize)
 }
 
 /// The head that comes first, if not all is taken.
-pub(crate) fn first_of(nodes: &[Head]) -> Option<Head>
-    ensures { result ≡ first_of nodes.now }
+pub(crate) fn winner_of(nodes: &[Head]) -> Option<Head>
+    ensures { result ≡ winner_of nodes.now }
 {
     match nodes.get(1) {
         Some(head) => match head.ticket {
@@ -105,8 +105,8 @@ pub(crate) fn first_of(nodes: &[Head]) -> Option<Head>
 pub(crate) fn take<T: Copy>(lists: &[Vec<(u64, T)>], nodes: &mut Vec<Head>, head: Head) -> T
     requires list { head.list < length lists.now }
     requires at { head.at < length (slice_index_or (rows lists.now) head.list []) }
-    requires holds { Holds (length lists.now) nodes.old.items }
-    ensures taken { GoesOn (rows lists.now) head nodes.old.items nodes.new.items }
+    requires holds { IsTournament (length lists.now) nodes.old.items }
+    ensures taken { TakesHead (rows lists.now) head nodes.old.items nodes.new.items }
     ensures value { result ≡ (slice_index_or (slice_index_or (rows lists.now) head.list []) head.at (0, result)).1 }
 {
     let count = lists.len();

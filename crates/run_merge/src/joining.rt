@@ -3,7 +3,7 @@ ghost use Rattle.std.specs.Prelude.{◌≡◌, All, IfOk};
 ghost use Rattle.std.specs.List.Sorted.{IsNonDecreasingBy};
 ghost use Rattle.run_merge.specs.Joining.{IsJoined, all_in};
 
-use crate::heads::{first_of, open_heads, take};
+use crate::heads::{winner_of, open_heads, take};
 use std::alloc::{AllocError, Global};
 
 /// What stands in these lists, in the order of the tickets and without them. Along each list tickets rise.
@@ -22,7 +22,7 @@ pub fn join_by_ticket<T: Copy + Drop>(
 {
     let mut heads = open_heads(alloc, &lists)?;
     let mut joined = Vec::with_capacity(alloc, total(&lists))?;
-    'joining: while let Some(head) = first_of(&heads) {
+    'joining: while let Some(head) = winner_of(&heads) {
         joined.push(take(&lists, &mut heads, head))?;
     }
     Ok(joined)

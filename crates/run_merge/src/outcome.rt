@@ -1,7 +1,7 @@
 //! What a run leaves whose objects were shared.
 ghost use Rattle.std.specs.Prelude.{◌≡◌, IfOk, IsOk, false};
 ghost use Rattle.shared_objects.specs.Left.{HasClosed};
-ghost use Rattle.run_merge.specs.Outcomes.{IsMerged};
+ghost use Rattle.run_merge.specs.Outcomes.{IsOutcomeOf};
 
 use crate::left::{disks_of, events_of, pools_of, statuses_of};
 use crate::trace::trace_of;
@@ -28,7 +28,7 @@ pub struct Outcome {
 /// With a trace: where there was no memory for a task to note one of its events, or there is none to join what all tasks noted.
 pub fn merge(alloc: Global, closed: Closed) -> Result<Outcome, AllocError>
     requires closed { HasClosed closed }
-    ensures merged { IfOk result (IsMerged closed) }
+    ensures merged { IfOk result (IsOutcomeOf closed) }
     ensures untraced { closed.trace ≡ false → IsOk result }
 {
     let ClosedParts {

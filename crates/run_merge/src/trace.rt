@@ -1,7 +1,7 @@
 //! What tasks noted of their events, as the events of their run.
 ghost use Rattle.std.specs.Prelude.{◌≡◌, All, IfOk, IsOk, false};
 ghost use Rattle.std.specs.List.Sorted.{IsNonDecreasingBy};
-ghost use Rattle.run_merge.specs.Listing.{AreLists, IsList, IsTrace, WholeRises};
+ghost use Rattle.run_merge.specs.Listing.{AreWholeLists, IsList, IsTrace, WholeRises};
 
 use crate::joining::join_by_ticket;
 use run_machine::Event;
@@ -22,7 +22,7 @@ fn list_of(task: ClosedTask) -> Result<Vec<(u64, Event)>, AllocError>
 // The lists of all tasks, where each is whole.
 fn lists_of(alloc: Global, tasks: Vec<ClosedTask>) -> Result<Vec<Vec<(u64, Event)>>, AllocError>
     requires rising { All (λ task. WholeRises task.noted) tasks.items }
-    ensures lists { IfOk result (λ lists. AreLists tasks.items lists.items) }
+    ensures lists { IfOk result (λ lists. AreWholeLists tasks.items lists.items) }
     ensures rising { IfOk result (λ lists. All (λ list. IsNonDecreasingBy (λ e. e.0) list.items) lists.items) }
 {
     let mut lists = Vec::with_capacity(alloc, tasks.len())?;

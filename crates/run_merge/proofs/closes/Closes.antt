@@ -29,13 +29,13 @@ use Rattle.shared_objects.specs.Calls.{is_same}
 use Rattle.shared_objects.specs.Closes.{Returned, ClosesAs}
 use Rattle.shared_objects.specs.Kinds.{ThingAt, opened_at, unasked}
 use Rattle.shared_objects.specs.Logs.{LogLeads}
-use Rattle.shared_objects.specs.Passes.{found_by}
-use Rattle.run_merge.specs.Closing.{IsThrough, IsRefused, HasLast, IsClosed, HasMerged}
+use Rattle.shared_objects.specs.Passes.{found_by, numbers_of}
+use Rattle.run_merge.specs.Closing.{IsThrough, WasRefused, HasLast, IsClosed, MergeIsEndedRun}
 use Rattle.run_merge.specs.Machines.{LeadsObject}
-use Rattle.run_merge.specs.Merging.{Ticketed, Rises, entries_of, history_of, done_by, LetsAsk, Shown}
+use Rattle.run_merge.specs.Merging.{Ticketed, RiseFrom, without_tickets, history_of, done_by, LetsAsk, Shown}
 use Rattle.run_merge.specs.ObjectsByName.{get, made_of}
 use Rattle.run_merge.specs.Products.{LeadsTask, led_by, task_behind}
-use Rattle.run_merge.specs.SharedObjects.{ticketed, seen_at, tasks_of, state_left, numbers_of, ClosesAreRuns}
+use Rattle.run_merge.specs.SharedObjects.{ticketed, seen_at, tasks_left, state_left, ClosesAreRuns}
 use Rattle.run_merge.proofs.closes.Counting.{walked, first_is, done_at, rounds_few, few_drawn, image_at, image_none}
 use Rattle.run_merge.proofs.closes.Drawing.{in_row}
 use Rattle.run_merge.proofs.closes.DrewEvents.{drew_as_events}
@@ -154,27 +154,27 @@ module _ (s : Scenario) (plain : Plain) (names : List Object) (history : Object 
   ready OfNone = tt
 
   run : (name : Object) → (last : ThingAt name)
-      × LeadsObject (stage_of plain).ledger name (seen_at name (opened_at plain name)) (entries_of (ticketed_events (history name))) (seen_at name last)
+      × LeadsObject (stage_of plain).ledger name (seen_at name (opened_at plain name)) (without_tickets (ticketed_events (history name))) (seen_at name last)
       × ((left name).spent ≡ false → last ≡ (left name).object)
   run name = object_leads (stage_of plain).ledger name (history name) (unasked (opened_at plain name)) (left name) (ready name) (c.things name)
 
   -- what is shown of the task at each place
   record IsShownAt (place : ℕ) : Type 0 where
     now : TaskState
-    leads : LeadsTask (setup s) ((start s).task place) (entries_of (done_by place (event_histories names history))) now
+    leads : LeadsTask (setup s) ((start s).task place) (without_tickets (done_by place (event_histories names history))) now
     looks : (mine rest : List Ticketed) (n : Ticketed) → done_by place (event_histories names history) ≡ mine ++ n ∷ rest
-        → let task = task_behind s place (entries_of mine) in LetsAsk s (stage_of plain).ledger (history_of OfTally (event_histories names history)) n.ticket task (look_of task)
-    comes : ((get_or (tasks_of tasks) place no_task ≡ now) × IsThrough s (stage_of plain).ledger (event_histories names history) now)
-        ⊎ (IsRefused s (stage_of plain).ledger (event_histories names history) place now (get_or (tasks_of tasks) place no_task) ⊎ HasLast (numbers_of pass.drawn))
+        → let task = task_behind s place (without_tickets mine) in LetsAsk s (stage_of plain).ledger (history_of OfTally (event_histories names history)) n.ticket task (look_of task)
+    comes : ((get_or (tasks_left tasks) place no_task ≡ now) × IsThrough s (stage_of plain).ledger (event_histories names history) now)
+        ⊎ (WasRefused s (stage_of plain).ledger (event_histories names history) place now (get_or (tasks_left tasks) place no_task) ⊎ HasLast (numbers_of pass.drawn))
 
   shown_task : (place : ℕ) (task : Returned) → slice_get tasks place ≡ Some task → IsShownAt place
   shown_task place task at = record {
     now = w.now;
-    leads = subst (λ t. LeadsTask (setup s) t (entries_of (done_by place (event_histories names history))) w.now) (sym first)
-        (subst (λ ns. LeadsTask (setup s) task.first (entries_of ns) w.now) (sym done) w.leads);
+    leads = subst (λ t. LeadsTask (setup s) t (without_tickets (done_by place (event_histories names history))) w.now) (sym first)
+        (subst (λ ns. LeadsTask (setup s) task.first (without_tickets ns) w.now) (sym done) w.leads);
     looks = λ mine rest n is. by_cut mine n (cut_at task.log mine rest n (sym done ∙ is));
     comes = subst (λ t. ((t ≡ w.now) × IsThrough s (stage_of plain).ledger (event_histories names history) w.now)
-        ⊎ (IsRefused s (stage_of plain).ledger (event_histories names history) place w.now t ⊎ HasLast (numbers_of pass.drawn)))
+        ⊎ (WasRefused s (stage_of plain).ledger (event_histories names history) place w.now t ⊎ HasLast (numbers_of pass.drawn)))
         (sym (image_at (λ (task : Returned). task.task) no_task tasks place task at))
         (comes_to s plain names history left tasks pass c (stage_of plain).ledger begins ready found place task at done w.now w.end);
   }
@@ -189,10 +189,10 @@ module _ (s : Scenario) (plain : Plain) (names : List Object) (history : Object 
       done = done_at s plain names history left tasks pass c firsts place task at
 
       by_cut : (mine : List Ticketed) (n : Ticketed) → IsCutAt task.log mine n
-          → let task = task_behind s place (entries_of mine) in LetsAsk s (stage_of plain).ledger (history_of OfTally (event_histories names history)) n.ticket task (look_of task)
+          → let task = task_behind s place (without_tickets mine) in LetsAsk s (stage_of plain).ledger (history_of OfTally (event_histories names history)) n.ticket task (look_of task)
       by_cut mine n cut =
           let within : Contains task.log cut.call = subst (λ l. Contains l cut.call) (sym cut.is) (Contains-append_right cut.before (cut.call ∷ cut.after) cut.call (0, omega arith, refl)) in
-          let led = λ (t : TaskState) (ns : List Ticketed). led_by (setup s) t (entries_of ns) in
+          let led = λ (t : TaskState) (ns : List Ticketed). led_by (setup s) t (without_tickets ns) in
           let looked = looks_there (setup s) [] task.first cut.before cut.after cut.call task.task cut.told
           (subst AskSome cut.is (ask_some s plain names history left tasks pass c place task at))
           (subst (λ l. LogLeads (setup s) [] task.first l task.task) cut.is (logged s plain names history left tasks pass c place task at).0.leads) in
@@ -208,7 +208,7 @@ module _ (s : Scenario) (plain : Plain) (names : List Object) (history : Object 
   shown_none : (place : ℕ) → length tasks ≤ place → IsShownAt place
   shown_none place le = record {
     now = no_task;
-    leads = subst (λ ns. LeadsTask (setup s) ((start s).task place) (entries_of ns) no_task) (sym done) (sym first);
+    leads = subst (λ ns. LeadsTask (setup s) ((start s).task place) (without_tickets ns) no_task) (sym done) (sym first);
     looks = λ mine rest n is. nothing n rest mine (sym done ∙ is);
     comes = inl (image_none (λ (task : Returned). task.task) no_task tasks place le, inl refl);
   }
@@ -244,14 +244,14 @@ module _ (s : Scenario) (plain : Plain) (names : List Object) (history : Object 
     events = all_events history names;
     apart = are_apart history names c.apart;
     tagged = are_tagged history names c.named;
-    rises = λ name. subst (Rises 0) (sym (history_is history name names (c.others name)))
+    rises = λ name. subst (RiseFrom 0) (sym (history_is history name names (c.others name)))
         (rises_events 0 (left name).note (history name) ((keeps name).rises (unasked (opened_at plain name)) (left name) (history name) (c.things name))
         (told_drew name (unasked (opened_at plain name)) (left name) (history name) (c.things name)));
     objects = λ name.
-        subst (λ o. LeadsObject (stage_of plain).ledger name (get (start s).objects name) (entries_of (history_of name (event_histories names history))) o)
+        subst (λ o. LeadsObject (stage_of plain).ledger name (get (start s).objects name) (without_tickets (history_of name (event_histories names history))) o)
         (sym (get_made (λ name. seen_at name (run name).0) name))
-        (subst (λ ns. LeadsObject (stage_of plain).ledger name (get (start s).objects name) (entries_of ns) (seen_at name (run name).0)) (sym (history_is history name names (c.others name)))
-        (subst (λ o. LeadsObject (stage_of plain).ledger name o (entries_of (ticketed_events (history name))) (seen_at name (run name).0)) (sym (begins name)) (run name).1));
+        (subst (λ ns. LeadsObject (stage_of plain).ledger name (get (start s).objects name) (without_tickets ns) (seen_at name (run name).0)) (sym (history_is history name names (c.others name)))
+        (subst (λ o. LeadsObject (stage_of plain).ledger name o (without_tickets (ticketed_events (history name))) (seen_at name (run name).0)) (sym (begins name)) (run name).1));
     tasks = λ place. (shown_at place).leads;
     looks = λ place mine rest n is. (shown_at place).looks mine rest n is;
   }
@@ -289,6 +289,6 @@ closes_are_runs opened names history left tasks pass is firsts c found =
     let drew = drew_as_events s opened.objects names history left tasks pass closes
     (λ place task at. ap is_broken (sym (image_at (λ (task : Returned). task.task) no_task tasks place task at)) ∙ merged.unbroken place) in
     (
-      subst (λ histories. HasMerged s ledger histories (numbers_of pass.drawn) (state_left left tasks)) (sym (histories_are names history drew)) merged,
+      subst (λ histories. MergeIsEndedRun s ledger histories (numbers_of pass.drawn) (state_left left tasks)) (sym (histories_are names history drew)) merged,
       drew,
     )

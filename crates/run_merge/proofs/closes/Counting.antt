@@ -23,10 +23,11 @@ use Rattle.shared_objects.specs.Calls.{is_same, struck}
 use Rattle.shared_objects.specs.Closes.{Returned, ClosesAs}
 use Rattle.shared_objects.specs.Kinds.{ThingAt, serves_at, looks_at, opened_at, unasked}
 use Rattle.shared_objects.specs.Logs.{is_event, is_refused, is_stop, is_glance, events_in, tickets_in, LogLeads}
+use Rattle.shared_objects.specs.Passes.{numbers_of}
 use Rattle.run_merge.specs.Entries.{Entry}
-use Rattle.run_merge.specs.Merging.{Ticketed, Rises, entries_of, all_of, done_by}
-use Rattle.run_merge.specs.Products.{starts_round}
-use Rattle.run_merge.specs.SharedObjects.{ticketed, numbers_of}
+use Rattle.run_merge.specs.Merging.{Ticketed, RiseFrom, without_tickets, all_of, done_by}
+use Rattle.run_merge.specs.Products.{is_next_round}
+use Rattle.run_merge.specs.SharedObjects.{ticketed}
 use Rattle.run_merge.proofs.closes.Breaking.{broken_rests, stop_breaks}
 use Rattle.run_merge.proofs.closes.Drawing.{drawn_of, drew_of, numbers_is}
 use Rattle.run_merge.proofs.closes.Drawn.{HasTicket, rises_events}
@@ -143,7 +144,7 @@ module _ (s : Scenario) (plain : Plain) (names : List Object) (history : Object 
       (told_drew (object_of call.asked) (unasked (opened_at plain (object_of call.asked))) (left (object_of call.asked)) (history (object_of call.asked)) (c.things (object_of call.asked)))
       (kept s plain names history left tasks pass c place task at call within)) task.log (All-contains_itself task.log)
 
-  pub log_rises : (place : ℕ) (task : Returned) → slice_get tasks place ≡ Some task → Rises 0 (ticketed_events task.log)
+  pub log_rises : (place : ℕ) (task : Returned) → slice_get tasks place ≡ Some task → RiseFrom 0 (ticketed_events task.log)
   log_rises place task at =
       let l = (logged s plain names history left tasks pass c place task at).0 in rises_events 0 l.end task.log l.rises (log_drew place task at)
 
@@ -159,19 +160,19 @@ module _ (s : Scenario) (plain : Plain) (names : List Object) (history : Object 
 
   -- the keeper starts no more rounds than there are
   at_task : (place : ℕ) (task : Returned) → slice_get tasks place ≡ Some task
-      → length (filter (is_by place) (filter (λ (n : Ticketed). starts_round n.entry.asked) (ticketed_events (history OfTally)))) ≤ starts_left (get_or (opened.tasks s) place no_task)
+      → length (filter (is_by place) (filter (λ (n : Ticketed). is_next_round n.entry.asked) (ticketed_events (history OfTally)))) ≤ starts_left (get_or (opened.tasks s) place no_task)
   at_task place task at =
-      let p = λ (n : Ticketed). starts_round n.entry.asked in
+      let p = λ (n : Ticketed). is_next_round n.entry.asked in
       let events = ticketed_events task.log in
       let mine : filter (is_by place) (ticketed_events (history OfTally)) ≡ filter (is_at OfTally) events =
       picks_mine is_told place (history OfTally) (number_some OfTally) ∙ ap ticketed_events (c.calls OfTally place task at) ∙ events_to OfTally task.log in
       let same : length (filter (is_by place) (filter p (ticketed_events (history OfTally)))) ≡ length (filter (is_at OfTally) (filter p events)) =
       ap (λ (l : List Ticketed). length l)
       (filter_swap (is_by place) p (ticketed_events (history OfTally)) ∙ ap (filter p) mine ∙ filter_swap p (is_at OfTally) events) in
-      let entries : length (filter (λ (e : Entry). starts_round e.asked) (entries_of events)) ≡ length (filter p events) =
-      ap (λ (l : List Entry). length l) (entries_filter (λ (e : Entry). starts_round e.asked) events) ∙ length-map (filter p events) (λ (n : Ticketed). n.entry) in
+      let entries : length (filter (λ (e : Entry). is_next_round e.asked) (without_tickets events)) ≡ length (filter p events) =
+      ap (λ (l : List Entry). length l) (entries_filter (λ (e : Entry). is_next_round e.asked) events) ∙ length-map (filter p events) (λ (n : Ticketed). n.entry) in
       let w = walked place task at in
-      let most = task_starts (setup s) (entries_of events) task.first w.now
+      let most = task_starts (setup s) (without_tickets events) task.first w.now
       (All-map (λ (e : Entry). IsTrue (is_event e.asked e.reply)) (λ (n : Ticketed). n.entry) events
       (All-map (λ (n : Ticketed). IsTrue (is_event n.entry.asked n.entry.reply)) ticketed (events_in task.log) (filter_passes is_told task.log))) w.leads in
       let first = ap starts_left (first_is place task at) in
@@ -180,7 +181,7 @@ module _ (s : Scenario) (plain : Plain) (names : List Object) (history : Object 
 
   pub rounds_few : calls.starts (drawn_in (history OfTally)) ≤ round_count s - 1
   rounds_few =
-      let p = λ (n : Ticketed). starts_round n.entry.asked in
+      let p = λ (n : Ticketed). is_next_round n.entry.asked in
       let events = ticketed_events (history OfTally) in
       let told = tally_starts (history OfTally) (unasked (opened_at plain OfTally)) (left OfTally) (c.things OfTally) in
       let split = by_places (length tasks) (filter p events) (All-filter p (λ (x : Ticketed). x.entry.place < length tasks) events (placed OfTally)) in
@@ -191,11 +192,11 @@ module _ (s : Scenario) (plain : Plain) (names : List Object) (history : Object 
       omega (arith, told, split, most, list, same, all)
     where
       each : (k : ℕ) → k < length tasks
-          → length (filter (is_by k) (filter (λ (n : Ticketed). starts_round n.entry.asked) (ticketed_events (history OfTally)))) ≤ starts_left (get_or (opened.tasks s) k no_task)
+          → length (filter (is_by k) (filter (λ (n : Ticketed). is_next_round n.entry.asked) (ticketed_events (history OfTally)))) ≤ starts_left (get_or (opened.tasks s) k no_task)
       each k lt = by_two (slice_get_cases tasks k).1
         where
           by_two : ((x : Returned) × (k < length tasks) × (slice_get tasks k ≡ Some x) × (get_or tasks k x ≡ x)) ⊎ ((length tasks ≤ k) × (slice_get tasks k ≡ None))
-              → length (filter (is_by k) (filter (λ (n : Ticketed). starts_round n.entry.asked) (ticketed_events (history OfTally)))) ≤ starts_left (get_or (opened.tasks s) k no_task)
+              → length (filter (is_by k) (filter (λ (n : Ticketed). is_next_round n.entry.asked) (ticketed_events (history OfTally)))) ≤ starts_left (get_or (opened.tasks s) k no_task)
           by_two (inl (task, less, at, same)) = at_task k task at
           by_two (inr (le, none)) = absurd (omega (arith, lt, le))
 

@@ -13,11 +13,10 @@ use Rattle.task_core.specs.declared.plain.Plain.{Plain}
 use Rattle.object_things.specs.Histories.{Call, or_last, TicketsRise}
 use Rattle.object_things.specs.Stamps.{ThingState}
 use Rattle.shared_objects.specs.Closes.{Returned, ClosesAs}
-use Rattle.shared_objects.specs.Passes.{drawn_by, found_by}
+use Rattle.shared_objects.specs.Passes.{drawn_by, found_by, numbers_of}
 use Rattle.shared_objects.specs.Kinds.{ThingAt, opened_at, unasked}
 use Rattle.shared_objects.specs.Logs.{tickets_in, IsSeenIn, FoundNone, KnowsLast, HasPass, IsLogged}
 use Rattle.run_merge.specs.Closing.{AreInRow, HasLast}
-use Rattle.run_merge.specs.SharedObjects.{numbers_of}
 use Rattle.run_merge.proofs.closes.Objects.{keeps}
 use Rattle.run_merge.proofs.closes.Owners.{split_at, first_there, at_all, IsOwned, owner, logged, kept, IsInPlace, in_place}
 

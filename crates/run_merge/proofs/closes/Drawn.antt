@@ -7,7 +7,7 @@ use Rattle.std.proofs.lemmas.List.{map-append}
 use Rattle.std.proofs.lemmas.List.Elements.{All-head, All-tail, All-cons, All-nil, filter-append}
 use Rattle.object_things.specs.Histories.{Call, IsNext, or_last, TicketsRise}
 use Rattle.shared_objects.specs.Logs.{events_in}
-use Rattle.run_merge.specs.Merging.{Ticketed, Rises}
+use Rattle.run_merge.specs.Merging.{Ticketed, RiseFrom}
 use Rattle.run_merge.specs.SharedObjects.{ticketed}
 use Rattle.run_merge.proofs.closes.Events.{ticketed_events}
 use Rattle.run_merge.proofs.closes.Walks.{is_told, told_first, untold_first}
@@ -31,19 +31,19 @@ pub events_around : (xs ys : List Call) (call : Call) → is_told call ≡ false
 events_around xs ys call is = events_append xs (call ∷ ys) ∙ ap (λ l. ticketed_events xs ++ l) (events_untold call ys is)
 
 -- tickets of events rise
-pub rises_events : (last end : ℕ) (calls : List Call) → TicketsRise last calls end → All HasTicket calls → Rises last (ticketed_events calls)
+pub rises_events : (last end : ℕ) (calls : List Call) → TicketsRise last calls end → All HasTicket calls → RiseFrom last (ticketed_events calls)
 rises_events last end [] rises has = tt
 rises_events last end (call ∷ calls) rises has =
     by_two (is_told call) refl call.told.ticket refl rises.0 (rises_events (or_last last call.told.ticket) end calls rises.1 (All-tail HasTicket call calls has))
   where
-    by_two : (told : Bool) → is_told call ≡ told → (ticket : Option ℕ) → call.told.ticket ≡ ticket → IsNext last ticket → Rises (or_last last ticket) (ticketed_events calls)
-        → Rises last (ticketed_events (call ∷ calls))
+    by_two : (told : Bool) → is_told call ≡ told → (ticket : Option ℕ) → call.told.ticket ≡ ticket → IsNext last ticket → RiseFrom (or_last last ticket) (ticketed_events calls)
+        → RiseFrom last (ticketed_events (call ∷ calls))
     by_two true is (Some n) t next rest =
-        subst (Rises last) (sym (events_told call calls is))
-        (subst (λ x. (last < or_last 0 x) × Rises (or_last 0 x) (ticketed_events calls)) (sym t) (next, rest))
+        subst (RiseFrom last) (sym (events_told call calls is))
+        (subst (λ x. (last < or_last 0 x) × RiseFrom (or_last 0 x) (ticketed_events calls)) (sym t) (next, rest))
     by_two true is None t next rest = absurd (true≢false (sym (All-head HasTicket call calls has is) ∙ ap is_some t))
-    by_two false is (Some n) t next rest = subst (Rises last) (sym (events_untold call calls is)) (rises_from last n (ticketed_events calls) (omega (arith, next)) rest)
-    by_two false is None t next rest = subst (Rises last) (sym (events_untold call calls is)) rest
+    by_two false is (Some n) t next rest = subst (RiseFrom last) (sym (events_untold call calls is)) (rises_from last n (ticketed_events calls) (omega (arith, next)) rest)
+    by_two false is None t next rest = subst (RiseFrom last) (sym (events_untold call calls is)) rest
 
 -- and none is greater than where they end
 pub none_greater : (last end : ℕ) (calls : List Call) → TicketsRise last calls end → All HasTicket calls
@@ -65,7 +65,7 @@ none_greater last end (call ∷ calls) rises has =
     by_two false is (Some n) t next rest = (let le = rest.0 in omega (arith, next, le), subst Below (sym (events_untold call calls is)) rest.1)
     by_two false is None t next rest = (rest.0, subst Below (sym (events_untold call calls is)) rest.1)
 
-pub rises_above : (last : ℕ) (ns : List Ticketed) → Rises last ns → All (λ (n : Ticketed). last < n.ticket) ns
+pub rises_above : (last : ℕ) (ns : List Ticketed) → RiseFrom last ns → All (λ (n : Ticketed). last < n.ticket) ns
 rises_above last [] rises = All-nil (λ (n : Ticketed). last < n.ticket)
 rises_above last (n ∷ ns) rises =
     let lt = rises.0 in

@@ -27,7 +27,7 @@ use Rattle.object_things.specs.Lists as lists
 use Rattle.object_things.specs.Pools as pools
 use Rattle.object_things.specs.Tallies as tallies
 use Rattle.shared_objects.specs.Logs.{is_event}
-use Rattle.run_merge.specs.Machines.{PoolGoes, PoolHas, PoolServes, RescueServes, DiskServes, BookServes, TallyServes}
+use Rattle.run_merge.specs.Machines.{PoolGoes, PoolHas, PoolMachine, RescuerMachine, DiskMachine, BookMachine, TallyMachine}
 
 -- pools
 has_one : (old new : LedgerPool) (from : Got) → pools.HasOne old from new → PoolHas old.state from new.state
@@ -49,7 +49,7 @@ resized old new min out (inr (some, same)) =
     ap (λ (pool : LedgerPool). pool.state) same ∙ sym (ap (λ b. if b then after_move old.state (resizes min) else old.state) (not_zero out some))
 
 pub pool_is : (own : LedgerId) (old new : LedgerPool) (asked : Request) (reply : Reply) → old.ledger ≡ own → pools.PoolServes old asked reply new
-    → PoolServes own old.state asked reply new.state
+    → PoolMachine own old.state asked reply new.state
 pool_is own old new (TakeBio set waits) (HadBio from bio) is h = (has_one old new from h.0, h.1 ∙ ap clear_bio is)
 pool_is own old new (TakeBio set waits) (Missed used) is h = goes old new (misses used) h.0
 pool_is own old new (TakeBio set waits) reply is h = absurd h
@@ -131,7 +131,7 @@ pool_ledger old new (Resize pool min) reply h = absurd h
 pool_ledger old new asked reply h = absurd h
 
 -- lists of rescuers
-pub list_is : (old new : Rescue) (asked : Request) (reply : Reply) → lists.ListServes old asked reply new → RescueServes old.bios asked reply new.bios
+pub list_is : (old new : Rescue) (asked : Request) (reply : Reply) → lists.ListServes old asked reply new → RescuerMachine old.bios asked reply new.bios
 list_is old new (Punt dev moved) Did h = ap (λ (list : Rescue). list.bios) h.1
 list_is old new (Punt dev moved) reply h = absurd h
 list_is old new (Pop dev) (Popped bio) h = h.1
@@ -146,7 +146,7 @@ list_stays old new (Pop dev) reply h not = absurd h
 list_stays old new asked reply h not = absurd h
 
 -- disks
-pub disk_is : (old new : DiskState) (asked : Request) (reply : Reply) → disks.DiskServes old asked reply new → DiskServes old asked reply new
+pub disk_is : (old new : DiskState) (asked : Request) (reply : Reply) → disks.DiskServes old asked reply new → DiskMachine old asked reply new
 disk_is old new (Push bio) Did h = h.1
 disk_is old new (Push bio) reply h = absurd h
 disk_is old new (Complete disk) (Completed index bio status) h = h.1
@@ -161,7 +161,7 @@ disk_stays old new (Complete disk) reply h not = absurd h
 disk_stays old new asked reply h not = absurd h
 
 -- books
-pub book_is : (old new : BookState) (asked : Request) (reply : Reply) → books.BookServes old asked reply new → BookServes old asked reply new
+pub book_is : (old new : BookState) (asked : Request) (reply : Reply) → books.BookServes old asked reply new → BookMachine old asked reply new
 book_is old new (Link writer opening) (LinkedTo answer) h = h.1
 book_is old new (Link writer opening) reply h = absurd h
 book_is old new (Drop writer node status part) (DroppedTo ended) h = h.1
@@ -223,7 +223,7 @@ abbrev pub HasNext : TallyState → Request → Type 0
 HasNext tally (NextRound round) = tally.round + 1 < length tally.left
 HasNext tally asked = Unit {0}
 
-pub tally_is : (old new : TallyState) (asked : Request) (reply : Reply) → HasNext old asked → tallies.TallyServes old asked reply new → TallyServes old asked reply new
+pub tally_is : (old new : TallyState) (asked : Request) (reply : Reply) → HasNext old asked → tallies.TallyServes old asked reply new → TallyMachine old asked reply new
 tally_is old new (Done write status) Did next h = h
 tally_is old new (Done write status) reply next h = absurd h
 tally_is old new (NextRound round) Did next (inl h) = h

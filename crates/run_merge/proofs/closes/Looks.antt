@@ -19,8 +19,8 @@ use Rattle.object_things.specs.Tallies as things
 use Rattle.shared_objects.specs.Closes.{Returned, ClosesAs}
 use Rattle.shared_objects.specs.Kinds.{ThingAt, opened_at, unasked}
 use Rattle.shared_objects.specs.Logs.{is_event, Looked}
-use Rattle.run_merge.specs.Machines.{TallyServes, LeadsObject}
-use Rattle.run_merge.specs.Merging.{Ticketed, entries_of, history_of, TallyThen, LetsAsk}
+use Rattle.run_merge.specs.Machines.{TallyMachine, LeadsObject}
+use Rattle.run_merge.specs.Merging.{Ticketed, without_tickets, history_of, TallyThen, LetsAsk}
 use Rattle.run_merge.specs.ObjectsByName.{get}
 use Rattle.run_merge.specs.SharedObjects.{seen_at}
 use Rattle.run_merge.proofs.closes.Drawn.{events_around, none_greater}
@@ -35,23 +35,23 @@ pub record IsLook (look : Request) : Type 0 where
   pub tally : object_of look ≡ OfTally
   pub untold : (reply : Reply) → is_event look reply ≡ false
   pub serves : (old next : ThingState TallyState) (reply : Reply) (ticket : Option ℕ) → StepOf things.TallyServes things.TallyLooks old look reply ticket next
-      → TallyServes old.object look reply old.object × (is_spent reply ≡ false)
+      → TallyMachine old.object look reply old.object × (is_spent reply ≡ false)
 
-round_looks : (old next : ThingState TallyState) (reply : Reply) → things.TallyLooks old LookRound reply next → TallyServes old.object LookRound reply old.object × (is_spent reply ≡ false)
+round_looks : (old next : ThingState TallyState) (reply : Reply) → things.TallyLooks old LookRound reply next → TallyMachine old.object LookRound reply old.object × (is_spent reply ≡ false)
 round_looks old next (Present round) looks = ((looks.0, refl), refl)
 round_looks old next reply looks = absurd looks
 
-left_looks : (old next : ThingState TallyState) (reply : Reply) → things.TallyLooks old LookLeft reply next → TallyServes old.object LookLeft reply old.object × (is_spent reply ≡ false)
+left_looks : (old next : ThingState TallyState) (reply : Reply) → things.TallyLooks old LookLeft reply next → TallyMachine old.object LookLeft reply old.object × (is_spent reply ≡ false)
 left_looks old next (LeftOver count) looks = ((looks.0, refl), refl)
 left_looks old next reply looks = absurd looks
 
 round_step : (old next : ThingState TallyState) (reply : Reply) (ticket : Option ℕ) → StepOf things.TallyServes things.TallyLooks old LookRound reply ticket next
-    → TallyServes old.object LookRound reply old.object × (is_spent reply ≡ false)
+    → TallyMachine old.object LookRound reply old.object × (is_spent reply ≡ false)
 round_step old next reply (Some n) step = absurd step.0
 round_step old next reply None step = round_looks old next reply step.0
 
 left_step : (old next : ThingState TallyState) (reply : Reply) (ticket : Option ℕ) → StepOf things.TallyServes things.TallyLooks old LookLeft reply ticket next
-    → TallyServes old.object LookLeft reply old.object × (is_spent reply ≡ false)
+    → TallyMachine old.object LookLeft reply old.object × (is_spent reply ≡ false)
 left_step old next reply (Some n) step = absurd step.0
 left_step old next reply None step = left_looks old next reply step.0
 
@@ -102,7 +102,7 @@ module _ (s : Scenario) (plain : Plain) (names : List Object) (history : Object 
   pub record IsSeen (call : Call) : Type 0 where
     pub was : TallyThen s ledger (history_of OfTally (event_histories names history))
     pub few : All (λ (n : Ticketed). n.ticket ≤ call.told.note) was.seen
-    pub serves : TallyServes was.shown call.asked call.told.reply was.shown
+    pub serves : TallyMachine was.shown call.asked call.told.reply was.shown
     pub found : is_spent call.told.reply ≡ false
 
   pub seen_then : (call : Call) (look : Request) → call.asked ≡ look → IsLook look → Contains (history OfTally) call → IsSeen call
@@ -112,7 +112,7 @@ module _ (s : Scenario) (plain : Plain) (names : List Object) (history : Object 
       later = ticketed_events p.after;
       history = history_parts OfTally call p untold;
       shown = p.here.object;
-      leads = subst (λ o. LeadsObject ledger OfTally o (entries_of (ticketed_events p.before)) p.here.object) (sym (begins OfTally))
+      leads = subst (λ o. LeadsObject ledger OfTally o (without_tickets (ticketed_events p.before)) p.here.object) (sym (begins OfTally))
           (drawn_leads ledger OfTally p.before (opened_at plain OfTally) p.here.object (told_drew OfTally (unasked (opened_at plain OfTally)) p.here p.before p.leads)
           (ready_first ledger OfTally (drawn_in p.before) (drawn_in (call ∷ p.after)) (opened_at plain OfTally) (parts_ready OfTally p.before (call ∷ p.after) p.is))
           (tally_drawn p.before (unasked (opened_at plain OfTally)) p.here p.leads));
@@ -120,7 +120,7 @@ module _ (s : Scenario) (plain : Plain) (names : List Object) (history : Object 
     few = subst (λ n. All (λ (x : Ticketed). x.ticket ≤ n) (ticketed_events p.before)) (sym p.answers.note)
         (none_greater 0 p.here.note p.before ((keeps OfTally).rises (unasked (opened_at plain OfTally)) p.here p.before p.leads)
         (told_drew OfTally (unasked (opened_at plain OfTally)) p.here p.before p.leads)).1;
-    serves = subst (λ a. TallyServes p.here.object a call.told.reply p.here.object) (sym asks) told.0;
+    serves = subst (λ a. TallyMachine p.here.object a call.told.reply p.here.object) (sym asks) told.0;
     found = told.1;
   }
     where
@@ -130,7 +130,7 @@ module _ (s : Scenario) (plain : Plain) (names : List Object) (history : Object 
       untold : is_told call ≡ false
       untold = ap (λ a. is_event a call.told.reply) asks ∙ is.untold call.told.reply
 
-      told : TallyServes p.here.object look call.told.reply p.here.object × (is_spent call.told.reply ≡ false)
+      told : TallyMachine p.here.object look call.told.reply p.here.object × (is_spent call.told.reply ≡ false)
       told = is.serves p.here p.next call.told.reply call.told.ticket
           (subst (λ a. StepOf things.TallyServes things.TallyLooks p.here a call.told.reply call.told.ticket p.next) asks p.answers.step)
 
@@ -143,7 +143,7 @@ module _ (s : Scenario) (plain : Plain) (names : List Object) (history : Object 
     was.was,
     All-weaker (λ (x : Ticketed). x.ticket ≤ seen.told.note) (λ (x : Ticketed). x.ticket < n) (λ x le. omega (arith, le, above)) was.was.seen was.few,
     seen.told.reply,
-    subst (λ a. TallyServes was.was.shown a seen.told.reply was.was.shown) asks was.serves,
+    subst (λ a. TallyMachine was.was.shown a seen.told.reply was.was.shown) asks was.serves,
     may,
   )
     where

@@ -9,7 +9,7 @@ use Rattle.object_things.specs.Histories.{Call}
 use Rattle.shared_objects.specs.Calls.{is_same}
 use Rattle.shared_objects.specs.Names.{Apart}
 use Rattle.shared_objects.specs.Logs.{is_event, events_in}
-use Rattle.run_merge.specs.Merging.{Ticketed, all_of, history_of, AreApart, AreTagged}
+use Rattle.run_merge.specs.Merging.{Ticketed, all_of, history_of, AreOfDifferentObjects, AreTagged}
 use Rattle.run_merge.specs.SharedObjects.{ticketed}
 use Rattle.run_merge.proofs.closes.Events.{ticketed_events, event_histories}
 use Rattle.run_merge.proofs.closes.Walks.{is_told}
@@ -33,7 +33,7 @@ module _ (history : Object → List Call) where
       All-append (λ (n : Ticketed). IsTrue (is_event n.entry.asked n.entry.reply)) (ticketed_events (history name)) (all_of (event_histories names history))
       (All-map (λ (n : Ticketed). IsTrue (is_event n.entry.asked n.entry.reply)) ticketed (events_in (history name)) (filter_passes is_told (history name))) (all_events names)
 
-  pub are_apart : (names : List Object) → Apart is_same names → AreApart (event_histories names history)
+  pub are_apart : (names : List Object) → Apart is_same names → AreOfDifferentObjects (event_histories names history)
   are_apart [] apart = tt
   are_apart (name ∷ names) apart = (others names apart.0, are_apart names apart.1)
     where

@@ -21,8 +21,8 @@ use Rattle.object_things.proofs.Looking.{book_quiet, tally_quiet, disk_quiet, li
 use Rattle.object_things.proofs.Rising.{keeps_history}
 use Rattle.shared_objects.specs.Kinds.{ThingAt, serves_at, looks_at, answers_at}
 use Rattle.run_merge.specs.Machines.{ServesAt, LeadsObject}
-use Rattle.run_merge.specs.Merging.{entries_of}
-use Rattle.run_merge.specs.Products.{starts_round}
+use Rattle.run_merge.specs.Merging.{without_tickets}
+use Rattle.run_merge.specs.Products.{is_next_round}
 use Rattle.run_merge.specs.SharedObjects.{seen_at}
 use Rattle.run_merge.proofs.closes.Drawn.{HasTicket, events_told, events_untold}
 use Rattle.run_merge.proofs.closes.Events.{ticketed_events}
@@ -48,14 +48,14 @@ told_drew name old new (call ∷ calls) leads = All-cons HasTicket call calls (�
 
 -- how many of these calls start a round
 abbrev pub starts : List Call → ℕ
-starts calls = length (filter (λ (call : Call). starts_round call.asked) calls)
+starts calls = length (filter (λ (call : Call). is_next_round call.asked) calls)
 
-next_there : (tally : TallyState) (asked : Request) (call : Call) (few : List Call) → tally.round + length (cond (starts_round asked) (call ∷ few) few) < length tally.left → HasNext tally asked
+next_there : (tally : TallyState) (asked : Request) (call : Call) (few : List Call) → tally.round + length (cond (is_next_round asked) (call ∷ few) few) < length tally.left → HasNext tally asked
 next_there tally (NextRound round) call few h = omega (arith, h)
 next_there tally asked call few h = tt
 
 tally_goes : (old new : TallyState) (asked : Request) (reply : Reply) (call : Call) (few : List Call)
-    → old.round + length (cond (starts_round asked) (call ∷ few) few) < length old.left → TallyServes old asked reply new → new.round + length few < length new.left
+    → old.round + length (cond (is_next_round asked) (call ∷ few) few) < length old.left → TallyServes old asked reply new → new.round + length few < length new.left
 tally_goes old new (Done write status) Did call few h serves =
     let round = ap (λ (tally : TallyState). tally.round) serves in
     let left = ap (λ (tally : TallyState). length tally.left) serves ∙ length-set old.left old.round (slice_index_or old.left old.round 0 - 1) in
@@ -89,7 +89,7 @@ module _ (ledger : ℕ → LedgerId) where
   serves_is (OfDisk dev) old new call calls ready h = disk_is old new call.asked call.told.reply h
   serves_is (OfBook writer) old new call calls ready h = book_is old new call.asked call.told.reply h
   serves_is OfTally old new call calls ready h =
-      tally_is old new call.asked call.told.reply (next_there old call.asked call (filter (λ (c : Call). starts_round c.asked) calls) ready) h
+      tally_is old new call.asked call.told.reply (next_there old call.asked call (filter (λ (c : Call). is_next_round c.asked) calls) ready) h
   serves_is OfNone old new call calls ready h = absurd h
 
   pub serves_none : (name : Object) (old new : ThingAt name) (call : Call) → is_told call ≡ false → serves_at name old call.asked call.told.reply new → new ≡ old
@@ -106,7 +106,7 @@ module _ (ledger : ℕ → LedgerId) where
   ready_next (OfRescuer dev) old new call calls ready h = tt
   ready_next (OfDisk dev) old new call calls ready h = tt
   ready_next (OfBook writer) old new call calls ready h = tt
-  ready_next OfTally old new call calls ready h = tally_goes old new call.asked call.told.reply call (filter (λ (c : Call). starts_round c.asked) calls) ready h
+  ready_next OfTally old new call calls ready h = tally_goes old new call.asked call.told.reply call (filter (λ (c : Call). is_next_round c.asked) calls) ready h
   ready_next OfNone old new call calls ready h = tt
 
   pub ready_behind : (name : Object) (xs ys : List Call) (old last : ThingAt name) → IsReady name old (xs ++ ys) → LeadDrawn (serves_at name) old xs last → IsReady name last ys
@@ -120,18 +120,18 @@ module _ (ledger : ℕ → LedgerId) where
   ready_first (OfDisk dev) xs ys old ready = tt
   ready_first (OfBook writer) xs ys old ready = tt
   ready_first OfTally xs ys old ready =
-      let p = λ (call : Call). starts_round call.asked in
+      let p = λ (call : Call). is_next_round call.asked in
       let both : starts (xs ++ ys) ≡ starts xs + starts ys = ap (λ (l : List Call). length l) (filter-append p xs ys) ∙ length-append (filter p xs) (filter p ys) in
       omega (arith, ready, both)
   ready_first OfNone xs ys old ready = tt
 
   module _ (name : Object) where
     abbrev Result : ThingAt name → ThingAt name → List Call → Type 0
-    Result old last calls = LeadsObject ledger name (seen_at name old) (entries_of (ticketed_events calls)) (seen_at name last)
+    Result old last calls = LeadsObject ledger name (seen_at name old) (without_tickets (ticketed_events calls)) (seen_at name last)
 
     -- those that drew a ticket and are events lead it as in a run
     pub drawn_leads : (calls : List Call) (old last : ThingAt name) → All HasTicket calls → IsReady name old (drawn_in calls) → LeadDrawn (serves_at name) old (drawn_in calls) last
-        → LeadsObject ledger name (seen_at name old) (entries_of (ticketed_events calls)) (seen_at name last)
+        → LeadsObject ledger name (seen_at name old) (without_tickets (ticketed_events calls)) (seen_at name last)
     drawn_leads [] old last has ready leads = ap (seen_at name) (sym leads)
     drawn_leads (call ∷ calls) old last has ready leads =
         by_two (is_some call.told.ticket) (is_told call) refl refl ready leads (λ o r l. drawn_leads calls o last (All-tail HasTicket call calls has) r l)
@@ -142,19 +142,19 @@ module _ (ledger : ℕ → LedgerId) where
         by_two : (drew told : Bool) → is_some call.told.ticket ≡ drew → is_told call ≡ told → IsReady name old (cond drew (call ∷ drawn_in calls) (drawn_in calls))
             → LeadDrawn (serves_at name) old (cond drew (call ∷ drawn_in calls) (drawn_in calls)) last → More (drawn_in calls) → Result old last (call ∷ calls)
         by_two true true d t ready leads more =
-            subst (λ ns. LeadsObject ledger name (seen_at name old) (entries_of ns) (seen_at name last)) (sym (events_told call calls t))
+            subst (λ ns. LeadsObject ledger name (seen_at name old) (without_tickets ns) (seen_at name last)) (sym (events_told call calls t))
             (seen_at name leads.0, serves_is name old leads.0 call (drawn_in calls) ready leads.1, more leads.0 (ready_next name old leads.0 call (drawn_in calls) ready leads.1) leads.2)
         by_two true false d t ready leads more =
             let same = serves_none name old leads.0 call t leads.1 in
-            subst (λ ns. LeadsObject ledger name (seen_at name old) (entries_of ns) (seen_at name last)) (sym (events_untold call calls t))
+            subst (λ ns. LeadsObject ledger name (seen_at name old) (without_tickets ns) (seen_at name last)) (sym (events_untold call calls t))
             (subst (λ o. Result o last calls) same (more leads.0 (ready_next name old leads.0 call (drawn_in calls) ready leads.1) leads.2))
         by_two false true d t ready leads more = absurd (true≢false (sym (All-head HasTicket call calls has t) ∙ d))
         by_two false false d t ready leads more =
-            subst (λ ns. LeadsObject ledger name (seen_at name old) (entries_of ns) (seen_at name last)) (sym (events_untold call calls t)) (more old ready leads)
+            subst (λ ns. LeadsObject ledger name (seen_at name old) (without_tickets ns) (seen_at name last)) (sym (events_untold call calls t)) (more old ready leads)
 
     -- what they leave, which is the object while no draw failed
     pub object_leads : (calls : List Call) (old new : ThingState (ThingAt name)) → IsReady name old.object (drawn_in calls) → Leads (answers_at name) old calls new
-        → (last : ThingAt name) × LeadsObject ledger name (seen_at name old.object) (entries_of (ticketed_events calls)) (seen_at name last) × (new.spent ≡ false → last ≡ new.object)
+        → (last : ThingAt name) × LeadsObject ledger name (seen_at name old.object) (without_tickets (ticketed_events calls)) (seen_at name last) × (new.spent ≡ false → last ≡ new.object)
     object_leads calls old new ready leads =
         let run = (keeps name).runs old new calls leads in
         (run.last, drawn_leads calls old.object run.last (told_drew name old new calls leads) ready run.run, run.ends)

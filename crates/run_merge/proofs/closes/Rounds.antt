@@ -30,7 +30,7 @@ use Rattle.shared_objects.specs.Kinds.{answers_at}
 use Rattle.shared_objects.specs.Logs.{is_event}
 use Rattle.run_merge.specs.Entries.{Entry, AreEvents}
 use Rattle.run_merge.specs.Merging.{Ticketed}
-use Rattle.run_merge.specs.Products.{LeadsTask, starts_round}
+use Rattle.run_merge.specs.Products.{LeadsTask, is_next_round}
 use Rattle.run_merge.specs.SharedObjects.{ticketed}
 use Rattle.run_merge.proofs.closes.Drawn.{events_told, events_untold}
 use Rattle.run_merge.proofs.closes.Events.{ticketed_events}
@@ -61,16 +61,16 @@ no_starts (Rescuer dev line) not = refl
 no_starts (Completer disk carried) not = refl
 no_starts (Keeper keeping) not = absurd (true≢false not)
 
-keeps_none : (asked : Request) → is_keeping asked ≡ false → starts_round asked ≡ false
+keeps_none : (asked : Request) → is_keeping asked ≡ false → is_next_round asked ≡ false
 keeps_none (NextRound round) not = absurd (true≢false not)
 keeps_none asked not = refl
 
 module _ (setup : Setup) where
   other_task : (task : TaskState) (asked : Request) (reply : Reply) → is_keeper (id_of task) ≡ false → asked ≡ struck (request setup task)
-      → is_keeping (struck (request setup task)) ≡ false → starts_left (answered setup task reply) + one_if (starts_round asked) ≤ starts_left task
+      → is_keeping (struck (request setup task)) ≡ false → starts_left (answered setup task reply) + one_if (is_next_round asked) ≤ starts_left task
   other_task task asked reply not asks none =
       let after = no_starts (answered setup task reply) (ap is_keeper (id_stays setup task reply) ∙ not) in
-      let here = ap one_if (ap starts_round asks ∙ keeps_none (struck (request setup task)) none) in
+      let here = ap one_if (ap is_next_round asks ∙ keeps_none (struck (request setup task)) none) in
       omega (arith, after, here)
 
   resized : (pool : PoolId) (out : ℕ) (duties : List Duty) (home : Bool) → starts_left (Keeper (after_resize home pool out duties)) ≤ starts duties
@@ -88,7 +88,7 @@ module _ (setup : Setup) where
   round_starts round later duties reply event = absurd (true≢false (sym event))
 
   one_event : (task : TaskState) (asked : Request) (reply : Reply) → asked ≡ struck (request setup task) → is_event asked reply ≡ true
-      → starts_left (answered setup task reply) + one_if (starts_round asked) ≤ starts_left task
+      → starts_left (answered setup task reply) + one_if (is_next_round asked) ≤ starts_left task
   unfolding is_keeper
   one_event (Writer number todo taken line) asked reply asks event =
       other_task (Writer number todo taken line) asked reply refl asks (writer_keeps_none setup number todo taken line.doing line)
@@ -96,30 +96,30 @@ module _ (setup : Setup) where
   one_event (Completer disk carried) asked reply asks event = other_task (Completer disk carried) asked reply refl asks (completer_keeps_none disk carried)
   one_event (Keeper (Keeps [])) asked reply asks event = absurd (true≢false (sym event ∙ ap (λ a. is_event a reply) asks))
   one_event (Keeper (Keeps (Resizes pool min later ∷ duties))) asked reply asks event =
-      let here = ap (λ a. one_if (starts_round a)) asks in
+      let here = ap (λ a. one_if (is_next_round a)) asks in
       let rest = resizes pool min later duties reply (sym (ap (λ a. is_event a reply) asks) ∙ event) in
       omega (arith, here, rest)
   one_event (Keeper (Keeps (Starts round later ∷ duties))) asked reply asks event =
-      let here = ap (λ a. one_if (starts_round a)) asks in
+      let here = ap (λ a. one_if (is_next_round a)) asks in
       let rest = round_starts round later duties reply (sym (ap (λ a. is_event a reply) asks) ∙ event) in
       omega (arith, here, rest)
   one_event (Keeper (Stops breach)) asked reply asks event = absurd (true≢false (sym event ∙ ap (λ a. is_event a reply) asks))
 
   -- those of its events are no more
   pub task_starts : (es : List Entry) (first now : TaskState) → AreEvents es → LeadsTask setup first es now
-      → length (filter (λ (e : Entry). starts_round e.asked) es) ≤ starts_left first
+      → length (filter (λ (e : Entry). is_next_round e.asked) es) ≤ starts_left first
   task_starts [] first now events leads = omega arith
   task_starts (e ∷ es) first now events leads =
-      by_test (starts_round e.asked) refl
+      by_test (is_next_round e.asked) refl
       (task_starts es (answered setup first e.reply) now (All-tail (λ (x : Entry). IsTrue (is_event x.asked x.reply)) e es events) leads.1)
     where
-      step : starts_left (answered setup first e.reply) + one_if (starts_round e.asked) ≤ starts_left first
+      step : starts_left (answered setup first e.reply) + one_if (is_next_round e.asked) ≤ starts_left first
       step = one_event first e.asked e.reply leads.0 (All-head (λ (x : Entry). IsTrue (is_event x.asked x.reply)) e es events)
 
       few : List Entry
-      few = filter (λ (x : Entry). starts_round x.asked) es
+      few = filter (λ (x : Entry). is_next_round x.asked) es
 
-      by_test : (b : Bool) → starts_round e.asked ≡ b → length few ≤ starts_left (answered setup first e.reply) → length (cond b (e ∷ few) few) ≤ starts_left first
+      by_test : (b : Bool) → is_next_round e.asked ≡ b → length few ≤ starts_left (answered setup first e.reply) → length (cond b (e ∷ few) few) ≤ starts_left first
       by_test true is rest = let one = ap one_if is in omega (arith, step, rest, one)
       by_test false is rest = omega (arith, step, rest)
 
@@ -132,7 +132,7 @@ starts_told old new (NextRound round) reply serves = absurd serves
 starts_told old new asked reply serves = absurd serves
 
 abbrev pub rounds_of : List Ticketed → ℕ
-rounds_of ns = length (filter (λ (n : Ticketed). starts_round n.entry.asked) ns)
+rounds_of ns = length (filter (λ (n : Ticketed). is_next_round n.entry.asked) ns)
 
 pub tally_starts : (history : List Call) (old new : ThingState TallyState) → Leads (answers_at OfTally) old history new
     → calls.starts (drawn_in history) ≤ rounds_of (ticketed_events history)
@@ -146,23 +146,23 @@ tally_starts (call ∷ history) old new leads = by_ticket call.told.ticket leads
     events = ticketed_events history
 
     more : (b : Bool) → calls.starts few ≤ rounds_of events
-        → length (cond b (call ∷ filter (λ (c : Call). starts_round c.asked) few) (filter (λ (c : Call). starts_round c.asked) few))
-        ≤ length (cond b (ticketed call ∷ filter (λ (n : Ticketed). starts_round n.entry.asked) events) (filter (λ (n : Ticketed). starts_round n.entry.asked) events))
+        → length (cond b (call ∷ filter (λ (c : Call). is_next_round c.asked) few) (filter (λ (c : Call). is_next_round c.asked) few))
+        ≤ length (cond b (ticketed call ∷ filter (λ (n : Ticketed). is_next_round n.entry.asked) events) (filter (λ (n : Ticketed). is_next_round n.entry.asked) events))
     more true rest = omega (arith, rest)
     more false rest = rest
 
     fewer : (b : Bool) → calls.starts few ≤ rounds_of events
         → calls.starts few
-        ≤ length (cond b (ticketed call ∷ filter (λ (n : Ticketed). starts_round n.entry.asked) events) (filter (λ (n : Ticketed). starts_round n.entry.asked) events))
+        ≤ length (cond b (ticketed call ∷ filter (λ (n : Ticketed). is_next_round n.entry.asked) events) (filter (λ (n : Ticketed). is_next_round n.entry.asked) events))
     fewer true rest = omega (arith, rest)
     fewer false rest = rest
 
     by_ticket : (ticket : Option ℕ) → StepOf TallyServes TallyLooks old call.asked call.told.reply ticket leads.0 → (told : Bool) → is_told call ≡ told
         → calls.starts few ≤ rounds_of events → calls.starts (cond (is_some ticket) (call ∷ few) few) ≤ rounds_of (ticketed_events (call ∷ history))
     by_ticket (Some n) step true is rest =
-        subst (λ ns. calls.starts (call ∷ few) ≤ rounds_of ns) (sym (events_told call history is)) (more (starts_round call.asked) rest)
+        subst (λ ns. calls.starts (call ∷ few) ≤ rounds_of ns) (sym (events_told call history is)) (more (is_next_round call.asked) rest)
     by_ticket (Some n) step false is rest = absurd (true≢false (sym (starts_told old.object leads.0.object call.asked call.told.reply step.0) ∙ is))
-    by_ticket None step true is rest = subst (λ ns. calls.starts few ≤ rounds_of ns) (sym (events_told call history is)) (fewer (starts_round call.asked) rest)
+    by_ticket None step true is rest = subst (λ ns. calls.starts few ≤ rounds_of ns) (sym (events_told call history is)) (fewer (is_next_round call.asked) rest)
     by_ticket None step false is rest = subst (λ ns. calls.starts few ≤ rounds_of ns) (sym (events_untold call history is)) rest
 
 -- the tasks of a scenario start each round but the first

@@ -12,7 +12,7 @@ use Rattle.object_things.specs.Histories.{Call}
 use Rattle.shared_objects.specs.Calls.{calls_to, is_same}
 use Rattle.shared_objects.specs.Names.{Apart}
 use Rattle.shared_objects.specs.Logs.{events_in}
-use Rattle.run_merge.specs.Merging.{Ticketed, insert, sorted, Rises, all_of, done_by}
+use Rattle.run_merge.specs.Merging.{Ticketed, insert, sorted, RiseFrom, all_of, done_by}
 use Rattle.run_merge.specs.SharedObjects.{ticketed}
 use Rattle.run_merge.proofs.closes.Drawn.{events_told, events_untold, rises_above}
 use Rattle.run_merge.proofs.closes.Events.{ticketed_events, event_histories}
@@ -144,7 +144,7 @@ all_in_parts P (name ∷ names) events all =
     All-append P (filter (is_at name) events) (parts names events) (All-filter (is_at name) P events all) (all_in_parts P names events all)
 
 pub sorted_parts : (names : List Object) (last : ℕ) (events : List Ticketed) → Apart is_same names
-    → All (λ (n : Ticketed). list_any (λ name. is_same name (object_of n.entry.asked)) names ≡ true) events → Rises last events → sorted (parts names events) ≡ events
+    → All (λ (n : Ticketed). list_any (λ name. is_same name (object_of n.entry.asked)) names ≡ true) events → RiseFrom last events → sorted (parts names events) ≡ events
 sorted_parts names last [] apart there rises = ap sorted (none names)
   where
     none : (names : List Object) → parts names [] ≡ []
@@ -162,7 +162,7 @@ pub done_is : (names : List Object) (history : Object → List Call) (place : �
     → ((name : Object) → All (λ (call : Call). 0 < call.by) (history name))
     → ((name : Object) → calls_by ((place + 1) ∷ []) (history name) ≡ calls_to name log)
     → All (λ (n : Ticketed). list_any (λ name. is_same name (object_of n.entry.asked)) names ≡ true) (ticketed_events log)
-    → Rises 0 (ticketed_events log) → done_by place (event_histories names history) ≡ ticketed_events log
+    → RiseFrom 0 (ticketed_events log) → done_by place (event_histories names history) ≡ ticketed_events log
 done_is names history place log apart some calls there rises = ap sorted (picked names) ∙ sorted_parts names 0 (ticketed_events log) apart there rises
   where
     picked : (names : List Object) → filter (is_by place) (all_of (event_histories names history)) ≡ parts names (ticketed_events log)

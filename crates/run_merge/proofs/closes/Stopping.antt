@@ -17,12 +17,12 @@ use Rattle.object_things.specs.Stamps.{ThingState, StepOf, is_spent}
 use Rattle.shared_objects.specs.Closes.{Returned, ClosesAs}
 use Rattle.shared_objects.specs.Kinds.{ThingAt, serves_at, looks_at, opened_at, unasked}
 use Rattle.shared_objects.specs.Logs.{HasStopped}
-use Rattle.shared_objects.specs.Passes.{found_by}
-use Rattle.run_merge.specs.Closing.{IsThrough, IsRefused, HasLast}
-use Rattle.run_merge.specs.Machines.{ServesAt, TallyServes, LeadsObject}
-use Rattle.run_merge.specs.Merging.{Ticketed, entries_of, done_by}
+use Rattle.shared_objects.specs.Passes.{found_by, numbers_of}
+use Rattle.run_merge.specs.Closing.{IsThrough, WasRefused, HasLast}
+use Rattle.run_merge.specs.Machines.{ServesAt, TallyMachine, LeadsObject}
+use Rattle.run_merge.specs.Merging.{Ticketed, without_tickets, done_by}
 use Rattle.run_merge.specs.ObjectsByName.{get}
-use Rattle.run_merge.specs.SharedObjects.{ticketed, numbers_of, seen_at}
+use Rattle.run_merge.specs.SharedObjects.{ticketed, seen_at}
 use Rattle.run_merge.proofs.closes.Drawing.{last_drawn}
 use Rattle.run_merge.proofs.closes.Drawn.{HasTicket, events_append, events_untold, rises_events, none_greater, rises_above, rises_parts}
 use Rattle.run_merge.proofs.closes.Events.{ticketed_events, event_histories}
@@ -84,7 +84,7 @@ module _ (s : Scenario) (plain : Plain) (names : List Object) (history : Object 
       p = in_place s plain names history left tasks pass c (object_of st.call.asked) st.call there
 
       refused : (n : ℕ) → st.call.told.ticket ≡ Some n
-          → IsRefused s ledger (event_histories names history) place now task.task
+          → WasRefused s ledger (event_histories names history) place now task.task
       refused n ticket = record {
         asked = st.call.asked;
         reply = st.call.told.reply;
@@ -103,7 +103,7 @@ module _ (s : Scenario) (plain : Plain) (names : List Object) (history : Object 
             (subst (λ m. TicketsRise m p.after (left (object_of st.call.asked)).note) step.3 ((keeps (object_of st.call.asked)).rises p.next (left (object_of st.call.asked)) p.after p.rest))
             (told_drew (object_of st.call.asked) p.next (left (object_of st.call.asked)) p.after p.rest));
         object = seen_at (object_of st.call.asked) p.here.object;
-        leads = subst (λ o. LeadsObject ledger (object_of st.call.asked) o (entries_of (ticketed_events p.before)) (seen_at (object_of st.call.asked) p.here.object))
+        leads = subst (λ o. LeadsObject ledger (object_of st.call.asked) o (without_tickets (ticketed_events p.before)) (seen_at (object_of st.call.asked) p.here.object))
             (sym (begins (object_of st.call.asked)))
             (drawn_leads ledger (object_of st.call.asked) p.before (opened_at plain (object_of st.call.asked)) p.here.object drew_before
             (ready_first ledger (object_of st.call.asked) (drawn_in p.before) (drawn_in (st.call ∷ p.after)) (opened_at plain (object_of st.call.asked)) ready_all) drawn);
@@ -152,11 +152,11 @@ module _ (s : Scenario) (plain : Plain) (names : List Object) (history : Object 
               (All-weaker (λ (x : Ticketed). x.ticket ≤ parts.0) (λ (x : Ticketed). x.ticket < n) (λ x le. omega (arith, le, lt)) (ticketed_events st.here)
               (none_greater 0 parts.0 st.here parts.1 has_here).1)
 
-      stopped : IsRefused s ledger (event_histories names history) place now task.task ⊎ HasLast (numbers_of pass.drawn)
+      stopped : WasRefused s ledger (event_histories names history) place now task.task ⊎ HasLast (numbers_of pass.drawn)
       stopped = by_ticket st.call.told.ticket refl
         where
           by_ticket : (ticket : Option ℕ) → st.call.told.ticket ≡ ticket
-              → IsRefused s ledger (event_histories names history) place now task.task ⊎ HasLast (numbers_of pass.drawn)
+              → WasRefused s ledger (event_histories names history) place now task.task ⊎ HasLast (numbers_of pass.drawn)
           by_ticket (Some n) t = inl (refused n t)
           by_ticket None t =
               let step = subst (λ x. StepOf (serves_at (object_of st.call.asked)) (looks_at (object_of st.call.asked)) p.here st.call.asked st.call.told.reply x p.next) t p.answers.step in
@@ -166,7 +166,7 @@ module _ (s : Scenario) (plain : Plain) (names : List Object) (history : Object 
     through : HasStopped (setup s) task.log now → IsThrough s ledger (event_histories names history) now
     through (inl rests) = inl rests
     through (inr (call, within, asks, says)) =
-        inr (seen.was, sym (subst (λ r. TallyServes seen.was.shown LookLeft r seen.was.shown) says (subst (λ a. TallyServes seen.was.shown a call.told.reply seen.was.shown) asks seen.serves)).0)
+        inr (seen.was, sym (subst (λ r. TallyMachine seen.was.shown LookLeft r seen.was.shown) says (subst (λ a. TallyMachine seen.was.shown a call.told.reply seen.was.shown) asks seen.serves)).0)
       where
         seen : IsSeen s plain names history left tasks pass c ledger begins ready call
         seen = seen_then s plain names history left tasks pass c ledger begins ready call LookLeft asks left_look
@@ -174,6 +174,6 @@ module _ (s : Scenario) (plain : Plain) (names : List Object) (history : Object 
 
     pub comes_to : (task.task ≡ now) ⊎ IsStopped (setup s) [] task.log now task.task
         → ((task.task ≡ now) × IsThrough s ledger (event_histories names history) now)
-        ⊎ (IsRefused s ledger (event_histories names history) place now task.task ⊎ HasLast (numbers_of pass.drawn))
+        ⊎ (WasRefused s ledger (event_histories names history) place now task.task ⊎ HasLast (numbers_of pass.drawn))
     comes_to (inl is) = inl (is, through (subst (HasStopped (setup s) task.log) is (logged s plain names history left tasks pass c place task at).1))
     comes_to (inr st) = inr (stopped st)

@@ -11,7 +11,7 @@ use Rattle.block_core.specs.Breaks.{is_broken}
 use Rattle.object_things.specs.Histories.{Call}
 use Rattle.shared_objects.specs.Calls.{struck}
 use Rattle.shared_objects.specs.Logs.{is_event, is_stop, is_glance, events_in, Looked, LogLeads}
-use Rattle.run_merge.specs.Merging.{Ticketed, entries_of}
+use Rattle.run_merge.specs.Merging.{Ticketed, without_tickets}
 use Rattle.run_merge.specs.Products.{LeadsTask, led_by}
 use Rattle.run_merge.specs.SharedObjects.{ticketed}
 use Rattle.run_merge.proofs.closes.Breaking.{broken_rests, stop_breaks}
@@ -60,7 +60,7 @@ pub record IsStopped (setup : Setup) (before : List Call) (log : List Call) (now
 pub record Walked (setup : Setup) (before : List Call) (first : TaskState) (log : List Call) (last : TaskState) : Type 0 where
   -- where the events lead it
   pub now : TaskState
-  pub leads : LeadsTask setup first (entries_of (ticketed_events log)) now
+  pub leads : LeadsTask setup first (without_tickets (ticketed_events log)) now
   pub end : (last ≡ now) ⊎ IsStopped setup before log now last
 
 abbrev pub map_all : List Call → List Ticketed
@@ -72,12 +72,12 @@ has_some (x ∷ xs) = true
 
 module _ (setup : Setup) where
   by_events : (before : List Call) (first : TaskState) (m : Call) (mine : List Call) (call : Call) (events : List Call) → events_in (m ∷ mine) ≡ events
-      → (let task = led_by setup first (entries_of (map_all events)) in Looked ((before ++ m ∷ []) ++ mine) task call (look_of task))
-      → let task = led_by setup first (entries_of (map_all (events_in (m ∷ mine)))) in Looked (before ++ m ∷ mine) task call (look_of task)
+      → (let task = led_by setup first (without_tickets (map_all events)) in Looked ((before ++ m ∷ []) ++ mine) task call (look_of task))
+      → let task = led_by setup first (without_tickets (map_all (events_in (m ∷ mine)))) in Looked (before ++ m ∷ mine) task call (look_of task)
   by_events before first m mine call events is looked =
-      subst (λ l. Looked l (led_by setup first (entries_of (map_all (events_in (m ∷ mine))))) call (look_of (led_by setup first (entries_of (map_all (events_in (m ∷ mine)))))))
+      subst (λ l. Looked l (led_by setup first (without_tickets (map_all (events_in (m ∷ mine))))) call (look_of (led_by setup first (without_tickets (map_all (events_in (m ∷ mine)))))))
       (append_assoc before (m ∷ []) mine)
-      (subst (λ es. Looked ((before ++ m ∷ []) ++ mine) (led_by setup first (entries_of (map_all es))) call (look_of (led_by setup first (entries_of (map_all es))))) (sym is) looked)
+      (subst (λ es. Looked ((before ++ m ∷ []) ++ mine) (led_by setup first (without_tickets (map_all es))) call (look_of (led_by setup first (without_tickets (map_all es))))) (sym is) looked)
 
   -- behind it a task only looks
   pub only_looks : (before : List Call) (task : TaskState) (calls : List Call) (last : TaskState) → is_broken task ≡ true → AskSome calls → LogLeads setup before task calls last
@@ -116,7 +116,7 @@ module _ (setup : Setup) where
       let rest = walk (before ++ call ∷ []) first calls last (All-tail (λ (c : Call). object_of c.asked ≡ OfNone → ⊥) call calls some) leads in
       record {
         now = rest.now;
-        leads = subst (λ l. LeadsTask setup first (entries_of (map_all l)) rest.now) (sym (untold_first call calls (glance_untold call glance))) rest.leads;
+        leads = subst (λ l. LeadsTask setup first (without_tickets (map_all l)) rest.now) (sym (untold_first call calls (glance_untold call glance))) rest.leads;
         end = behind_one before call calls rest.now last rest.end;
       }
   walk before first (call ∷ calls) last some (inr (none, asks, looked, leads)) =
@@ -128,7 +128,7 @@ module _ (setup : Setup) where
       by_event : (told : Bool) → is_told call ≡ told → Walked setup (before ++ call ∷ []) (answered setup first call.told.reply) calls last → Walked setup before first (call ∷ calls) last
       by_event true is rest = record {
         now = rest.now;
-        leads = subst (λ l. LeadsTask setup first (entries_of (map_all l)) rest.now) (sym (told_first call calls is)) (asks, rest.leads);
+        leads = subst (λ l. LeadsTask setup first (without_tickets (map_all l)) rest.now) (sym (told_first call calls is)) (asks, rest.leads);
         end = behind_one before call calls rest.now last rest.end;
       }
       by_event false is rest =
@@ -137,7 +137,7 @@ module _ (setup : Setup) where
           let behind = only_looks (before ++ call ∷ []) (answered setup first call.told.reply) calls last broken others leads in
           record {
             now = first;
-            leads = subst (λ l. LeadsTask setup first (entries_of (map_all l)) first) (sym (untold_first call calls is ∙ behind.1)) refl;
+            leads = subst (λ l. LeadsTask setup first (without_tickets (map_all l)) first) (sym (untold_first call calls is ∙ behind.1)) refl;
             end = inr (record {
               here = [];
               call = call;
@@ -164,7 +164,7 @@ module _ (setup : Setup) where
   -- each event stands behind a look, where its task has one
   pub looks_there : (before : List Call) (first : TaskState) (mine rest : List Call) (call : Call) (last : TaskState) → is_told call ≡ true → AskSome (mine ++ call ∷ rest)
       → LogLeads setup before first (mine ++ call ∷ rest) last
-      → let task = led_by setup first (entries_of (ticketed_events mine)) in Looked (before ++ mine) task call (look_of task)
+      → let task = led_by setup first (without_tickets (ticketed_events mine)) in Looked (before ++ mine) task call (look_of task)
   looks_there before first [] rest call last told some (inl (glance, leads)) = absurd (true≢false (sym told ∙ glance_untold call glance))
   looks_there before first [] rest call last told some (inr (none, asks, looked, leads)) =
       subst (λ l. Looked l first call (look_of first)) (sym (append-nil before)) looked
@@ -179,11 +179,11 @@ module _ (setup : Setup) where
       others = All-tail (λ (c : Call). object_of c.asked ≡ OfNone → ⊥) m (mine ++ call ∷ rest) some
 
       Then : TaskState → List Call → Type 0
-      Then from events = Looked (before ++ m ∷ mine) (led_by setup from (entries_of (map_all events))) call (look_of (led_by setup from (entries_of (map_all events))))
+      Then from events = Looked (before ++ m ∷ mine) (led_by setup from (without_tickets (map_all events))) call (look_of (led_by setup from (without_tickets (map_all events))))
 
       by_event : (b : Bool) → is_told m ≡ b
-          → Looked ((before ++ m ∷ []) ++ mine) (led_by setup (answered setup first m.told.reply) (entries_of (ticketed_events mine))) call
-          (look_of (led_by setup (answered setup first m.told.reply) (entries_of (ticketed_events mine))))
+          → Looked ((before ++ m ∷ []) ++ mine) (led_by setup (answered setup first m.told.reply) (without_tickets (ticketed_events mine))) call
+          (look_of (led_by setup (answered setup first m.told.reply) (without_tickets (ticketed_events mine))))
           → Then first (events_in (m ∷ mine))
       by_event true is l = by_events before first m mine call (m ∷ events_in mine) (told_first m mine is) l
       by_event false is l =

@@ -17,9 +17,9 @@ use Rattle.block_core.proofs.stuck.RunsEnd.{runs_end_with_their_writes}
 use Rattle.block_core.proofs.stuck.NeverStuck.{each_run_goes_on_or_has_ended}
 use Rattle.block_core.proofs.claim.Runnable.{steps_are_few}
 use Rattle.block_core.proofs.unrefused.Unbroken.{no_task_breaks}
-use Rattle.run_merge.specs.Closing.{IsThrough, IsRefused, HasLast, IsClosed, HasMerged, ClosedRunsEnd}
+use Rattle.run_merge.specs.Closing.{IsThrough, WasRefused, HasLast, IsClosed, MergeIsEndedRun, ClosedRunsEnd}
 use Rattle.run_merge.specs.Machines.{LeadsObject}
-use Rattle.run_merge.specs.Merging.{Ticketed, Histories, entries_of, sorted, all_of, history_of, TallyThen, Shown}
+use Rattle.run_merge.specs.Merging.{Ticketed, Histories, without_tickets, sorted, all_of, history_of, TallyThen, Shown}
 use Rattle.run_merge.specs.ObjectsByName.{get}
 use Rattle.run_merge.specs.Products.{AreOfRun}
 use Rattle.run_merge.proofs.closing.Counts.{merge_length}
@@ -32,7 +32,7 @@ use Rattle.run_merge.proofs.merging.Tally.{from_there}
 use Rattle.run_merge.proofs.products.Names.{all_same}
 
 module _ (s : Scenario) (ledger : ℕ → LedgerId) (good : IsRunnable s) (rescuers : HasRescuers s.stack) (naming : IsNaming ledger) (hs : Histories) where
-  merged : (last : State) → Shown s ledger hs last → AreOfRun s ledger (entries_of (sorted (all_of hs))) last
+  merged : (last : State) → Shown s ledger hs last → AreOfRun s ledger (without_tickets (sorted (all_of hs))) last
   merged last shown = merge_runs s ledger good.scenario naming hs last shown
 
   few_entries : (last : State) → Shown s ledger hs last → length (all_of hs) < 2 ^ 24
@@ -46,9 +46,9 @@ module _ (s : Scenario) (ledger : ℕ → LedgerId) (good : IsRunnable s) (rescu
   none_left : (last : State) → Shown s ledger hs last → (was : TallyThen s ledger (history_of OfTally hs)) → sum was.shown.left ≡ 0 → unfinished last ≡ 0
   none_left last shown was none =
       let leads = subst (λ l. LeadsObject ledger OfTally (start s).objects.tally l last.objects.tally)
-      (ap entries_of was.history ∙ map-append (λ (n : Ticketed). n.entry) was.seen was.later) (shown.objects OfTally) in
-      let parts = object_split ledger OfTally (entries_of was.seen) (entries_of was.later) (start s).objects.tally last.objects.tally leads in
-      let later = from_there ledger (entries_of was.seen) (entries_of was.later) (start s).objects.tally parts.0 was.shown last.objects.tally parts.1 was.leads parts.2 in
+      (ap without_tickets was.history ∙ map-append (λ (n : Ticketed). n.entry) was.seen was.later) (shown.objects OfTally) in
+      let parts = object_split ledger OfTally (without_tickets was.seen) (without_tickets was.later) (start s).objects.tally last.objects.tally leads in
+      let later = from_there ledger (without_tickets was.seen) (without_tickets was.later) (start s).objects.tally parts.0 was.shown last.objects.tally parts.1 was.leads parts.2 in
       omega (arith, later.left, none)
 
   -- where each task is through, the run has ended
@@ -83,7 +83,7 @@ module _ (s : Scenario) (ledger : ℕ → LedgerId) (good : IsRunnable s) (rescu
     task_is place = by_three (c.task place)
       where
         by_three : ((last.task place ≡ c.reached.task place) × IsThrough s ledger hs (c.reached.task place))
-            ⊎ (IsRefused s ledger hs place (c.reached.task place) (last.task place) ⊎ HasLast drawn)
+            ⊎ (WasRefused s ledger hs place (c.reached.task place) (last.task place) ⊎ HasLast drawn)
             → (last.task place ≡ c.reached.task place) × IsThrough s ledger hs (c.reached.task place)
         by_three (inl is) = is
         by_three (inr (inl refused)) = absurd (not_refused s ledger good naming hs c.reached c.shown place (last.task place) refused)
@@ -92,7 +92,7 @@ module _ (s : Scenario) (ledger : ℕ → LedgerId) (good : IsRunnable s) (rescu
     last_is : last ≡ c.reached
     last_is = λ i. record { objects = all_same last.objects c.reached.objects object_is i; task = fun_ext (λ place. (task_is place).0) i }
 
-    pub has_merged : HasMerged s ledger hs drawn last
+    pub has_merged : MergeIsEndedRun s ledger hs drawn last
     has_merged =
         let shown = subst (Shown s ledger hs) (sym last_is) c.shown in
         let run = merged last shown in

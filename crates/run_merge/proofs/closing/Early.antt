@@ -12,8 +12,8 @@ use Rattle.run_machine.specs.Tasks.{TaskState, look_of}
 use Rattle.shared_objects.specs.Calls.{is_same}
 use Rattle.shared_objects.specs.Logs.{is_event}
 use Rattle.run_merge.specs.Machines.{LeadsObject}
-use Rattle.run_merge.specs.Merging.{Ticketed, Histories, entries_of, sorted, Rises, all_of, history_of, AreApart, AreTagged, done_by, LetsAsk, Shown}
-use Rattle.run_merge.specs.ObjectsByName.{StateAt, get, put, made_of}
+use Rattle.run_merge.specs.Merging.{Ticketed, Histories, without_tickets, sorted, RiseFrom, all_of, history_of, AreOfDifferentObjects, AreTagged, done_by, LetsAsk, Shown}
+use Rattle.run_merge.specs.ObjectsByName.{StateAt, get, put_object, made_of}
 use Rattle.run_merge.specs.Products.{LeadsTask, task_behind}
 use Rattle.run_merge.proofs.merging.Picked.{is_by, filter_swap}
 use Rattle.run_merge.proofs.merging.Splits.{object_split, task_split}
@@ -25,15 +25,15 @@ early_histories ticket [] = []
 early_histories ticket (h ∷ hs) = (h.0, early ticket h.1) ∷ early_histories ticket hs
 
 -- along an object tickets rise
-pub rises_from : (m n : ℕ) (ns : List Ticketed) → m ≤ n → Rises n ns → Rises m ns
+pub rises_from : (m n : ℕ) (ns : List Ticketed) → m ≤ n → RiseFrom n ns → RiseFrom m ns
 rises_from m n [] le r = tt
 rises_from m n (e ∷ ns) le r = (let lt = r.0 in omega (arith, le, lt), r.1)
 
-rises_filter : (p : Ticketed → Bool) (n : ℕ) (ns : List Ticketed) → Rises n ns → Rises n (filter p ns)
+rises_filter : (p : Ticketed → Bool) (n : ℕ) (ns : List Ticketed) → RiseFrom n ns → RiseFrom n (filter p ns)
 rises_filter p n [] r = tt
 rises_filter p n (e ∷ ns) r = by_test (p e) (rises_filter p e.ticket ns r.1)
   where
-    by_test : (b : Bool) → Rises e.ticket (filter p ns) → Rises n (cond b (e ∷ filter p ns) (filter p ns))
+    by_test : (b : Bool) → RiseFrom e.ticket (filter p ns) → RiseFrom n (cond b (e ∷ filter p ns) (filter p ns))
     by_test true rest = (r.0, rest)
     by_test false rest = let lt = r.0 in rises_from n e.ticket (filter p ns) (omega (arith, lt)) rest
 
@@ -57,7 +57,7 @@ module _ (ticket : ℕ) where
       ∙ ap sorted (filter_swap (is_by place) (λ (n : Ticketed). nat_lt n.ticket ticket) (all_of hs))
       ∙ sym (filter_sorted (λ (n : Ticketed). nat_lt n.ticket ticket) (filter (is_by place) (all_of hs)))
 
-  apart_early : (hs : Histories) → AreApart hs → AreApart (early_histories ticket hs)
+  apart_early : (hs : Histories) → AreOfDifferentObjects hs → AreOfDifferentObjects (early_histories ticket hs)
   apart_early [] a = tt
   apart_early (h ∷ hs) a = (others hs a.0, apart_early hs a.1)
     where
@@ -99,27 +99,27 @@ module _ (ticket : ℕ) where
           All-cons (λ (m : Ticketed). m.ticket < ticket) n ns (omega (arith, lt, le)) (weaker ns (All-tail (λ (m : Ticketed). m.ticket < own) n ns a))
 
   module _ (s : Scenario) (ledger : ℕ → LedgerId) (hs : Histories) (last : State) (shown : Shown s ledger hs last) where
-    object_then : (name : Object) → (mid : StateAt name) × LeadsObject ledger name (get (start s).objects name) (entries_of (history_of name (early_histories ticket hs))) mid
+    object_then : (name : Object) → (mid : StateAt name) × LeadsObject ledger name (get (start s).objects name) (without_tickets (history_of name (early_histories ticket hs))) mid
     object_then name =
         let p = early_first ticket 0 (history_of name hs) (rises_ordered 0 (history_of name hs) (shown.rises name)) in
         let l = subst (λ l. LeadsObject ledger name (get (start s).objects name) l (get last.objects name))
-        (ap entries_of p.1 ∙ map-append (λ (n : Ticketed). n.entry) (early ticket (history_of name hs)) p.0) (shown.objects name) in
-        let r = object_split ledger name (entries_of (early ticket (history_of name hs))) (entries_of p.0) (get (start s).objects name) (get last.objects name) l in
-        (r.0, subst (λ l. LeadsObject ledger name (get (start s).objects name) (entries_of l) r.0) (sym (history_early name hs)) r.1)
+        (ap without_tickets p.1 ∙ map-append (λ (n : Ticketed). n.entry) (early ticket (history_of name hs)) p.0) (shown.objects name) in
+        let r = object_split ledger name (without_tickets (early ticket (history_of name hs))) (without_tickets p.0) (get (start s).objects name) (get last.objects name) l in
+        (r.0, subst (λ l. LeadsObject ledger name (get (start s).objects name) (without_tickets l) r.0) (sym (history_early name hs)) r.1)
 
-    task_then : (place : ℕ) → LeadsTask (setup s) ((start s).task place) (entries_of (done_by place (early_histories ticket hs))) (task_behind s place (entries_of (early ticket (done_by place hs))))
+    task_then : (place : ℕ) → LeadsTask (setup s) ((start s).task place) (without_tickets (done_by place (early_histories ticket hs))) (task_behind s place (without_tickets (early ticket (done_by place hs))))
     task_then place =
         let p = early_first ticket 0 (done_by place hs) (sorted_ordered (filter (is_by place) (all_of hs))) in
         let l = subst (λ l. LeadsTask (setup s) ((start s).task place) l (last.task place))
-        (ap entries_of p.1 ∙ map-append (λ (n : Ticketed). n.entry) (early ticket (done_by place hs)) p.0) (shown.tasks place) in
-        let r = task_split (setup s) (entries_of (early ticket (done_by place hs))) (entries_of p.0) ((start s).task place) (last.task place) l in
-        subst (λ l. LeadsTask (setup s) ((start s).task place) (entries_of l) (task_behind s place (entries_of (early ticket (done_by place hs))))) (sym (done_early place hs)) r.0
+        (ap without_tickets p.1 ∙ map-append (λ (n : Ticketed). n.entry) (early ticket (done_by place hs)) p.0) (shown.tasks place) in
+        let r = task_split (setup s) (without_tickets (early ticket (done_by place hs))) (without_tickets p.0) ((start s).task place) (last.task place) l in
+        subst (λ l. LeadsTask (setup s) ((start s).task place) (without_tickets l) (task_behind s place (without_tickets (early ticket (done_by place hs))))) (sym (done_early place hs)) r.0
 
     -- where they lead
     pub then_state : State
-    then_state = record { objects = made_of (λ name. (object_then name).0); task = λ place. task_behind s place (entries_of (early ticket (done_by place hs))) }
+    then_state = record { objects = made_of (λ name. (object_then name).0); task = λ place. task_behind s place (without_tickets (early ticket (done_by place hs))) }
 
-    pub then_task : (place : ℕ) → then_state.task place ≡ task_behind s place (entries_of (early ticket (done_by place hs)))
+    pub then_task : (place : ℕ) → then_state.task place ≡ task_behind s place (without_tickets (early ticket (done_by place hs)))
     unfolding then_state
     then_task place = refl
 
@@ -138,22 +138,22 @@ module _ (ticket : ℕ) where
           (All-filter (λ (n : Ticketed). nat_lt n.ticket ticket) (λ (n : Ticketed). IsTrue (is_event n.entry.asked n.entry.reply)) (all_of hs) shown.events);
       apart = apart_early hs shown.apart;
       tagged = tagged_early hs shown.tagged;
-      rises = λ name. subst (Rises 0) (sym (history_early name hs)) (rises_filter (λ (n : Ticketed). nat_lt n.ticket ticket) 0 (history_of name hs) (shown.rises name));
-      objects = λ name. subst (LeadsObject ledger name (get (start s).objects name) (entries_of (history_of name (early_histories ticket hs))))
+      rises = λ name. subst (RiseFrom 0) (sym (history_early name hs)) (rises_filter (λ (n : Ticketed). nat_lt n.ticket ticket) 0 (history_of name hs) (shown.rises name));
+      objects = λ name. subst (LeadsObject ledger name (get (start s).objects name) (without_tickets (history_of name (early_histories ticket hs))))
           (sym (get_made (λ name. (object_then name).0) name)) (object_then name).1;
       tasks = task_then;
       looks = λ place mine rest n is.
           let p = early_first ticket 0 (done_by place hs) (sorted_ordered (filter (is_by place) (all_of hs))) in
           let whole : done_by place hs ≡ mine ++ n ∷ (rest ++ p.0) = p.1 ∙ ap (λ l. l ++ p.0) (sym (done_early place hs) ∙ is) ∙ append_assoc mine (n ∷ rest) p.0 in
           let lt = ticket_few place mine rest n is in
-          let task = task_behind s place (entries_of mine) in
+          let task = task_behind s place (without_tickets mine) in
           subst (λ l. LetsAsk s ledger l n.ticket task (look_of task)) (sym (history_early OfTally hs))
           (lets_early s ledger (history_of OfTally hs) n.ticket task (look_of task) (omega (arith, lt)) (shown.looks place mine (rest ++ p.0) n whole));
     }
 
 -- and with another state of one object, where its history leads to it too
 pub shown_put : (s : Scenario) (ledger : ℕ → LedgerId) (hs : Histories) (last : State) → Shown s ledger hs last → (name : Object) (v : StateAt name)
-    → LeadsObject ledger name (get (start s).objects name) (entries_of (history_of name hs)) v → Shown s ledger hs (record last { objects = put last.objects name v })
+    → LeadsObject ledger name (get (start s).objects name) (without_tickets (history_of name hs)) v → Shown s ledger hs (record last { objects = put_object last.objects name v })
 shown_put s ledger hs last shown name v leads = record {
   events = shown.events;
   apart = shown.apart;
@@ -165,9 +165,9 @@ shown_put s ledger hs last shown name v leads = record {
 }
   where
     by_test : (other : Object) (b : Bool) → is_same other name ≡ b
-        → LeadsObject ledger other (get (start s).objects other) (entries_of (history_of other hs)) (get (put last.objects name v) other)
+        → LeadsObject ledger other (get (start s).objects other) (without_tickets (history_of other hs)) (get (put_object last.objects name v) other)
     by_test other true same =
-        subst (λ k. LeadsObject ledger k (get (start s).objects k) (entries_of (history_of k hs)) (get (put last.objects name v) k)) (sym (same_is other name same))
-        (subst (LeadsObject ledger name (get (start s).objects name) (entries_of (history_of name hs))) (sym (get_put last.objects name v)) leads)
+        subst (λ k. LeadsObject ledger k (get (start s).objects k) (without_tickets (history_of k hs)) (get (put_object last.objects name v) k)) (sym (same_is other name same))
+        (subst (LeadsObject ledger name (get (start s).objects name) (without_tickets (history_of name hs))) (sym (get_put last.objects name v)) leads)
     by_test other false same =
-        subst (LeadsObject ledger other (get (start s).objects other) (entries_of (history_of other hs))) (sym (get_other last.objects name other v same)) (shown.objects other)
+        subst (LeadsObject ledger other (get (start s).objects other) (without_tickets (history_of other hs))) (sym (get_other last.objects name other v same)) (shown.objects other)

@@ -21,11 +21,11 @@ use Rattle.block_core.specs.Scenarios.{IsNaming}
 use Rattle.block_core.proofs.unrefused.Answered.{replies_are_events}
 use Rattle.block_core.proofs.unrefused.Unbroken.{no_task_breaks}
 use Rattle.shared_objects.specs.Calls.{struck}
-use Rattle.run_merge.specs.Closing.{IsRefused}
+use Rattle.run_merge.specs.Closing.{WasRefused}
 use Rattle.run_merge.specs.Entries.{Entry}
 use Rattle.run_merge.specs.Machines.{ServesAt, LeadsObject}
-use Rattle.run_merge.specs.Merging.{Ticketed, Histories, entries_of, sorted, all_of, history_of, done_by, LetsAsk, Shown}
-use Rattle.run_merge.specs.ObjectsByName.{StateAt, get, put}
+use Rattle.run_merge.specs.Merging.{Ticketed, Histories, without_tickets, sorted, all_of, history_of, done_by, LetsAsk, Shown}
+use Rattle.run_merge.specs.ObjectsByName.{StateAt, get, put_object}
 use Rattle.run_merge.specs.Products.{LeadsTask, AreOfRun, led_by, task_behind}
 use Rattle.run_merge.proofs.closing.Early.{early_histories, history_early, lets_early, then_state, then_task, shown_early, shown_put}
 use Rattle.run_merge.proofs.merging.Merged.{still_let, merge_runs}
@@ -46,23 +46,23 @@ record WouldBreak (s : Scenario) (ledger : ℕ → LedgerId) (hs : Histories) (s
 module _ (s : Scenario) (ledger : ℕ → LedgerId) (good : IsRunnable s) (naming : IsNaming ledger) where
   module _ (hs : Histories) (state : State) (shown : Shown s ledger hs state) (place ticket : ℕ) (asked : Request) (reply : Reply)
       (bad : WouldBreak s ledger hs state place ticket asked reply) where
-    reached : AreOfRun s ledger (entries_of (sorted (all_of hs))) state
+    reached : AreOfRun s ledger (without_tickets (sorted (all_of hs))) state
     reached = merge_runs s ledger good.scenario naming hs state shown
 
     abbrev new : Objects
-    new = put state.objects (object_of asked) bad.object
+    new = put_object state.objects (object_of asked) bad.object
 
     serves : Serves ledger state.objects (request (setup s) (state.task place)) reply new
     serves = struck_serves ledger state.objects (request (setup s) (state.task place)) reply new
         (subst (λ r. Serves ledger state.objects r reply new) bad.asks (serves_all ledger state.objects asked reply bad.object bad.serves))
 
     inside : place < length (tasks s)
-    inside = is_inside s ledger good.scenario naming (entries_of (sorted (all_of hs))) state (behind_run s ledger (entries_of (sorted (all_of hs))) state reached)
+    inside = is_inside s ledger good.scenario naming (without_tickets (sorted (all_of hs))) state (behind_run s ledger (without_tickets (sorted (all_of hs))) state reached)
         place asked reply bad.object bad.asks bad.serves
 
     is_let : IsLet ledger state.objects (state.task place) (look_of (state.task place))
     is_let =
-        still_let s ledger good.scenario naming hs state shown (entries_of (sorted (all_of hs))) state reached ticket (sorted (all_of hs)) []
+        still_let s ledger good.scenario naming hs state shown (without_tickets (sorted (all_of hs))) state reached ticket (sorted (all_of hs)) []
         (sym (append-nil (sorted (all_of hs)))) tt refl place (state.task place) refl bad.looked
 
     abbrev next : State
@@ -91,7 +91,7 @@ module _ (s : Scenario) (ledger : ℕ → LedgerId) (good : IsRunnable s) (namin
   led_is [] t x leads = leads
   led_is (e ∷ es) t x leads = led_is es (answered (setup s) t e.reply) x leads.1
 
-  pub not_refused : (hs : Histories) (left : State) → Shown s ledger hs left → (place : ℕ) (now : TaskState) → IsRefused s ledger hs place (left.task place) now → ⊥
+  pub not_refused : (hs : Histories) (left : State) → Shown s ledger hs left → (place : ℕ) (now : TaskState) → WasRefused s ledger hs place (left.task place) now → ⊥
   not_refused hs left shown place now r =
       none_breaks first at_call shown_call place r.ticket r.asked r.reply (record {
         object = r.object;
@@ -113,7 +113,7 @@ module _ (s : Scenario) (ledger : ℕ → LedgerId) (good : IsRunnable s) (namin
       earlier = then_state r.ticket s ledger hs left shown
 
       at_call : State
-      at_call = record earlier { objects = put earlier.objects name r.object }
+      at_call = record earlier { objects = put_object earlier.objects name r.object }
 
       history_is : history_of name (early_histories r.ticket hs) ≡ r.before
       history_is =
@@ -122,12 +122,12 @@ module _ (s : Scenario) (ledger : ℕ → LedgerId) (good : IsRunnable s) (namin
           ∙ ap (λ l. r.before ++ l) (early_none r.ticket r.later (All-weaker (λ (n : Ticketed). r.ticket < n.ticket) (λ (n : Ticketed). r.ticket ≤ n.ticket) (λ n lt. omega (arith, lt)) r.later r.greater))
           ∙ append-nil r.before
 
-      shown_call : Shown s ledger (early_histories r.ticket hs) (record (then_state r.ticket s ledger hs left shown) { objects = put (then_state r.ticket s ledger hs left shown).objects name r.object })
+      shown_call : Shown s ledger (early_histories r.ticket hs) (record (then_state r.ticket s ledger hs left shown) { objects = put_object (then_state r.ticket s ledger hs left shown).objects name r.object })
       shown_call = shown_put s ledger (early_histories r.ticket hs) (then_state r.ticket s ledger hs left shown) (shown_early r.ticket s ledger hs left shown) name r.object
-          (subst (λ l. LeadsObject ledger name (get (start s).objects name) (entries_of l) r.object) (sym history_is) r.leads)
+          (subst (λ l. LeadsObject ledger name (get (start s).objects name) (without_tickets l) r.object) (sym history_is) r.leads)
 
       task_is : left.task place ≡ (then_state r.ticket s ledger hs left shown).task place
       task_is =
-          led_is (entries_of (done_by place hs)) ((start s).task place) (left.task place) (shown.tasks place)
-          ∙ ap (λ l. task_behind s place (entries_of l)) (sym (early_all r.ticket (done_by place hs) r.mine))
+          led_is (without_tickets (done_by place hs)) ((start s).task place) (left.task place) (shown.tasks place)
+          ∙ ap (λ l. task_behind s place (without_tickets l)) (sym (early_all r.ticket (done_by place hs) r.mine))
           ∙ sym (then_task r.ticket s ledger hs left shown place)

@@ -30,7 +30,7 @@ use Rattle.shared_objects.specs.Kinds.{unasked}
 use Rattle.shared_objects.specs.Left.{HasClosed}
 use Rattle.shared_objects.specs.declared.closed.Closed.{Closed}
 use Rattle.run_merge.specs.Falling.{DevicePools, row_of, at_number, below, sets_below, records_below, with_facts, falling_below}
-use Rattle.run_merge.specs.Outcomes.{state_in, scenario_of}
+use Rattle.run_merge.specs.Outcomes.{state_in, shared_scenario}
 use Rattle.run_merge.proofs.leaving.Devices.{has_records, disk_is, set_is, records_is, no_set, no_records, disks_found, below_is, below_past, falls, none_falls}
 use Rattle.run_merge.proofs.leaving.Looking.{map_alike}
 use Rattle.run_merge.proofs.leaving.Rows.{of_bios, of_records, all_small, all_sets, all_records, all_disks}
@@ -162,7 +162,7 @@ module _ (closed : Closed) (has : HasClosed closed) where
       same : count ≡ 0 + count
       same = omega arith
 
-  pub pools_are : with_facts pools_in FsBios ∷ with_facts pools_in FsVecs ∷ falling_below pools_in 32 ≡ map (with_facts pools_in) (falling_pools (scenario_of closed).stack)
+  pub pools_are : with_facts pools_in FsBios ∷ with_facts pools_in FsVecs ∷ falling_below pools_in 32 ≡ map (with_facts pools_in) (falling_pools (shared_scenario closed).stack)
   pools_are =
       ap (λ l. with_facts pools_in FsBios ∷ with_facts pools_in FsVecs ∷ l) falling_is ∙ ap (λ (stack : Stack). map (with_facts pools_in) (falling_pools stack)) has.opened.stack
 
@@ -181,7 +181,7 @@ module _ (closed : Closed) (has : HasClosed closed) where
       let more = length-map {B = DevId × Facts} closed.records.items (λ entry. (entry.0, entry.1.thing.object.state.facts)) in
       let fall = fall_length pools_in 32 in
       let all = ap length pools_are in
-      let long = length-map (falling_pools (scenario_of closed).stack) (with_facts pools_in) in
+      let long = length-map (falling_pools (shared_scenario closed).stack) (with_facts pools_in) in
       let room = has.room.pools.1 in
       omega (arith, sets, many, records, more, fall, all, long, room)
 
@@ -192,7 +192,7 @@ module _ (closed : Closed) (has : HasClosed closed) where
       same : 0 + i ≡ i
       same = omega arith
 
-  pub disks_are : map (λ disk. disk.thing.object) closed.disks.items ≡ map (λ (dev : DevId). (state_in closed).objects.disk dev.0) (disks_of (scenario_of closed).stack)
+  pub disks_are : map (λ disk. disk.thing.object) closed.disks.items ≡ map (λ (dev : DevId). (state_in closed).objects.disk dev.0) (disks_of (shared_scenario closed).stack)
   disks_are =
       sym (map-map (λ thing. thing.object) (λ shut. state_of shut.thing) closed.disks.items)
       ∙ ap (map (λ thing. thing.object))
@@ -207,6 +207,6 @@ module _ (closed : Closed) (has : HasClosed closed) where
   disks_fit =
       let are = ap length disks_are in
       let long = length-map closed.disks.items (λ disk. disk.thing.object) in
-      let all = length-map (disks_of (scenario_of closed).stack) (λ (dev : DevId). (state_in closed).objects.disk dev.0) in
+      let all = length-map (disks_of (shared_scenario closed).stack) (λ (dev : DevId). (state_in closed).objects.disk dev.0) in
       let room = has.room.disks.1 in
       omega (arith, are, long, all, room)

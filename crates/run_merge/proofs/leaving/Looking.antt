@@ -7,9 +7,9 @@ use Rattle.std.proofs.lemmas.Bool.{true≢false, eq-eqb, ne_eqb}
 use Rattle.std.proofs.lemmas.List.Elements.{All-nil, All-cons, All-head, All-tail}
 use Rattle.task_core.specs.Tables.{has_number, look_up}
 
-abbrev pub AreApart : List ℕ → Type 0
-AreApart [] = Unit {0}
-AreApart (n ∷ ns) = All (λ m. n ≢ m) ns × AreApart ns
+abbrev pub AreDistinct : List ℕ → Type 0
+AreDistinct [] = Unit {0}
+AreDistinct (n ∷ ns) = All (λ m. n ≢ m) ns × AreDistinct ns
 
 module _ {E X : Type 0} (key : E → ℕ) (value : E → X) (none : ℕ → X) where
   abbrev look : List E → ℕ → X
@@ -31,7 +31,7 @@ module _ {E X : Type 0} (key : E → ℕ) (value : E → X) (none : ℕ → X) w
       λ i. here i ∷ rest i
 
   -- each entry is found under its key
-  pub looked : (entries : List E) → AreApart (map key entries) → map value entries ≡ map (look entries) (map key entries)
+  pub looked : (entries : List E) → AreDistinct (map key entries) → map value entries ≡ map (look entries) (map key entries)
   looked [] apart = refl
   looked (entry ∷ entries) apart =
       let here = sym (found_first entry entries (key entry) refl) in
@@ -51,14 +51,14 @@ module _ (number : ℕ → ℕ) (apart : (m n : ℕ) → m < n → number m ≢ 
       by_test true all = All-cons (λ k. number n ≢ k) (number m) (map number rest) (apart n m lt) all
       by_test false all = all
 
-  pub numbers_apart : (n count : ℕ) → AreApart (map number (filter is (range_with_len n count)))
+  pub numbers_apart : (n count : ℕ) → AreDistinct (map number (filter is (range_with_len n count)))
   numbers_apart n zero = tt
   numbers_apart n (suc count) = by_test (is n) (numbers_apart (n + 1) count) (above n (n + 1) count (omega arith))
     where
       rest : List ℕ
       rest = filter is (range_with_len (n + 1) count)
 
-      by_test : (b : Bool) → AreApart (map number rest) → All (λ k. number n ≢ k) (map number rest) → AreApart (map number (cond b (n ∷ rest) rest))
+      by_test : (b : Bool) → AreDistinct (map number rest) → All (λ k. number n ≢ k) (map number rest) → AreDistinct (map number (cond b (n ∷ rest) rest))
       by_test true all here = (here, all)
       by_test false all here = all
 

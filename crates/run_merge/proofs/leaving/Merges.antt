@@ -28,14 +28,15 @@ use Rattle.shared_objects.specs.Logs.{events_in}
 use Rattle.shared_objects.specs.Rows.{Abreast}
 use Rattle.shared_objects.specs.declared.closed.Closed.{Closed}
 use Rattle.shared_objects.specs.declared.closed.ClosedTask.{ClosedTask}
+use Rattle.shared_objects.specs.Passes.{numbers_of}
 use Rattle.run_merge.specs.declared.outcome.Outcome.{Outcome}
-use Rattle.run_merge.specs.Closing.{HasMerged}
+use Rattle.run_merge.specs.Closing.{MergeIsEndedRun}
 use Rattle.run_merge.specs.Falling.{with_facts, falling_below}
 use Rattle.run_merge.specs.Listing.{IsTrace}
 use Rattle.run_merge.specs.Merging.{Ticketed, all_of, done_by, sorted}
 use Rattle.run_merge.specs.ObjectsByName.{made_of}
-use Rattle.run_merge.specs.Outcomes.{scenario_of, ledger_of, histories_in, histories_by, state_in, IsMerged}
-use Rattle.run_merge.specs.SharedObjects.{DrewAsEvent, entry_histories, numbers_of, seen_at, state_left, ticketed}
+use Rattle.run_merge.specs.Outcomes.{shared_scenario, shared_ledger, histories_in, histories_by, state_in, IsOutcomeOf}
+use Rattle.run_merge.specs.SharedObjects.{DrewAsEvent, entry_histories, seen_at, state_left, ticketed}
 use Rattle.run_merge.proofs.closes.Closes.{closes_are_runs}
 use Rattle.run_merge.proofs.closes.Events.{histories_are}
 use Rattle.run_merge.proofs.closes.Sorting.{picks_mine}
@@ -76,12 +77,12 @@ module _ (closed : Closed) (has : HasClosed closed) where
       ap state (sym same)
 
   -- and its closes are those of the scenario
-  closes_in : ClosesAs (setup_in (scenario_of closed)) closed.told.value.objects (names_in closed) (history_in closed) (left_in closed closed.told.value.objects) has.returned closed.pass.value
+  closes_in : ClosesAs (setup_in (shared_scenario closed)) closed.told.value.objects (names_in closed) (history_in closed) (left_in closed closed.told.value.objects) has.returned closed.pass.value
   closes_in =
       subst (λ setup. ClosesAs setup closed.told.value.objects (names_in closed) (history_in closed) (left_in closed closed.told.value.objects) has.returned closed.pass.value)
       has.opened.setup has.closes
 
-  firsts_in : map (λ (task : Returned). task.first) has.returned ≡ opened.tasks (scenario_of closed)
+  firsts_in : map (λ (task : Returned). task.first) has.returned ≡ opened.tasks (shared_scenario closed)
   firsts_in = has.firsts ∙ has.opened.tasks
 
   some_by : (name : Object) → All (λ (call : Call). 0 < call.by) (history_in closed name)
@@ -131,28 +132,28 @@ module _ (closed : Closed) (has : HasClosed closed) where
     pub task_shows : done_by place (histories_in closed) ≡ sorted (all_of (histories_by closed task.seats.value))
     task_shows = ap sorted (picked (names_in closed))
 
-  runnable : IsRunnable (scenario_of closed)
+  runnable : IsRunnable (shared_scenario closed)
   runnable = (accepted_texts_are_runnable closed.told.value.accepted.value closed.told.value.work.value has.opened.read).0
 
-  closes : HasMerged (scenario_of closed) (ledger_of closed) (histories_in closed) (numbers_of closed.pass.value.drawn)
+  closes : MergeIsEndedRun (shared_scenario closed) (shared_ledger closed) (histories_in closed) (numbers_of closed.pass.value.drawn)
       (state_left (left_in closed closed.told.value.objects) has.returned)
       × ((name : Object) → All DrewAsEvent (history_in closed name))
   closes =
       closes_are_runs closed.told.value (names_in closed) (history_in closed) (left_in closed closed.told.value.objects) has.returned closed.pass.value
       has.opened has.firsts has.closes has.found
 
-  merged : HasMerged (scenario_of closed) (ledger_of closed) (histories_in closed) (numbers_of closed.pass.value.drawn) (state_in closed)
+  merged : MergeIsEndedRun (shared_scenario closed) (shared_ledger closed) (histories_in closed) (numbers_of closed.pass.value.drawn) (state_in closed)
   merged =
-      subst (HasMerged (scenario_of closed) (ledger_of closed) (histories_in closed) (numbers_of closed.pass.value.drawn)) state_is closes.0
+      subst (MergeIsEndedRun (shared_scenario closed) (shared_ledger closed) (histories_in closed) (numbers_of closed.pass.value.drawn)) state_is closes.0
 
   -- as many events as the tasks had together
   counted : min (sum_by (λ (task : ClosedTask). task.events) closed.tasks.items) (2 ^ 64 - 1) ≡ length merged.run.0
   counted =
-      let all = all_tasks (scenario_of closed) closed.told.value.objects (names_in closed) (history_in closed) (left_in closed closed.told.value.objects) has.returned closed.pass.value closes_in firsts_in in
+      let all = all_tasks (shared_scenario closed) closed.told.value.objects (names_in closed) (history_in closed) (left_in closed closed.told.value.objects) has.returned closed.pass.value closes_in firsts_in in
       let same = ap (λ histories. length (all_of histories)) (histories_are (names_in closed) (history_in closed) closes.1) in
-      let long = merge_length (scenario_of closed) (ledger_of closed) (all_of (histories_in closed)) (state_in closed) merged.run in
-      let bounded = runs_are_bounded (scenario_of closed) (ledger_of closed) merged.run.0 (state_in closed) runnable.scenario has.opened.one.holds.numbered merged.run.1 in
-      let few = steps_are_few (scenario_of closed) runnable in
+      let long = merge_length (shared_scenario closed) (shared_ledger closed) (all_of (histories_in closed)) (state_in closed) merged.run in
+      let bounded = runs_are_bounded (shared_scenario closed) (shared_ledger closed) merged.run.0 (state_in closed) runnable.scenario has.opened.one.holds.numbered merged.run.1 in
+      let few = steps_are_few (shared_scenario closed) runnable in
       let sums = sums_stop (λ (task : ClosedTask). task.events) (λ (task : Returned). length (events_in task.log)) (2 ^ 64 - 1) closed.tasks.items has.returned
       (abreast_weaker (IsReturned now) (λ (task : ClosedTask) (returned : Returned). task.events ≡ min (length (events_in returned.log)) (2 ^ 64 - 1)) closed.tasks.items has.returned
       (λ task returned is. is.events) has.tasks) (omega (arith, all, same, long, bounded, few)) in
@@ -162,7 +163,7 @@ module _ (closed : Closed) (has : HasClosed closed) where
       → outcome.ended.disks.items ≡ map (λ disk. disk.thing.object) closed.disks.items
       → outcome.ended.pools.items ≡ with_facts (pools_in closed has) FsBios ∷ with_facts (pools_in closed has) FsVecs ∷ falling_below (pools_in closed has) 32
       → outcome.ended.steps ≡ min (sum_by (λ (task : ClosedTask). task.events) closed.tasks.items) (2 ^ 64 - 1)
-      → IsTrace closed.trace closed.tasks.items outcome.events → IsMerged closed outcome
+      → IsTrace closed.trace closed.tasks.items outcome.events → IsOutcomeOf closed outcome
   is_merged outcome statuses disks pools steps trace =
       let named = run_named closed.told.value has.opened merged.run.0 (state_in closed) merged.run.1 in
       record {

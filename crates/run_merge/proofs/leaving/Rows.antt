@@ -16,7 +16,7 @@ use Rattle.task_core.specs.opened.Openings.{itself, set_index, uses_set, slip_in
 use Rattle.task_steps.specs.Routed.{Routing, setup}
 use Rattle.shared_objects.specs.Holding.{by_pool, set_key, slip_key}
 use Rattle.run_merge.proofs.leaving.Devices.{has_records}
-use Rattle.run_merge.proofs.leaving.Looking.{AreApart, looked, numbers_apart, head_or, tail_of, has_some, pairs}
+use Rattle.run_merge.proofs.leaving.Looking.{AreDistinct, looked, numbers_apart, head_or, tail_of, has_some, pairs}
 
 -- numbers of pools
 twice_apart : (m n : ℕ) → m < n → 2 * m ≢ 2 * n
@@ -106,8 +106,8 @@ module _ (r : Routing) where
     keys_are : map (λ (e : SetId × X). set_key e.0) row ≡ 65 ∷ map (λ d. 2 * d) devices
     keys_are = keys ∙ ap (λ l. 65 ∷ l) (shifted 0 count)
 
-    apart : AreApart (map (λ (e : SetId × X). set_key e.0) row)
-    apart = subst AreApart (sym keys_are) (odd (has_set (setup r)) 0 count, numbers_apart (λ d. 2 * d) twice_apart (has_set (setup r)) 0 count)
+    apart : AreDistinct (map (λ (e : SetId × X). set_key e.0) row)
+    apart = subst AreDistinct (sym keys_are) (odd (has_set (setup r)) 0 count, numbers_apart (λ d. 2 * d) twice_apart (has_set (setup r)) 0 count)
       where
         odd : (is : ℕ → Bool) (n c : ℕ) → All (λ m. 65 ≢ m) (map (λ d. 2 * d) (filter is (range_with_len n c)))
         odd is n zero = All-nil (λ m. 65 ≢ m)
@@ -158,8 +158,8 @@ module _ (r : Routing) where
     abbrev mirrors : List ℕ
     mirrors = filter (has_records r) (range_with_len 0 count)
 
-    records_apart : AreApart (map (λ (e : DevId × X). slip_key e.0) row)
-    records_apart = subst AreApart (sym keys) (numbers_apart (λ d. 2 * d + 1) odd_apart (has_records r) 0 count)
+    records_apart : AreDistinct (map (λ (e : DevId × X). slip_key e.0) row)
+    records_apart = subst AreDistinct (sym keys) (numbers_apart (λ d. 2 * d + 1) odd_apart (has_records r) 0 count)
 
     pub all_records : {F : Type 0} (final : Y → F) → map {B = DevId × F} (λ (e : DevId × X). (e.0, final (value e.1))) row
         ≡ map {B = DevId × F} (λ n. (at n, final (records_of (2 * n + 1)))) mirrors
@@ -175,6 +175,6 @@ module _ (r : Routing) where
       (keys : map key row ≡ map itself (filter (is_disk (setup r)) (range_with_len 0 count))) where
     pub all_disks : map value row ≡ map (look_up key value none row) (filter (is_disk (setup r)) (range_with_len 0 count))
     all_disks =
-        looked key value none row (subst AreApart (sym keys) (numbers_apart itself itself_apart (is_disk (setup r)) 0 count))
+        looked key value none row (subst AreDistinct (sym keys) (numbers_apart itself itself_apart (is_disk (setup r)) 0 count))
         ∙ ap (map (look_up key value none row)) keys
         ∙ map-map (look_up key value none row) itself (filter (is_disk (setup r)) (range_with_len 0 count))

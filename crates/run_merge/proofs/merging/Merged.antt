@@ -18,7 +18,7 @@ use Rattle.run_merge.specs.Entries.{Entry, entries_in}
 use Rattle.run_merge.specs.Machines.{LeadsObject, entries_at}
 use Rattle.run_merge.specs.ObjectsByName.{get}
 use Rattle.run_merge.specs.Products.{LeadsTask, entries_by, task_behind, AreOfRun}
-use Rattle.run_merge.specs.Merging.{Ticketed, Histories, entries_of, sorted, all_of, history_of, done_by, TallyThen, LetsAsk, Shown, MergesAreRuns}
+use Rattle.run_merge.specs.Merging.{Ticketed, Histories, without_tickets, sorted, all_of, history_of, done_by, TallyThen, LetsAsk, Shown, MergesAreRuns}
 use Rattle.run_merge.proofs.merging.Picked.{is_at, is_by, entries_filter, merge_at, merge_by, merge_entries_at, merge_entries_by}
 use Rattle.run_merge.proofs.merging.Splits.{cut, object_split, task_split, smaller_first}
 use Rattle.run_merge.proofs.merging.Tally.{IsLater, from_there}
@@ -35,7 +35,7 @@ module _ (s : Scenario) (ledger : ℕ → LedgerId) (good : IsScenario s) (namin
 
   -- What a task saw of the tally still lets it ask when it draws its ticket: the tally that it saw is an earlier one.
   module _ (between : List Entry) (state : State) (reached : AreOfRun s ledger between state) (ticket : ℕ) (before after : List Ticketed)
-      (all : sorted (all_of hs) ≡ before ++ after) (above : Ordered ticket after) (entries : entries_of before ≡ between) where
+      (all : sorted (all_of hs) ≡ before ++ after) (above : Ordered ticket after) (entries : without_tickets before ≡ between) where
     is_later : (was : TallyThen s ledger (history_of OfTally hs)) → All (λ (n : Ticketed). n.ticket < ticket) was.seen → IsLater was.shown state.objects.tally
     is_later was few =
         let history : filter (is_at OfTally) before ++ filter (is_at OfTally) after ≡ was.seen ++ was.later =
@@ -43,13 +43,13 @@ module _ (s : Scenario) (ledger : ℕ → LedgerId) (good : IsScenario s) (namin
         ∙ merge_at hs shown.apart shown.tagged shown.rises OfTally ∙ was.history in
         let more = smaller_first ticket (filter (is_at OfTally) before) (filter (is_at OfTally) after) was.seen was.later history
         (ordered_filter (is_at OfTally) ticket after above) few in
-        let own : entries_at OfTally (entries_in (scene s ledger) (start s) reached.0 state reached.1) ≡ entries_of was.seen ++ entries_of more.0 =
+        let own : entries_at OfTally (entries_in (scene s ledger) (start s) reached.0 state reached.1) ≡ without_tickets was.seen ++ without_tickets more.0 =
         ap (entries_at OfTally) (reached.2 ∙ sym entries) ∙ entries_filter (λ (e : Entry). is_same OfTally (object_of e.asked)) before
-        ∙ ap entries_of more.1 ∙ map-append (λ (n : Ticketed). n.entry) was.seen more.0 in
+        ∙ ap without_tickets more.1 ∙ map-append (λ (n : Ticketed). n.entry) was.seen more.0 in
         let run = subst (λ l. LeadsObject ledger OfTally (start s).objects.tally l state.objects.tally) own
         (run_objects (scene s ledger) OfTally (start s) reached.0 state reached.1) in
-        let parts = object_split ledger OfTally (entries_of was.seen) (entries_of more.0) (start s).objects.tally state.objects.tally run in
-        from_there ledger (entries_of was.seen) (entries_of more.0) (start s).objects.tally parts.0 was.shown state.objects.tally parts.1 was.leads parts.2
+        let parts = object_split ledger OfTally (without_tickets was.seen) (without_tickets more.0) (start s).objects.tally state.objects.tally run in
+        from_there ledger (without_tickets was.seen) (without_tickets more.0) (start s).objects.tally parts.0 was.shown state.objects.tally parts.1 was.leads parts.2
 
     k : Known s between state
     k = known s ledger good naming between state reached
@@ -85,7 +85,7 @@ module _ (s : Scenario) (ledger : ℕ → LedgerId) (good : IsScenario s) (namin
 
   -- so its entry stands behind all that it has to
   comes_here : (between : List Entry) (state : State) (reached : AreOfRun s ledger between state) (before after : List Ticketed) (here : Ticketed)
-      → sorted (all_of hs) ≡ before ++ here ∷ after → entries_of before ≡ between → ComesBehind s between (state.task here.entry.place) here.entry.asked
+      → sorted (all_of hs) ≡ before ++ here ∷ after → without_tickets before ≡ between → ComesBehind s between (state.task here.entry.place) here.entry.asked
   comes_here between state reached before after here all entries =
       let place = here.entry.place in
       let mine = filter (is_by place) before in
@@ -93,28 +93,28 @@ module _ (s : Scenario) (ledger : ℕ → LedgerId) (good : IsScenario s) (namin
       sym (merge_by hs place) ∙ ap (filter (is_by place)) all ∙ filter-append (is_by place) before (here ∷ after)
       ∙ ap (λ b. filter (is_by place) before ++ cond b (here ∷ filter (is_by place) after) (filter (is_by place) after)) (eq-eqb place place refl) in
       let b = behind_run s ledger between state reached in
-      let task = task_behind s place (entries_of mine) in
+      let task = task_behind s place (without_tickets mine) in
       let task_is : state.task place ≡ task =
       b.mine place ∙ ap (task_behind s place) (ap (entries_by place) (sym entries) ∙ entries_filter (λ (e : Entry). place == e.place) before) in
       let led = subst (λ l. LeadsTask (setup s) ((start s).task place) l (last.task place))
-      (ap entries_of own ∙ map-append (λ (n : Ticketed). n.entry) mine (here ∷ filter (is_by place) after)) (shown.tasks place) in
+      (ap without_tickets own ∙ map-append (λ (n : Ticketed). n.entry) mine (here ∷ filter (is_by place) after)) (shown.tasks place) in
       let asks : here.entry.asked ≡ struck (request (setup s) task) =
-      (task_split (setup s) (entries_of mine) (here.entry ∷ entries_of (filter (is_by place) after)) ((start s).task place) (last.task place) led).1.0 in
+      (task_split (setup s) (without_tickets mine) (here.entry ∷ without_tickets (filter (is_by place) after)) ((start s).task place) (last.task place) led).1.0 in
       let above = (ordered_split 0 before (here ∷ after) (subst (Ordered 0) all (sorted_ordered (all_of hs)))).1.1 in
       let may = still_let between state reached here.ticket before (here ∷ after) all (omega arith, above) entries place task task_is
       (shown.looks place mine (filter (is_by place) after) here own) in
       let comes = comes_by s ledger between state (known s ledger good naming between state reached) b.count place task task_is may in
       subst (λ (x : TaskState). ComesBehind s between x here.entry.asked) (sym task_is) (subst (ComesBehind s between task) (sym asks) comes)
 
-  comes : (between after : List Entry) (e : Entry) → entries_of (sorted (all_of hs)) ≡ between ++ e ∷ after → (state : State) → AreOfRun s ledger between state
+  comes : (between after : List Entry) (e : Entry) → without_tickets (sorted (all_of hs)) ≡ between ++ e ∷ after → (state : State) → AreOfRun s ledger between state
       → ComesBehind s between (state.task e.place) e.asked
   comes between after e is state reached =
       let c = cut (sorted (all_of hs)) between after e is in
       subst (λ (x : Entry). ComesBehind s between (state.task x.place) x.asked) c.entry (comes_here between state reached c.before c.after c.here c.all c.entries)
 
-  pub merge_runs : AreOfRun s ledger (entries_of (sorted (all_of hs))) last
+  pub merge_runs : AreOfRun s ledger (without_tickets (sorted (all_of hs))) last
   merge_runs =
-      leads s ledger good naming [] (entries_of (sorted (all_of hs))) (start s) last (at_start s ledger)
+      leads s ledger good naming [] (without_tickets (sorted (all_of hs))) (start s) last (at_start s ledger)
       (All-map (λ (e : Entry). IsTrue (is_event e.asked e.reply)) (λ (n : Ticketed). n.entry) (sorted (all_of hs))
       (all_sorted (λ (n : Ticketed). IsTrue (is_event n.entry.asked n.entry.reply)) (all_of hs) shown.events))
       (λ name. subst (λ l. LeadsObject ledger name (get (start s).objects name) l (get last.objects name)) (sym (merge_entries_at hs shown.apart shown.tagged shown.rises name)) (shown.objects name))

@@ -8,19 +8,19 @@ use Rattle.shared_objects.specs.Calls.{is_same}
 use Rattle.run_merge.specs.Entries.{Entry}
 use Rattle.run_merge.specs.Machines.{entries_at}
 use Rattle.run_merge.specs.Products.{entries_by}
-use Rattle.run_merge.specs.Merging.{Ticketed, Histories, entries_of, sorted, Rises, all_of, history_of, AreApart, AreTagged, done_by}
+use Rattle.run_merge.specs.Merging.{Ticketed, Histories, without_tickets, sorted, RiseFrom, all_of, history_of, AreOfDifferentObjects, AreTagged, done_by}
 use Rattle.run_merge.proofs.merging.Tickets.{rising_sorted, filter_sorted}
 use Rattle.run_merge.proofs.products.Names.{same_is}
 
-pub entries_filter : (q : Entry → Bool) (ns : List Ticketed) → filter q (entries_of ns) ≡ entries_of (filter (λ (n : Ticketed). q n.entry) ns)
+pub entries_filter : (q : Entry → Bool) (ns : List Ticketed) → filter q (without_tickets ns) ≡ without_tickets (filter (λ (n : Ticketed). q n.entry) ns)
 entries_filter q [] = refl
 entries_filter q (n ∷ ns) = by_test (q n.entry) (entries_filter q ns)
   where
     rest : List Ticketed
     rest = filter (λ (x : Ticketed). q x.entry) ns
 
-    by_test : (b : Bool) → filter q (entries_of ns) ≡ entries_of rest
-        → cond b (n.entry ∷ filter q (entries_of ns)) (filter q (entries_of ns)) ≡ entries_of (cond b (n ∷ rest) rest)
+    by_test : (b : Bool) → filter q (without_tickets ns) ≡ without_tickets rest
+        → cond b (n.entry ∷ filter q (without_tickets ns)) (filter q (without_tickets ns)) ≡ without_tickets (cond b (n ∷ rest) rest)
     by_test true is = ap (λ l. n.entry ∷ l) is
     by_test false is = is
 
@@ -62,7 +62,7 @@ none_among name (h ∷ hs) apart =
     ap (λ b. if b then h.1 else history_of name hs) (All-head (λ (other : Object × List Ticketed). is_same name other.0 ≡ false) h hs apart)
     ∙ none_among name hs (All-tail (λ (other : Object × List Ticketed). is_same name other.0 ≡ false) h hs apart)
 
-pub at_is : (name : Object) (hs : Histories) → AreApart hs → AreTagged hs → filter (is_at name) (all_of hs) ≡ history_of name hs
+pub at_is : (name : Object) (hs : Histories) → AreOfDifferentObjects hs → AreTagged hs → filter (is_at name) (all_of hs) ≡ history_of name hs
 at_is name [] apart tagged = refl
 at_is name (h ∷ hs) apart tagged =
     filter-append (is_at name) h.1 (all_of hs) ∙ ap (λ l. filter (is_at name) h.1 ++ l) (at_is name hs apart.1 tagged.1) ∙ by_test (is_same name h.0) refl
@@ -75,16 +75,16 @@ at_is name (h ∷ hs) apart tagged =
 
 -- so it is in the merge, and those of a task are what it did
 module _ (hs : Histories) where
-  pub merge_at : AreApart hs → AreTagged hs → ((name : Object) → Rises 0 (history_of name hs)) → (name : Object) → filter (is_at name) (sorted (all_of hs)) ≡ history_of name hs
+  pub merge_at : AreOfDifferentObjects hs → AreTagged hs → ((name : Object) → RiseFrom 0 (history_of name hs)) → (name : Object) → filter (is_at name) (sorted (all_of hs)) ≡ history_of name hs
   merge_at apart tagged rises name = filter_sorted (is_at name) (all_of hs) ∙ ap sorted (at_is name hs apart tagged) ∙ rising_sorted 0 (history_of name hs) (rises name)
 
   pub merge_by : (place : ℕ) → filter (is_by place) (sorted (all_of hs)) ≡ done_by place hs
   merge_by place = filter_sorted (is_by place) (all_of hs)
 
-  pub merge_entries_at : AreApart hs → AreTagged hs → ((name : Object) → Rises 0 (history_of name hs)) → (name : Object)
-      → entries_at name (entries_of (sorted (all_of hs))) ≡ entries_of (history_of name hs)
+  pub merge_entries_at : AreOfDifferentObjects hs → AreTagged hs → ((name : Object) → RiseFrom 0 (history_of name hs)) → (name : Object)
+      → entries_at name (without_tickets (sorted (all_of hs))) ≡ without_tickets (history_of name hs)
   merge_entries_at apart tagged rises name =
-      entries_filter (λ (e : Entry). is_same name (object_of e.asked)) (sorted (all_of hs)) ∙ ap entries_of (merge_at apart tagged rises name)
+      entries_filter (λ (e : Entry). is_same name (object_of e.asked)) (sorted (all_of hs)) ∙ ap without_tickets (merge_at apart tagged rises name)
 
-  pub merge_entries_by : (place : ℕ) → entries_by place (entries_of (sorted (all_of hs))) ≡ entries_of (done_by place hs)
-  merge_entries_by place = entries_filter (λ (e : Entry). place == e.place) (sorted (all_of hs)) ∙ ap entries_of (merge_by place)
+  pub merge_entries_by : (place : ℕ) → entries_by place (without_tickets (sorted (all_of hs))) ≡ without_tickets (done_by place hs)
+  merge_entries_by place = entries_filter (λ (e : Entry). place == e.place) (sorted (all_of hs)) ∙ ap without_tickets (merge_by place)

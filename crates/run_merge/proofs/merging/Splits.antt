@@ -9,7 +9,7 @@ use Rattle.run_machine.specs.Scene.{Setup}
 use Rattle.run_machine.specs.Tasks.{TaskState, answered}
 use Rattle.run_merge.specs.Entries.{Entry}
 use Rattle.run_merge.specs.Machines.{LeadsObject}
-use Rattle.run_merge.specs.Merging.{Ticketed, entries_of}
+use Rattle.run_merge.specs.Merging.{Ticketed, without_tickets}
 use Rattle.run_merge.specs.ObjectsByName.{StateAt}
 use Rattle.run_merge.specs.Products.{LeadsTask, led_by}
 use Rattle.run_merge.proofs.merging.Tickets.{Ordered}
@@ -32,10 +32,10 @@ pub record IsCut (ns : List Ticketed) (between : List Entry) (e : Entry) : Type 
   pub here : Ticketed
   pub after : List Ticketed
   pub all : ns ≡ before ++ here ∷ after
-  pub entries : entries_of before ≡ between
+  pub entries : without_tickets before ≡ between
   pub entry : here.entry ≡ e
 
-pub cut : (ns : List Ticketed) (between after : List Entry) (e : Entry) → entries_of ns ≡ between ++ e ∷ after → IsCut ns between e
+pub cut : (ns : List Ticketed) (between after : List Entry) (e : Entry) → without_tickets ns ≡ between ++ e ∷ after → IsCut ns between e
 cut [] [] after e is = absurd (true≢false (ap is_none is))
 cut [] (b ∷ between) after e is = absurd (true≢false (ap is_none is))
 cut (n ∷ ns) [] after e is = record { before = []; here = n; after = ns; all = refl; entries = refl; entry = ap (first_or e) is }

@@ -7,9 +7,9 @@ use Rattle.run_machine.specs.Laws.{OfTally}
 use Rattle.run_machine.specs.Objects.{TallyState}
 use Rattle.run_machine.specs.Requests.{Request, Reply, Done, NextRound, LookRound, LookLeft, Present, LeftOver, Did}
 use Rattle.run_merge.specs.Entries.{Entry}
-use Rattle.run_merge.specs.Machines.{TallyServes, LeadsObject}
+use Rattle.run_merge.specs.Machines.{TallyMachine, LeadsObject}
 
-tally_same : (old : TallyState) (request : Request) (reply : Reply) (a b : TallyState) → TallyServes old request reply a → TallyServes old request reply b → a ≡ b
+tally_same : (old : TallyState) (request : Request) (reply : Reply) (a b : TallyState) → TallyMachine old request reply a → TallyMachine old request reply b → a ≡ b
 tally_same old (Done write status) Did a b x y = x ∙ sym y
 tally_same old (Done write status) reply a b x y = absurd x
 tally_same old (NextRound round) Did a b x y = x.1 ∙ sym y.1
@@ -39,7 +39,7 @@ set_less (x ∷ xs) (suc i) =
 same_later : (old new : TallyState) → new ≡ old → IsLater old new
 same_later old new is = let a = ap (λ (t : TallyState). sum t.left) is in let b = ap (λ (t : TallyState). t.round) is in record { left = omega (arith, a); round = omega (arith, b) }
 
-one_later : (old : TallyState) (request : Request) (reply : Reply) (new : TallyState) → TallyServes old request reply new → IsLater old new
+one_later : (old : TallyState) (request : Request) (reply : Reply) (new : TallyState) → TallyMachine old request reply new → IsLater old new
 one_later old (Done write status) Did new h =
     let a = ap (λ (t : TallyState). sum t.left) h in
     let b = ap (λ (t : TallyState). t.round) h in

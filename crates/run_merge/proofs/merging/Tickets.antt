@@ -3,7 +3,7 @@ use Rattle.std.proofs.Common.{◌≡◌, ◌<◌, ◌≤◌, ◌++◌, cond, ℕ
 use Rattle.std.specs.Prelude.{filter, All}
 use Rattle.std.proofs.lemmas.List.Elements.{All-head, All-tail, All-cons, All-nil}
 use Rattle.std.proofs.lemmas.Bool.{lt-ltb, le-ltb, ltb-true, ltb-false}
-use Rattle.run_merge.specs.Merging.{Ticketed, insert, sorted, Rises}
+use Rattle.run_merge.specs.Merging.{Ticketed, insert, sorted, RiseFrom}
 
 abbrev pub Ordered : ℕ → List Ticketed → Type 0
 Ordered n [] = Unit {0}
@@ -13,7 +13,7 @@ pub ordered_from : (m n : ℕ) (es : List Ticketed) → m ≤ n → Ordered n es
 ordered_from m n [] h o = tt
 ordered_from m n (e ∷ es) h o = (let k = o.0 in omega (arith, h, k), o.1)
 
-pub rises_ordered : (n : ℕ) (es : List Ticketed) → Rises n es → Ordered n es
+pub rises_ordered : (n : ℕ) (es : List Ticketed) → RiseFrom n es → Ordered n es
 rises_ordered n [] r = tt
 rises_ordered n (e ∷ es) r = (let k = r.0 in omega (arith, k), rises_ordered e.ticket es r.1)
 
@@ -35,7 +35,7 @@ pub sorted_ordered : (es : List Ticketed) → Ordered 0 (sorted es)
 sorted_ordered [] = tt
 sorted_ordered (e ∷ es) = ordered_insert 0 e (sorted es) (omega arith) (sorted_ordered es)
 
-pub rising_sorted : (n : ℕ) (es : List Ticketed) → Rises n es → sorted es ≡ es
+pub rising_sorted : (n : ℕ) (es : List Ticketed) → RiseFrom n es → sorted es ≡ es
 rising_sorted n [] r = refl
 rising_sorted n (e ∷ es) r = ap (insert e) (rising_sorted e.ticket es r.1) ∙ insert_front e es (rises_ordered e.ticket es r.1)
 

@@ -25,7 +25,7 @@ use Rattle.shared_objects.specs.Calls.{is_same, struck}
 use Rattle.shared_objects.specs.Logs.{is_event}
 use Rattle.run_merge.specs.Entries.{Entry, AreEvents}
 use Rattle.run_merge.specs.Machines.{ServesAt, LeadsObject, entries_at}
-use Rattle.run_merge.specs.ObjectsByName.{StateAt, get, put}
+use Rattle.run_merge.specs.ObjectsByName.{StateAt, get, put_object}
 use Rattle.run_merge.specs.Products.{LeadsTask, entries_by, AreOfRun}
 use Rattle.run_merge.proofs.products.Behind.{Behind, one_more}
 use Rattle.run_merge.proofs.products.Known.{known}
@@ -55,8 +55,8 @@ module _ (s : Scenario) (ledger : ℕ → LedgerId) (good : IsScenario s) (namin
       by_two (inl lt) = lt
       by_two (inr le) =
           let rests : asked ≡ Rest = is ∙ ap (λ x. struck (request (setup s) x)) (b.outside place le) in
-          let all : Serves ledger state.objects asked reply (put state.objects (object_of asked) v) = serves_all ledger state.objects asked reply v serves in
-          absurd (subst (λ r. Serves ledger state.objects r reply (put state.objects (object_of asked) v)) rests all)
+          let all : Serves ledger state.objects asked reply (put_object state.objects (object_of asked) v) = serves_all ledger state.objects asked reply v serves in
+          absurd (subst (λ r. Serves ledger state.objects r reply (put_object state.objects (object_of asked) v)) rests all)
 
   pub leads : (before es : List Entry) (state last : State) → Behind s ledger before state → AreEvents es
       → ((name : Object) → LeadsObject ledger name (get state.objects name) (entries_at name es) (get last.objects name))
@@ -88,7 +88,7 @@ module _ (s : Scenario) (ledger : ℕ → LedgerId) (good : IsScenario s) (namin
       o = here.0
 
       next : State
-      next = record { objects = put state.objects name o; task = upd state.task place (answered (setup s) (state.task place) e.reply) }
+      next = record { objects = put_object state.objects name o; task = upd state.task place (answered (setup s) (state.task place) e.reply) }
 
       asked_is : e.asked ≡ struck asks
       asked_is = mine.0

@@ -16,7 +16,7 @@ use Rattle.run_machine.specs.Tasks.{TaskState, Writer, Rescuer, Completer, Keepe
 use Rattle.shared_objects.specs.Calls.{is_same, struck}
 use Rattle.run_merge.specs.Entries.{Entry}
 use Rattle.run_merge.specs.ObjectsByName.{get}
-use Rattle.run_merge.specs.Products.{starts_round, changes_reserve, rounds_started, AreDone, RoundHasCome, MayBegin}
+use Rattle.run_merge.specs.Products.{is_next_round, changes_reserve, rounds_started, AreDone, RoundHasCome, MayBegin}
 use Rattle.run_merge.proofs.products.Asking.{is_keeping, writer_keeps_none, rescuer_keeps_none, completer_keeps_none}
 use Rattle.run_merge.proofs.products.Known.{Known, present_left}
 use Rattle.run_merge.proofs.products.Names.{get_other}
@@ -24,15 +24,15 @@ use Rattle.run_merge.proofs.products.Served.{others_stay}
 
 -- the present round rises where a round starts
 pub round_after : (ledger : ℕ → LedgerId) (o : Objects) (request : Request) (reply : Reply) (new : Objects) → Serves ledger o request reply new
-    → new.tally.round ≡ o.tally.round + (if starts_round request then 1 else 0)
+    → new.tally.round ≡ o.tally.round + (if is_next_round request then 1 else 0)
 round_after ledger o request reply new h = by_object (is_same OfTally (object_of request)) refl
   where
-    none_starts : (request : Request) → is_same OfTally (object_of request) ≡ false → starts_round request ≡ false
+    none_starts : (request : Request) → is_same OfTally (object_of request) ≡ false → is_next_round request ≡ false
     none_starts (NextRound round) off = absurd (true≢false off)
     none_starts request off = refl
 
     at_tally : (request : Request) (reply : Reply) → Serves ledger o request reply new → is_same OfTally (object_of request) ≡ true
-        → new.tally.round ≡ o.tally.round + (if starts_round request then 1 else 0)
+        → new.tally.round ≡ o.tally.round + (if is_next_round request then 1 else 0)
     at_tally (requests.Done write status) Did h on = ap (λ (x : Objects). x.tally.round) h ∙ omega arith
     at_tally (requests.Done write status) reply h on = absurd h
     at_tally (NextRound round) Did h on = ap (λ (x : Objects). x.tally.round) h.1
@@ -43,19 +43,19 @@ round_after ledger o request reply new h = by_object (is_same OfTally (object_of
     at_tally requests.LookLeft reply h on = absurd h
     at_tally request reply h on = absurd (true≢false (sym on))
 
-    by_object : (b : Bool) → is_same OfTally (object_of request) ≡ b → new.tally.round ≡ o.tally.round + (if starts_round request then 1 else 0)
+    by_object : (b : Bool) → is_same OfTally (object_of request) ≡ b → new.tally.round ≡ o.tally.round + (if is_next_round request then 1 else 0)
     by_object true on = at_tally request reply h on
     by_object false off =
         let same = ap (λ (x : Objects). x.tally.round) (others_stay ledger o request reply new h)
         ∙ ap (λ (t : TallyState). t.round) (get_other o (object_of request) OfTally (get new (object_of request)) off) in
-        let none : (if starts_round request then 1 else 0) + 0 ≡ 0 = ap (λ b. (if b then 1 else 0) + 0) (none_starts request off) in
+        let none : (if is_next_round request then 1 else 0) + 0 ≡ 0 = ap (λ b. (if b then 1 else 0) + 0) (none_starts request off) in
         omega (arith, same, none)
 
-pub started_more : (before : List Entry) (e : Entry) → rounds_started (before ++ e ∷ []) ≡ rounds_started before + (if starts_round e.asked then 1 else 0)
+pub started_more : (before : List Entry) (e : Entry) → rounds_started (before ++ e ∷ []) ≡ rounds_started before + (if is_next_round e.asked then 1 else 0)
 started_more before e =
-    ap (λ (l : List Entry). length l) (filter-append (λ (x : Entry). starts_round x.asked) before (e ∷ []))
-    ∙ length-append (filter (λ (x : Entry). starts_round x.asked) before) (filter (λ (x : Entry). starts_round x.asked) (e ∷ []))
-    ∙ ap (λ n. rounds_started before + n) (by_test (starts_round e.asked))
+    ap (λ (l : List Entry). length l) (filter-append (λ (x : Entry). is_next_round x.asked) before (e ∷ []))
+    ∙ length-append (filter (λ (x : Entry). is_next_round x.asked) before) (filter (λ (x : Entry). is_next_round x.asked) (e ∷ []))
+    ∙ ap (λ n. rounds_started before + n) (by_test (is_next_round e.asked))
   where
     by_test : (b : Bool) → length (if b then e ∷ [] else []) ≡ (if b then 1 else 0)
     by_test true = refl
@@ -64,10 +64,10 @@ started_more before e =
 -- what stands before an entry of a task
 pub record ComesBehind (s : Scenario) (before : List Entry) (task : TaskState) (asked : Request) : Type 0 where
   pub takes : MayBegin task before
-  pub rounds : IsTrue (starts_round asked) → AreDone s (rounds_started before + 1) before
+  pub rounds : IsTrue (is_next_round asked) → AreDone s (rounds_started before + 1) before
   pub resizes : IsTrue (changes_reserve asked) → AreDone s (rounds_started before + 1) before
 
-starts_keeping : (request : Request) → starts_round request ≡ true → is_keeping request ≡ true
+starts_keeping : (request : Request) → is_next_round request ≡ true → is_keeping request ≡ true
 starts_keeping (NextRound round) starts = refl
 starts_keeping request starts = absurd (true≢false (sym starts))
 

@@ -6,7 +6,7 @@ use Rattle.run_machine.specs.Laws.{Object, OfPool, OfRescuer, OfDisk, OfBook, Of
 use Rattle.run_machine.specs.Objects.{Objects}
 use Rattle.run_machine.proofs.Frames.{upd_same, upd_other, upd_own}
 use Rattle.shared_objects.specs.Calls.{is_same}
-use Rattle.run_merge.specs.ObjectsByName.{StateAt, get, put, made_of}
+use Rattle.run_merge.specs.ObjectsByName.{StateAt, get, put_object, made_of}
 
 pub same_self : (name : Object) → is_same name name ≡ true
 same_self (OfPool a) = eq-eqb a a refl
@@ -31,7 +31,7 @@ same_is OfNone OfNone h = refl
 same_is OfNone b h = absurd (true≢false (sym h))
 
 -- one of them changed
-pub get_put : (o : Objects) (name : Object) (v : StateAt name) → get (put o name v) name ≡ v
+pub get_put : (o : Objects) (name : Object) (v : StateAt name) → get (put_object o name v) name ≡ v
 get_put o (OfPool number) v = upd_same o.pool number v
 get_put o (OfRescuer dev) v = upd_same o.rescue dev v
 get_put o (OfDisk dev) v = upd_same o.disk dev v
@@ -39,7 +39,7 @@ get_put o (OfBook writer) v = upd_same o.book writer v
 get_put o OfTally v = refl
 get_put o OfNone v = refl
 
-pub put_get : (o : Objects) (name : Object) → put o name (get o name) ≡ o
+pub put_get : (o : Objects) (name : Object) → put_object o name (get o name) ≡ o
 put_get o (OfPool number) = ap (λ f. record o { pool = f }) (upd_own o.pool number)
 put_get o (OfRescuer dev) = ap (λ f. record o { rescue = f }) (upd_own o.rescue dev)
 put_get o (OfDisk dev) = ap (λ f. record o { disk = f }) (upd_own o.disk dev)
@@ -47,7 +47,7 @@ put_get o (OfBook writer) = ap (λ f. record o { book = f }) (upd_own o.book wri
 put_get o OfTally = refl
 put_get o OfNone = refl
 
-pub get_other : (o : Objects) (name other : Object) (v : StateAt name) → is_same other name ≡ false → get (put o name v) other ≡ get o other
+pub get_other : (o : Objects) (name other : Object) (v : StateAt name) → is_same other name ≡ false → get (put_object o name v) other ≡ get o other
 get_other o (OfPool a) (OfPool b) v h = upd_other o.pool a v b (eqb-false b a h)
 get_other o (OfPool a) other v h = refl
 get_other o (OfRescuer a) (OfRescuer b) v h = upd_other o.rescue a v b (eqb-false b a h)

@@ -15,8 +15,8 @@ use Rattle.run_machine.proofs.Able.{Needs, can_of}
 use Rattle.block_core.specs.Scenarios.{IsScenario, IsNaming}
 use Rattle.shared_objects.specs.Calls.{struck}
 use Rattle.run_merge.specs.Entries.{Entry}
-use Rattle.run_merge.specs.Numbers.{round_in, rounds_in, RoundsAreNumbered}
-use Rattle.run_merge.specs.Products.{starts_round}
+use Rattle.run_merge.specs.Numbers.{round_told, rounds_told, RoundsAreNumbered}
+use Rattle.run_merge.specs.Products.{is_next_round}
 use Rattle.run_merge.proofs.products.Asking.{is_keeping, writer_keeps_none, rescuer_keeps_none, completer_keeps_none}
 use Rattle.run_merge.proofs.products.Behind.{Behind, entry_of, at_start, one_more}
 use Rattle.run_merge.proofs.products.Known.{Known, known}
@@ -27,7 +27,7 @@ abbrev numbers : Request → List ℕ
 numbers (NextRound number) = number ∷ []
 numbers request = []
 
-asked_is : (old : Objects) (request : Request) (told : What) → Needs old request told → round_in told ≡ numbers request
+asked_is : (old : Objects) (request : Request) (told : What) → Needs old request told → round_told told ≡ numbers request
 asked_is old (NextRound round) (what.Round number) needs = ap (λ n. n ∷ []) needs.0
 asked_is old (NextRound round) told needs = absurd needs
 asked_is old (TakeBio set true) (what.Round number) needs = absurd needs
@@ -53,13 +53,13 @@ module _ (s : Scenario) (before : List Entry) (state : State) (known : Known s b
   number_is place number (Completer disk carried) at is =
       none (is_keeping (struck (request (setup s) (Completer disk carried)))) (ap (λ r. is_keeping (struck r)) is) (completer_keeps_none disk carried)
   number_is place number (Keeper (Keeps [])) at is = none false (ap is_keeping is) refl
-  number_is place number (Keeper (Keeps (Resizes pool min later ∷ duties))) at is = none false (ap starts_round is) refl
+  number_is place number (Keeper (Keeps (Resizes pool min later ∷ duties))) at is = none false (ap is_next_round is) refl
   number_is place number (Keeper (Keeps (Starts round later ∷ duties))) at is = sym (ap number_of is) ∙ known.next place round later duties at
   number_is place number (Keeper (Stops breach)) at is = none false (ap is_keeping is) refl
 
 module _ (s : Scenario) (ledger : ℕ → LedgerId) (good : IsScenario s) (naming : IsNaming ledger) where
   numbered : (before : List Entry) (state : State) → Behind s ledger before state → (events : List Event) (last : State) → IsRun (scene s ledger) state events last
-      → rounds_in events ≡ range_with_len (state.objects.tally.round + 1) (length (rounds_in events))
+      → rounds_told events ≡ range_with_len (state.objects.tally.round + 1) (length (rounds_told events))
   numbered before state b [] last run = refl
   numbered before state b (event ∷ events) last (next, (place, steps), run) =
       by_request (request (setup s) (state.task place)) refl
@@ -68,27 +68,27 @@ module _ (s : Scenario) (ledger : ℕ → LedgerId) (good : IsScenario s) (namin
       needs : Needs state.objects (request (setup s) (state.task place)) event.what
       needs = (can_of (scene s ledger) state next place event steps).needs
 
-      started : round_in event.what ≡ numbers (request (setup s) (state.task place))
+      started : round_told event.what ≡ numbers (request (setup s) (state.task place))
       started = asked_is state.objects (request (setup s) (state.task place)) event.what needs
 
-      round_is : next.objects.tally.round ≡ state.objects.tally.round + (if starts_round (request (setup s) (state.task place)) then 1 else 0)
+      round_is : next.objects.tally.round ≡ state.objects.tally.round + (if is_next_round (request (setup s) (state.task place)) then 1 else 0)
       round_is = round_after ledger state.objects (request (setup s) (state.task place)) steps.reply next.objects steps.serves
 
       Goes : List ℕ → Type 0
-      Goes here = here ++ rounds_in events ≡ range_with_len (state.objects.tally.round + 1) (length (here ++ rounds_in events))
+      Goes here = here ++ rounds_told events ≡ range_with_len (state.objects.tally.round + 1) (length (here ++ rounds_told events))
 
       Rest : ℕ → Type 0
-      Rest round = rounds_in events ≡ range_with_len (round + 1) (length (rounds_in events))
+      Rest round = rounds_told events ≡ range_with_len (round + 1) (length (rounds_told events))
 
-      by_request : (asks : Request) → request (setup s) (state.task place) ≡ asks → Rest next.objects.tally.round → Goes (round_in event.what)
+      by_request : (asks : Request) → request (setup s) (state.task place) ≡ asks → Rest next.objects.tally.round → Goes (round_told event.what)
       by_request (NextRound number) is rest =
           let n = number_is s before state (known s ledger good naming before state b.reached) place number (state.task place) refl is in
-          let more : next.objects.tally.round ≡ state.objects.tally.round + 1 = round_is ∙ ap (λ r. state.objects.tally.round + (if starts_round r then 1 else 0)) is in
-          let here : round_in event.what ≡ (state.objects.tally.round + 1) ∷ [] = started ∙ ap numbers is ∙ ap (λ n. n ∷ []) n in
+          let more : next.objects.tally.round ≡ state.objects.tally.round + 1 = round_is ∙ ap (λ r. state.objects.tally.round + (if is_next_round r then 1 else 0)) is in
+          let here : round_told event.what ≡ (state.objects.tally.round + 1) ∷ [] = started ∙ ap numbers is ∙ ap (λ n. n ∷ []) n in
           subst Goes (sym here) (ap (λ l. (state.objects.tally.round + 1) ∷ l) (subst Rest more rest))
       by_request asks is rest =
           let same : next.objects.tally.round ≡ state.objects.tally.round =
-          round_is ∙ ap (λ r. state.objects.tally.round + (if starts_round r then 1 else 0)) is ∙ omega arith in
+          round_is ∙ ap (λ r. state.objects.tally.round + (if is_next_round r then 1 else 0)) is ∙ omega arith in
           subst Goes (sym (started ∙ ap numbers is)) (subst Rest same rest)
 
 pub rounds_are_numbered : RoundsAreNumbered

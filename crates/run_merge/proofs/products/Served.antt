@@ -20,15 +20,15 @@ use Rattle.run_machine.proofs.Frames.{upd_same, one_object_changes}
 use Rattle.shared_objects.specs.Calls.{struck}
 use Rattle.shared_objects.specs.Logs.{is_event}
 use Rattle.run_merge.specs.Machines.{PoolGoes, PoolHas, ServesAt}
-use Rattle.run_merge.specs.ObjectsByName.{StateAt, get, put}
+use Rattle.run_merge.specs.ObjectsByName.{StateAt, get, put_object}
 use Rattle.run_merge.proofs.products.Names.{get_put, put_get}
 
 -- all objects but this one are as before
 pub others_stay : (ledger : ℕ → LedgerId) (o : Objects) (request : Request) (reply : Reply) (new : Objects) → Serves ledger o request reply new
-    → new ≡ put o (object_of request) (get new (object_of request))
+    → new ≡ put_object o (object_of request) (get new (object_of request))
 others_stay ledger o request reply new serves = one_object_changes ledger o new request reply serves ∙ by_name (object_of request)
   where
-    by_name : (name : Object) → with_object o new name ≡ put o name (get new name)
+    by_name : (name : Object) → with_object o new name ≡ put_object o name (get new name)
     by_name (OfPool number) = refl
     by_name (OfRescuer dev) = refl
     by_name (OfDisk dev) = refl
@@ -95,59 +95,59 @@ serves_one ledger o LookLeft reply new h = absurd h
 serves_one ledger o Rest reply new h = absurd h
 
 -- the other way: where the one goes on, all do
-all_have : (o : Objects) (number : ℕ) (from : Got) (v : PoolState) → PoolHas (o.pool number) from v → Has o number from (put o (OfPool number) v)
-all_have o number Ordinary v h = (h.0, ap (put o (OfPool number)) h.1)
-all_have o number Spare v h = (h.0, ap (put o (OfPool number)) h.1)
+all_have : (o : Objects) (number : ℕ) (from : Got) (v : PoolState) → PoolHas (o.pool number) from v → Has o number from (put_object o (OfPool number) v)
+all_have o number Ordinary v h = (h.0, ap (put_object o (OfPool number)) h.1)
+all_have o number Spare v h = (h.0, ap (put_object o (OfPool number)) h.1)
 all_have o number got.Missed v h = absurd h
 
-all_resized : (o : Objects) (number min : ℕ) (home : Bool) → put o (OfPool number) (if home then after_move (o.pool number) (resizes min) else o.pool number)
-    ≡ (if home then put o (OfPool number) (after_move (o.pool number) (resizes min)) else o)
+all_resized : (o : Objects) (number min : ℕ) (home : Bool) → put_object o (OfPool number) (if home then after_move (o.pool number) (resizes min) else o.pool number)
+    ≡ (if home then put_object o (OfPool number) (after_move (o.pool number) (resizes min)) else o)
 all_resized o number min true = refl
 all_resized o number min false = put_get o (OfPool number)
 
-put_same : (o : Objects) (name : Object) (v : StateAt name) → v ≡ get o name → put o name v ≡ o
-put_same o name v is = ap (put o name) is ∙ put_get o name
+put_same : (o : Objects) (name : Object) (v : StateAt name) → v ≡ get o name → put_object o name v ≡ o
+put_same o name v is = ap (put_object o name) is ∙ put_get o name
 
 pub serves_all : (ledger : ℕ → LedgerId) (o : Objects) (request : Request) (reply : Reply) (v : StateAt (object_of request))
-    → ServesAt ledger (object_of request) (get o (object_of request)) request reply v → Serves ledger o request reply (put o (object_of request) v)
+    → ServesAt ledger (object_of request) (get o (object_of request)) request reply v → Serves ledger o request reply (put_object o (object_of request) v)
 serves_all ledger o (TakeBio set waits) (HadBio from bio) v h = (all_have o (pool_number (bios_of set)) from v h.0, h.1)
-serves_all ledger o (TakeBio set waits) (Missed used) v h = (h.0, ap (put o (OfPool (pool_number (bios_of set)))) h.1)
+serves_all ledger o (TakeBio set waits) (Missed used) v h = (h.0, ap (put_object o (OfPool (pool_number (bios_of set)))) h.1)
 serves_all ledger o (TakeBio set waits) reply v h = absurd h
 serves_all ledger o TakeVec (HadVec from vector) v h = (all_have o (pool_number FsVecs) from v h.0, h.1)
-serves_all ledger o TakeVec (Missed used) v h = (h.0, ap (put o (OfPool (pool_number FsVecs))) h.1)
+serves_all ledger o TakeVec (Missed used) v h = (h.0, ap (put_object o (OfPool (pool_number FsVecs))) h.1)
 serves_all ledger o TakeVec reply v h = absurd h
 serves_all ledger o (TakeSlip dev) (HadSlip from slip) v h = (all_have o (pool_number (Records dev)) from v h.0, h.1)
-serves_all ledger o (TakeSlip dev) (Missed used) v h = (h.0, ap (put o (OfPool (pool_number (Records dev)))) h.1)
+serves_all ledger o (TakeSlip dev) (Missed used) v h = (h.0, ap (put_object o (OfPool (pool_number (Records dev)))) h.1)
 serves_all ledger o (TakeSlip dev) reply v h = absurd h
-serves_all ledger o (GiveBio bio) Did v h = (h.0, ap (put o (OfPool bio.share.no)) h.1)
+serves_all ledger o (GiveBio bio) Did v h = (h.0, ap (put_object o (OfPool bio.share.no)) h.1)
 serves_all ledger o (GiveBio bio) reply v h = absurd h
-serves_all ledger o (GiveVec vector) Did v h = (h.0, ap (put o (OfPool vector.share.no)) h.1)
+serves_all ledger o (GiveVec vector) Did v h = (h.0, ap (put_object o (OfPool vector.share.no)) h.1)
 serves_all ledger o (GiveVec vector) reply v h = absurd h
-serves_all ledger o (GiveSlip slip) Did v h = (h.0, ap (put o (OfPool slip.share.no)) h.1)
+serves_all ledger o (GiveSlip slip) Did v h = (h.0, ap (put_object o (OfPool slip.share.no)) h.1)
 serves_all ledger o (GiveSlip slip) reply v h = absurd h
-serves_all ledger o (Punt dev moved) Did v h = ap (put o (OfRescuer dev.0)) h
+serves_all ledger o (Punt dev moved) Did v h = ap (put_object o (OfRescuer dev.0)) h
 serves_all ledger o (Punt dev moved) reply v h = absurd h
 serves_all ledger o (Pop dev) (Popped bio) v h =
-    let p = get_put o (OfRescuer dev.0) v in (h ∙ ap (λ (x : List (Item Pad)). bio ∷ x) (sym p), ap (put o (OfRescuer dev.0)) (sym p))
+    let p = get_put o (OfRescuer dev.0) v in (h ∙ ap (λ (x : List (Item Pad)). bio ∷ x) (sym p), ap (put_object o (OfRescuer dev.0)) (sym p))
 serves_all ledger o (Pop dev) Nothing v h = (h.0, put_same o (OfRescuer dev.0) v h.1)
 serves_all ledger o (Pop dev) reply v h = absurd h
-serves_all ledger o (Push bio) Did v h = ap (put o (OfDisk bio.bio.dev.0)) h
+serves_all ledger o (Push bio) Did v h = ap (put_object o (OfDisk bio.bio.dev.0)) h
 serves_all ledger o (Push bio) reply v h = absurd h
 serves_all ledger o (Complete disk) (Completed index bio status) v h =
-    let p = get_put o (OfDisk disk.0) v in (subst (Completes (o.disk disk.0) index bio status) (sym p) h, ap (put o (OfDisk disk.0)) (sym p))
+    let p = get_put o (OfDisk disk.0) v in (subst (Completes (o.disk disk.0) index bio status) (sym p) h, ap (put_object o (OfDisk disk.0)) (sym p))
 serves_all ledger o (Complete disk) Nothing v h = (h.0, put_same o (OfDisk disk.0) v h.1)
 serves_all ledger o (Complete disk) reply v h = absurd h
 serves_all ledger o (Link writer opening) (LinkedTo answer) v h =
-    let p = get_put o (OfBook writer) v in (subst (Opened (o.book writer) opening answer) (sym p) h, ap (put o (OfBook writer)) (sym p))
+    let p = get_put o (OfBook writer) v in (subst (Opened (o.book writer) opening answer) (sym p) h, ap (put_object o (OfBook writer)) (sym p))
 serves_all ledger o (Link writer opening) reply v h = absurd h
 serves_all ledger o (Drop writer node status part) (DroppedTo ended) v h =
-    let p = get_put o (OfBook writer) v in (subst (Drops (o.book writer) node status part ended) (sym p) h, ap (put o (OfBook writer)) (sym p))
+    let p = get_put o (OfBook writer) v in (subst (Drops (o.book writer) node status part ended) (sym p) h, ap (put_object o (OfBook writer)) (sym p))
 serves_all ledger o (Drop writer node status part) reply v h = absurd h
-serves_all ledger o (Done write status) Did v h = ap (put o OfTally) h
+serves_all ledger o (Done write status) Did v h = ap (put_object o OfTally) h
 serves_all ledger o (Done write status) reply v h = absurd h
-serves_all ledger o (Resize pool min) (OutIs out) v h = (h.0, ap (put o (OfPool (pool_number pool))) h.1 ∙ all_resized o (pool_number pool) min (out == 0))
+serves_all ledger o (Resize pool min) (OutIs out) v h = (h.0, ap (put_object o (OfPool (pool_number pool))) h.1 ∙ all_resized o (pool_number pool) min (out == 0))
 serves_all ledger o (Resize pool min) reply v h = absurd h
-serves_all ledger o (NextRound round) Did v h = (h.0, ap (put o OfTally) h.1)
+serves_all ledger o (NextRound round) Did v h = (h.0, ap (put_object o OfTally) h.1)
 serves_all ledger o (NextRound round) reply v h = absurd h
 serves_all ledger o LookRound (Present round) v h = (h.0, put_same o OfTally v h.1)
 serves_all ledger o LookRound reply v h = absurd h

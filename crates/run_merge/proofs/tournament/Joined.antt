@@ -8,7 +8,7 @@ use Rattle.std.proofs.lemmas.List.{append-nil, append_assoc, length-append, map-
 use Rattle.std.proofs.lemmas.List.Elements.{All-head, All-tail, Contains-append_cases, Contains-append_right, Contains-get_or}
 use Rattle.std.proofs.lemmas.List.Sorted.{Contains-permutation, IsPermutation-append_right, IsPermutation-refl, IsPermutation-sym, IsPermutation-trans, length_permutation}
 use Rattle.run_merge.specs.declared.heads.Head.{Head}
-use Rattle.run_merge.specs.Heads.{GoesOn, Stands, first_of, head_at, node, rest, rows}
+use Rattle.run_merge.specs.Heads.{TakesHead, Stands, winner_of, head_at, node, rest, rows}
 use Rattle.run_merge.specs.Joining.{IsJoined, all_in}
 use Rattle.run_merge.proofs.tournament.Rest.{rest_same, rest_taken}
 use Rattle.run_merge.proofs.tournament.Winner.{IsFirst, first_is, nothing_left}
@@ -102,7 +102,7 @@ module _ {T : Type 0} (rows : List (List (ℕ × T))) (rising : (list : ℕ) →
           let later = same_within rows (λ list. at (suc list)) (λ list. other (suc list)) (λ list less. same (suc list) (omega (arith, less))) in
           λ i. drop (here i) row ++ later i
 
-  module _ (old new : List Head) (values : List T) (j : Joins rows old values) (head : Head) (is : first_of old ≡ Some head) (on : GoesOn rows head old new) where
+  module _ (old new : List Head) (values : List T) (j : Joins rows old values) (head : Head) (is : winner_of old ≡ Some head) (on : TakesHead rows head old new) where
     abbrev was : ℕ → ℕ
     was = places (length rows) old
 
@@ -170,7 +170,7 @@ module _ {T : Type 0} (rows : List (List (ℕ × T))) (rising : (list : ℕ) →
     pub less_left : (d : ℕ × T) → length (rest now rows) < length (rest was rows)
     less_left d = let long = length_permutation (rest was rows) (entry d ∷ rest now rows) (left d) in omega (arith, long)
 
-pub are_joined : {T : Type 0} (lists : List (Vec (ℕ × T))) (nodes : List Head) (values : List T) → Joins (rows lists) nodes values → first_of nodes ≡ None
+pub are_joined : {T : Type 0} (lists : List (Vec (ℕ × T))) (nodes : List Head) (values : List T) → Joins (rows lists) nodes values → winner_of nodes ≡ None
     → IsJoined (all_in lists) values
 are_joined lists nodes values j none =
     let empty = nothing_left (rows lists) (places (length (rows lists)) nodes) nodes j.stands none in

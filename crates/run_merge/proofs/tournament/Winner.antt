@@ -6,7 +6,7 @@ use Rattle.std.specs.Option.{unwrap_or}
 use Rattle.std.proofs.lemmas.Bool.{ltb-false, ltb-true}
 use Rattle.std.proofs.lemmas.Option.{none-some, slice_get_cases, slice_get-get_or, get_or_from_slice_get}
 use Rattle.run_merge.specs.declared.heads.Head.{Head}
-use Rattle.run_merge.specs.Heads.{Stands, first_in, first_of, head_at, is_before, no_head, node, rest, smaller, ticket_in, with_ticket}
+use Rattle.run_merge.specs.Heads.{Stands, ticketed_head, winner_of, head_at, is_before, no_head, node, rest, smaller, ticket_in, with_ticket}
 use Rattle.run_merge.proofs.tournament.Rest.{IsLeft, left_is, none_left}
 
 -- no ticket is behind any, and else the smaller one is not behind
@@ -158,15 +158,15 @@ module _ {T : Type 0} (rows : List (List (ℕ × T))) (at : ℕ → ℕ) (nodes 
           let small : list < length rows = omega (arith, is, less) in
           (list, small, ap (node nodes) is ∙ s.leaf list small)
 
-  root_is : (head : Head) → first_of nodes ≡ Some head → (node nodes 1 ≡ head) × (t : ℕ) × (head.ticket ≡ Some t)
+  root_is : (head : Head) → winner_of nodes ≡ Some head → (node nodes 1 ≡ head) × (t : ℕ) × (head.ticket ≡ Some t)
   root_is head is = by_two (slice_get_cases nodes 1).1
     where
       by_two : ((x : Head) × (1 < length nodes) × (slice_get nodes 1 ≡ Some x) × (get_or nodes 1 x ≡ x)) ⊎ ((length nodes ≤ 1) × (slice_get nodes 1 ≡ None))
           → (node nodes 1 ≡ head) × (t : ℕ) × (head.ticket ≡ Some t)
       by_two (inl (x, lt, there, same)) =
-          let (one, t, some) = with_some x head x.ticket (sym (ap first_in there) ∙ is) in
+          let (one, t, some) = with_some x head x.ticket (sym (ap ticketed_head there) ∙ is) in
           (get_or_from_slice_get nodes 1 x no_head there ∙ one, t, sym (ap (λ (h : Head). h.ticket) one) ∙ some)
-      by_two (inr (le, none)) = absurd (none-some head (sym (ap first_in none) ∙ is))
+      by_two (inr (le, none)) = absurd (none-some head (sym (ap ticketed_head none) ∙ is))
 
   -- where the root has this ticket, no element that is left has a smaller one
   none_smaller : ((list : ℕ) → IsNonDecreasingBy (λ (e : ℕ × T). e.0) (get_or rows list [])) → (t : ℕ) → (node nodes 1).ticket ≡ Some t → (y : ℕ × T) → Contains (rest at rows) y → t ≤ y.0
@@ -185,7 +185,7 @@ module _ {T : Type 0} (rows : List (List (ℕ × T))) (at : ℕ → ℕ) (nodes 
       let same = ap (λ (e : ℕ × T). e.0) l.is in
       omega (arith, least, later, same)
 
-  pub first_is : ((list : ℕ) → IsNonDecreasingBy (λ (e : ℕ × T). e.0) (get_or rows list [])) → (head : Head) → first_of nodes ≡ Some head → IsFirst rows at head
+  pub first_is : ((list : ℕ) → IsNonDecreasingBy (λ (e : ℕ × T). e.0) (get_or rows list [])) → (head : Head) → winner_of nodes ≡ Some head → IsFirst rows at head
   first_is rises head is =
       let (root, t, ticket) = root_is head is in
       let some : 1 < length nodes = slice_within nodes head is in
@@ -204,21 +204,21 @@ module _ {T : Type 0} (rows : List (List (ℕ × T))) (at : ℕ → ℕ) (nodes 
             omega (arith, least, same);
       })
     where
-      slice_within : (nodes : List Head) (head : Head) → first_of nodes ≡ Some head → 1 < length nodes
+      slice_within : (nodes : List Head) (head : Head) → winner_of nodes ≡ Some head → 1 < length nodes
       slice_within nodes head is = by_two (slice_get_cases nodes 1).1
         where
           by_two : ((x : Head) × (1 < length nodes) × (slice_get nodes 1 ≡ Some x) × (get_or nodes 1 x ≡ x)) ⊎ ((length nodes ≤ 1) × (slice_get nodes 1 ≡ None)) → 1 < length nodes
           by_two (inl (x, lt, there, same)) = lt
-          by_two (inr (le, none)) = absurd (none-some head (sym (ap first_in none) ∙ is))
+          by_two (inr (le, none)) = absurd (none-some head (sym (ap ticketed_head none) ∙ is))
 
-  pub nothing_left : first_of nodes ≡ None → rest at rows ≡ []
+  pub nothing_left : winner_of nodes ≡ None → rest at rows ≡ []
   nothing_left is = none_left rows at (λ list less. whole list less (slice_get_cases nodes 1).1)
     where
       whole : (list : ℕ) → list < length rows
           → ((x : Head) × (1 < length nodes) × (slice_get nodes 1 ≡ Some x) × (get_or nodes 1 x ≡ x)) ⊎ ((length nodes ≤ 1) × (slice_get nodes 1 ≡ None))
           → length (get_or rows list []) ≤ at list
       whole list less (inl (x, lt, there, same)) =
-          let none = with_none x x.ticket (sym (ap first_in there) ∙ is) in
+          let none = with_none x x.ticket (sym (ap ticketed_head there) ∙ is) in
           let root = ap (λ (h : Head). h.ticket) (get_or_from_slice_get nodes 1 x no_head there) ∙ none in
           let behind = before_all (length rows + list) (length rows + list) (omega arith) (omega (arith, less)) (omega (arith, less)) in
           let ticket = none_behind (node nodes (length rows + list)).ticket (node nodes 1).ticket root behind in

@@ -8,7 +8,7 @@ use Rattle.std.proofs.lemmas.List.Elements.{All-append, All-cons, All-nil}
 use Rattle.run_machine.specs.declared.event.Event.{Event}
 use Rattle.shared_objects.specs.declared.closed.ClosedTask.{ClosedTask}
 use Rattle.shared_objects.specs.declared.noted.Noted.{Noted}
-use Rattle.run_merge.specs.Listing.{AreLists, IsList, WholeRises, list_in}
+use Rattle.run_merge.specs.Listing.{AreWholeLists, IsList, WholeRises, list_in}
 
 abbrev pub TaskRises : ClosedTask → Type 0
 TaskRises task = WholeRises task.noted
@@ -24,12 +24,12 @@ list_noted None list is = absurd is
 list_noted (Some noted) list is = (is.1, (is.0, refl))
 
 -- none so far
-pub no_lists : AreLists [] []
+pub no_lists : AreWholeLists [] []
 no_lists = record { whole = All-nil IsNoted; all = refl }
 
 -- and one more
-pub one_more : (tasks : List ClosedTask) (task : ClosedTask) (lists : List (Vec (ℕ × Event))) (list : Vec (ℕ × Event)) → AreLists tasks lists → IsList task.noted list.items
-    → AreLists (tasks ++ task ∷ []) (lists ++ list ∷ [])
+pub one_more : (tasks : List ClosedTask) (task : ClosedTask) (lists : List (Vec (ℕ × Event))) (list : Vec (ℕ × Event)) → AreWholeLists tasks lists → IsList task.noted list.items
+    → AreWholeLists (tasks ++ task ∷ []) (lists ++ list ∷ [])
 one_more tasks task lists list before is =
     let noted = list_noted task.noted list.items is in
     let left = flat_map_more (λ (v : Vec (ℕ × Event)). v.items) [] lists list in

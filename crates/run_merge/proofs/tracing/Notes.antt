@@ -28,7 +28,7 @@ use Rattle.shared_objects.specs.Logs.{is_event, events_in}
 use Rattle.shared_objects.specs.Noting.{notes_of}
 use Rattle.run_merge.specs.Entries.{Entry, AreEvents, entries_in}
 use Rattle.run_merge.specs.Joining.{IsJoined}
-use Rattle.run_merge.specs.Merging.{Ticketed, all_of, done_by, entries_of, sorted}
+use Rattle.run_merge.specs.Merging.{Ticketed, all_of, done_by, without_tickets, sorted}
 use Rattle.run_merge.specs.SharedObjects.{ticketed, entry_histories}
 use Rattle.run_merge.specs.Tracing.{notes_in, NotesAreRuns}
 use Rattle.run_merge.proofs.closes.Counting.{first_is, done_at}
@@ -131,7 +131,7 @@ module _ (s : Scenario) (ledger : ℕ → LedgerId) (plain : Plain) (names : Lis
       omega (arith, same, few)))
 
   module _ (joined : List Event) (j : IsJoined (notes_in (setup s) tasks) joined) (events : List Event) (last : State) (run : IsRun (scene s ledger) (start s) events last)
-      (is : entries_in (scene s ledger) (start s) events last run ≡ entries_of entries) where
+      (is : entries_in (scene s ledger) (start s) events last run ≡ without_tickets entries) where
     in_order : j.ordered ≡ led
     in_order =
         same_climbing (λ (e : ℕ × Event). e.0) j.ordered led
@@ -146,11 +146,11 @@ module _ (s : Scenario) (ledger : ℕ → LedgerId) (plain : Plain) (names : Lis
 abbrev IsEntryOfEvent : Ticketed → Type 0
 IsEntryOfEvent n = IsTrue (is_event n.entry.asked n.entry.reply)
 
-of_entries : (ns : List Ticketed) → AreEvents (entries_of ns) → All IsEntryOfEvent ns
+of_entries : (ns : List Ticketed) → AreEvents (without_tickets ns) → All IsEntryOfEvent ns
 of_entries [] are = All-nil IsEntryOfEvent
 of_entries (n ∷ ns) are =
-    All-cons IsEntryOfEvent n ns (All-head (λ (e : Entry). IsTrue (is_event e.asked e.reply)) n.entry (entries_of ns) are)
-    (of_entries ns (All-tail (λ (e : Entry). IsTrue (is_event e.asked e.reply)) n.entry (entries_of ns) are))
+    All-cons IsEntryOfEvent n ns (All-head (λ (e : Entry). IsTrue (is_event e.asked e.reply)) n.entry (without_tickets ns) are)
+    (of_entries ns (All-tail (λ (e : Entry). IsTrue (is_event e.asked e.reply)) n.entry (without_tickets ns) are))
 
 -- The entries of a run are events: so the calls that drew a ticket are, where the merge of them is such entries.
 drawn_events : (calls : List Call) → All HasTicket calls → All IsEntryOfEvent (map ticketed (drawn_in calls)) → drawn_in calls ≡ events_in calls
@@ -188,4 +188,4 @@ notes_are_runs opened names history left tasks pass is firsts c joined last j (e
     let same = run_histories history has names are in
     joined_is s ledger opened.objects names history left tasks pass
     (subst (λ setup. ClosesAs setup opened.objects names history left tasks pass) is.setup c) (firsts ∙ is.tasks) joined
-    (subst (λ setup. IsJoined (notes_in setup tasks) joined) is.setup j) events last run (entries ∙ ap (λ histories. entries_of (sorted (all_of histories))) same)
+    (subst (λ setup. IsJoined (notes_in setup tasks) joined) is.setup j) events last run (entries ∙ ap (λ histories. without_tickets (sorted (all_of histories))) same)

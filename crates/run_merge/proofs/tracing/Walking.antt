@@ -18,7 +18,7 @@ use Rattle.object_things.specs.Histories.{Call, or_last}
 use Rattle.shared_objects.specs.Logs.{is_event, is_stop, LogLeads}
 use Rattle.shared_objects.specs.Noting.{noted_as, notes_of}
 use Rattle.run_merge.specs.Entries.{Entry, entries_in}
-use Rattle.run_merge.specs.Merging.{Ticketed, entries_of}
+use Rattle.run_merge.specs.Merging.{Ticketed, without_tickets}
 use Rattle.run_merge.specs.SharedObjects.{ticketed}
 use Rattle.run_merge.proofs.closes.Breaking.{stop_breaks}
 use Rattle.run_merge.proofs.closes.Drawn.{events_told, events_untold}
@@ -59,7 +59,7 @@ led_notes setup task (n ∷ ns) = note_at setup (task n.entry.place) n ++ led_no
 
 -- along the entries of a run its events are noted, with all tickets
 pub run_notes : (scene : Scene) (old : State) (events : List Event) (new : State) (run : IsRun scene old events new) (ns : List Ticketed)
-    → entries_in scene old events new run ≡ entries_of ns
+    → entries_in scene old events new run ≡ without_tickets ns
     → (keys_of (led_notes scene.setup old.task ns) ≡ tickets_of ns) × (events_of (led_notes scene.setup old.task ns) ≡ events)
 run_notes scene old [] new run [] is = (refl, refl)
 run_notes scene old [] new run (n ∷ ns) is = absurd (true≢false (ap is_none is))
