@@ -3,7 +3,7 @@ ghost use Rattle.std.specs.Prelude.{◌≡◌, All, IfOk};
 ghost use Rattle.std.specs.List.Sorted.{IsNonDecreasingBy};
 ghost use Rattle.run_merge.specs.Joining.{IsJoined, all_in};
 
-use crate::heads::{winner_of, open_heads, take};
+use crate::heads::{open_heads, take, winner_of};
 use std::alloc::{AllocError, Global};
 
 /// What stands in these lists, in the order of the tickets and without them. Along each list tickets rise.

@@ -287,8 +287,7 @@ closes_are_runs opened names history left tasks pass is firsts c found =
     (is_closed s opened.objects names history left tasks pass closes (firsts ∙ is.tasks)
     (λ name. ap (λ (o : Objects). get o name) (sym is.objects) ∙ opened_is opened.objects name) found) in
     let drew = drew_as_events s opened.objects names history left tasks pass closes
-    (λ place task at. ap is_broken (sym (image_at (λ (task : Returned). task.task) no_task tasks place task at)) ∙ merged.unbroken place) in
-    (
+    (λ place task at. ap is_broken (sym (image_at (λ (task : Returned). task.task) no_task tasks place task at)) ∙ merged.unbroken place) in (
       subst (λ histories. MergeIsEndedRun s ledger histories (numbers_of pass.drawn) (state_left left tasks)) (sym (histories_are names history drew)) merged,
       drew,
     )

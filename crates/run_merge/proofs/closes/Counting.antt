@@ -24,6 +24,7 @@ use Rattle.shared_objects.specs.Closes.{Returned, ClosesAs}
 use Rattle.shared_objects.specs.Kinds.{ThingAt, serves_at, looks_at, opened_at, unasked}
 use Rattle.shared_objects.specs.Logs.{is_event, is_refused, is_stop, is_glance, events_in, tickets_in, LogLeads}
 use Rattle.shared_objects.specs.Passes.{numbers_of}
+use Rattle.shared_objects.proofs.Leading.{event_first, kinds, quiet_first, stop_kind}
 use Rattle.run_merge.specs.Entries.{Entry}
 use Rattle.run_merge.specs.Merging.{Ticketed, RiseFrom, without_tickets, all_of, done_by}
 use Rattle.run_merge.specs.Products.{is_next_round}
@@ -39,7 +40,7 @@ use Rattle.run_merge.proofs.closes.Places.{total, total_most, total_list, by_pla
 use Rattle.run_merge.proofs.closes.Rounds.{starts_left, task_starts, tally_starts, tasks_start}
 use Rattle.run_merge.proofs.closes.Sorting.{picks_mine, events_to, done_is}
 use Rattle.run_merge.proofs.closes.Spending.{served_refused}
-use Rattle.run_merge.proofs.closes.Walks.{is_told, AskSome, glance_untold, told_first, untold_first, Walked, walk}
+use Rattle.run_merge.proofs.closes.Walks.{is_told, AskSome, Walked, walk}
 use Rattle.run_merge.proofs.closing.Counts.{sorted_length}
 use Rattle.run_merge.proofs.closing.FewTasks.{few_of}
 use Rattle.run_merge.proofs.merging.Picked.{is_at, is_by, entries_filter, filter_swap}
@@ -54,11 +55,6 @@ first_ticket call calls = by_ticket call.told.ticket
     by_ticket : (ticket : Option ℕ) → length (cons_option ticket (tickets_in calls)) ≤ length (tickets_in calls) + 1
     by_ticket None = omega arith
     by_ticket (Some n) = omega arith
-
-is_stopped : (event stop : Bool) → not (event || stop) ≡ false → event ≡ false → stop ≡ true
-is_stopped true stop h none = absurd (true≢false none)
-is_stopped false true h none = refl
-is_stopped false false h none = absurd (true≢false h)
 
 module _ (setup : Setup) where
   -- behind the end of a task no ticket is drawn
@@ -78,7 +74,7 @@ module _ (setup : Setup) where
   few_tickets before first (call ∷ calls) last some none (inl (glance, leads)) =
       let rest = few_tickets (before ++ call ∷ []) first calls last (All-tail (λ (c : Call). object_of c.asked ≡ OfNone → ⊥) call calls some) (All-tail GlanceNone call calls none) leads in
       let tickets = ap (λ t. length (cons_option t (tickets_in calls))) (All-head GlanceNone call calls none glance) in
-      let events = ap (λ (l : List Call). length l) (untold_first call calls (glance_untold call glance)) in
+      let events = ap (λ (l : List Call). length l) (quiet_first call calls (kinds call glance).0) in
       omega (arith, rest, tickets, events)
   few_tickets before first (call ∷ calls) last some none (inr (goes, asks, looked, leads)) =
       by_event (is_told call) refl
@@ -86,9 +82,9 @@ module _ (setup : Setup) where
     where
       by_event : (b : Bool) → is_told call ≡ b → length (tickets_in calls) ≤ length (events_in calls) + 1 → length (tickets_in (call ∷ calls)) ≤ length (events_in (call ∷ calls)) + 1
       by_event true is rest =
-          let events = ap (λ (l : List Call). length l) (told_first call calls is) in omega (arith, rest, events, first_ticket call calls)
+          let events = ap (λ (l : List Call). length l) (event_first call calls is) in omega (arith, rest, events, first_ticket call calls)
       by_event false is rest =
-          let stop = is_stopped (is_told call) (is_stop call.asked call.told.reply) goes is in
+          let stop = stop_kind (is_told call) (is_stop call.asked call.told.reply) goes is in
           let broken = stop_breaks setup first call.asked call.told.reply asks (All-head (λ (c : Call). object_of c.asked ≡ OfNone → ⊥) call calls some) stop in
           let behind = ap (λ (l : List ℕ). length l) (none_drawn (before ++ call ∷ []) (answered setup first call.told.reply) calls last broken
           (All-tail (λ (c : Call). object_of c.asked ≡ OfNone → ⊥) call calls some) (All-tail GlanceNone call calls none) leads) in
@@ -216,7 +212,7 @@ module _ (s : Scenario) (plain : Plain) (names : List Object) (history : Object 
       p = in_place s plain names history left tasks pass c (object_of call.asked) call (kept s plain names history left tasks pass c place task at call within)
 
       untold : is_told call ≡ false
-      untold = glance_untold call glance
+      untold = (kinds call glance).0
 
       by_ticket : (ticket : Option ℕ) → StepOf (serves_at (object_of call.asked)) (looks_at (object_of call.asked)) p.here call.asked call.told.reply ticket p.next → ticket ≡ None
       by_ticket None step = refl

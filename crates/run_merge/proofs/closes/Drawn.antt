@@ -7,10 +7,11 @@ use Rattle.std.proofs.lemmas.List.{map-append}
 use Rattle.std.proofs.lemmas.List.Elements.{All-head, All-tail, All-cons, All-nil, filter-append}
 use Rattle.object_things.specs.Histories.{Call, IsNext, or_last, TicketsRise}
 use Rattle.shared_objects.specs.Logs.{events_in}
+use Rattle.shared_objects.proofs.Leading.{event_first, quiet_first}
 use Rattle.run_merge.specs.Merging.{Ticketed, RiseFrom}
 use Rattle.run_merge.specs.SharedObjects.{ticketed}
 use Rattle.run_merge.proofs.closes.Events.{ticketed_events}
-use Rattle.run_merge.proofs.closes.Walks.{is_told, told_first, untold_first}
+use Rattle.run_merge.proofs.closes.Walks.{is_told}
 use Rattle.run_merge.proofs.closing.Early.{rises_from}
 
 -- each event has a ticket
@@ -21,10 +22,10 @@ pub events_append : (xs ys : List Call) → ticketed_events (xs ++ ys) ≡ ticke
 events_append xs ys = ap (map ticketed) (filter-append is_told xs ys) ∙ map-append ticketed (events_in xs) (events_in ys)
 
 pub events_told : (call : Call) (calls : List Call) → is_told call ≡ true → ticketed_events (call ∷ calls) ≡ ticketed call ∷ ticketed_events calls
-events_told call calls is = ap (map ticketed) (told_first call calls is)
+events_told call calls is = ap (map ticketed) (event_first call calls is)
 
 pub events_untold : (call : Call) (calls : List Call) → is_told call ≡ false → ticketed_events (call ∷ calls) ≡ ticketed_events calls
-events_untold call calls is = ap (map ticketed) (untold_first call calls is)
+events_untold call calls is = ap (map ticketed) (quiet_first call calls is)
 
 -- without one that is none
 pub events_around : (xs ys : List Call) (call : Call) → is_told call ≡ false → ticketed_events (xs ++ call ∷ ys) ≡ ticketed_events xs ++ ticketed_events ys

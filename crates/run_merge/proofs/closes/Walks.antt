@@ -11,6 +11,7 @@ use Rattle.block_core.specs.Breaks.{is_broken}
 use Rattle.object_things.specs.Histories.{Call}
 use Rattle.shared_objects.specs.Calls.{struck}
 use Rattle.shared_objects.specs.Logs.{is_event, is_stop, is_glance, events_in, Looked, LogLeads}
+use Rattle.shared_objects.proofs.Leading.{event_first, kinds, quiet_first, stop_kind}
 use Rattle.run_merge.specs.Merging.{Ticketed, without_tickets}
 use Rattle.run_merge.specs.Products.{LeadsTask, led_by}
 use Rattle.run_merge.specs.SharedObjects.{ticketed}
@@ -23,25 +24,6 @@ is_told call = is_event call.asked call.told.reply
 -- each of these calls asks some object
 abbrev pub AskSome : List Call → Type 0
 AskSome calls = All (λ (call : Call). object_of call.asked ≡ OfNone → ⊥) calls
-
-no_event : (event stop : Bool) → not (event || stop) ≡ true → event ≡ false
-no_event true stop h = absurd (true≢false (sym h))
-no_event false stop h = refl
-
-pub is_one : (event stop : Bool) → not (event || stop) ≡ false → event ≡ false → stop ≡ true
-is_one true stop h not = absurd (true≢false not)
-is_one false true h not = refl
-is_one false false h not = absurd (true≢false h)
-
-pub glance_untold : (call : Call) → is_glance call.asked call.told.reply ≡ true → is_told call ≡ false
-glance_untold call h = no_event (is_told call) (is_stop call.asked call.told.reply) h
-
--- the events of a longer list
-pub told_first : (call : Call) (calls : List Call) → is_told call ≡ true → events_in (call ∷ calls) ≡ call ∷ events_in calls
-told_first call calls is = ap (λ b. cond b (call ∷ events_in calls) (events_in calls)) is
-
-pub untold_first : (call : Call) (calls : List Call) → is_told call ≡ false → events_in (call ∷ calls) ≡ events_in calls
-untold_first call calls is = ap (λ b. cond b (call ∷ events_in calls) (events_in calls)) is
 
 -- The call that broke the task off, which was at `now`, among calls behind others: what is behind it are looks.
 pub record IsStopped (setup : Setup) (before : List Call) (log : List Call) (now last : TaskState) : Type 0 where
@@ -85,7 +67,7 @@ module _ (setup : Setup) where
   only_looks before task [] last broken some leads = (leads, refl)
   only_looks before task (call ∷ calls) last broken some (inl (glance, leads)) =
       let rest = only_looks (before ++ call ∷ []) task calls last broken (All-tail (λ (c : Call). object_of c.asked ≡ OfNone → ⊥) call calls some) leads in
-      (rest.0, untold_first call calls (glance_untold call glance) ∙ rest.1)
+      (rest.0, quiet_first call calls (kinds call glance).0 ∙ rest.1)
   only_looks before task (call ∷ calls) last broken some (inr (none, asks, looked, leads)) =
       absurd (All-head (λ (c : Call). object_of c.asked ≡ OfNone → ⊥) call calls some (ap object_of (asks ∙ ap struck (broken_rests setup task broken))))
 
@@ -116,7 +98,7 @@ module _ (setup : Setup) where
       let rest = walk (before ++ call ∷ []) first calls last (All-tail (λ (c : Call). object_of c.asked ≡ OfNone → ⊥) call calls some) leads in
       record {
         now = rest.now;
-        leads = subst (λ l. LeadsTask setup first (without_tickets (map_all l)) rest.now) (sym (untold_first call calls (glance_untold call glance))) rest.leads;
+        leads = subst (λ l. LeadsTask setup first (without_tickets (map_all l)) rest.now) (sym (quiet_first call calls (kinds call glance).0)) rest.leads;
         end = behind_one before call calls rest.now last rest.end;
       }
   walk before first (call ∷ calls) last some (inr (none, asks, looked, leads)) =
@@ -128,16 +110,16 @@ module _ (setup : Setup) where
       by_event : (told : Bool) → is_told call ≡ told → Walked setup (before ++ call ∷ []) (answered setup first call.told.reply) calls last → Walked setup before first (call ∷ calls) last
       by_event true is rest = record {
         now = rest.now;
-        leads = subst (λ l. LeadsTask setup first (without_tickets (map_all l)) rest.now) (sym (told_first call calls is)) (asks, rest.leads);
+        leads = subst (λ l. LeadsTask setup first (without_tickets (map_all l)) rest.now) (sym (event_first call calls is)) (asks, rest.leads);
         end = behind_one before call calls rest.now last rest.end;
       }
       by_event false is rest =
-          let stop = is_one (is_told call) (is_stop call.asked call.told.reply) none is in
+          let stop = stop_kind (is_told call) (is_stop call.asked call.told.reply) none is in
           let broken = stop_breaks setup first call.asked call.told.reply asks (All-head (λ (c : Call). object_of c.asked ≡ OfNone → ⊥) call calls some) stop in
           let behind = only_looks (before ++ call ∷ []) (answered setup first call.told.reply) calls last broken others leads in
           record {
             now = first;
-            leads = subst (λ l. LeadsTask setup first (without_tickets (map_all l)) first) (sym (untold_first call calls is ∙ behind.1)) refl;
+            leads = subst (λ l. LeadsTask setup first (without_tickets (map_all l)) first) (sym (quiet_first call calls is ∙ behind.1)) refl;
             end = inr (record {
               here = [];
               call = call;
@@ -154,7 +136,7 @@ module _ (setup : Setup) where
           }
 
   not_none : {X : Type 0} (mine rest : List Call) (call : Call) → is_told call ≡ true → events_in (mine ++ call ∷ rest) ≡ [] → X
-  not_none [] rest call told none = absurd (true≢false (ap has_some (sym (told_first call rest told) ∙ none)))
+  not_none [] rest call told none = absurd (true≢false (ap has_some (sym (event_first call rest told) ∙ none)))
   not_none {X} (m ∷ mine) rest call told none = by_event (is_told m) none (λ is. not_none mine rest call told is)
     where
       by_event : (b : Bool) → cond b (m ∷ events_in (mine ++ call ∷ rest)) (events_in (mine ++ call ∷ rest)) ≡ [] → (events_in (mine ++ call ∷ rest) ≡ [] → X) → X
@@ -165,12 +147,12 @@ module _ (setup : Setup) where
   pub looks_there : (before : List Call) (first : TaskState) (mine rest : List Call) (call : Call) (last : TaskState) → is_told call ≡ true → AskSome (mine ++ call ∷ rest)
       → LogLeads setup before first (mine ++ call ∷ rest) last
       → let task = led_by setup first (without_tickets (ticketed_events mine)) in Looked (before ++ mine) task call (look_of task)
-  looks_there before first [] rest call last told some (inl (glance, leads)) = absurd (true≢false (sym told ∙ glance_untold call glance))
+  looks_there before first [] rest call last told some (inl (glance, leads)) = absurd (true≢false (sym told ∙ (kinds call glance).0))
   looks_there before first [] rest call last told some (inr (none, asks, looked, leads)) =
       subst (λ l. Looked l first call (look_of first)) (sym (append-nil before)) looked
   looks_there before first (m ∷ mine) rest call last told some (inl (glance, leads)) =
       let others = All-tail (λ (c : Call). object_of c.asked ≡ OfNone → ⊥) m (mine ++ call ∷ rest) some in
-      by_events before first m mine call (events_in mine) (untold_first m mine (glance_untold m glance))
+      by_events before first m mine call (events_in mine) (quiet_first m mine (kinds m glance).0)
       (looks_there (before ++ m ∷ []) first mine rest call last told others leads)
   looks_there before first (m ∷ mine) rest call last told some (inr (none, asks, looked, leads)) =
       by_event (is_told m) refl (looks_there (before ++ m ∷ []) (answered setup first m.told.reply) mine rest call last told others leads)
@@ -185,8 +167,8 @@ module _ (setup : Setup) where
           → Looked ((before ++ m ∷ []) ++ mine) (led_by setup (answered setup first m.told.reply) (without_tickets (ticketed_events mine))) call
           (look_of (led_by setup (answered setup first m.told.reply) (without_tickets (ticketed_events mine))))
           → Then first (events_in (m ∷ mine))
-      by_event true is l = by_events before first m mine call (m ∷ events_in mine) (told_first m mine is) l
+      by_event true is l = by_events before first m mine call (m ∷ events_in mine) (event_first m mine is) l
       by_event false is l =
-          let stop = is_one (is_told m) (is_stop m.asked m.told.reply) none is in
+          let stop = stop_kind (is_told m) (is_stop m.asked m.told.reply) none is in
           let broken = stop_breaks setup first m.asked m.told.reply asks (All-head (λ (c : Call). object_of c.asked ≡ OfNone → ⊥) m (mine ++ call ∷ rest) some) stop in
           not_none mine rest call told (only_looks (before ++ m ∷ []) (answered setup first m.told.reply) (mine ++ call ∷ rest) last broken others leads).1

@@ -17,13 +17,14 @@ use Rattle.run_machine.proofs.Frames.{upd_same, upd_other}
 use Rattle.object_things.specs.Histories.{Call, or_last}
 use Rattle.shared_objects.specs.Logs.{is_event, is_stop, LogLeads}
 use Rattle.shared_objects.specs.Noting.{noted_as, notes_of}
+use Rattle.shared_objects.proofs.Leading.{kinds, stop_kind}
 use Rattle.run_merge.specs.Entries.{Entry, entries_in}
 use Rattle.run_merge.specs.Merging.{Ticketed, without_tickets}
 use Rattle.run_merge.specs.SharedObjects.{ticketed}
 use Rattle.run_merge.proofs.closes.Breaking.{stop_breaks}
 use Rattle.run_merge.proofs.closes.Drawn.{events_told, events_untold}
 use Rattle.run_merge.proofs.closes.Events.{ticketed_events}
-use Rattle.run_merge.proofs.closes.Walks.{is_told, AskSome, glance_untold, is_one, only_looks}
+use Rattle.run_merge.proofs.closes.Walks.{is_told, AskSome, only_looks}
 use Rattle.run_merge.proofs.merging.Picked.{is_by}
 use Rattle.run_merge.proofs.products.Behind.{entry_of}
 use Rattle.run_merge.proofs.products.Parts.{first_or, behind_first, is_none}
@@ -204,7 +205,7 @@ module _ (setup : Setup) where
   log_notes before first (call ∷ calls) last some (inl (glance, leads)) =
       ap (λ b. if b then notes_of setup first calls else noted_as (or_last 0 call.told.ticket) first (what_of (request setup first) call.told.reply) ++ notes_of setup (answered setup first call.told.reply) calls) glance
       ∙ log_notes (before ++ call ∷ []) first calls last (All-tail (λ (c : Call). object_of c.asked ≡ OfNone → ⊥) call calls some) leads
-      ∙ ap (own_notes setup first) (sym (events_untold call calls (glance_untold call glance)))
+      ∙ ap (own_notes setup first) (sym (events_untold call calls (kinds call glance).0))
   log_notes before first (call ∷ calls) last some (inr (goes, asks, looked, leads)) =
       ap (λ b. if b then notes_of setup first calls else noted_as (or_last 0 call.told.ticket) first (what_of (request setup first) call.told.reply) ++ notes_of setup (answered setup first call.told.reply) calls) goes
       ∙ by_event (is_told call) refl (log_notes (before ++ call ∷ []) (answered setup first call.told.reply) calls last others leads)
@@ -222,7 +223,7 @@ module _ (setup : Setup) where
       by_event true is rest =
           ap (λ l. noted_as (or_last 0 call.told.ticket) first (what_of (request setup first) call.told.reply) ++ l) rest ∙ ap (own_notes setup first) (sym (events_told call calls is))
       by_event false is rest =
-          let stop = is_one (is_told call) (is_stop call.asked call.told.reply) goes is in
+          let stop = stop_kind (is_told call) (is_stop call.asked call.told.reply) goes is in
           let broken = stop_breaks setup first call.asked call.told.reply asks (All-head (λ (c : Call). object_of c.asked ≡ OfNone → ⊥) call calls some) stop in
           let behind = only_looks setup (before ++ call ∷ []) (answered setup first call.told.reply) calls last broken others leads in
           let none : what_of (request setup first) call.told.reply ≡ None =
