@@ -1,8 +1,9 @@
-//! A fault of the source or of a sink at every call that small runs, a trace, a check, a layout and generated texts make.
+//! A fault of the source or of a sink at every call that small runs, a trace, a check, a layout, a scrub, a replay and generated texts make.
 use crate::calls::{ROOM, carry_out, make_call, owned, words_of};
+use crate::scrubs::{ALIKE, ALIKE_LINES};
 use crate::texts::{
-    BAD_SECTOR, BAD_SECTOR_REPORT, ONE_SECTOR, ONE_SECTOR_REPORT, ONE_SECTOR_TRACE, STRIPED,
-    STRIPED_CHECK, STRIPED_LAYOUT,
+    BAD_SECTOR, BAD_SECTOR_REPORT, ONE_SECTOR, ONE_SECTOR_GIVEN, ONE_SECTOR_REPLAYED,
+    ONE_SECTOR_REPORT, ONE_SECTOR_TRACE, STRIPED, STRIPED_CHECK, STRIPED_LAYOUT,
 };
 use outside_io::{FailSink, FailSource, Sink};
 use std::process::Abort;
@@ -20,7 +21,7 @@ struct Call<'a> {
     status: u8,
 }
 
-const CALLS: [Call<'static>; 5] = [
+const CALLS: [Call<'static>; 7] = [
     Call {
         words: &["run"],
         text: ONE_SECTOR,
@@ -50,6 +51,18 @@ const CALLS: [Call<'static>; 5] = [
         words: &["layout"],
         text: STRIPED,
         output: STRIPED_LAYOUT,
+        status: 0,
+    },
+    Call {
+        words: &["scrub"],
+        text: ALIKE,
+        output: ALIKE_LINES,
+        status: 0,
+    },
+    Call {
+        words: &["replay"],
+        text: ONE_SECTOR_GIVEN,
+        output: ONE_SECTOR_REPLAYED,
         status: 0,
     },
 ];

@@ -2,7 +2,7 @@
 use crate::asks::{Case, all_hold};
 use crate::calls::{ROOM, answers, make_call, owned};
 use crate::made::{Part, STORAGE, STORAGE_WRITES, text_of};
-use crate::texts::{MIRRORED, ONE_SECTOR, STRIPED};
+use crate::texts::{MIRRORED, ONE_SECTOR, ONE_SECTOR_REPLAYED, STRIPED};
 use outside_io::Sink;
 use std::process::Abort;
 
@@ -45,9 +45,6 @@ const SEVEN: &str =
     "event w0 take fs.bios ordinary\nevent w0 link 0 write 0\nevent w0 push a 0 1 leg 0\n\
     event c:a complete a 0 ok\nevent c:a drop 0 0 ok top\nevent c:a give fs.bios\nevent c:a done 0 ok\n";
 
-const SEVEN_LINES: &str =
-    "replay events 7\nend ended\npool fs.bios lowest 2 most 1\npool fs.vecs lowest 2 most 0\n";
-
 /// Where nothing was done of a write.
 const BAD_THIRD_LINE: &str =
     "replay events 0\nbad line 3\nend open\npool fs.bios lowest 2 most 0\npool fs.vecs lowest 2 most 0\n";
@@ -63,7 +60,7 @@ const REPLAYS: &[Replay] = &[
         "replay events 25\nend ended\npool fs.bios lowest 1 most 1\npool fs.vecs lowest 2 most 0\n\
          pool m.records lowest 0 most 1\npool m.bios lowest 0 most 1\n",
     ),
-    Replay(ONE_SECTOR, SEVEN, 0, SEVEN_LINES),
+    Replay(ONE_SECTOR, SEVEN, 0, ONE_SECTOR_REPLAYED),
     // No event comes next but a take.
     Replay(ONE_SECTOR, "event w0 link 0 write 0\n", 1, BAD_THIRD_LINE),
     Replay(ONE_SECTOR, "event c:a done 0 ok\n", 1, BAD_THIRD_LINE),
@@ -117,7 +114,7 @@ const REPLAYS: &[Replay] = &[
          event w0 push a 0 1 leg 0\ndisk a 64\nevent c:a complete a 0 ok\nevent c:a drop 0 1 ok top\nevent c:a give fs.bios\n\
          event c:a done 0 ok\nsteps 7 of 10\n",
         0,
-        SEVEN_LINES,
+        ONE_SECTOR_REPLAYED,
     ),
 ];
 
@@ -213,7 +210,11 @@ const REFUSED: &[Refused] = &[
 struct Replayed(&'static [&'static str], &'static [Part], &'static str);
 
 const REPLAYED: &[Replayed] = &[
-    Replayed(&["run", "--trace"], &[Part::Once(ONE_SECTOR)], SEVEN_LINES),
+    Replayed(
+        &["run", "--trace"],
+        &[Part::Once(ONE_SECTOR)],
+        ONE_SECTOR_REPLAYED,
+    ),
     Replayed(
         &["run", "--trace"],
         &[Part::Once(MIRRORED)],

@@ -79,10 +79,11 @@ const SCRUBS: &[Scrub] = &[
     ),
 ];
 
-const ALIKE: &str =
+/// A write that comes to both members of a mirror, and what its scrub writes.
+pub const ALIKE: &str =
     "disk a 8\ndisk b 8\nmirror m a b reserve=1 records=1\nmemory none\nwrite 0 m 0 1 0\n";
 
-const ALIKE_LINES: &str = "scrub m leg 1 unlike 0\nsteps 25 of 36\n";
+pub const ALIKE_LINES: &str = "scrub m leg 1 unlike 0\nsteps 25 of 36\n";
 
 // Words that order a scrub behind another schedule.
 const SEEDED: &[Asked] = &[

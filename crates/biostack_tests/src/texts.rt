@@ -13,6 +13,14 @@ pub const ONE_SECTOR_TRACE: &str = "event w0 take fs.bios ordinary\nevent w0 lin
     event c:a give fs.bios\nevent c:a done 0 ok\nwrite 0 ok\ndisk a sum 00000000000007e0\nrun a 0 1\n\
     pool fs.bios reserve 2 ordinary 1 spare 0\npool fs.vecs reserve 2 ordinary 0 spare 0\nsteps 7 of 10\n";
 
+/// The smallest run given behind its scenario, and what its replay writes: the one write had one bio of ordinary memory.
+pub const ONE_SECTOR_GIVEN: &str = "disk a 64\nwrite 0 a 0 1 0\nevent w0 take fs.bios ordinary\n\
+    event w0 link 0 write 0\nevent w0 push a 0 1 leg 0\nevent c:a complete a 0 ok\n\
+    event c:a drop 0 0 ok top\nevent c:a give fs.bios\nevent c:a done 0 ok\n";
+
+pub const ONE_SECTOR_REPLAYED: &str =
+    "replay events 7\nend ended\npool fs.bios lowest 2 most 1\npool fs.vecs lowest 2 most 0\n";
+
 /// The text of the smallest run whose write fails.
 pub const BAD_SECTOR: &str = "disk a 64\nbad a 0 1 medium\nwrite 0 a 0 1 0\n";
 
