@@ -10,3 +10,8 @@ pub mod LeftDisks
 pub mod ScrubLemmas
 pub mod ReplayLemmas
 pub mod OrderLemmas
+pub mod LooseTexts
+pub mod SameStacks
+pub mod SameRuns
+pub mod SameWords
+pub mod TracedRuns
