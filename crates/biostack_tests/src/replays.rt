@@ -246,8 +246,8 @@ fn traced(rt: &(impl Abort + AllocGlobal), words: &[&str], parts: &[Part]) -> Ve
     all
 }
 
-// Whether the first lines of a replay are these.
-fn begins(rt: &(impl Abort + AllocGlobal), text: &[u8], lines: &str) -> bool {
+/// Whether the first lines of a replay are these, and no line is bad.
+pub fn begins(rt: &(impl Abort + AllocGlobal), text: &[u8], lines: &str) -> bool {
     let done = make_call(rt, &["replay"], text, ROOM);
     done.status == 0 && done.output.held().starts_with(lines.as_bytes())
 }

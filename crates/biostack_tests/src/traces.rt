@@ -2,10 +2,13 @@
 ghost use Rattle.trace_text.specs.Names.{IsNamed};
 
 use crate::asks::holds;
-use crate::calls::ROOM;
+use crate::calls::{ROOM, owned};
+use crate::replays::begins;
 use crate::scenes::scene_of;
 use crate::texts::{MIRRORED, MIRRORED_REPORT, ONE_SECTOR, ONE_SECTOR_REPORT};
-use crate::workers::{NESTED, NESTED_REPORT, run_by};
+use crate::workers::{
+    NESTED, NESTED_REPORT, RESIZED, RESIZED_REPORT, ROUNDS, ROUNDS_REPORT, run_by,
+};
 use decl_text::Lines;
 use outside_io::Sink;
 use plain_core::Core;
@@ -25,6 +28,8 @@ const TRACES: &[Traced] = &[
     Traced(ONE_SECTOR, 2, 7, ONE_SECTOR_REPORT),
     Traced(MIRRORED, 4, 25, MIRRORED_REPORT),
     Traced(NESTED, 4, 61, NESTED_REPORT),
+    Traced(ROUNDS, 4, 15, ROUNDS_REPORT),
+    Traced(RESIZED, 4, 49, RESIZED_REPORT),
 ];
 
 // Whether a line is that of an event which can come next. It has come then.
@@ -80,11 +85,37 @@ fn traces(
     done.status == 0 && is_written && done.errors.held().is_empty()
 }
 
+// Whether what so many workers wrote of a text, with a trace, is replayed behind it to the end of their run.
+fn replays(
+    rt: &(impl Abort + AllocGlobal + Threads + Wait + Sync),
+    workers: u32,
+    row: Traced,
+) -> bool {
+    let Traced(text, _, events, report) = row;
+    let done = run_by(rt, workers, true, text.as_bytes(), ROOM);
+    let told = done.output.held();
+    let mut all = owned(rt, text.as_bytes());
+    all.extend_from_slice(told).expect(rt, "no text");
+    let lines = format!(in rt.alloc(); "replay events {events}\nend ended\n").expect(
+        rt, "no lines",
+    );
+    told.ends_with(report.as_bytes()) && begins(rt, &all, lines.as_str())
+}
+
 #[test]
 fn what_workers_trace_is_a_run(rt: HostRuntime) {
     for row in TRACES {
         for workers in 1..=row.1 {
             holds(&rt, traces(&rt, workers, *row), row.0);
+        }
+    }
+}
+
+#[test]
+fn what_workers_trace_is_replayed_to_its_end(rt: HostRuntime) {
+    for row in TRACES {
+        for workers in 1..=row.1 {
+            holds(&rt, replays(&rt, workers, *row), row.0);
         }
     }
 }

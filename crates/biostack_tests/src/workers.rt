@@ -32,17 +32,19 @@ pub const NESTED_REPORT: &str =
     pool z.records reserve 1 ordinary 0 spare 1\npool z.bios reserve 1 ordinary 0 spare 2\nsteps 61 of 88\n";
 
 /// Two writers in two rounds, whose writes share a sector.
-const ROUNDS: &str = "disk a 8\nwrite 0 a 0 2 0\nsync\nwrite 1 a 1 2 1000\n";
+pub const ROUNDS: &str = "disk a 8\nwrite 0 a 0 2 0\nsync\nwrite 1 a 1 2 1000\n";
 
-const ROUNDS_REPORT: &str = "write 0 ok\nwrite 1 ok\ndisk a sum 0000000000021ba0\nrun a 0 3\n\
+/// What they report.
+pub const ROUNDS_REPORT: &str = "write 0 ok\nwrite 1 ok\ndisk a sum 0000000000021ba0\nrun a 0 3\n\
     pool fs.bios reserve 2 ordinary 2 spare 0\npool fs.vecs reserve 2 ordinary 0 spare 0\nsteps 15 of 21\n";
 
 /// A write to a mirror whose reserve is one bio, and the same with a reserve of two.
-const RESIZED: &str =
+pub const RESIZED: &str =
     "disk a 8\ndisk b 8\nmirror m a b reserve=1 records=1\nmemory none\nwrite 0 m 0 1 0\nsync\nresize m.bios 2\n\
     write 0 m 0 1 64\n";
 
-const RESIZED_REPORT: &str =
+/// What it reports.
+pub const RESIZED_REPORT: &str =
     "write 0 ok\nwrite 1 ok\ndisk a sum 00000000000017e0\nrun a 0 1\ndisk b sum 00000000000017e0\nrun b 0 1\n\
     pool fs.bios reserve 2 ordinary 0 spare 2\npool fs.vecs reserve 2 ordinary 0 spare 0\n\
     pool m.records reserve 1 ordinary 0 spare 2\npool m.bios reserve 2 ordinary 0 spare 4\nsteps 49 of 74\n";
