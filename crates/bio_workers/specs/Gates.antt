@@ -1,9 +1,10 @@
 -- What a gate was shown.
-use Rattle.std.specs.Prelude.{List}
+use Rattle.std.specs.Prelude.{◌≡◌, List}
 use Rattle.run_machine.specs.Laws.{Object}
 use Rattle.task_core.specs.declared.Opened.{Opened}
 use Rattle.object_things.specs.Histories.{Call}
 use Rattle.shared_objects.specs.Closed.{history_in, names_in}
+use Rattle.shared_objects.specs.Left.{HasClosed}
 use Rattle.shared_objects.specs.declared.closed.Closed.{Closed}
 use Rattle.std.specs.Prelude.{Option, None, Some}
 use Rattle.std.specs.declared.snapshot.Snapshot.{Snapshot}
@@ -20,3 +21,7 @@ showing closed = record { opened = closed.told.value; names = names_in closed; h
 abbrev pub shown_by : Option (Snapshot Closed) → Option Showing
 shown_by None = None
 shown_by (Some seen) = Some (showing seen.value)
+
+-- it is what closed objects show
+abbrev pub IsOfClosed : Showing → Type 0
+IsOfClosed shown = (closed : Closed) × HasClosed closed × (shown ≡ showing closed)

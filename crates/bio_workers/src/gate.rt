@@ -9,6 +9,7 @@ use task_steps::TaskId;
 /// Who looks on while tasks are stepped, and is shown what they leave. All workers share it.
 pub trait Gate {
     ghost use Rattle.std.specs.Prelude.{◌≡◌, Option, Some};
+    ghost use Rattle.shared_objects.specs.Left.{HasClosed};
     ghost use Rattle.bio_workers.specs.Gates.{Showing, showing};
 
     /// What it was shown last; nothing so far is `None`.
@@ -20,8 +21,9 @@ pub trait Gate {
     /// Called behind each step of a task.
     fn after(&self, task: TaskId);
 
-    /// Is shown what is left of shared objects.
+    /// Is shown what is left of shared objects, as they were closed: so each event in their histories has a ticket of its own.
     fn closed(&mut self, closed: &Closed)
+        requires { HasClosed closed.now }
         ensures { shown self.new ≡ Some (showing closed.now) };
 }
 

@@ -96,7 +96,6 @@ const OTHER_WORDS: &[Call] = &[
     Call::Usage(&["run", "--trace", "--trace"]),
     Call::Usage(&["run", "--workers", "0"]),
     Call::Usage(&["run", "--workers", "17"]),
-    Call::Usage(&["run", "--workers", "2", "--trace"]),
     Call::Usage(&["run", "--seed", "1", "--workers", "2"]),
     Call::Usage(&["run", "--seed"]),
     Call::Usage(&["check", "--trace"]),

@@ -123,7 +123,7 @@ module _ (closed : Closed) (held : HasClosed closed) where
     naming = is.naming;
     state = state_in closed;
     run = is.run;
-    made = (record { opened = held.opened; of = refl }, refl, is.merges);
+    made = (record { closed = (closed, held, refl); opened = held.opened; of = refl }, refl, is.merges);
     ends = is.ends;
     left = is.left;
     disks = is.disks;
@@ -142,4 +142,4 @@ module _ (closed : Closed) (held : HasClosed closed) where
       → IsShownOf (scenario_in shared) (showing closed) × HasOutcome (scenario_in shared) trace (showing closed) result
   has_outcome shared trace result told same is fine =
       subst (λ (o : Opened). IsShownOf (scenario_in o) (showing closed) × HasOutcome (scenario_in o) trace (showing closed) result) told
-      (record { opened = held.opened; of = refl }, outcome_is trace result same is fine)
+      (record { closed = (closed, held, refl); opened = held.opened; of = refl }, outcome_is trace result same is fine)

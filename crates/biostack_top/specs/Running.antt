@@ -19,7 +19,7 @@ use Rattle.block_core.specs.Claim.{IsAsClaimed}
 use Rattle.block_core.specs.Scenarios.{IsNaming}
 use Rattle.run_machine.specs.Named.{Fits, IsEventOf}
 use Rattle.serial_run.specs.Schedule.{Follows}
-use Rattle.bio_workers.specs.Gates.{Showing}
+use Rattle.bio_workers.specs.Gates.{IsOfClosed, Showing}
 use Rattle.run_merge.specs.Entries.{Entry, entries_in}
 use Rattle.run_merge.specs.Merging.{all_of, without_tickets, sorted}
 use Rattle.run_merge.specs.SharedObjects.{entry_histories}
@@ -38,8 +38,9 @@ pub data Maker : Type 0 where
   ByNumber : (number : ℕ) → Maker
   ByThreads : (shown : Showing) → Maker
 
--- What was shown was opened of a scenario.
+-- What was shown was opened of a scenario, and is what its objects showed when they were closed.
 pub record IsShownOf (s : Scenario) (shown : Showing) : Type 0 where
+  pub closed : IsOfClosed shown
   pub opened : IsOpened shown.opened
   pub of : scenario_in shown.opened ≡ s
 

@@ -2,7 +2,7 @@
 ghost use Rattle.std.specs.Prelude.{◌≡◌, ◌≤◌};
 ghost use Rattle.bio_workers.specs.declared.work.Progress.TheVariants.{Over};
 
-use bio_workers::{Few, Progress, Work, run_tasks};
+use bio_workers::{Few, MOST_TASKS, Progress, Work, run_tasks};
 use std::sync::Wait;
 use std::sync::atomic::{AtomicU64, Ordering};
 use std::thread::Threads;
@@ -70,7 +70,7 @@ pub fn run_relay<R: Threads + Wait + Sync>(
 {
     let mut tasks = Few::new();
     for number in 0..runners {
-        if tasks.len() < 41 {
+        if tasks.len() < MOST_TASKS {
             tasks.push(Runner {
                 number,
                 left: often,
