@@ -8,7 +8,7 @@ use Rattle.std.proofs.lemmas.List.Elements.{All-from_recursion, All-map, All-pop
 use Rattle.std.proofs.lemmas.List.Sorted.{All-permutation, Contains-permutation, IsPermutation-map, IsPermutation-sym, IsPermutation-to_front}
 use Rattle.std.proofs.lemmas.Map.Keys.{IsDistinct-cons, IsDistinct-head, IsDistinct-tail, IsDistinct-IsPermutation}
 use Rattle.shared_objects.specs.Rans.{RanKey, RanState, ran_key}
-use Rattle.shared_objects.specs.Shared.{HandsOut, HaveStopped, IsBackStopped, IsOut, SameShared, TakesBack, key_at}
+use Rattle.shared_objects.specs.Shared.{HandsOut, HaveStopped, IsBackStopped, IsOut, SameShared, TakesBack, ran_key_at}
 use Rattle.shared_objects.specs.declared.locks.Locks.{Locks}
 use Rattle.shared_objects.specs.declared.shared.Shared.{Shared}
 use Rattle.task_core.specs.declared.Opened.{Opened}
@@ -42,8 +42,8 @@ still_out : (old new : Shared) (key : RanKey) → IsOut old key → old.next ≤
     → ((slot : Option RanState) → slice_index_or new.tasks.items key.number slot ≡ slice_index_or old.tasks.items key.number slot) → IsOut new key
 still_out old new key out next same slots = record {
   taken = let below = out.taken in omega (arith, below, next);
-  own = λ first. subst (λ (locks : Locks). key ≡ key_at locks key.number (slice_index_or new.told.value.tasks.items key.number first)) (sym same.locks)
-      (subst (λ (o : Opened). key ≡ key_at old.locks key.number (slice_index_or o.tasks.items key.number first)) (sym same.told) (out.own first));
+  own = λ first. subst (λ (locks : Locks). key ≡ ran_key_at locks key.number (slice_index_or new.told.value.tasks.items key.number first)) (sym same.locks)
+      (subst (λ (o : Opened). key ≡ ran_key_at old.locks key.number (slice_index_or o.tasks.items key.number first)) (sym same.told) (out.own first));
   vacant = λ slot. slots slot ∙ out.vacant slot;
 }
 
@@ -54,14 +54,14 @@ module _ (old new : Shared) (ran : RanState) (out : HandsOut old ran new) where
   other_slots : (place : ℕ) (slot : Option RanState) → place ≢ old.next → slice_index_or new.tasks.items place slot ≡ slice_index_or old.tasks.items place slot
   other_slots place slot other = ap (λ l. slice_index_or l place slot) out.tasks ∙ get_or-set_other old.tasks.items old.next place None slot other
 
-  is_own : (first : _) → ran_key ran ≡ key_at new.locks old.next (slice_index_or new.told.value.tasks.items old.next first)
-  is_own first = subst (λ (locks : Locks). ran_key ran ≡ key_at locks old.next (slice_index_or new.told.value.tasks.items old.next first)) (sym out.same.locks)
-      (subst (λ (o : Opened). ran_key ran ≡ key_at old.locks old.next (slice_index_or o.tasks.items old.next first)) (sym out.same.told) (out.key first))
+  is_own : (first : _) → ran_key ran ≡ ran_key_at new.locks old.next (slice_index_or new.told.value.tasks.items old.next first)
+  is_own first = subst (λ (locks : Locks). ran_key ran ≡ ran_key_at locks old.next (slice_index_or new.told.value.tasks.items old.next first)) (sym out.same.locks)
+      (subst (λ (o : Opened). ran_key ran ≡ ran_key_at old.locks old.next (slice_index_or o.tasks.items old.next first)) (sym out.same.told) (out.key first))
 
   new_out : IsOut new (ran_key ran)
   new_out = record {
     taken = let next = out.next in let same = its_number in omega (arith, next, same);
-    own = λ first. subst (λ (n : ℕ). ran_key ran ≡ key_at new.locks n (slice_index_or new.told.value.tasks.items n first)) (sym its_number) (is_own first);
+    own = λ first. subst (λ (n : ℕ). ran_key ran ≡ ran_key_at new.locks n (slice_index_or new.told.value.tasks.items n first)) (sym its_number) (is_own first);
     vacant = λ slot. subst (λ (n : ℕ). slice_index_or new.tasks.items n slot ≡ None) (sym its_number)
         (ap (λ l. slice_index_or l old.next slot) out.tasks ∙ get_or-set_same old.tasks.items old.next None slot out.some);
   }

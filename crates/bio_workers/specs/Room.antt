@@ -6,5 +6,5 @@ use Rattle.bio_workers.specs.contracts.few.Few as few
 use Rattle.bio_workers.specs.contracts.hand.Hand as hand
 
 -- as many tasks of this type as a run has at the most are not too large for it
-abbrev pub HasRoom : RattleType → Type 0
-HasRoom T = (type_size (hand.the_row T) < 2 ^ 63) × (type_size (few.the_row T) < 2 ^ 63)
+abbrev pub TasksFitInMemory : RattleType → Type 0
+TasksFitInMemory T = (type_size (hand.the_row T) < 2 ^ 63) × (type_size (few.the_row T) < 2 ^ 63)

@@ -1,6 +1,6 @@
 //! Workers at their tasks.
 ghost use Rattle.std.specs.Prelude.{◌≡◌, ◌≤◌, ◌<◌, ◌+◌, All, IsPermutation, length, map, take};
-ghost use Rattle.bio_workers.specs.Room.{HasRoom};
+ghost use Rattle.bio_workers.specs.Room.{TasksFitInMemory};
 ghost use Rattle.bio_workers.specs.declared.work.Progress.TheVariants.{Over};
 
 use crate::bell::Bell;
@@ -125,7 +125,7 @@ pub fn run_tasks<R: Threads + Wait + Sync, T: Send + Drop, W: Work<T> + Sync>(
 ) -> Few<T>
     requires workers { (1 ≤ workers) × (workers ≤ 16) }
     requires can { All (W.can work.now) (map W.key tasks) }
-    requires size { HasRoom T.row }
+    requires size { TasksFitInMemory T.row }
     ensures tasks { IsPermutation (map W.key tasks) (map W.key result) }
     ensures over { All W.is_over result }
 {

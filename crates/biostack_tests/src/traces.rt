@@ -1,5 +1,5 @@
 //! Traces of runs by workers. Which run they make is not known beforehand, but each line has to be the event that comes next in it.
-ghost use Rattle.trace_text.specs.Names.{IsNamed};
+ghost use Rattle.trace_text.specs.Names.{DevicesAreNamed};
 
 use crate::asks::holds;
 use crate::calls::{ROOM, owned};
@@ -34,7 +34,7 @@ const TRACES: &[Traced] = &[
 
 // Whether a line is that of an event which can come next. It has come then.
 fn comes(core: &mut Core, stack: &Stack, line: &[u8]) -> bool
-    requires { IsNamed stack.now }
+    requires { DevicesAreNamed stack.now }
 {
     match read_event(line, stack) {
         Some(event) => core.apply(&event).is_ok(),
@@ -44,7 +44,7 @@ fn comes(core: &mut Core, stack: &Stack, line: &[u8]) -> bool
 
 // How many of the first lines are events, each of which can come behind those before it.
 fn follow(core: &mut Core, stack: &Stack, text: &[u8]) -> u64
-    requires { IsNamed stack.now }
+    requires { DevicesAreNamed stack.now }
 {
     let mut lines = Lines::from(text, 0);
     let mut events: u64 = 0;

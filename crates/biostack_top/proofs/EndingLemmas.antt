@@ -11,7 +11,7 @@ use Rattle.biostack_top.specs.declared.ending.Ending.{Ending}
 use Rattle.biostack_top.specs.declared.ending.Ending.TheVariants.{Usage, ReadFault, Memory, Refused, WriteFault, Done, NotAllWell}
 use Rattle.biostack_top.specs.Ending.{HadRefusedText, MayFollowRun, MayLack, OrderEndsBy, SharedEndsBy, WorkersEndBy, exit_of, refusal_for}
 use Rattle.biostack_top.specs.Input.{HasNoInput, IsInput, limit, made_by}
-use Rattle.biostack_top.specs.Streams.{Call, Stays, Stream}
+use Rattle.biostack_top.specs.Streams.{CallStreams, StreamStays, Stream}
 
 -- a text that is refused was read, since no generated text is
 was_read : {S : Type 0} (order : Order) (source : Stream S) (text : List ℕ) → IsInput (made_by order) source text
@@ -25,18 +25,18 @@ was_read Layout source text input refused = input.0
 was_read Replay source text input refused = input.0
 was_read (Scrub number) source text input refused = input.0
 
-pub refused_exit : {S K : Type 0} (order : Order) (c : Call S K) (ending : Ending) → OrderEndsBy ending order c → exit_of ending ≡ 3
+pub refused_exit : {S K : Type 0} (order : Order) (c : CallStreams S K) (ending : Ending) → OrderEndsBy ending order c → exit_of ending ≡ 3
     → HadRefusedText order (c.source.bytes c.source.old)
 refused_exit order c (Refused refusal) ends is =
     let refused = ap is_some ends.2.0 in (ends.0, was_read order c.source ends.0 ends.1 refused, refused)
 refused_exit order c _ ends is = absurd (omega arith)
 
 -- what stays is what was held before any fault
-stays_stops : {K : Type 0} (out : Stream K) → Stays out → StopsAtFault out.bytes out.faults out.old out.new
+stays_stops : {K : Type 0} (out : Stream K) → StreamStays out → StopsAtFault out.bytes out.faults out.old out.new
 stays_stops out stays = (out.old, refl, stays.0)
 
 -- however a call ends, what is held by now was held before any fault
-pub stops_at_fault : {S K : Type 0} (order : Order) (c : Call S K) (ending : Ending) → OrderEndsBy ending order c
+pub stops_at_fault : {S K : Type 0} (order : Order) (c : CallStreams S K) (ending : Ending) → OrderEndsBy ending order c
     → StopsAtFault c.out.bytes c.out.faults c.out.old c.out.new
 stops_at_fault order c Usage ends = absurd ends
 stops_at_fault order c ReadFault ends = stays_stops c.out ends.1
@@ -47,7 +47,7 @@ stops_at_fault order c Done ends = (c.out.new, ends.2.0, Keeps-refl (c.out.bytes
 stops_at_fault order c NotAllWell ends = (c.out.new, ends.2.0, Keeps-refl (c.out.bytes c.out.new))
 
 -- the same of runs by threads
-module _ {S K : Type 0} (trace : Bool) (shown : Option Showing) (c : Call S K) where
+module _ {S K : Type 0} (trace : Bool) (shown : Option Showing) (c : CallStreams S K) where
   -- a text that was read and run by threads ends the call
   pub over_shared_text : (ending : Ending) (text : List ℕ) → IsInput None c.source text → SharedEndsBy ending trace shown text c.out
       → WorkersEndBy ending trace shown c
@@ -60,7 +60,7 @@ module _ {S K : Type 0} (trace : Bool) (shown : Option Showing) (c : Call S K) w
   over_shared_text NotAllWell text input ends = (text, input, ends)
 
   -- there was no text
-  pub without_text : (ending : Ending) → HasNoInput ending None c.source → Stays c.out → shown ≡ None → WorkersEndBy ending trace shown c
+  pub without_text : (ending : Ending) → HasNoInput ending None c.source → StreamStays c.out → shown ≡ None → WorkersEndBy ending trace shown c
   without_text ReadFault lacks stays none = (lacks, stays, none)
   without_text Memory lacks stays none = inl (lacks, stays, none)
   without_text Usage lacks stays none = absurd lacks

@@ -14,7 +14,7 @@ use Rattle.run_machine.specs.Opened.{Scenario}
 use Rattle.block_core.specs.Scenarios.{IsScenario}
 use Rattle.block_core.proofs.images.LaidOnce.{laid_is_one}
 use Rattle.biostack_top.specs.Scrubbed.{AreLaidImages, IsLaidAt, UnlikeWhereLaidDiffers}
-use Rattle.mirror_scrub.specs.Seen.{Images, differing, differs, leg_at, legs, seen, unlikes}
+use Rattle.mirror_scrub.specs.Seen.{Images, differing, differs, mirror_member, legs, seen, unlikes}
 use Rattle.mirror_scrub.proofs.DiskLemmas.{shown_on_disk}
 use Rattle.mirror_scrub.proofs.LegLemmas.{leg_is}
 use Rattle.mirror_scrub.proofs.SeenLemmas.{seen_shown}
@@ -22,9 +22,9 @@ use Rattle.mirror_scrub.proofs.SeenLemmas.{seen_shown}
 -- a leg shows what is laid out at its place
 leg_shows : (s : Scenario) (images : Images) → IsScenario s → AreLaidImages s images → (mirror leg x : ℕ) → mirror < length s.stack.devices.items
     → leg < legs (tree s.stack mirror) → x < size (tree s.stack mirror)
-    → (one : List ℕ) → IsLaidAt s (shown (leg_at (tree s.stack mirror) leg) x) one → seen images (leg_at (tree s.stack mirror) leg) x ≡ one
+    → (one : List ℕ) → IsLaidAt s (shown (mirror_member (tree s.stack mirror) leg) x) one → seen images (mirror_member (tree s.stack mirror) leg) x ≡ one
 leg_shows s images good laid mirror leg x known has inside one at_place =
-    let t = leg_at (tree s.stack mirror) leg in
+    let t = mirror_member (tree s.stack mirror) leg in
     let device = element s.stack.devices.items mirror known in
     let member = (leg_is s.stack good.stack mirror device.0 device.1 leg has).1 in
     let on_disk = shown_on_disk s.stack good.stack _ member.known x (omega (arith, inside, member.inside)) in
@@ -38,8 +38,8 @@ unlike_where_laid_differs s images good laid mirror leg x known has inside one o
     let t = tree s.stack mirror in
     let is_one = leg_shows s images good laid mirror leg x known has inside one at_one in
     let is_other = leg_shows s images good laid mirror 0 x known (omega (arith, has)) inside other at_other in
-    let flag_is : flag (unlikes images t leg) x ≡ differs images (leg_at t leg) (leg_at t 0) x =
-    get_or-map-range_with_len (differs images (leg_at t leg) (leg_at t 0)) 0 (size t) x x false inside (omega arith) in
-    let shows : differs images (leg_at t leg) (leg_at t 0) x ≡ not (is_same one other) = λ k. not (is_same (is_one k) (is_other k)) in
+    let flag_is : flag (unlikes images t leg) x ≡ differs images (mirror_member t leg) (mirror_member t 0) x =
+    get_or-map-range_with_len (differs images (mirror_member t leg) (mirror_member t 0)) 0 (size t) x x false inside (omega arith) in
+    let shows : differs images (mirror_member t leg) (mirror_member t 0) x ≡ not (is_same one other) = λ k. not (is_same (is_one k) (is_other k)) in
     subst (λ b. Decides b (one ≢ other)) (sym (flag_is ∙ shows))
     (Decides-not (is_same one other) (slice_eq-Decides Decides-eqb one other (is_same one other) refl))

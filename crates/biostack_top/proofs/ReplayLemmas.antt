@@ -14,14 +14,14 @@ use Rattle.run_machine.specs.ReadBehind.{IsReadBehind}
 use Rattle.run_machine.specs.Scenario.{scenario_of}
 use Rattle.block_core.specs.Runnable.{IsRunnable}
 use Rattle.block_core.proofs.claim.Runnable.{accepted_texts_are_runnable}
-use Rattle.plain_core.specs.Cores.{CoreState, scene_of, state_of}
-use Rattle.plain_core.specs.Opening.{IsOpened}
+use Rattle.plain_core.specs.Cores.{CoreState, scene_of_core, state_of_core}
+use Rattle.plain_core.specs.Opening.{IsOpenedCore}
 use Rattle.report_text.specs.Pools.{told_pools}
-use Rattle.trace_text.specs.Names.{IsNamed}
+use Rattle.trace_text.specs.Names.{DevicesAreNamed}
 use Rattle.trace_replay.specs.Answer.{replay_text}
 use Rattle.trace_replay.specs.Lines.{told_in}
 use Rattle.trace_replay.specs.Exact.{IsReplayOf, NoneIsStuck, RunsHaveNoBadLine}
-use Rattle.trace_replay.specs.Parts.{AreParts, scenario_lines}
+use Rattle.trace_replay.specs.Parts.{AreTextParts, scenario_lines}
 use Rattle.trace_replay.specs.Replay.{IsReplay}
 use Rattle.trace_replay.specs.declared.extents.Extent.{Extent}
 use Rattle.trace_replay.specs.declared.walk.Replayed.{Replayed}
@@ -38,7 +38,7 @@ too_long text long =
 not_long : {X : Type 0} (n : ℕ) (long short : X) → n ≤ most_bytes → (if nat_lt most_bytes n then long else short) ≡ short
 not_long n long short few = ap (λ b. if b then long else short) (le-ltb most_bytes n few)
 
-pub refused_before : (text scenario events : List ℕ) (first : ℕ) → AreParts text scenario events first → length text ≤ most_bytes
+pub refused_before : (text scenario events : List ℕ) (first : ℕ) → AreTextParts text scenario events first → length text ≤ most_bytes
     → replay_refusal text ≡ text_refusal_by true scenario
 refused_before text scenario events first parts few =
     let shorter : length scenario ≤ most_bytes = omega (arith, few, length-append scenario events, ap length parts.joined) in
@@ -65,7 +65,7 @@ none_is (Some line) true is = absurd (true≢false is)
 none_is (Some line) false is = refl
 
 pub comes_to : (text : List ℕ) (accepted : Accepted) (work : Work) (told : List (ℕ × List ℕ)) (replayed : Replayed) → SaysBy true text accepted work
-    → IsNamed accepted.stack → RunsHaveNoBadLine → NoneIsStuck → IsReplayOf (scenario_of accepted work) told replayed
+    → DevicesAreNamed accepted.stack → RunsHaveNoBadLine → NoneIsStuck → IsReplayOf (scenario_of accepted work) told replayed
     → map (λ extent. extent.pool) replayed.extents.items ≡ told_pools accepted.stack → ComeTo accepted work told replayed
 comes_to text accepted work told replayed says named exact never is pools =
     let s = scenario_of accepted work in
@@ -81,8 +81,8 @@ comes_to text accepted work told replayed says named exact never is pools =
 
 -- the same of what a replay from an opened core answers, if it is one
 pub comes_if_ok : {E : Type 0} (result : Result Replayed E) (text : List ℕ) (accepted : Accepted) (work : Work) (told : List (ℕ × List ℕ)) (core : CoreState)
-    → SaysBy true text accepted work → IsNamed accepted.stack → RunsHaveNoBadLine → NoneIsStuck → IsOpened (scenario_of accepted work) core
-    → IfOk result (IsReplay (scene_of core) accepted.stack (state_of core) told)
+    → SaysBy true text accepted work → DevicesAreNamed accepted.stack → RunsHaveNoBadLine → NoneIsStuck → IsOpenedCore (scenario_of accepted work) core
+    → IfOk result (IsReplay (scene_of_core core) accepted.stack (state_of_core core) told)
     → IfOk result (λ (replayed : Replayed). map (λ (extent : Extent). extent.pool) replayed.extents.items ≡ told_pools accepted.stack)
     → IfOk result (ComeTo accepted work told)
 comes_if_ok (Ok replayed) text accepted work told core says named exact never opened is pools =
@@ -90,11 +90,11 @@ comes_if_ok (Ok replayed) text accepted work told core says named exact never op
 comes_if_ok (Err fault) text accepted work told core says named exact never opened is pools = tt
 
 -- its lines have numbers
-pub countable : (text scenario events : List ℕ) (first : ℕ) → AreParts text scenario events first → length text ≤ most_bytes → first + length events < 2 ^ 64
+pub countable : (text scenario events : List ℕ) (first : ℕ) → AreTextParts text scenario events first → length text ≤ most_bytes → first + length events < 2 ^ 64
 countable text scenario events first parts few = omega (arith, few, parts.few, length-append scenario events, ap length parts.joined)
 
 -- what is told of a text
-pub tells_replay : (text scenario events : List ℕ) (first : ℕ) (accepted : Accepted) (work : Work) (replayed : Replayed) → AreParts text scenario events first
+pub tells_replay : (text scenario events : List ℕ) (first : ℕ) (accepted : Accepted) (work : Work) (replayed : Replayed) → AreTextParts text scenario events first
     → SaysBy true scenario accepted work → ComeTo accepted work (told_in first events) replayed
     → TellsReplay text (replay_text accepted.stack replayed) (is_none replayed.bad)
 tells_replay text scenario events first accepted work replayed parts says come = record {

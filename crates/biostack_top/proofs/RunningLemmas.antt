@@ -21,21 +21,21 @@ use Rattle.block_core.specs.Runnable.{IsRunnable}
 use Rattle.block_core.proofs.claim.Claim.{accepted_texts_run_as_claimed}
 use Rattle.block_core.proofs.claim.Runnable.{accepted_texts_are_runnable, steps_are_few}
 use Rattle.rand_pcg.specs.Lcg.{Lcg}
-use Rattle.serial_run.specs.Schedule.{Follows}
+use Rattle.serial_run.specs.Schedule.{FollowsSchedule}
 use Rattle.serial_run.specs.Serial.{IsSerialRun}
 use Rattle.serial_run.proofs.Follows.{turns_are_a_run}
-use Rattle.report_text.specs.CheckText.{most_steps}
-use Rattle.report_text.specs.Views.{IsOf, told_of}
+use Rattle.report_text.specs.CheckText.{steps_bound}
+use Rattle.report_text.specs.Views.{IsEndedOfStack, told_of}
 use Rattle.report_text.proofs.LeftLemmas.{left_of, told_is}
 use Rattle.shared_objects.specs.declared.closed.Closed.{Closed}
 use Rattle.shared_objects.specs.Left.{HasClosed}
 use Rattle.bio_workers.specs.Gates.{showing}
 use Rattle.run_merge.specs.Outcomes.{IsOutcomeOf, shared_ledger, state_in}
 use Rattle.run_merge.specs.declared.outcome.Outcome.{Outcome}
-use Rattle.biostack_top.specs.Scene.{Says}
-use Rattle.biostack_top.specs.Running.{ByNumber, ByThreads, EveryRunIsAsClaimed, HasOutcome, HasRun, IsShownOf, IsTold, Maker, sectors, stream_of}
+use Rattle.biostack_top.specs.Scene.{TextSays}
+use Rattle.biostack_top.specs.Running.{ByNumber, ByThreads, EveryRunOfTextIsAsClaimed, HasOutcome, HasRun, IsShownOf, IsRunTold, Maker, sectors, stream_of}
 
-module _ (text : List ℕ) (accepted : Accepted) (work : Work) (says : Says text accepted work) where
+module _ (text : List ℕ) (accepted : Accepted) (work : Work) (says : TextSays text accepted work) where
   pub read_behind : IsReadBehind accepted work
   read_behind = record { text = text; begins = says.begins; reads = says.reads; served = says.served }
 
@@ -43,20 +43,20 @@ module _ (text : List ℕ) (accepted : Accepted) (work : Work) (says : Says text
   runnable = (accepted_texts_are_runnable accepted work read_behind).0
 
   -- its bound is small
-  pub few_steps : most_steps work.bound < 2 ^ 64
+  pub few_steps : steps_bound work.bound < 2 ^ 64
   few_steps =
       let by = accepted_texts_are_runnable accepted work read_behind in
       omega (arith, by.1, steps_are_few (scenario_of accepted work) by.0)
 
-  pub every_run : EveryRunIsAsClaimed accepted work
+  pub every_run : EveryRunOfTextIsAsClaimed accepted work
   every_run = λ ledger events state naming run.
       accepted_texts_run_as_claimed accepted work read_behind says.rescuers ledger events state naming run
 
   module _ (maker : Maker) (events : List Event) (ended : Ended) (has : HasRun (scenario_of accepted work) maker events ended) where
-    pub is_of : IsOf accepted.stack ended
+    pub is_of : IsEndedOfStack accepted.stack ended
     is_of = left_of has.state.objects has.disks accepted.stack (length events) ended has.left
 
-    pub is_told : IsTold accepted work maker events (told_of ended (most_steps work.bound))
+    pub is_told : IsRunTold accepted work maker events (told_of ended (steps_bound work.bound))
     is_told =
         let claimed = every_run has.ledger events has.state has.naming has.run in
         record {
@@ -69,7 +69,7 @@ module _ (text : List ℕ) (accepted : Accepted) (work : Work) (says : Says text
             named = has.named;
             claimed = claimed.0;
             bounded = claimed.1;
-            told = told_is has.state.objects has.disks accepted.stack (length events) (most_steps work.bound) ended has.left;
+            told = told_is has.state.objects has.disks accepted.stack (length events) (steps_bound work.bound) ended has.left;
           };
           made = has.made;
         }
@@ -87,7 +87,7 @@ sectors_of stack (write ∷ writes) short =
       sum_by-cons (λ w. elements stack w) write writes,
     )
 
-pub few_sectors : (text : List ℕ) (accepted : Accepted) (work : Work) → Says text accepted work → sectors work.writes.items < 2 ^ 64
+pub few_sectors : (text : List ℕ) (accepted : Accepted) (work : Work) → TextSays text accepted work → sectors work.writes.items < 2 ^ 64
 few_sectors text accepted work says =
     omega (
       arith,
@@ -102,7 +102,7 @@ pub has_run : {V : Type 0} (happens : V → Event → V → Type 0) (opened : Op
 has_run happens opened number stream before after now ended is same ran =
     let ledger = (stage_of opened.objects).ledger in
     let s = scenario_in opened in
-    let follows = subst (λ from. Follows (scene s ledger) (start s) from ran.events ran.state after) same ran.follows in
+    let follows = subst (λ from. FollowsSchedule (scene s ledger) (start s) from ran.events ran.state after) same ran.follows in
     record {
       ledger = ledger;
       naming = is.one.holds.numbered;

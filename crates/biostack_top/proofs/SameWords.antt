@@ -21,7 +21,7 @@ use Rattle.run_machine.specs.declared.event.TaskId.TheVariants as task
 use Rattle.run_machine.specs.declared.event.What.{What}
 use Rattle.run_machine.specs.declared.event.What.TheVariants as what
 use Rattle.run_machine.specs.Named.{HasDevice, HasPool, HasTask, HasWhat, IsEventOf, has_set, is_any, is_disk, is_mirror}
-use Rattle.trace_text.specs.Lines.{device_name, got_word, line_of, pool_word, status_word, task_word, what_words}
+use Rattle.trace_text.specs.Lines.{device_name, got_word, line_of_event, pool_word, status_word, task_word, what_words}
 use Rattle.biostack_top.proofs.SameStacks.{same_of}
 
 disk_told : (kind : Kind) → is_disk kind ≡ declared.is_disk (what_of kind)
@@ -70,7 +70,7 @@ module _ (known : Known) (one other : Stack) (one_scripts other_scripts : List (
   same_words (what.Resize pool min) = λ k. codes "resize" ∷ same_pool_word pool k ∷ decimal min ∷ []
   same_words (what.Round round) = refl
 
-  pub same_line : (event : Event) → line_of one event ≡ line_of other event
+  pub same_line : (event : Event) → line_of_event one event ≡ line_of_event other event
   same_line event = λ k. join_with_byte 32 (codes "event" ∷ same_task_word event.task k ∷ same_words event.what k)
 
   -- the other stack has what the one has

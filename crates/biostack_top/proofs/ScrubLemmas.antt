@@ -15,18 +15,18 @@ use Rattle.block_core.specs.Images.{HasLaidImages}
 use Rattle.mirror_scrub.specs.Seen.{AreDisksOf, held}
 use Rattle.mirror_scrub.specs.Text.{all_alike, scrub_text}
 use Rattle.mirror_scrub.proofs.SeenLemmas.{held_is}
-use Rattle.report_text.specs.CheckText.{most_steps}
+use Rattle.report_text.specs.CheckText.{steps_bound}
 use Rattle.report_text.specs.Report.{steps_line}
 use Rattle.report_text.specs.Views.{told_of}
 use Rattle.biostack_words.specs.declared.order.Order.TheVariants.{Scrub}
-use Rattle.biostack_top.specs.Ending.{Tells}
+use Rattle.biostack_top.specs.Ending.{IsOutputOf}
 use Rattle.biostack_top.specs.Running.{ByNumber, HasRun}
-use Rattle.biostack_top.specs.Scene.{Says}
+use Rattle.biostack_top.specs.Scene.{TextSays}
 use Rattle.biostack_top.specs.Scrubbed.{AreLaidImages}
 use Rattle.biostack_top.proofs.LeftDisks.{left_disk}
 use Rattle.biostack_top.proofs.RunningLemmas.{every_run, is_told}
 
-module _ (text : List ℕ) (accepted : Accepted) (work : Work) (says : Says text accepted work) (number : ℕ) (events : List Event) (ended : Ended)
+module _ (text : List ℕ) (accepted : Accepted) (work : Work) (says : TextSays text accepted work) (number : ℕ) (events : List Event) (ended : Ended)
     (has : HasRun (scenario_of accepted work) (ByNumber number) events ended) where
   -- the images of its end
   laid_images : HasLaidImages (scenario_of accepted work) has.state
@@ -51,13 +51,13 @@ module _ (text : List ℕ) (accepted : Accepted) (work : Work) (says : Says text
       (sym (held_is ended.disks.items disk (has.state.objects.disk disk) (disk_is disk known keeps) at))
       (laid_images.laid disk at within)
 
-  pub tells_scrub : Tells (Scrub number) text
-      (scrub_text accepted.stack (held ended.disks.items) ++ steps_line ended.steps (most_steps work.bound)) (all_alike accepted.stack (held ended.disks.items))
+  pub tells_scrub : IsOutputOf (Scrub number) text
+      (scrub_text accepted.stack (held ended.disks.items) ++ steps_line ended.steps (steps_bound work.bound)) (all_alike accepted.stack (held ended.disks.items))
   tells_scrub = (
     accepted,
     work,
     events,
-    told_of ended (most_steps work.bound),
+    told_of ended (steps_bound work.bound),
     says,
     every_run text accepted work says,
     is_told text accepted work says (ByNumber number) events ended has,

@@ -13,12 +13,12 @@ use Rattle.decl_text.specs.declared.reason.Refusal.{Refusal}
 use Rattle.biostack_top.specs.declared.ending.Ending.{Ending}
 use Rattle.biostack_top.specs.declared.ending.Ending.TheVariants.{Usage, ReadFault, Memory, Refused, WriteFault, Done, NotAllWell}
 use Rattle.bio_workers.specs.Gates.{Showing}
-use Rattle.biostack_top.specs.Ending.{EndsWith, EndsWritten, SharedEndsBy, Tells, TellsShown, refusal_for}
+use Rattle.biostack_top.specs.Ending.{EndsWith, EndsWritten, SharedEndsBy, IsOutputOf, TellsShown, refusal_for}
 use Rattle.biostack_top.specs.Streams.{Stream}
-use Rattle.biostack_top.specs.Input.{IsMade, made_by}
+use Rattle.biostack_top.specs.Input.{IsMadeText, made_by}
 
 -- a text that a number made is shown whole, and is not refused
-pub shown_is : (order : Order) (text : List ℕ) → is_shown order ≡ true → IsMade (made_by order) text → (refusal_for order text ≡ None) × Tells order text text true
+pub shown_is : (order : Order) (text : List ℕ) → is_shown order ≡ true → IsMadeText (made_by order) text → (refusal_for order text ≡ None) × IsOutputOf order text text true
 shown_is (Gen number true) text is made = (ap text_refusal made ∙ never_refused number, (refl, refl))
 shown_is (Gen number false) text is made = absurd (true≢false (sym is))
 shown_is (Run number trace) text is made = absurd (true≢false (sym is))

@@ -26,15 +26,15 @@ use Rattle.block_core.specs.Dones.{times_done}
 use Rattle.block_core.specs.Scenarios.{IsScenario}
 use Rattle.block_core.proofs.claim.Runnable.{accepted_texts_are_runnable}
 use Rattle.report_text.specs.Report.{report}
-use Rattle.trace_text.specs.Lines.{line_of}
-use Rattle.trace_text.specs.Names.{AcceptedStacksAreNamed, IsNamed}
+use Rattle.trace_text.specs.Lines.{line_of_event}
+use Rattle.trace_text.specs.Names.{AcceptedStacksAreNamed, DevicesAreNamed}
 use Rattle.trace_replay.specs.Parts.{scenario_lines}
 use Rattle.trace_replay.specs.Traces.{ReportsTellNoEvent, TracesReplay, TracesRun, in_whole_lines, trace_of}
 use Rattle.biostack_top.specs.Ending.{TellsRun}
 use Rattle.biostack_top.specs.Laws.{EndsAsRun, HasWrite, TracedRunsReplay, with_run}
 use Rattle.biostack_top.specs.Replaying.{TellsReplay, replay_refusal}
 use Rattle.biostack_top.specs.Running.{Maker}
-use Rattle.biostack_top.specs.Scene.{Says}
+use Rattle.biostack_top.specs.Scene.{TextSays}
 use Rattle.biostack_top.specs.Tracing.{event_lines}
 use Rattle.biostack_top.proofs.LooseTexts.{loosely}
 use Rattle.biostack_top.proofs.ReplayLemmas.{read_loosely}
@@ -89,7 +89,7 @@ module _ (stacks_named : AcceptedStacksAreNamed) (replays : TracesReplay) (no_ev
   abbrev behind : List ℕ
   behind = report run.0.stack run.3
 
-  abbrev says : Says text accepted work
+  abbrev says : TextSays text accepted work
   says = run.4
 
   -- a run with a write has an event
@@ -104,13 +104,13 @@ module _ (stacks_named : AcceptedStacksAreNamed) (replays : TracesReplay) (no_ev
   some = done_some events (run.6.ended.claimed.all_done run.6.ended.ends.writes 0 some_writes)
 
   -- its trace, over each stack that its declarations mean
-  is_text : (stack : Stack) → ((event : Event) → line_of accepted.stack event ≡ line_of stack event) → with_run text told ≡ in_whole_lines text ++ (trace_of stack events ++ behind)
+  is_text : (stack : Stack) → ((event : Event) → line_of_event accepted.stack event ≡ line_of_event stack event) → with_run text told ≡ in_whole_lines text ++ (trace_of stack events ++ behind)
   unfolding event_lines
   is_text stack same =
       ap (λ back. in_whole_lines text ++ back) run.8
       ∙ ap (λ (line : Event → List ℕ). in_whole_lines text ++ (flat_map (λ event. line event ++ 10 ∷ []) events ++ behind)) (λ k event. same event k)
 
-  traces : (s : Scenario) → IsScenario s → IsNamed s.stack → IsRun (scene s run.6.ledger) (start s) events run.6.state → ((event : Event) → line_of accepted.stack event ≡ line_of s.stack event)
+  traces : (s : Scenario) → IsScenario s → DevicesAreNamed s.stack → IsRun (scene s run.6.ledger) (start s) events run.6.state → ((event : Event) → line_of_event accepted.stack event ≡ line_of_event s.stack event)
       → All (IsEventOf s.stack) events → TracesRun s events run.6.state (with_run text told) text behind
   traces s good named runs same all = record {
     good = good;

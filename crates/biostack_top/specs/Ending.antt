@@ -15,7 +15,7 @@ use Rattle.decl_text.specs.declared.reason.Refusal.{Refusal}
 use Rattle.run_machine.specs.declared.event.Event.{Event}
 use Rattle.work_text.specs.declared.Work.{Work}
 use Rattle.work_text.specs.Whole.{text_refusal}
-use Rattle.report_text.specs.Report.{Told, gen_text, report, steps_line}
+use Rattle.report_text.specs.Report.{Reported, gen_text, report, steps_line}
 use Rattle.run_machine.specs.Named.{Fits}
 use Rattle.run_machine.specs.Scenario.{scenario_of}
 use Rattle.bio_workers.specs.Gates.{Showing}
@@ -26,14 +26,14 @@ use Rattle.report_text.specs.CheckText.{check_text}
 use Rattle.report_text.specs.LayoutText.{layout_text}
 use Rattle.biostack_words.specs.declared.order.Order.{Order}
 use Rattle.biostack_words.specs.declared.order.Order.TheVariants.{Run, Workers, Check, Layout, Gen, Replay, Scrub}
-use Rattle.biostack_top.specs.Input.{HasNoInput, IsGiven, IsInput, limit, made_by}
+use Rattle.biostack_top.specs.Input.{HasNoInput, IsGivenText, IsInput, limit, made_by}
 use Rattle.biostack_top.specs.LayoutText.{AreLaid}
 use Rattle.biostack_words.specs.Grammar.{meaning}
 use Rattle.biostack_top.specs.Orders.{is_alone}
 use Rattle.biostack_top.specs.Replaying.{TellsReplay, replay_refusal}
-use Rattle.biostack_top.specs.Running.{ByNumber, ByThreads, EveryRunIsAsClaimed, IsShownOf, IsTold, Maker, sectors}
-use Rattle.biostack_top.specs.Scene.{Says}
-use Rattle.biostack_top.specs.Streams.{Call, Fails, Stays, Stream}
+use Rattle.biostack_top.specs.Running.{ByNumber, ByThreads, EveryRunOfTextIsAsClaimed, IsShownOf, IsRunTold, Maker, sectors}
+use Rattle.biostack_top.specs.Scene.{TextSays}
+use Rattle.biostack_top.specs.Streams.{CallStreams, StreamFails, StreamStays, Stream}
 use Rattle.biostack_top.specs.Tracing.{traced}
 use Rattle.biostack_top.specs.declared.ending.Ending.{Ending}
 use Rattle.biostack_top.specs.declared.ending.Ending.TheVariants.{Usage, ReadFault, Memory, Refused, WriteFault, Done, NotAllWell}
@@ -56,14 +56,14 @@ abbrev pub refusal_line : Refusal → List ℕ
 refusal_line refusal = refusal_text refusal (name_of_number refusal.number)
 
 -- the line on errors
-abbrev pub line_of : Ending → List ℕ
-line_of Done = []
-line_of NotAllWell = []
-line_of Usage = codes "biostack: usage: run [--seed N | --workers N] [--trace] | check | layout | gen N [--text] | replay | scrub [--seed N]\n"
-line_of (Refused refusal) = refusal_line refusal
-line_of ReadFault = codes "biostack: read fault\n"
-line_of WriteFault = codes "biostack: write fault\n"
-line_of Memory = codes "biostack: want of memory\n"
+abbrev pub error_line : Ending → List ℕ
+error_line Done = []
+error_line NotAllWell = []
+error_line Usage = codes "biostack: usage: run [--seed N | --workers N] [--trace] | check | layout | gen N [--text] | replay | scrub [--seed N]\n"
+error_line (Refused refusal) = refusal_line refusal
+error_line ReadFault = codes "biostack: read fault\n"
+error_line WriteFault = codes "biostack: write fault\n"
+error_line Memory = codes "biostack: want of memory\n"
 
 -- whether each write ended well
 abbrev pub all_well : List Status → Bool
@@ -73,30 +73,30 @@ all_well statuses = list_all (λ end. status_eq end no_error) statuses
 -- trace, and the report of what it left. Each of the lines is read back as its event, which has numbers that fit its fields.
 abbrev pub TellsRun : Maker → Bool → List ℕ → List ℕ → Bool → Type 0
 TellsRun maker trace text told well =
-    (accepted : Accepted) × (work : Work) × (events : List Event) × (left : Told)
-    × Says text accepted work × EveryRunIsAsClaimed accepted work × IsTold accepted work maker events left × (trace ≡ true → All Fits events)
+    (accepted : Accepted) × (work : Work) × (events : List Event) × (left : Reported)
+    × TextSays text accepted work × EveryRunOfTextIsAsClaimed accepted work × IsRunTold accepted work maker events left × (trace ≡ true → All Fits events)
     × (told ≡ traced trace accepted.stack events ++ report accepted.stack left) × (well ≡ all_well left.statuses)
 
 -- What is written of a text, and whether all is well: the lines of a run, where there is a trace, and the report of what it left; the devices of
 -- the text and what it needs; its fragments; the text itself, where a number made it, or what a run of that left; what its lines of events come
 -- to; or where the members of mirrors differ behind a run, and its steps.
-abbrev pub Tells : Order → List ℕ → List ℕ → Bool → Type 0
-Tells (Run number trace) text told well = TellsRun (ByNumber number) trace text told well
-Tells Check text told well =
-    (accepted : Accepted) × (work : Work) × Says text accepted work × (told ≡ check_text accepted.stack work.bound) × (well ≡ true)
-Tells Layout text told well =
+abbrev pub IsOutputOf : Order → List ℕ → List ℕ → Bool → Type 0
+IsOutputOf (Run number trace) text told well = TellsRun (ByNumber number) trace text told well
+IsOutputOf Check text told well =
+    (accepted : Accepted) × (work : Work) × TextSays text accepted work × (told ≡ check_text accepted.stack work.bound) × (well ≡ true)
+IsOutputOf Layout text told well =
     (accepted : Accepted) × (work : Work) × (fragments : List Fragment)
-    × Says text accepted work × AreLaid accepted.stack 0 work.writes.items fragments × (told ≡ layout_text accepted.stack fragments) × (well ≡ true)
-Tells (Gen number true) text told well = (told ≡ text) × (well ≡ true)
-Tells (Gen number false) text told well =
-    (accepted : Accepted) × (work : Work) × (events : List Event) × (left : Told)
-    × Says text accepted work × EveryRunIsAsClaimed accepted work × IsTold accepted work (ByNumber number) events left
+    × TextSays text accepted work × AreLaid accepted.stack 0 work.writes.items fragments × (told ≡ layout_text accepted.stack fragments) × (well ≡ true)
+IsOutputOf (Gen number true) text told well = (told ≡ text) × (well ≡ true)
+IsOutputOf (Gen number false) text told well =
+    (accepted : Accepted) × (work : Work) × (events : List Event) × (left : Reported)
+    × TextSays text accepted work × EveryRunOfTextIsAsClaimed accepted work × IsRunTold accepted work (ByNumber number) events left
     × (told ≡ gen_text number (length work.writes.items) (sectors work.writes.items) accepted.stack left) × (well ≡ true)
-Tells (Workers n trace) text told well = ⊥
-Tells Replay text told well = TellsReplay text told well
-Tells (Scrub number) text told well =
-    (accepted : Accepted) × (work : Work) × (events : List Event) × (left : Told)
-    × Says text accepted work × EveryRunIsAsClaimed accepted work × IsTold accepted work (ByNumber number) events left
+IsOutputOf (Workers n trace) text told well = ⊥
+IsOutputOf Replay text told well = TellsReplay text told well
+IsOutputOf (Scrub number) text told well =
+    (accepted : Accepted) × (work : Work) × (events : List Event) × (left : Reported)
+    × TextSays text accepted work × EveryRunOfTextIsAsClaimed accepted work × IsRunTold accepted work (ByNumber number) events left
     × AreLaidImages (scenario_of accepted work) (images_of left.disks)
     × (told ≡ scrub_text accepted.stack (images_of left.disks) ++ steps_line left.steps left.bound)
     × (well ≡ all_alike accepted.stack (images_of left.disks))
@@ -109,7 +109,7 @@ refusal_for order text = text_refusal text
 -- All that is told of a text was written, and all is well, or it is not; or the output failed, and has a front of it and
 -- nothing behind the fault.
 abbrev pub EndsWritten : {K : Type 0} → Ending → List ℕ → Bool → Stream K → Type 0
-EndsWritten WriteFault told well out = Fails out × StopsAtFault out.bytes out.faults out.old out.new × AppendsFront (out.bytes out.old) (out.bytes out.new) told
+EndsWritten WriteFault told well out = StreamFails out × StopsAtFault out.bytes out.faults out.old out.new × AppendsFront (out.bytes out.old) (out.bytes out.new) told
 EndsWritten Done told well out = (well ≡ true) × (out.faults out.new ≡ out.faults out.old) × Appends (out.bytes out.old) (out.bytes out.new) told
 EndsWritten NotAllWell told well out = (well ≡ false) × (out.faults out.new ≡ out.faults out.old) × Appends (out.bytes out.old) (out.bytes out.new) told
 EndsWritten ending told well out = ⊥
@@ -122,10 +122,10 @@ WritesAll first tells well out =
 -- A text, by its first refusal and by what is told of it, ends a call so only where this holds of the output: it is refused, or there was no
 -- memory, and nothing was written; or all that is told was, or a front of it where the output failed, and nothing behind the fault.
 abbrev pub EndsWith : {K : Type 0} → Ending → Option Refusal → (List ℕ → Bool → Type 0) → Stream K → Type 0
-EndsWith (Refused refusal) first tells out = (first ≡ Some refusal) × Stays out
-EndsWith Memory first tells out = Stays out
+EndsWith (Refused refusal) first tells out = (first ≡ Some refusal) × StreamStays out
+EndsWith Memory first tells out = StreamStays out
 EndsWith WriteFault first tells out =
-    Fails out × StopsAtFault out.bytes out.faults out.old out.new × (first ≡ None)
+    StreamFails out × StopsAtFault out.bytes out.faults out.old out.new × (first ≡ None)
     × ((told : List ℕ) × (well : Bool) × tells told well × AppendsFront (out.bytes out.old) (out.bytes out.new) told)
 EndsWith Done first tells out = WritesAll first tells true out
 EndsWith NotAllWell first tells out = WritesAll first tells false out
@@ -134,17 +134,17 @@ EndsWith ReadFault first tells out = ⊥
 
 -- an order ends so over its text
 abbrev pub TextEndsBy : {K : Type 0} → Ending → Order → List ℕ → Stream K → Type 0
-TextEndsBy ending order text out = EndsWith ending (refusal_for order text) (Tells order text) out
+TextEndsBy ending order text out = EndsWith ending (refusal_for order text) (IsOutputOf order text) out
 
 -- there was a text, and it ends the call so
-abbrev pub OfText : {S K : Type 0} → Ending → Order → Call S K → Type 0
+abbrev pub OfText : {S K : Type 0} → Ending → Order → CallStreams S K → Type 0
 OfText ending order c = (text : List ℕ) × IsInput (made_by order) c.source text × TextEndsBy ending order text c.out
 
 -- a call with this order ends so only where this holds
-abbrev pub OrderEndsBy : {S K : Type 0} → Ending → Order → Call S K → Type 0
+abbrev pub OrderEndsBy : {S K : Type 0} → Ending → Order → CallStreams S K → Type 0
 OrderEndsBy Usage order c = ⊥
-OrderEndsBy ReadFault order c = HasNoInput ReadFault (made_by order) c.source × Stays c.out
-OrderEndsBy Memory order c = HasNoInput Memory (made_by order) c.source × Stays c.out
+OrderEndsBy ReadFault order c = HasNoInput ReadFault (made_by order) c.source × StreamStays c.out
+OrderEndsBy Memory order c = HasNoInput Memory (made_by order) c.source × StreamStays c.out
 OrderEndsBy (Refused refusal) order c = OfText (Refused refusal) order c
 OrderEndsBy WriteFault order c = OfText WriteFault order c
 OrderEndsBy Done order c = OfText Done order c
@@ -162,23 +162,23 @@ abbrev pub MayLack : Bool → Option Showing → List ℕ → Type 0
 MayLack trace shown text =
     (shown ≡ None)
     ⊎ ((trace ≡ true) × ((accepted : Accepted) × (work : Work) × (left : Showing)
-    × Says text accepted work × IsShownOf (scenario_of accepted work) left × (shown ≡ Some left)))
+    × TextSays text accepted work × IsShownOf (scenario_of accepted work) left × (shown ≡ Some left)))
 
 -- A text that threads are to run ends so, and this is what the gate was shown then.
 abbrev pub SharedEndsBy : {K : Type 0} → Ending → Bool → Option Showing → List ℕ → Stream K → Type 0
-SharedEndsBy Memory trace shown text out = Stays out × MayLack trace shown text
+SharedEndsBy Memory trace shown text out = StreamStays out × MayLack trace shown text
 SharedEndsBy (Refused refusal) trace shown text out = EndsWith (Refused refusal) (text_refusal text) (TellsShown trace shown text) out × (shown ≡ None)
 SharedEndsBy ending trace shown text out = EndsWith ending (text_refusal text) (TellsShown trace shown text) out
 
 -- there was a text, and it ends the call so
-abbrev pub OfSharedText : {S K : Type 0} → Ending → Bool → Option Showing → Call S K → Type 0
+abbrev pub OfSharedText : {S K : Type 0} → Ending → Bool → Option Showing → CallStreams S K → Type 0
 OfSharedText ending trace shown c = (text : List ℕ) × IsInput None c.source text × SharedEndsBy ending trace shown text c.out
 
 -- a call with an order for threads ends so only where this holds
-abbrev pub WorkersEndBy : {S K : Type 0} → Ending → Bool → Option Showing → Call S K → Type 0
+abbrev pub WorkersEndBy : {S K : Type 0} → Ending → Bool → Option Showing → CallStreams S K → Type 0
 WorkersEndBy Usage trace shown c = ⊥
-WorkersEndBy ReadFault trace shown c = HasNoInput ReadFault None c.source × Stays c.out × (shown ≡ None)
-WorkersEndBy Memory trace shown c = (HasNoInput Memory None c.source × Stays c.out × (shown ≡ None)) ⊎ OfSharedText Memory trace shown c
+WorkersEndBy ReadFault trace shown c = HasNoInput ReadFault None c.source × StreamStays c.out × (shown ≡ None)
+WorkersEndBy Memory trace shown c = (HasNoInput Memory None c.source × StreamStays c.out × (shown ≡ None)) ⊎ OfSharedText Memory trace shown c
 WorkersEndBy (Refused refusal) trace shown c = OfSharedText (Refused refusal) trace shown c
 WorkersEndBy WriteFault trace shown c = OfSharedText WriteFault trace shown c
 WorkersEndBy Done trace shown c = OfSharedText Done trace shown c
@@ -195,33 +195,33 @@ WordsEndBy Memory words = Unit {0}
 WordsEndBy ending words = ⊥
 
 -- they give this order, or end a call so
-abbrev pub IsAsked : List (List ℕ) → Result Order Ending → Type 0
-IsAsked words (Ok order) = meaning words ≡ Some order
-IsAsked words (Err ending) = WordsEndBy ending words
+abbrev pub IsOrderAsked : List (List ℕ) → Result Order Ending → Type 0
+IsOrderAsked words (Ok order) = meaning words ≡ Some order
+IsOrderAsked words (Err ending) = WordsEndBy ending words
 
 -- An order ends a call so, whose gate was shown this: one without threads shows it nothing.
-abbrev pub AskedEndsBy : {S K : Type 0} → Ending → Order → Option Showing → Call S K → Type 0
+abbrev pub AskedEndsBy : {S K : Type 0} → Ending → Order → Option Showing → CallStreams S K → Type 0
 AskedEndsBy ending order shown c =
     ((is_alone order ≡ true) × OrderEndsBy ending order c × (shown ≡ None))
     ⊎ ((n : ℕ) × (trace : Bool) × (order ≡ Workers n trace) × WorkersEndBy ending trace shown c)
 
 -- words that a call was given ended it so and nothing was done, or they are an order that ends so
-abbrev pub EndsBy : {S K : Type 0} → Ending → List (List ℕ) → Option Showing → Call S K → Type 0
+abbrev pub EndsBy : {S K : Type 0} → Ending → List (List ℕ) → Option Showing → CallStreams S K → Type 0
 EndsBy ending words shown c =
-    (WordsEndBy ending words × Stays c.source × Stays c.out × (shown ≡ None))
+    (WordsEndBy ending words × StreamStays c.source × StreamStays c.out × (shown ≡ None))
     ⊎ ((order : Order) × (meaning words ≡ Some order) × AskedEndsBy ending order shown c)
 
 -- errors got the line of an ending, or a front of it where they failed
 abbrev pub IsToldTo : {E : Type 0} → Ending → Stream E → Type 0
-IsToldTo ending errors = (told : Result Unit Failed) × Writes errors.bytes errors.faults errors.old errors.new told (line_of ending)
+IsToldTo ending errors = (told : Result Unit Failed) × Writes errors.bytes errors.faults errors.old errors.new told (error_line ending)
 
 -- what a source had, to the limit, is refused for an order
 abbrev pub HadRefusedText : Order → Option (List ℕ) → Type 0
 HadRefusedText order left = (text : List ℕ) × IsRead limit left text × (is_some (refusal_for order text) ≡ true)
 
 -- an order is given a text that is not refused, and neither the source nor the output fails
-pub record MeetsNoFault {S K : Type 0} (order : Order) (text : List ℕ) (c : Call S K) : Type 0 where
-  pub given : IsGiven (made_by order) (c.source.bytes c.source.old) text
+pub record MeetsNoFault {S K : Type 0} (order : Order) (text : List ℕ) (c : CallStreams S K) : Type 0 where
+  pub given : IsGivenText (made_by order) (c.source.bytes c.source.old) text
   pub fine : refusal_for order text ≡ None
-  pub read : ¬ Fails c.source
-  pub written : ¬ Fails c.out
+  pub read : ¬ StreamFails c.source
+  pub written : ¬ StreamFails c.out

@@ -6,7 +6,7 @@ use Rattle.outside_io.specs.Reading.{IsRead, TakesWithin}
 use Rattle.biostack_words.specs.declared.order.Order.{Order}
 use Rattle.biostack_words.specs.declared.order.Order.TheVariants.{Run, Workers, Check, Layout, Gen, Replay, Scrub}
 use Rattle.work_text.specs.Generated.{generated}
-use Rattle.biostack_top.specs.Streams.{Fails, Stays, Stream}
+use Rattle.biostack_top.specs.Streams.{StreamFails, StreamStays, Stream}
 use Rattle.biostack_top.specs.declared.ending.Ending.{Ending}
 use Rattle.biostack_top.specs.declared.ending.Ending.TheVariants.{Memory, ReadFault}
 
@@ -25,18 +25,18 @@ made_by Replay = None
 made_by (Scrub number) = None
 
 -- what its number made
-abbrev pub IsMade : Option ℕ → List ℕ → Type 0
-IsMade (Some number) text = text ≡ generated number
-IsMade None text = Unit {0}
+abbrev pub IsMadeText : Option ℕ → List ℕ → Type 0
+IsMadeText (Some number) text = text ≡ generated number
+IsMadeText None text = Unit {0}
 
 -- the text that a call is given: its number makes it, or the source has it, to its end or to the limit
-abbrev pub IsGiven : Option ℕ → Option (List ℕ) → List ℕ → Type 0
-IsGiven (Some number) left text = text ≡ generated number
-IsGiven None left text = (all : List ℕ) × (left ≡ Some all) × (text ≡ take limit all)
+abbrev pub IsGivenText : Option ℕ → Option (List ℕ) → List ℕ → Type 0
+IsGivenText (Some number) left text = text ≡ generated number
+IsGivenText None left text = (all : List ℕ) × (left ≡ Some all) × (text ≡ take limit all)
 
 -- the text that a call had: its number made it and nothing was asked of the source, or it was read, without a fault, to its end or to the limit
 abbrev pub IsInput : {S : Type 0} → Option ℕ → Stream S → List ℕ → Type 0
-IsInput (Some number) source text = (text ≡ generated number) × Stays source
+IsInput (Some number) source text = (text ≡ generated number) × StreamStays source
 IsInput None source text =
     IsRead limit (source.bytes source.old) text × (length text ≤ limit)
     × Consumes (source.bytes source.old) (source.bytes source.new) text × (source.faults source.new ≡ source.faults source.old)
@@ -48,7 +48,7 @@ TakesFew None source = TakesWithin limit (source.bytes source.old) (source.bytes
 
 -- there is no text: the source failed, or there was no memory
 abbrev pub HasNoInput : {S : Type 0} → Ending → Option ℕ → Stream S → Type 0
-HasNoInput ReadFault number source = (number ≡ None) × TakesFew number source × Fails source
+HasNoInput ReadFault number source = (number ≡ None) × TakesFew number source × StreamFails source
 HasNoInput Memory number source = TakesFew number source × (source.faults source.new ≡ source.faults source.old)
 HasNoInput ending number source = ⊥
 

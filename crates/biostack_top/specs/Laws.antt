@@ -8,9 +8,9 @@ use Rattle.work_text.specs.declared.Work.{Work}
 use Rattle.run_machine.specs.declared.event.Event.{Event}
 use Rattle.run_machine.specs.Named.{Fits}
 use Rattle.run_machine.specs.Runs.{State}
-use Rattle.report_text.specs.Report.{Told}
-use Rattle.trace_text.specs.Laws.{IsRead}
-use Rattle.trace_text.specs.Lines.{line_of}
+use Rattle.report_text.specs.Report.{Reported}
+use Rattle.trace_text.specs.Laws.{IsEventRead}
+use Rattle.trace_text.specs.Lines.{line_of_event}
 use Rattle.trace_replay.specs.Traces.{in_whole_lines}
 use Rattle.trace_replay.specs.declared.walk.Finish.TheVariants.{Ended}
 use Rattle.trace_replay.specs.declared.walk.Replayed.{Replayed}
@@ -20,10 +20,10 @@ use Rattle.biostack_top.specs.Running.{EndsAsTold, Maker}
 
 -- the line of each event of a run, by numbers that fit its fields, is read back as this event, and as no other
 abbrev pub TracesAreReadBack : Type 0
-TracesAreReadBack = (accepted : Accepted) (work : Work) (ledger : ℕ → LedgerId) (events : List Event) (state : State) (left : Told)
+TracesAreReadBack = (accepted : Accepted) (work : Work) (ledger : ℕ → LedgerId) (events : List Event) (state : State) (left : Reported)
     → EndsAsTold accepted work ledger events state left → All Fits events → (event : Event) → Contains events event
-    → IsRead accepted.stack (line_of accepted.stack event) (Some event)
-    × ((answer : Option Event) → IsRead accepted.stack (line_of accepted.stack event) answer → answer ≡ Some event)
+    → IsEventRead accepted.stack (line_of_event accepted.stack event) (Some event)
+    × ((answer : Option Event) → IsEventRead accepted.stack (line_of_event accepted.stack event) answer → answer ≡ Some event)
 
 -- a text has a write
 abbrev pub HasWrite : List ℕ → Type 0

@@ -18,14 +18,14 @@ use Rattle.run_machine.specs.Scenario.{scenario_of}
 use Rattle.block_core.specs.Claim.{IsAsClaimed}
 use Rattle.block_core.specs.Scenarios.{IsNaming}
 use Rattle.run_machine.specs.Named.{Fits, IsEventOf}
-use Rattle.serial_run.specs.Schedule.{Follows}
+use Rattle.serial_run.specs.Schedule.{FollowsSchedule}
 use Rattle.bio_workers.specs.Gates.{IsOfClosed, Showing}
 use Rattle.run_merge.specs.Entries.{Entry, entries_in}
 use Rattle.run_merge.specs.Merging.{all_of, without_tickets, sorted}
 use Rattle.run_merge.specs.SharedObjects.{entry_histories}
 use Rattle.run_merge.specs.declared.outcome.Outcome.{Outcome}
-use Rattle.report_text.specs.CheckText.{most_steps}
-use Rattle.report_text.specs.Report.{Told}
+use Rattle.report_text.specs.CheckText.{steps_bound}
+use Rattle.report_text.specs.Report.{Reported}
 use Rattle.report_text.specs.Views.{told_by}
 use Rattle.biostack_top.specs.Tracing.{IsTraceOf}
 
@@ -57,7 +57,7 @@ merged_in shown = without_tickets (sorted (all_of (entry_histories shown.names s
 abbrev pub Makes : Maker → (s : Scenario) (ledger : ℕ → LedgerId) (events : List Event) (state : State)
     → IsRun (scene s ledger) (start s) events state → Type 0
 Makes (ByNumber number) s ledger events state run =
-    ((after : Lcg) × Follows (scene s ledger) (start s) (stream_of number) events state after) × All Fits events
+    ((after : Lcg) × FollowsSchedule (scene s ledger) (start s) (stream_of number) events state after) × All Fits events
 Makes (ByThreads shown) s ledger events state run =
     IsShownOf s shown × (ledger ≡ ledger_in shown) × (entries_in (scene s ledger) (start s) events state run ≡ merged_in shown)
 
@@ -82,24 +82,24 @@ HasOutcome s trace shown (Ok outcome) =
 HasOutcome s trace shown (Err lacking) = trace ≡ true
 
 -- every run of what the text means is as claimed, whatever comes next in it, and has no more events than the bound that is told of the text
-abbrev pub EveryRunIsAsClaimed : Accepted → Work → Type 0
-EveryRunIsAsClaimed accepted work = (ledger : ℕ → LedgerId) (events : List Event) (state : State) → IsNaming ledger
+abbrev pub EveryRunOfTextIsAsClaimed : Accepted → Work → Type 0
+EveryRunOfTextIsAsClaimed accepted work = (ledger : ℕ → LedgerId) (events : List Event) (state : State) → IsNaming ledger
     → (run : IsRun (scene (scenario_of accepted work) ledger) (start (scenario_of accepted work)) events state)
-    → IsAsClaimed (scenario_of accepted work) ledger events state run × (length events ≤ most_steps work.bound)
+    → IsAsClaimed (scenario_of accepted work) ledger events state run × (length events ≤ steps_bound work.bound)
 
 -- These events are a run of what the text means, to its end. It is as claimed, and this is told of the objects that it leaves.
-pub record EndsAsTold (accepted : Accepted) (work : Work) (ledger : ℕ → LedgerId) (events : List Event) (state : State) (left : Told) : Type 0 where
+pub record EndsAsTold (accepted : Accepted) (work : Work) (ledger : ℕ → LedgerId) (events : List Event) (state : State) (left : Reported) : Type 0 where
   pub naming : IsNaming ledger
   pub run : IsRun (scene (scenario_of accepted work) ledger) (start (scenario_of accepted work)) events state
   pub ends : HasEnded state
   -- each of them names what the stack has
   pub named : All (IsEventOf accepted.stack) events
   pub claimed : IsAsClaimed (scenario_of accepted work) ledger events state run
-  pub bounded : length events ≤ most_steps work.bound
-  pub told : left ≡ told_by accepted.stack state.objects (length events) (most_steps work.bound)
+  pub bounded : length events ≤ steps_bound work.bound
+  pub told : left ≡ told_by accepted.stack state.objects (length events) (steps_bound work.bound)
 
 -- They are one that was made so.
-pub record IsTold (accepted : Accepted) (work : Work) (maker : Maker) (events : List Event) (left : Told) : Type 0 where
+pub record IsRunTold (accepted : Accepted) (work : Work) (maker : Maker) (events : List Event) (left : Reported) : Type 0 where
   pub ledger : ℕ → LedgerId
   pub state : State
   pub ended : EndsAsTold accepted work ledger events state left

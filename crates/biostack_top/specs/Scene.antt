@@ -40,8 +40,8 @@ pub record SaysBy (loose : Bool) (text : List ℕ) (accepted : Accepted) (work :
   pub reads : ReadsWork text accepted (Ok work)
 
 -- by all checks
-abbrev pub Says : List ℕ → Accepted → Work → Type 0
-Says text accepted work = SaysBy false text accepted work
+abbrev pub TextSays : List ℕ → Accepted → Work → Type 0
+TextSays text accepted work = SaysBy false text accepted work
 
 -- its text says what the scene holds
 abbrev pub IsSaidBy : Bool → Scene → Type 0

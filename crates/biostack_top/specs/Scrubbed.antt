@@ -8,7 +8,7 @@ use Rattle.layout_model.specs.Way.{Place}
 use Rattle.model_disks.specs.Runs.{flag}
 use Rattle.run_machine.specs.Opened.{Scenario}
 use Rattle.block_core.specs.Scenarios.{IsScenario}
-use Rattle.mirror_scrub.specs.Seen.{Images, leg_at, legs, unlikes}
+use Rattle.mirror_scrub.specs.Seen.{Images, mirror_member, legs, unlikes}
 
 -- each sector of each disk holds what is laid out there
 abbrev pub AreLaidImages : Scenario → Images → Type 0
@@ -24,5 +24,5 @@ IsLaidAt s place sector = IsLaid s.stack s.writes s.rounds place.disk place.at s
 abbrev pub UnlikeWhereLaidDiffers : Type 0
 UnlikeWhereLaidDiffers = (s : Scenario) (images : Images) → IsScenario s → AreLaidImages s images
     → (mirror leg x : ℕ) → mirror < length s.stack.devices.items → leg < legs (tree s.stack mirror) → x < size (tree s.stack mirror)
-    → (one other : List ℕ) → IsLaidAt s (shown (leg_at (tree s.stack mirror) leg) x) one → IsLaidAt s (shown (leg_at (tree s.stack mirror) 0) x) other
+    → (one other : List ℕ) → IsLaidAt s (shown (mirror_member (tree s.stack mirror) leg) x) one → IsLaidAt s (shown (mirror_member (tree s.stack mirror) 0) x) other
     → Decides (flag (unlikes images (tree s.stack mirror) leg) x) (one ≢ other)

@@ -14,14 +14,14 @@ abbrev pub stream : {S : Type 0} → (S → Option (List ℕ)) → (S → ℕ) �
 stream bytes faults old new = record { bytes = bytes; faults = faults; old = old; new = new }
 
 -- what a call did to its source and its sink
-pub record Call (S K : Type 0) : Type 0 where
+pub record CallStreams (S K : Type 0) : Type 0 where
   pub source : Stream S
   pub out : Stream K
 
 -- its bytes are what they were, and so is its count of faults
-abbrev pub Stays : {S : Type 0} → Stream S → Type 0
-Stays of = Keeps (of.bytes of.old) (of.bytes of.new) × (of.faults of.new ≡ of.faults of.old)
+abbrev pub StreamStays : {S : Type 0} → Stream S → Type 0
+StreamStays of = Keeps (of.bytes of.old) (of.bytes of.new) × (of.faults of.new ≡ of.faults of.old)
 
 -- its count rose, or it stands at its last number
-abbrev pub Fails : {S : Type 0} → Stream S → Type 0
-Fails of = Rose (of.faults of.old) (of.faults of.new)
+abbrev pub StreamFails : {S : Type 0} → Stream S → Type 0
+StreamFails of = Rose (of.faults of.old) (of.faults of.new)

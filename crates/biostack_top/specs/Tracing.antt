@@ -5,12 +5,12 @@ use Rattle.std.specs.List.{flat_map}
 use Rattle.stack_base.specs.declared.stack.Stack.{Stack}
 use Rattle.outside_io.specs.Saying.{Says}
 use Rattle.run_machine.specs.declared.event.Event.{Event}
-use Rattle.trace_text.specs.Lines.{line_of}
+use Rattle.trace_text.specs.Lines.{line_of_event}
 use Rattle.biostack_top.specs.declared.trace.Trace.{Trace}
 
 -- the line of an event, with the byte 10 that ends it
 abbrev pub event_line : Stack → Event → List ℕ
-event_line stack event = line_of stack event ++ 10 ∷ []
+event_line stack event = line_of_event stack event ++ 10 ∷ []
 
 -- those of events, in their order
 unfoldable pub event_lines : Stack → List Event → List ℕ

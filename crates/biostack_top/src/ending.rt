@@ -1,7 +1,7 @@
 //! How a call of the program ends: an exit status and a line on errors for each cause.
 ghost use Rattle.std.specs.Prelude.{◌≡◌};
 ghost use Rattle.outside_io.specs.Saying.{Says, Writes};
-ghost use Rattle.biostack_top.specs.Ending.{exit_of, line_of, refusal_text};
+ghost use Rattle.biostack_top.specs.Ending.{exit_of, error_line, refusal_text};
 
 use decl_text::Refusal;
 use itoa::Buffer;
@@ -58,7 +58,7 @@ impl Ending {
     ///
     /// `Failed` only where their count of faults rose. They took a front of the line then.
     pub fn tell<E: Sink>(self, errors: &mut E) -> Result<(), Failed>
-        ensures { Writes E.held E.faults errors.old errors.new result (line_of self) }
+        ensures { Writes E.held E.faults errors.old errors.new result (error_line self) }
     {
         let mut pen = Pen::new();
         self.say(&mut pen, errors);
@@ -67,7 +67,7 @@ impl Ending {
 
     // The line of this ending.
     fn say<E: Sink>(self, pen: &mut Pen, errors: &mut E)
-        ensures { Says E.held E.faults errors.old pen.old errors.new pen.new (line_of self) }
+        ensures { Says E.held E.faults errors.old pen.old errors.new pen.new (error_line self) }
     {
         match self {
             Ending::Done | Ending::NotAllWell => {}

@@ -2,7 +2,7 @@
 ghost use Rattle.std.specs.Prelude.{◌≡◌, map};
 ghost use Rattle.std.specs.String.{string_bytes};
 ghost use Rattle.biostack_top.specs.Orders.{is_replay, is_shown, workers_in};
-ghost use Rattle.biostack_top.specs.Ending.{IsAsked};
+ghost use Rattle.biostack_top.specs.Ending.{IsOrderAsked};
 
 use crate::ending::Ending;
 use biostack_words::{Order, WordFault, read_words};
@@ -51,7 +51,7 @@ pub(crate) fn is_replay(order: Order) -> bool
 ///
 /// How the call ends otherwise: `Usage` where they give none, and `Memory` where there is none to read them.
 pub(crate) fn order_of(alloc: Global, words: &[String]) -> Result<Order, Ending>
-    ensures { IsAsked (map string_bytes words.now) result }
+    ensures { IsOrderAsked (map string_bytes words.now) result }
 {
     match read_words(alloc, words) {
         Ok(order) => Ok(order),

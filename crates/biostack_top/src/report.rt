@@ -3,9 +3,9 @@ ghost use Rattle.std.specs.Prelude.{◌≡◌, ◌++◌, ◌^◌, ◌<◌, List,
 ghost use Rattle.stack_base.specs.declared.ids.Status.TheVariants.{Ok as no_error};
 ghost use Rattle.stack_base.specs.Fault.{status_eq};
 ghost use Rattle.outside_io.specs.Saying.{Writes};
-ghost use Rattle.report_text.specs.CheckText.{most_steps};
+ghost use Rattle.report_text.specs.CheckText.{steps_bound};
 ghost use Rattle.report_text.specs.Report.{report};
-ghost use Rattle.report_text.specs.Views.{IsOf, told_of};
+ghost use Rattle.report_text.specs.Views.{IsEndedOfStack, told_of};
 ghost use Rattle.biostack_top.specs.Streams.{stream};
 ghost use Rattle.biostack_top.specs.Ending.{EndsWritten, all_well};
 
@@ -37,10 +37,10 @@ fn write_behind<K: Sink>(
     scene: &Scene<'_>,
     out: &mut K,
 ) -> Result<(), Failed>
-    requires ended { IsOf scene.now.accepted.stack ended.now }
-    requires bound { most_steps scene.now.work.bound < 2 ^ 64 }
+    requires ended { IsEndedOfStack scene.now.accepted.stack ended.now }
+    requires bound { steps_bound scene.now.work.bound < 2 ^ 64 }
     ensures ok { OnOk traced (Writes K.held K.faults out.old out.new result
-        (report scene.now.accepted.stack (told_of ended.now (most_steps scene.now.work.bound)))) }
+        (report scene.now.accepted.stack (told_of ended.now (steps_bound scene.now.work.bound)))) }
     ensures err { OnErr traced (IsErr result × (out.new ≡ out.old)) }
 {
     traced?;
@@ -54,10 +54,10 @@ pub(crate) fn report_behind<K: Sink>(
     scene: &Scene<'_>,
     out: &mut K,
 ) -> Ending
-    requires ended { IsOf scene.now.accepted.stack ended.now }
-    requires bound { most_steps scene.now.work.bound < 2 ^ 64 }
+    requires ended { IsEndedOfStack scene.now.accepted.stack ended.now }
+    requires bound { steps_bound scene.now.work.bound < 2 ^ 64 }
     ensures { (before : K) (lines : List ℕ) → Writes K.held K.faults before out.old traced lines
-        → EndsWritten result (lines ++ report scene.now.accepted.stack (told_of ended.now (most_steps scene.now.work.bound)))
+        → EndsWritten result (lines ++ report scene.now.accepted.stack (told_of ended.now (steps_bound scene.now.work.bound)))
         (all_well ended.now.statuses.items) (stream K.held K.faults before out.new) }
 {
     match write_behind(traced, ended, scene, out) {

@@ -1,7 +1,7 @@
 //! Compares the members of mirrors behind a run.
 ghost use Rattle.std.specs.Prelude.{◌≡◌, ◌^◌, ◌<◌, IsErr, OnErr, OnOk};
 ghost use Rattle.outside_io.specs.Saying.{Writes};
-ghost use Rattle.report_text.specs.CheckText.{most_steps};
+ghost use Rattle.report_text.specs.CheckText.{steps_bound};
 ghost use Rattle.report_text.specs.Report.{steps_line};
 ghost use Rattle.biostack_words.specs.declared.order.Order.TheVariants as order;
 ghost use Rattle.biostack_top.specs.Scene.{IsSaid};
@@ -25,9 +25,9 @@ fn steps_behind<K: Sink>(
     bound: &Bounds,
     out: &mut K,
 ) -> Result<(), Failed>
-    requires { most_steps bound.now < 2 ^ 64 }
+    requires { steps_bound bound.now < 2 ^ 64 }
     ensures ok { OnOk told (Writes K.held K.faults out.old out.new result
-        (steps_line steps (most_steps bound.now))) }
+        (steps_line steps (steps_bound bound.now))) }
     ensures err { OnErr told (IsErr result × (out.new ≡ out.old)) }
 {
     told?;

@@ -5,7 +5,7 @@ ghost use Rattle.biostack_words.specs.declared.order.Order.TheVariants as order;
 ghost use Rattle.biostack_top.specs.Scene.{IsSaid};
 ghost use Rattle.biostack_top.specs.Orders.{is_alone, is_shown};
 ghost use Rattle.biostack_top.specs.Ending.{OrderEndsBy, TextEndsBy};
-ghost use Rattle.biostack_top.specs.Input.{IsMade, made_by};
+ghost use Rattle.biostack_top.specs.Input.{IsMadeText, made_by};
 ghost use Rattle.biostack_top.specs.Streams.{stream};
 
 use crate::ending::Ending;
@@ -59,7 +59,7 @@ fn show<K: Sink>(text: &[u8], out: &mut K) -> Result<(), Failed>
 // Tells the text that the order's number made.
 fn tell_text<K: Sink>(order: Order, text: &[u8], out: &mut K) -> Ending
     requires shown { is_shown order ≡ true }
-    requires made { IsMade (made_by order) text.now }
+    requires made { IsMadeText (made_by order) text.now }
     ensures { TextEndsBy result order text.now (stream K.held K.faults out.old out.new) }
 {
     match show(text, out) {
@@ -71,7 +71,7 @@ fn tell_text<K: Sink>(order: Order, text: &[u8], out: &mut K) -> Ending
 // Carries out an order over its text.
 fn serve_text<K: Sink>(alloc: Global, order: Order, text: &[u8], out: &mut K) -> Ending
     requires alone { is_alone order ≡ true }
-    requires made { IsMade (made_by order) text.now }
+    requires made { IsMadeText (made_by order) text.now }
     ensures { TextEndsBy result order text.now (stream K.held K.faults out.old out.new) }
 {
     if is_shown(order) {

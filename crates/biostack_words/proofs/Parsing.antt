@@ -8,8 +8,8 @@ use Rattle.clap.specs.Simple.{Shape, built, filled, new_rule, with_index}
 use Rattle.clap.specs.Kinds.{Kinds, or_else}
 use Rattle.clap.specs.Faults.{check_fault, defaults_fault, settle_fault, turn_fault, walk_fault}
 use Rattle.clap.specs.declared.parser.matches.ValueSource.TheVariants.{CommandLine}
-use Rattle.biostack_words.specs.Grammar.{Form, Kind, Setting, Word, dashed, flag_named, form, has, is_dashed, is_dashed_form, is_of, kind_word, name_of, option, place, plain, seed, text, trace, valued_named, value_of, workers}
-use Rattle.biostack_words.specs.Parser.{flag, parser, valued}
+use Rattle.biostack_words.specs.Grammar.{WordForm, Kind, Setting, Word, dashed, flag_named, form_of_word, has, is_dashed, is_dashed_form, is_setting_of, kind_word, name_of, option, place, plain, seed, text, trace, valued_named, value_behind_equals, workers}
+use Rattle.biostack_words.specs.Parser.{flag_rule, parser, valued}
 
 -- ---- what the parser is
 
@@ -25,8 +25,8 @@ id_of = kind_word
 abbrev pub rule_for : Kind → Rule
 rule_for seed = filled (valued (codes "seed"))
 rule_for workers = filled (valued (codes "workers"))
-rule_for trace = filled (flag (codes "trace"))
-rule_for text = filled (flag (codes "text"))
+rule_for trace = filled (flag_rule (codes "trace"))
+rule_for text = filled (flag_rule (codes "text"))
 rule_for place = with_index 1 (filled (new_rule (codes "number")))
 
 -- ---- rows
@@ -61,7 +61,7 @@ rows_for all = map row_for all
 
 pub has_row_for : (kind : Kind) (all : List Setting) → has_row (id_of kind) (rows_for all) ≡ has kind all
 has_row_for kind [] = refl
-has_row_for kind (setting ∷ all) = ap (λ b. is_of kind setting || b) (has_row_for kind all)
+has_row_for kind (setting ∷ all) = ap (λ b. is_setting_of kind setting || b) (has_row_for kind all)
 
 -- ---- faults
 
@@ -122,15 +122,15 @@ pub record Long (word name : Word) (value : Option Word) : Type 0 where
   pub dashes : is_two_dashes word ≡ false
   pub long : long_of word ≡ Some (name, value)
 
-abbrev pub Met : Word → Form → Type 0
+abbrev pub Met : Word → WordForm → Type 0
 Met word (option name value) = Long word name value
 Met word dashed = ⊥
 Met word plain = Plain word
 
-abbrev long_form : Bool → Bool → List ℕ → Form
-long_form t u rest = cond t (cond u (option (name_of rest) (value_of rest)) dashed) plain
+abbrev long_form : Bool → Bool → List ℕ → WordForm
+long_form t u rest = cond t (cond u (option (name_of rest) (value_behind_equals rest)) dashed) plain
 
-pub met : (word : Word) → is_dashed word ≡ false → Met word (form word)
+pub met : (word : Word) → is_dashed word ≡ false → Met word (form_of_word word)
 met [] e = record { dashes = refl; long = refl; short = refl }
 met (a ∷ []) e = go (a == 45) refl
   where

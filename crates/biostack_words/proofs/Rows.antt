@@ -6,7 +6,7 @@ use Rattle.std.specs.Prelude.{slice_get}
 use Rattle.std.specs.Str.{bytes_eq}
 use Rattle.clap.specs.Walk.{Row, Text, first_of, has_row, more_values, one_of, reading_by, row_text, with_default, with_values}
 use Rattle.clap.specs.declared.parser.matches.ValueSource.TheVariants.{DefaultValue}
-use Rattle.biostack_words.specs.Grammar.{Given, Kind, Setting, Word, given_in, has, is_of, kind_word, place, seed, text, trace, value, workers}
+use Rattle.biostack_words.specs.Grammar.{Given, Kind, Setting, Word, given_in, has, is_setting_of, kind_word, place, seed, text, trace, setting_value, workers}
 use Rattle.biostack_words.specs.Reading.{IsSeen, flag_text}
 use Rattle.biostack_words.proofs.Parsing.{has_row_for, id_of, is_valued, row_for, rows_for, rule_for, rules}
 use Rattle.biostack_words.proofs.Uses.{neither, row_missing}
@@ -22,12 +22,12 @@ same_kind place place e = refl
 same_kind _ _ e = absurd (true≢false (sym e))
 
 -- the row of a kind is that of its first setting
-find_row : (kind : Kind) (all : List Setting) → find (λ r. bytes_eq r.id (id_of kind)) (rows_for all) ≡ option_map row_for (find (is_of kind) all)
+find_row : (kind : Kind) (all : List Setting) → find (λ r. bytes_eq r.id (id_of kind)) (rows_for all) ≡ option_map row_for (find (is_setting_of kind) all)
 find_row kind [] = refl
-find_row kind (setting ∷ all) = go (is_of kind setting) (find_row kind all)
+find_row kind (setting ∷ all) = go (is_setting_of kind setting) (find_row kind all)
   where
-    go : (b : Bool) → find (λ r. bytes_eq r.id (id_of kind)) (rows_for all) ≡ option_map row_for (find (is_of kind) all)
-        → cond b (Some (row_for setting)) (find (λ r. bytes_eq r.id (id_of kind)) (rows_for all)) ≡ option_map row_for (cond b (Some setting) (find (is_of kind) all))
+    go : (b : Bool) → find (λ r. bytes_eq r.id (id_of kind)) (rows_for all) ≡ option_map row_for (find (is_setting_of kind) all)
+        → cond b (Some (row_for setting)) (find (λ r. bytes_eq r.id (id_of kind)) (rows_for all)) ≡ option_map row_for (cond b (Some setting) (find (is_setting_of kind) all))
     go true e = refl
     go false e = e
 
@@ -39,11 +39,11 @@ found_has p (first ∷ all) setting e = go (p first) refl e (found_has p all set
     go true is e later = subst (λ (o : Option Setting). option_map_or p o true ≡ true) e is
     go false is e later = later e
 
-none_has : (kind : Kind) (all : List Setting) → find (is_of kind) all ≡ None → has kind all ≡ false
+none_has : (kind : Kind) (all : List Setting) → find (is_setting_of kind) all ≡ None → has kind all ≡ false
 none_has kind [] e = refl
-none_has kind (first ∷ all) e = go (is_of kind first) refl e (none_has kind all)
+none_has kind (first ∷ all) e = go (is_setting_of kind first) refl e (none_has kind all)
   where
-    go : (b : Bool) → is_of kind first ≡ b → cond b (Some first) (find (is_of kind) all) ≡ None → (find (is_of kind) all ≡ None → has kind all ≡ false) → (b || has kind all) ≡ false
+    go : (b : Bool) → is_setting_of kind first ≡ b → cond b (Some first) (find (is_setting_of kind) all) ≡ None → (find (is_setting_of kind) all ≡ None → has kind all ≡ false) → (b || has kind all) ≡ false
     go true is e later = absurd (true≢false (ap (λ (o : Option Setting). Rattle.std.specs.Option.is_some o) e))
     go false is e later = later e
 
@@ -65,21 +65,21 @@ flag_slot seed v e = absurd (true≢false e)
 flag_slot workers v e = absurd (true≢false e)
 flag_slot place v e = absurd (true≢false e)
 
-value_row : (kind : Kind) (all : List Setting) → is_valued kind ≡ true → first_of (id_of kind) (rows_for all) ≡ value kind all
-value_row kind all valued = ap (option_and_then (λ r. slice_get r.values 0)) (find_row kind all) ∙ go (find (is_of kind) all) refl
+value_row : (kind : Kind) (all : List Setting) → is_valued kind ≡ true → first_of (id_of kind) (rows_for all) ≡ setting_value kind all
+value_row kind all valued = ap (option_and_then (λ r. slice_get r.values 0)) (find_row kind all) ∙ go (find (is_setting_of kind) all) refl
   where
-    go : (o : Option Setting) → find (is_of kind) all ≡ o → option_and_then (λ r. slice_get r.values 0) (option_map row_for o) ≡ option_and_then (λ setting. setting.value) o
+    go : (o : Option Setting) → find (is_setting_of kind) all ≡ o → option_and_then (λ r. slice_get r.values 0) (option_map row_for o) ≡ option_and_then (λ setting. setting.value) o
     go None e = refl
     go (Some setting) e =
-        slot setting.kind setting.value (ap is_valued (same_kind setting.kind kind (found_has (is_of kind) all setting e)) ∙ valued)
+        slot setting.kind setting.value (ap is_valued (same_kind setting.kind kind (found_has (is_setting_of kind) all setting e)) ∙ valued)
 
 flag_row : (kind : Kind) (all : List Setting) → is_valued kind ≡ false → has kind all ≡ true → one_of (id_of kind) (rows_for all) ≡ Some (codes "true")
-flag_row kind all flag some = ap (option_and_then row_text) (find_row kind all) ∙ go (find (is_of kind) all) refl
+flag_row kind all flag some = ap (option_and_then row_text) (find_row kind all) ∙ go (find (is_setting_of kind) all) refl
   where
-    go : (o : Option Setting) → find (is_of kind) all ≡ o → option_and_then row_text (option_map row_for o) ≡ Some (codes "true")
+    go : (o : Option Setting) → find (is_setting_of kind) all ≡ o → option_and_then row_text (option_map row_for o) ≡ Some (codes "true")
     go None e = absurd (true≢false (sym some ∙ none_has kind all e))
     go (Some setting) e =
-        flag_slot setting.kind setting.value (ap is_valued (same_kind setting.kind kind (found_has (is_of kind) all setting e)) ∙ flag)
+        flag_slot setting.kind setting.value (ap is_valued (same_kind setting.kind kind (found_has (is_setting_of kind) all setting e)) ∙ flag)
 
 -- ---- defaults
 
@@ -153,7 +153,7 @@ flags_alone rows =
 
 -- a value is as in the settings
 value_seen : (kind : Kind) (all : List Setting) → is_valued kind ≡ true → bytes_eq (id_of trace) (id_of kind) ≡ false → bytes_eq (id_of text) (id_of kind) ≡ false
-    → first_of (id_of kind) (all_rows (rows_for all)) ≡ value kind all
+    → first_of (id_of kind) (all_rows (rows_for all)) ≡ setting_value kind all
 value_seen kind all valued one other =
     ap (first_of (id_of kind)) (flags_alone (rows_for all))
     ∙ ap (option_and_then (λ r. slice_get r.values 0)) (other_stays text (id_of kind) _ refl other ∙ other_stays trace (id_of kind) (rows_for all) refl one)

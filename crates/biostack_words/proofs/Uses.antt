@@ -7,7 +7,7 @@ use Rattle.std.specs.Str.{bytes_eq}
 use Rattle.clap.specs.Walk.{Row, at_row, more_values, with_values, without, Text, has_row, used}
 use Rattle.clap.specs.Faults.{use_fault}
 use Rattle.clap.specs.declared.parser.matches.ValueSource.TheVariants.{CommandLine}
-use Rattle.biostack_words.specs.Grammar.{Kind, Setting, Word, alone, given_once, has, are_once, is_of, kind_word, place, seed, text, trace, with_value, workers}
+use Rattle.biostack_words.specs.Grammar.{Kind, Setting, Word, alone, given_once, has, are_once, is_setting_of, kind_word, place, seed, text, trace, with_value, workers}
 use Rattle.biostack_words.proofs.Parsing.{fails, has_row_for, id_of, is_valued, row_for, rows_for, rule_for, use_values}
 
 -- ---- uses
@@ -79,10 +79,10 @@ or_assoc false b c = refl
 
 pub has_on : (kind : Kind) (done more : List Setting) → has kind (done ++ more) ≡ (has kind done || has kind more)
 has_on kind [] more = refl
-has_on kind (setting ∷ done) more = ap (λ b. is_of kind setting || b) (has_on kind done more) ∙ or_assoc (is_of kind setting) (has kind done) (has kind more)
+has_on kind (setting ∷ done) more = ap (λ b. is_setting_of kind setting || b) (has_on kind done more) ∙ or_assoc (is_setting_of kind setting) (has kind done) (has kind more)
 
 -- of one kind, either way round
-is_of_back : (one other : Setting) → is_of one.kind other ≡ is_of other.kind one
+is_of_back : (one other : Setting) → is_setting_of one.kind other ≡ is_setting_of other.kind one
 is_of_back one other =
     same_from_decides _ _ (bytes_eq-Decides (kind_word other.kind) (kind_word one.kind)) (Decides-like _ sym sym (bytes_eq-Decides (kind_word one.kind) (kind_word other.kind)))
 
@@ -116,9 +116,9 @@ not_true false e = refl
 -- two of one kind
 are_twice : (setting : Setting) (done more : List Setting) → has setting.kind done ≡ true → are_once (done ++ setting ∷ more) ≡ false
 are_twice setting [] more some = absurd (true≢false (sym some))
-are_twice setting (first ∷ done) more some = go (is_of setting.kind first) refl some (are_twice setting done more)
+are_twice setting (first ∷ done) more some = go (is_setting_of setting.kind first) refl some (are_twice setting done more)
   where
-    go : (b : Bool) → is_of setting.kind first ≡ b → (b || has setting.kind done) ≡ true → (has setting.kind done ≡ true → are_once (done ++ setting ∷ more) ≡ false)
+    go : (b : Bool) → is_setting_of setting.kind first ≡ b → (b || has setting.kind done) ≡ true → (has setting.kind done ≡ true → are_once (done ++ setting ∷ more) ≡ false)
         → (not (has first.kind (done ++ setting ∷ more)) && are_once (done ++ setting ∷ more)) ≡ false
     go true e some later =
         let there : has first.kind (done ++ setting ∷ more) ≡ true =
@@ -130,8 +130,8 @@ pub one_more : (setting : Setting) (done : List Setting) → are_once done ≡ t
 one_more setting [] once none = refl
 one_more setting (first ∷ done) once none =
     let parts = both_true (not (has first.kind done)) (are_once done) once in
-    let apart = neither (is_of setting.kind first) (has setting.kind done) none in
-    let other : is_of first.kind setting ≡ false = is_of_back first setting ∙ apart.0 in
+    let apart = neither (is_setting_of setting.kind first) (has setting.kind done) none in
+    let other : is_setting_of first.kind setting ≡ false = is_of_back first setting ∙ apart.0 in
     let fresh : has first.kind (done ++ setting ∷ []) ≡ false = has_on first.kind done (setting ∷ []) ∙ rw (not_true (has first.kind done) parts.0, other) refl in
     rw (fresh, one_more setting done parts.1 apart.1) refl
 

@@ -7,7 +7,7 @@ use Rattle.clap.specs.Walk.{Held, Row, is_pending, after_step, plain_word, Rule,
 use Rattle.clap.specs.Simple.{built, entered}
 use Rattle.clap.specs.Kinds.{Kinds}
 use Rattle.clap.specs.Faults.{entered_fault, fault_of, settle_fault, turn_fault, long_fault}
-use Rattle.biostack_words.specs.Grammar.{is as is_read, waits as waits_then, as_option, with_its_value, wrong, Reading, reading, value_in, Form, Kind, Setting, Word, alone, as_flag, dashed, followed, form, has, are_once, is_dashed, option, place, plain, seed, settings_from, text, trace, with_value, workers}
+use Rattle.biostack_words.specs.Grammar.{is as is_read, waits as waits_then, as_option, with_its_value, wrong, Reading, reading, value_reading, WordForm, Kind, Setting, Word, alone, as_flag, dashed, followed, form_of_word, has, are_once, is_dashed, option, place, plain, seed, settings_from, text, trace, with_value, workers}
 use Rattle.biostack_words.specs.Parser.{parser}
 use Rattle.biostack_words.proofs.Parsing.{IsFlag, Long, Met, Named, Plain, Takes, ends, fails, fails_then, flag_one, goes_on, holding, id_of, last, met, named, rows_for, rule_for, rules, shape, standing, stops, unknown, valued_one}
 use Rattle.biostack_words.proofs.Uses.{Fits, first_use, neither, second_use}
@@ -133,7 +133,7 @@ module _ (word : Word) (words : List Word) (clear : list_any is_dashed words ≡
       (idle_rest after _ _ (pending_stands place word done settled_here refl stands.once there stands.settled)) in
       passed_on done _ here _ word words passes goes (one_setting (with_value place word) done _ _ _ next)
 
-  word_agrees : (f : Form) → Met word f → AgreesBy (reading f word)
+  word_agrees : (f : WordForm) → Met word f → AgreesBy (reading f word)
   word_agrees (option name value) is = option_agrees name value is (named name)
   word_agrees dashed is = absurd is
   word_agrees plain is = place_agrees is (has place done) refl
@@ -185,7 +185,7 @@ module _ (word : Word) (words : List Word) (clear : list_any is_dashed words ≡
       (idle_rest after _ _ (pending_stands kind word done (rows_for done) (takes_is_valued kind t) once there refl)) in
       passed_on done _ waiting after_value word words (value_passes is) (value_goes is) (one_setting (with_value kind word) done _ _ _ next)
 
-  next_agrees : (f : Form) → Met word f → Agrees done (followed (value_in kind f word) (λ next. settings_from next words)) (ends waiting (word ∷ words)) (last waiting (word ∷ words)).held
+  next_agrees : (f : WordForm) → Met word f → Agrees done (followed (value_reading kind f word) (λ next. settings_from next words)) (ends waiting (word ∷ words)) (last waiting (word ∷ words)).held
   next_agrees (option name value) is =
       both_refuse (stops waiting word words
       (long_stops (rows_for done) (Some (id_of kind, [])) (place_of done) word (for_option (id_of kind)) name value is
@@ -199,8 +199,8 @@ agrees [] clear = (at_end, missing)
 agrees (word ∷ words) clear =
     let parts = neither (is_dashed word) (list_any is_dashed words) clear in
     let rest = agrees words parts.1 in (
-      λ done rows pending stands. word_agrees word words parts.1 rest.0 rest.1 done rows pending stands (form word) (met word parts.0),
-      λ kind done t once. next_agrees word words parts.1 rest.0 kind done t once (form word) (met word parts.0),
+      λ done rows pending stands. word_agrees word words parts.1 rest.0 rest.1 done rows pending stands (form_of_word word) (met word parts.0),
+      λ kind done t once. next_agrees word words parts.1 rest.0 kind done t once (form_of_word word) (met word parts.0),
     )
 
 -- ---- the whole

@@ -9,7 +9,7 @@ use Rattle.clap.specs.Kinds.{HasKind, IsAmong, Kinds}
 use Rattle.clap.specs.Values.{kind_of}
 use Rattle.clap.specs.declared.error.Error.{Error}
 use Rattle.clap.specs.declared.error.kind.ErrorKind.{ErrorKind}
-use Rattle.biostack_words.specs.Grammar.{Form, Given, Kind, Reading, Setting, Word, are_once, dashed, followed, form, given, given_in, given_once, is, is_dashed, is_dashed_form, option, plain, reading, settings, settings_from, value_in, waits, wrong}
+use Rattle.biostack_words.specs.Grammar.{WordForm, Given, Kind, Reading, Setting, Word, are_once, dashed, followed, form_of_word, given_by_words, given_in, given_once, is, is_dashed, is_dashed_form, option, plain, reading, settings, settings_from, value_reading, waits, wrong}
 use Rattle.biostack_words.specs.Reading.{IsSeen, ReadsGiven, fault_for}
 use Rattle.biostack_words.specs.Parser.{parser}
 use Rattle.biostack_words.specs.declared.WordFault.{WordFault}
@@ -27,23 +27,23 @@ some_fault : (kind : ErrorKind) (kinds : Kinds) → IsAmong kind kinds → kinds
 some_fault kind [] among e = among
 some_fault kind (k ∷ kinds) among e = true≢false (ap fails e)
 
-given_of : (all : List Setting) (words : List Word) → settings words ≡ Some all → are_once all ≡ true → given words ≡ Some (given_in all)
+given_of : (all : List Setting) (words : List Word) → settings words ≡ Some all → are_once all ≡ true → given_by_words words ≡ Some (given_in all)
 given_of all words are once = ap (option_and_then given_once) are ∙ rw once refl
 
 -- no fault, and this is read of the rows
-pub read_is : (words : List Word) (seen : Given) → list_any is_dashed words ≡ false → fault_of parser words ≡ [] → IsSeen (matches_of parser words) seen → given words ≡ Some seen
+pub read_is : (words : List Word) (seen : Given) → list_any is_dashed words ≡ false → fault_of parser words ≡ [] → IsSeen (matches_of parser words) seen → given_by_words words ≡ Some seen
 read_is words seen clear passes sees = go (parses words clear)
   where
-    go : AgreesAt [] None first words → given words ≡ Some seen
+    go : AgreesAt [] None first words → given_by_words words ≡ Some seen
     go (both_refuse fail none) = absurd (no_fault (ends first words) fail (sym (faults_are words) ∙ passes))
     go (both_read all none are once rows) =
         given_of all words are once ∙ ap (λ g. Some g) (sym (seen_is all seen (subst (λ (r : List Row). IsSeen (all_rows r) seen) rows sees)))
 
 -- a fault
-pub refused_is : (words : List Word) (kind : ErrorKind) → list_any is_dashed words ≡ false → IsAmong kind (fault_of parser words) → given words ≡ None
+pub refused_is : (words : List Word) (kind : ErrorKind) → list_any is_dashed words ≡ false → IsAmong kind (fault_of parser words) → given_by_words words ≡ None
 refused_is words kind clear among = go (parses words clear)
   where
-    go : AgreesAt [] None first words → given words ≡ None
+    go : AgreesAt [] None first words → given_by_words words ≡ None
     go (both_refuse fail none) = none
     go (both_read all none are once rows) = absurd (some_fault kind (fault_of parser words) among (faults_are words ∙ none))
 
@@ -56,9 +56,9 @@ fault_is words error clear (inr among) = go (fault_for (kind_of error))
     go Memory = tt
 
 -- what a word of this form is
-abbrev reads : Option Kind → Form → Word → Reading
+abbrev reads : Option Kind → WordForm → Word → Reading
 reads None f word = reading f word
-reads (Some kind) f word = value_in kind f word
+reads (Some kind) f word = value_reading kind f word
 
 -- a dashed word
 none_follows : (read : Reading) (rest : Option Kind → Option (List Setting)) → ((next : Option Kind) → rest next ≡ None) → followed read rest ≡ None
@@ -66,7 +66,7 @@ none_follows (is setting) rest none = rw (none None) refl
 none_follows (waits kind) rest none = none (Some kind)
 none_follows wrong rest none = refl
 
-dashed_reading : (waiting : Option Kind) (f : Form) (word : Word) → is_dashed_form f ≡ true → reads waiting f word ≡ wrong
+dashed_reading : (waiting : Option Kind) (f : WordForm) (word : Word) → is_dashed_form f ≡ true → reads waiting f word ≡ wrong
 dashed_reading None dashed word some = refl
 dashed_reading (Some kind) dashed word some = refl
 dashed_reading waiting plain word some = absurd (true≢false (sym some))
@@ -79,10 +79,10 @@ dashed_wrong (word ∷ words) some waiting = go (is_dashed word) refl some waiti
   where
     go : (b : Bool) → is_dashed word ≡ b → (b || list_any is_dashed words) ≡ true → (waiting : Option Kind) → (list_any is_dashed words ≡ true → (next : Option Kind) → settings_from next words ≡ None)
         → settings_from waiting (word ∷ words) ≡ None
-    go true is_one some None later = ap (λ read. followed read (λ next. settings_from next words)) (dashed_reading None (form word) word is_one)
-    go true is_one some (Some kind) later = ap (λ read. followed read (λ next. settings_from next words)) (dashed_reading (Some kind) (form word) word is_one)
+    go true is_one some None later = ap (λ read. followed read (λ next. settings_from next words)) (dashed_reading None (form_of_word word) word is_one)
+    go true is_one some (Some kind) later = ap (λ read. followed read (λ next. settings_from next words)) (dashed_reading (Some kind) (form_of_word word) word is_one)
     go false is_one some None later = none_follows _ _ (later some)
     go false is_one some (Some kind) later = none_follows _ _ (later some)
 
-pub dashed_is : (words : List Word) → list_any is_dashed words ≡ true → given words ≡ None
+pub dashed_is : (words : List Word) → list_any is_dashed words ≡ true → given_by_words words ≡ None
 dashed_is words some = ap (option_and_then given_once) (dashed_wrong words some None)

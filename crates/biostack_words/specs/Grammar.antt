@@ -28,32 +28,32 @@ command_named word =
 -- ---- one word
 
 -- `--NAME` or `--NAME=VALUE`; another word that begins with `-` and has more; or any other word
-pub data Form : Type 0 where
-  option : Word → Option Word → Form
-  dashed : Form
-  plain : Form
+pub data WordForm : Type 0 where
+  option : Word → Option Word → WordForm
+  dashed : WordForm
+  plain : WordForm
 
 -- what stands before the first `=` (61), and what stands behind it where there is one
 abbrev pub name_of : Word → Word
 name_of text = before_first (λ byte. byte == 61) text
 
-abbrev pub value_of : Word → Option Word
-value_of text = if list_any (λ byte. byte == 61) text then Some (after_first (λ byte. byte == 61) text) else None
+abbrev pub value_behind_equals : Word → Option Word
+value_behind_equals text = if list_any (λ byte. byte == 61) text then Some (after_first (λ byte. byte == 61) text) else None
 
-abbrev pub form : Word → Form
-form [] = plain
-form (a ∷ []) = plain
-form (a ∷ b ∷ []) = if a == 45 then dashed else plain
-form (a ∷ b ∷ c ∷ more) =
-    if a == 45 then (if b == 45 then option (name_of (c ∷ more)) (value_of (c ∷ more)) else dashed) else plain
+abbrev pub form_of_word : Word → WordForm
+form_of_word [] = plain
+form_of_word (a ∷ []) = plain
+form_of_word (a ∷ b ∷ []) = if a == 45 then dashed else plain
+form_of_word (a ∷ b ∷ c ∷ more) =
+    if a == 45 then (if b == 45 then option (name_of (c ∷ more)) (value_behind_equals (c ∷ more)) else dashed) else plain
 
-abbrev pub is_dashed_form : Form → Bool
+abbrev pub is_dashed_form : WordForm → Bool
 is_dashed_form dashed = true
 is_dashed_form plain = false
 is_dashed_form (option name value) = false
 
 abbrev pub is_dashed : Word → Bool
-is_dashed word = is_dashed_form (form word)
+is_dashed word = is_dashed_form (form_of_word word)
 
 -- ---- the words behind the first
 
@@ -107,21 +107,21 @@ abbrev pub with_its_value : Option Kind → Word → Reading
 with_its_value (Some kind) value = is (with_value kind value)
 with_its_value None value = wrong
 
-abbrev pub reading : Form → Word → Reading
+abbrev pub reading : WordForm → Word → Reading
 reading plain word = is (with_value place word)
 reading dashed word = wrong
 reading (option name None) word = as_option (valued_named name) name
 reading (option name (Some value)) word = with_its_value (valued_named name) value
 
 -- a value does not begin with `-`
-abbrev pub value_in : Kind → Form → Word → Reading
-value_in kind plain word = is (with_value kind word)
-value_in kind dashed word = wrong
-value_in kind (option name value) word = wrong
+abbrev pub value_reading : Kind → WordForm → Word → Reading
+value_reading kind plain word = is (with_value kind word)
+value_reading kind dashed word = wrong
+value_reading kind (option name value) word = wrong
 
 abbrev pub next_reading : Option Kind → Word → Reading
-next_reading None word = reading (form word) word
-next_reading (Some kind) word = value_in kind (form word) word
+next_reading None word = reading (form_of_word word) word
+next_reading (Some kind) word = value_reading kind (form_of_word word) word
 
 -- what follows a word is read by whether it waits for a value
 abbrev pub followed : Reading → (Option Kind → Option (List Setting)) → Option (List Setting)
@@ -148,14 +148,14 @@ kind_word trace = codes "trace"
 kind_word text = codes "text"
 kind_word place = codes "number"
 
-abbrev pub is_of : Kind → Setting → Bool
-is_of kind setting = bytes_eq (kind_word setting.kind) (kind_word kind)
+abbrev pub is_setting_of : Kind → Setting → Bool
+is_setting_of kind setting = bytes_eq (kind_word setting.kind) (kind_word kind)
 
 abbrev pub has : Kind → List Setting → Bool
-has kind all = list_any (is_of kind) all
+has kind all = list_any (is_setting_of kind) all
 
-abbrev pub value : Kind → List Setting → Option Word
-value kind all = option_and_then (λ setting. setting.value) (find (is_of kind) all)
+abbrev pub setting_value : Kind → List Setting → Option Word
+setting_value kind all = option_and_then (λ setting. setting.value) (find (is_setting_of kind) all)
 
 -- no two of them are of one kind
 abbrev pub are_once : List Setting → Bool
@@ -172,18 +172,18 @@ pub record Given : Type 0 where
 
 abbrev pub given_in : List Setting → Given
 given_in all = record {
-  seed = value seed all;
-  workers = value workers all;
+  seed = setting_value seed all;
+  workers = setting_value workers all;
   trace = has trace all;
   text = has text all;
-  number = value place all;
+  number = setting_value place all;
 }
 
 abbrev pub given_once : List Setting → Option Given
 given_once all = if are_once all then Some (given_in all) else None
 
-abbrev pub given : List Word → Option Given
-given words = option_and_then given_once (settings words)
+abbrev pub given_by_words : List Word → Option Given
+given_by_words words = option_and_then given_once (settings words)
 
 -- ---- orders
 
@@ -206,7 +206,7 @@ order_of command given = order_by command given.seed given.workers given.trace g
 -- the order that the words give, where they give one
 abbrev pub meaning : List Word → Option Order
 meaning [] = None
-meaning (first ∷ rest) = option_and_then (λ command. option_and_then (order_of command) (given rest)) (command_named first)
+meaning (first ∷ rest) = option_and_then (λ command. option_and_then (order_of command) (given_by_words rest)) (command_named first)
 
 -- the words give this order, or none; or there was no memory
 abbrev pub ReadsWords : List Word → Result Order WordFault → Type 0

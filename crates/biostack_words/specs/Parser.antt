@@ -8,8 +8,8 @@ use Rattle.clap.specs.declared.builder.action.ArgAction.TheVariants.{SetTrue}
 abbrev pub valued : Text → Rule
 valued name = record (new_rule name) { long = Some name }
 
-abbrev pub flag : Text → Rule
-flag name = record (new_rule name) { long = Some name; action = Some SetTrue }
+abbrev pub flag_rule : Text → Rule
+flag_rule name = record (new_rule name) { long = Some name; action = Some SetTrue }
 
 -- no help, no first word to pass over, the four options, and a word alone
 abbrev pub without_help : App → App
@@ -17,5 +17,5 @@ without_help = on_top (λ shape. record shape { disable_help_flag = true; no_bin
 
 abbrev pub parser : App
 parser = with_rule (with_rule (with_rule (with_rule (with_rule (without_help (new_app (codes "biostack")))
-    (valued (codes "seed"))) (valued (codes "workers"))) (flag (codes "trace"))) (flag (codes "text")))
+    (valued (codes "seed"))) (valued (codes "workers"))) (flag_rule (codes "trace"))) (flag_rule (codes "text")))
     (new_rule (codes "number"))

@@ -1,6 +1,6 @@
 -- What becomes of the words behind the first.
 use Rattle.std.specs.Prelude.{◌≡◌, Bool, true, false, codes, List, None, Some, Result, Ok, Err}
-use Rattle.biostack_words.specs.Grammar.{Given, Word, given}
+use Rattle.biostack_words.specs.Grammar.{Given, Word, given_by_words}
 use Rattle.clap.specs.Walk.{Row, first_of, one_of}
 use Rattle.clap.specs.declared.error.kind.ErrorKind.{ErrorKind}
 use Rattle.clap.specs.declared.error.kind.ErrorKind.TheVariants.{OutOfMemory}
@@ -9,8 +9,8 @@ use Rattle.biostack_words.specs.declared.WordFault.TheVariants.{Refused, Memory}
 
 -- the words give this, or nothing; or there was no memory
 abbrev pub ReadsGiven : List Word → Result Given WordFault → Type 0
-ReadsGiven words (Ok read) = given words ≡ Some read
-ReadsGiven words (Err Refused) = given words ≡ None
+ReadsGiven words (Ok read) = given_by_words words ≡ Some read
+ReadsGiven words (Err Refused) = given_by_words words ≡ None
 ReadsGiven words (Err Memory) = Unit {0}
 
 -- the value of an option that has none in the words, by whether it is there

@@ -2,7 +2,7 @@
 ghost use Rattle.std.specs.Prelude.{◌≡◌, false, codes, IfOk};
 ghost use Rattle.clap.specs.Simple.{app_of, new_app, new_rule};
 ghost use Rattle.clap.specs.Walk.{rule_of};
-ghost use Rattle.biostack_words.specs.Parser.{flag, parser, valued, without_help};
+ghost use Rattle.biostack_words.specs.Parser.{flag_rule, parser, valued, without_help};
 
 use clap::{Arg, ArgAction, Command};
 use std::alloc::{AllocError, Global};
@@ -17,7 +17,7 @@ fn valued<'a>(alloc: Global, name: &'a str) -> Arg<'a>
 
 // The option `--NAME`, which has none.
 fn flag<'a>(alloc: Global, name: &'a str) -> Arg<'a>
-    ensures rule { rule_of result ≡ flag name.entry.now }
+    ensures rule { rule_of result ≡ flag_rule name.entry.now }
     ensures local { result.global ≡ false }
 {
     Arg::new(alloc, name).long(name).action(ArgAction::SetTrue)

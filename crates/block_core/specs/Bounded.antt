@@ -7,7 +7,7 @@ use Rattle.layout_model.specs.Bound.{all_elements, all_parts}
 use Rattle.run_machine.specs.declared.event.Event.{Event}
 use Rattle.run_machine.specs.Opened.{Scenario, round_count, scene, start}
 use Rattle.run_machine.specs.Runs.{State, IsRun}
-use Rattle.block_core.specs.Charges.{rank}
+use Rattle.block_core.specs.Charges.{state_rank}
 use Rattle.block_core.specs.Scenarios.{IsScenario, IsNaming}
 
 -- the entries of scripts, the rounds behind the first, and the changes of reserves
@@ -21,7 +21,7 @@ most_steps s = 8 * all_elements s.stack s.writes + 2 * all_parts s.stack s.write
 
 -- nor does the rank of the state in which runs begin
 abbrev pub OpenedRankIsBounded : Type 0
-OpenedRankIsBounded = (s : Scenario) (ledger : ℕ → LedgerId) → IsScenario s → IsNaming ledger → rank (scene s ledger) (start s) ≤ most_steps s
+OpenedRankIsBounded = (s : Scenario) (ledger : ℕ → LedgerId) → IsScenario s → IsNaming ledger → state_rank (scene s ledger) (start s) ≤ most_steps s
 
 -- no run of any scenario has more events
 abbrev pub RunsAreBounded : Type 0

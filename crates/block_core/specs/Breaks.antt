@@ -17,8 +17,8 @@ use Rattle.run_machine.specs.Runs.{State, IsLet, IsRun}
 use Rattle.block_core.specs.Scenarios.{IsScenario, IsNaming}
 
 -- a text is accepted only where its writes need no more elements than a scenario may
-abbrev pub IsAllowed : Scenario → Type 0
-IsAllowed s = all_elements s.stack s.writes ≤ most_elements
+abbrev pub ElementsAreAllowed : Scenario → Type 0
+ElementsAreAllowed s = all_elements s.stack s.writes ≤ most_elements
 
 -- whether a book refuses a request: it has no vacant place, or the node that the request names is not open
 abbrev pub is_no_link : Linked → Bool
@@ -74,5 +74,5 @@ pub record GoesUnrefused (scene : Scene) (state : State) : Type 0 where
 
 -- after every event of every run of every scenario that is allowed
 abbrev pub NoTaskBreaks : Type 0
-NoTaskBreaks = (s : Scenario) (ledger : ℕ → LedgerId) (events : List Event) (state : State) → IsScenario s → IsAllowed s → IsNaming ledger
+NoTaskBreaks = (s : Scenario) (ledger : ℕ → LedgerId) (events : List Event) (state : State) → IsScenario s → ElementsAreAllowed s → IsNaming ledger
     → IsRun (scene s ledger) (start s) events state → GoesUnrefused (scene s ledger) state

@@ -175,19 +175,19 @@ charged price was_master scene s =
     total scene (charge price was_master scene.setup) s + cost price ScriptEntry * sum_at (λ number pool. entries_left pool) most_pools s.objects.pool
     + sum_at (λ place task. task_charge price task) scene.tasks s.task
 
-abbrev pub spent : (Paid → ℕ) → Scene → State → ℕ
-spent price scene s = sum_at (λ place task. task_spent price task) scene.tasks s.task
+abbrev pub spent_charges : (Paid → ℕ) → Scene → State → ℕ
+spent_charges price scene s = sum_at (λ place task. task_spent price task) scene.tasks s.task
 
 -- the charges of a state that are still open: all of them, without what is spent
 abbrev pub open_charges : (Paid → ℕ) → (ℕ → Bool) → Scene → State → ℕ
-open_charges price was_master scene s = charged price was_master scene s - spent price scene s
+open_charges price was_master scene s = charged price was_master scene s - spent_charges price scene s
 
 -- and where each event costs one, an end of a master as another one
-abbrev pub rank : Scene → State → ℕ
-rank scene s = open_charges unit_price none_was scene s
+abbrev pub state_rank : Scene → State → ℕ
+state_rank scene s = open_charges unit_price none_was scene s
 
 -- Of each reached state: as many events as come behind it lower its rank by as many at least. So each event lowers the rank.
 abbrev pub EventsLowerRank : Type 0
 EventsLowerRank = (s : Scenario) (ledger : ℕ → LedgerId) (before later : List Event) (old new : State) → IsScenario s → IsNaming ledger
     → IsRun (scene s ledger) (start s) before old → IsRun (scene s ledger) old later new
-    → length later + rank (scene s ledger) new ≤ rank (scene s ledger) old
+    → length later + state_rank (scene s ledger) new ≤ state_rank (scene s ledger) old

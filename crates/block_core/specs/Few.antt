@@ -7,7 +7,7 @@ use Rattle.run_machine.specs.declared.event.Event.{Event}
 use Rattle.run_machine.specs.Opened.{Scenario, scene, start, tasks, places_of}
 use Rattle.run_machine.specs.Runs.{State, IsRun}
 use Rattle.block_core.specs.Scenarios.{IsScenario, IsNaming}
-use Rattle.block_core.specs.Breaks.{IsAllowed}
+use Rattle.block_core.specs.Breaks.{ElementsAreAllowed}
 
 -- no pool of any run has more elements out than all writes need
 abbrev pub OutsAreFew : Type 0
@@ -26,5 +26,5 @@ pub record CountersAreSmall (state : State) : Type 0 where
 
 -- so in a scenario that is allowed none comes to the largest number of 64 bits
 abbrev pub NoCounterIsFull : Type 0
-NoCounterIsFull = (s : Scenario) (ledger : ℕ → LedgerId) (events : List Event) (state : State) → IsScenario s → IsAllowed s → IsNaming ledger
+NoCounterIsFull = (s : Scenario) (ledger : ℕ → LedgerId) (events : List Event) (state : State) → IsScenario s → ElementsAreAllowed s → IsNaming ledger
     → IsRun (scene s ledger) (start s) events state → CountersAreSmall state

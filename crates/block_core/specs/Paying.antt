@@ -17,7 +17,7 @@ use Rattle.run_machine.specs.Opened.{Change, Scenario, round_count, scene, start
 use Rattle.run_machine.specs.Runs.{State, IsRun}
 use Rattle.run_machine.specs.Scene.{Scene}
 use Rattle.run_machine.specs.Tasks.{Carried, Empty, Brings, TaskState, Completer}
-use Rattle.block_core.specs.Charges.{run_charge, vector_charge, charged, spent, open_charges}
+use Rattle.block_core.specs.Charges.{run_charge, vector_charge, charged, spent_charges, open_charges}
 use Rattle.block_core.specs.Payers.{Payer, WriteBio, Record, PieceBio, ScriptEntry, LaterRound, ReserveChange, payer_of, payer_at, Paid, cost}
 use Rattle.block_core.specs.Payers as paid
 use Rattle.block_core.specs.Touches.{touch_of, masters_after, were_masters, none_was}
@@ -87,7 +87,7 @@ EachHasItsCharge = (s : Scenario) (ledger : ℕ → LedgerId) (events : List Eve
 abbrev pub NoMoreIsSpent : Type 0
 NoMoreIsSpent = (s : Scenario) (ledger : ℕ → LedgerId) (events : List Event) (state : State) → IsScenario s → IsNaming ledger
     → (run : IsRun (scene s ledger) (start s) events state) → (price : Paid → ℕ)
-    → spent price (scene s ledger) state ≤ charged price (were_masters (scene s ledger) (start s) events state run none_was) (scene s ledger) state
+    → spent_charges price (scene s ledger) state ≤ charged price (were_masters (scene s ledger) (start s) events state run none_was) (scene s ledger) state
 
 -- And so it is from each reached state, with the charges that it has still open: the events behind it use up as much of them as they cost.
 abbrev pub EventsUseUpCharges : Type 0

@@ -16,11 +16,11 @@ abbrev pub bio_needs : Setup → Bio → ℕ
 bio_needs setup bio = needed (tree_at setup bio.dev) bio.range.start bio.range.len
 
 -- those of the legs that are still to be made of a bio: one each, and what their bios need
-abbrev pub legs_need : Tree → ℕ → ℕ → ℕ → ℕ
-legs_need (Mirrored number sizes members) start len leg =
+abbrev pub unmade_legs_need : Tree → ℕ → ℕ → ℕ → ℕ
+unmade_legs_need (Mirrored number sizes members) start len leg =
     (length sizes - leg) + sum_by (λ k. needed (members k) start len) (range_with_len leg (length sizes - leg))
-legs_need (Leaf number sectors) start len leg = 0
-legs_need (Split number kind sizes members) start len leg = 0
+unmade_legs_need (Leaf number sectors) start len leg = 0
+unmade_legs_need (Split number kind sizes members) start len leg = 0
 
 -- those of writes: a top node each, and what their bios need
 abbrev pub writes_need : Setup → List Todo → ℕ
@@ -39,7 +39,7 @@ abbrev pub places : Setup → ℕ → Weight
 places setup w = record {
   todo = λ writer todos taken. one writer w * writes_need setup todos;
   bio = lined_needs setup w;
-  copy = λ bio master leg. one bio.writer w * legs_need (tree_at setup bio.dev) bio.range.start bio.range.len leg;
+  copy = λ bio master leg. one bio.writer w * unmade_legs_need (tree_at setup bio.dev) bio.range.start bio.range.len leg;
   hand = λ bio. 0;
   vector = λ vector. 0;
   slip = λ slip. 0;

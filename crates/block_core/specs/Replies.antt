@@ -10,7 +10,7 @@ use Rattle.run_machine.specs.Objects.{Objects, Serves}
 use Rattle.run_machine.specs.Opened.{Scenario, scene, start}
 use Rattle.run_machine.specs.Runs.{State, IsLet, Steps, IsRun}
 use Rattle.block_core.specs.Scenarios.{IsScenario, IsNaming}
-use Rattle.block_core.specs.Breaks.{IsAllowed}
+use Rattle.block_core.specs.Breaks.{ElementsAreAllowed}
 
 -- the task goes on with the reply by an event, or neither it nor an object changes
 abbrev pub IsEventOrNothing : Scene → State → ℕ → Reply → Objects → Type 0
@@ -21,7 +21,7 @@ IsEventOrNothing scene state place reply new =
 
 -- after every event of every run of every scenario that is allowed: once its look lets a task ask, whatever its object answers
 abbrev pub RepliesAreEvents : Type 0
-RepliesAreEvents = (s : Scenario) (ledger : ℕ → LedgerId) (events : List Event) (state : State) → IsScenario s → IsAllowed s → IsNaming ledger
+RepliesAreEvents = (s : Scenario) (ledger : ℕ → LedgerId) (events : List Event) (state : State) → IsScenario s → ElementsAreAllowed s → IsNaming ledger
     → IsRun (scene s ledger) (start s) events state → (place : ℕ) → place < (scene s ledger).tasks
     → IsLet ledger state.objects (state.task place) (look_of (state.task place)) → (reply : Reply) (new : Objects)
     → Serves ledger state.objects (request (scene s ledger).setup (state.task place)) reply new

@@ -11,7 +11,7 @@ use Rattle.run_machine.specs.Scene.{Setup, Scene}
 use Rattle.run_machine.specs.Tasks.{Completer, Carries}
 use Rattle.run_machine.specs.Runs.{State}
 use Rattle.block_core.specs.Touches.{is_master}
-use Rattle.block_core.specs.Weights.{Weight, total, one, names, under, legs_left}
+use Rattle.block_core.specs.Weights.{Weight, total, one, names_node, under, legs_left}
 
 abbrev pub is_leg : Role → Bool
 is_leg role.Top = false
@@ -23,7 +23,7 @@ is_leg (role.Leg parent) = true
 abbrev pub named : ℕ → ℕ → Weight
 named w k = record {
   todo = λ writer todos taken. 0;
-  bio = λ spot. names w k;
+  bio = λ spot. names_node w k;
   copy = λ bio master leg. 0;
   hand = λ bio. 0;
   vector = λ vector. 0;

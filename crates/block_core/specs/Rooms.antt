@@ -51,7 +51,7 @@ room setup w = record {
   closed = λ task writer closed. 0;
 }
 
-pub record HasRoom (scene : Scene) (state : State) : Type 0 where
+pub record HasRoomInBooks (scene : Scene) (state : State) : Type 0 where
   -- a book has the places that it was made with
   pub places : (writer : ℕ) → length (state.objects.book writer).nodes ≡ scene.setup.places writer
   -- all that its writer's writes have open and have still to open find a place there
@@ -60,4 +60,4 @@ pub record HasRoom (scene : Scene) (state : State) : Type 0 where
 -- after every event of every run of every scenario
 abbrev pub BooksHaveRoom : Type 0
 BooksHaveRoom = (s : Scenario) (ledger : ℕ → LedgerId) (events : List Event) (state : State) → IsScenario s → IsNaming ledger
-    → IsRun (scene s ledger) (start s) events state → HasRoom (scene s ledger) state
+    → IsRun (scene s ledger) (start s) events state → HasRoomInBooks (scene s ledger) state

@@ -6,10 +6,7 @@ use Rattle.run_machine.specs.Scene.{Scene}
 use Rattle.run_machine.specs.Tasks.{Todo, Taken, NoBio, HasBio, HasBoth}
 use Rattle.run_machine.specs.Runs.{State}
 use Rattle.block_core.specs.Weights.{Weight, total, one}
-
--- the round of a write
-abbrev pub round_of : List ℕ → ℕ → ℕ
-round_of rounds write = slice_index_or rounds write 0
+pub use Rattle.layout_model.specs.Laid.{round_of}
 
 -- 1 where a write is of this round
 abbrev pub is_of_round : List ℕ → ℕ → ℕ → ℕ
@@ -60,7 +57,7 @@ unfinished_of worth = by_stage (λ todos taken. all_worth worth todos) worth
 abbrev pub begun_of : (ℕ → ℕ) → Weight
 begun_of worth = by_stage (taken_worth worth) worth
 
-pub record IsTallied (rounds : List ℕ) (scene : Scene) (state : State) : Type 0 where
+pub record RoundsAreTallied (rounds : List ℕ) (scene : Scene) (state : State) : Type 0 where
   -- the tally has the number of unfinished writes of each round
   pub left : (round : ℕ) → slice_index_or state.objects.tally.left round 0 ≡ total scene (unfinished_of (is_of_round rounds round)) state
   -- no write of an earlier round than the present one is unfinished

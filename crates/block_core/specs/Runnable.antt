@@ -7,8 +7,8 @@ use Rattle.run_machine.specs.Opened.{Scenario}
 use Rattle.run_machine.specs.ReadBehind.{IsReadBehind}
 use Rattle.run_machine.specs.Scenario.{scenario_of}
 use Rattle.block_core.specs.Bounded.{waits, most_steps}
-use Rattle.block_core.specs.Breaks.{IsAllowed}
-use Rattle.block_core.specs.Scenarios.{IsScenario, HasReserves, AreInOrder}
+use Rattle.block_core.specs.Breaks.{ElementsAreAllowed}
+use Rattle.block_core.specs.Scenarios.{IsScenario, EveryPoolKeepsSome, AreInOrder}
 
 -- 65,536 entries in each of 66 scripts, 1,024 rounds behind the first and 4,096 changes of reserves
 abbrev pub most_waits : ℕ
@@ -18,9 +18,9 @@ pub record IsRunnable (s : Scenario) : Type 0 where
   -- a stack, and writes that it serves, by writers of numbers below 8, each with its round
   pub scenario : IsScenario s
   -- the writes need no more elements than a scenario may
-  pub allowed : IsAllowed s
+  pub allowed : ElementsAreAllowed s
   -- each pool keeps an element, at the start and behind each change
-  pub reserves : HasReserves s
+  pub reserves : EveryPoolKeepsSome s
   -- the rounds of the writes do not fall
   pub ordered : AreInOrder s.rounds
   -- no two writes of a round have a sector in common, and each goes to a device that is no member

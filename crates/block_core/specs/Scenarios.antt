@@ -35,7 +35,7 @@ KeepsSome (Limit longest chunk) reserve = 1 ≤ reserve
 KeepsSome (Mirror records) reserve = (1 ≤ reserve) × (1 ≤ records)
 
 -- nor any other, at the start and behind each change
-pub record HasReserves (s : Scenario) : Type 0 where
+pub record EveryPoolKeepsSome (s : Scenario) : Type 0 where
   pub bios : 1 ≤ s.stack.fs_bios
   pub vecs : 1 ≤ s.stack.fs_vecs
   pub devices : (number : ℕ) (device : Device) → slice_get s.stack.devices.items number ≡ Some device → KeepsSome device.kind device.reserve

@@ -13,7 +13,7 @@ use Rattle.run_machine.specs.declared.event.Event.{Event}
 use Rattle.run_machine.specs.Opened.{Scenario, scene, start, setup}
 use Rattle.run_machine.specs.Runs.{State, IsRun}
 use Rattle.block_core.specs.Scenarios.{IsScenario, IsNaming}
-use Rattle.block_core.specs.Weights.{total, elements, refs, count_of}
+use Rattle.block_core.specs.Weights.{total, elements_of_pool, refs, count_of}
 use Rattle.block_core.specs.EachBio.{EachBio, EachCopied}
 use Rattle.block_core.specs.Fragments.{completed, to_come, is_it, times, IsOfScenario}
 use Rattle.block_core.specs.Hands.{HandsAreRight}
@@ -24,7 +24,7 @@ use Rattle.block_core.specs.Orders.{AreInListOrder}
 use Rattle.block_core.specs.Places.{HasPlaces}
 use Rattle.block_core.specs.Roles.{HasRoles}
 use Rattle.block_core.specs.Touches.{were_masters, none_was}
-use Rattle.block_core.specs.Rounds.{IsTallied}
+use Rattle.block_core.specs.Rounds.{RoundsAreTallied}
 use Rattle.block_core.specs.NodeBios.{node_bios, no_bios}
 use Rattle.block_core.specs.Values.{IsValued}
 use Rattle.block_core.specs.Waits.{NoneWaitsForItself}
@@ -34,7 +34,7 @@ pub record IsSound (s : Scenario) (ledger : ℕ → LedgerId) (events : List Eve
   pub pools : (number : ℕ) → AddsUp (state.objects.pool number).facts
   pub positions : (number : ℕ) → (state.objects.pool number).facts.pos ≤ entries_of (state.objects.pool number).script
   -- what is out of each pool is in the tasks' hands, lists and bios at work, in rescue lists, in disks and in nodes, and nowhere else
-  pub outs : (number : ℕ) → (state.objects.pool number).facts.out ≡ total (scene s ledger) (elements number) state
+  pub outs : (number : ℕ) → (state.objects.pool number).facts.out ≡ total (scene s ledger) (elements_of_pool number) state
   -- a node waits for as many ends as refer to it, and nothing refers to a node that is not open
   pub counts : (writer place : ℕ) → count_of (node_at (state.objects.book writer) place) ≡ total (scene s ledger) (refs (setup s) writer place) state
   -- an open node waits for at least one end, so the last of them closes it
@@ -62,7 +62,7 @@ pub record IsSound (s : Scenario) (ledger : ℕ → LedgerId) (events : List Eve
   pub images : (disk at : ℕ) → at < size (tree s.stack disk)
       → slice_index_or (state.objects.disk disk).image at [] ≡ held_after s disk at (completed (scene s ledger) (start s) events state run) zero_sector
   -- each round has as many unfinished writes as the tally says, and what is begun is of the present round
-  pub tally : IsTallied s.rounds (scene s ledger) state
+  pub tally : RoundsAreTallied s.rounds (scene s ledger) state
   -- a book has a place for each node that its writer's writes still open
   pub places : HasPlaces (scene s ledger) state
   -- what tasks have in hand is of the pools that they asked, and a bio that a completer brings has ended as the bad ranges of its disk say

@@ -105,8 +105,8 @@ holding_elements p held =
     + weigh_option (λ (vector : VectorItem). one vector.share.no p) held.vector
     + weigh_option (λ (slip : SlipItem). one slip.share.no p) held.slip
 
-abbrev pub elements : ℕ → Weight
-elements p = record {
+abbrev pub elements_of_pool : ℕ → Weight
+elements_of_pool p = record {
   todo = λ writer todos taken. 0;
   bio = λ spot bio. one bio.share.no p;
   copy = λ bio master leg. 0;
@@ -119,8 +119,8 @@ elements p = record {
 
 -- the references to the node at place k of writer w's book: bios that name it, nodes right under it, and the legs that are still to be made
 -- where it is a master
-abbrev pub names : ℕ → ℕ → Item Pad → ℕ
-names w k bio = one bio.bio.writer w * one bio.bio.node k
+abbrev pub names_node : ℕ → ℕ → Item Pad → ℕ
+names_node w k bio = one bio.bio.writer w * one bio.bio.node k
 
 abbrev pub under : ℕ → ℕ → ℕ → Option ℕ → ℕ
 under w k writer None = 0
@@ -132,7 +132,7 @@ legs_left setup bio leg = legs_of (tree_at setup bio.dev) - leg
 abbrev pub refs : Setup → ℕ → ℕ → Weight
 refs setup w k = record {
   todo = λ writer todos taken. 0;
-  bio = λ spot. names w k;
+  bio = λ spot. names_node w k;
   copy = λ bio master leg. one bio.writer w * one master k * legs_left setup bio leg;
   hand = λ bio. 0;
   vector = λ vector. 0;

@@ -1,6 +1,6 @@
 //! Runs that a test makes: events as lines, applied one by one to a plain core.
 ghost use Rattle.std.specs.Prelude.{IfOk};
-ghost use Rattle.trace_text.specs.Names.{IsNamed};
+ghost use Rattle.trace_text.specs.Names.{DevicesAreNamed};
 
 use crate::texts::{Opened, Scene, scene_of};
 use plain_core::laws::accepted_texts_can_open;
@@ -14,7 +14,7 @@ use trace_text::read_event;
 
 /// The state in which the runs of a text begin that is to be accepted.
 pub fn opened_of(rt: &(impl Abort + AllocGlobal), text: &str) -> Result<Opened, Fail>
-    ensures { IfOk result (λ opened. IsNamed opened.accepted.stack) }
+    ensures { IfOk result (λ opened. DevicesAreNamed opened.accepted.stack) }
 {
     let Scene { accepted, work } = scene_of(rt.alloc(), text)?;
     accepted_texts_can_open();
@@ -28,7 +28,7 @@ pub fn opened_of(rt: &(impl Abort + AllocGlobal), text: &str) -> Result<Opened, 
 
 /// The plain state of the objects and tasks that are opened of such a text.
 pub fn seen_of(rt: &(impl Abort + AllocGlobal), text: &str) -> Result<Opened, Fail>
-    ensures { IfOk result (λ opened. IsNamed opened.accepted.stack) }
+    ensures { IfOk result (λ opened. DevicesAreNamed opened.accepted.stack) }
 {
     let Scene { accepted, work } = scene_of(rt.alloc(), text)?;
     let opened = open(rt.alloc(), &accepted, &work)?;
@@ -42,7 +42,7 @@ pub fn seen_of(rt: &(impl Abort + AllocGlobal), text: &str) -> Result<Opened, Fa
 
 /// The event of a line.
 pub fn event_of(rt: &impl Abort, stack: &Stack, line: &str) -> Event
-    requires { IsNamed stack.now }
+    requires { DevicesAreNamed stack.now }
 {
     match read_event(line.as_bytes(), stack) {
         Some(event) => event,
@@ -52,7 +52,7 @@ pub fn event_of(rt: &impl Abort, stack: &Stack, line: &str) -> Event
 
 /// Applies an event that is to be a step.
 pub fn step(rt: &impl Abort, stack: &Stack, core: &mut Core, line: &str)
-    requires { IsNamed stack.now }
+    requires { DevicesAreNamed stack.now }
 {
     let event = event_of(rt, stack, line);
     assert!(rt; core.apply(&event).is_ok(), "{line}");
@@ -60,7 +60,7 @@ pub fn step(rt: &impl Abort, stack: &Stack, core: &mut Core, line: &str)
 
 /// Applies events that are to be steps, one after the other.
 pub fn steps(rt: &impl Abort, stack: &Stack, core: &mut Core, lines: &[&str])
-    requires { IsNamed stack.now }
+    requires { DevicesAreNamed stack.now }
 {
     for line in lines {
         step(rt, stack, core, line);
@@ -69,7 +69,7 @@ pub fn steps(rt: &impl Abort, stack: &Stack, core: &mut Core, lines: &[&str])
 
 /// Applies an event that is to be no step.
 pub fn refused(rt: &impl Abort, stack: &Stack, core: &mut Core, line: &str)
-    requires { IsNamed stack.now }
+    requires { DevicesAreNamed stack.now }
 {
     let event = event_of(rt, stack, line);
     assert!(rt;
@@ -96,7 +96,7 @@ fn is_same(one: Option<TaskId>, other: Option<TaskId>) -> bool {
 
 /// A state, and the step from it.
 pub fn state(rt: &impl Abort, stack: &Stack, core: &mut Core, state: &State)
-    requires { IsNamed stack.now }
+    requires { DevicesAreNamed stack.now }
 {
     let (free, others, line) = *state;
     assert!(rt; is_same(core.free(), free), "before {line}");
@@ -113,7 +113,7 @@ fn ends(event: Event, write: usize) -> bool {
 
 // How many events of a run tell that this write is done.
 fn times_done(rt: &impl Abort, stack: &Stack, parts: &[&[State]], write: usize) -> usize
-    requires { IsNamed stack.now }
+    requires { DevicesAreNamed stack.now }
 {
     let mut times: usize = 0;
     for part in parts {
@@ -128,7 +128,7 @@ fn times_done(rt: &impl Abort, stack: &Stack, parts: &[&[State]], write: usize) 
 
 // No write is unfinished: each of so many was done with one step of the run.
 fn all_done(rt: &impl Abort, stack: &Stack, parts: &[&[State]], writes: usize)
-    requires { IsNamed stack.now }
+    requires { DevicesAreNamed stack.now }
 {
     for write in 0..writes {
         assert!(rt; times_done(rt, stack, parts, write) == 1, "write {write}");
@@ -138,7 +138,7 @@ fn all_done(rt: &impl Abort, stack: &Stack, parts: &[&[State]], writes: usize)
 // The states of a run in their order, part by part, behind the last of which no task is free and no write is unfinished. In a stuck state no
 // task is free either, but there a write is not done.
 fn follow(rt: &impl Abort, opened: Opened, parts: &[&[State]])
-    requires { IsNamed opened.accepted.stack }
+    requires { DevicesAreNamed opened.accepted.stack }
 {
     let Opened {
         accepted,

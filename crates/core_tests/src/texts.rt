@@ -9,7 +9,7 @@ ghost use Rattle.layout_model.specs.Bound.{all_elements, most_elements};
 ghost use Rattle.layout_model.specs.Writes.{IsWrite};
 ghost use Rattle.work_text.specs.declared.Resize.{Resize as Resizes};
 ghost use Rattle.run_machine.specs.ReadBehind.{IsReadBehind};
-ghost use Rattle.trace_text.specs.Names.{IsNamed};
+ghost use Rattle.trace_text.specs.Names.{DevicesAreNamed};
 ghost use Rattle.plain_core.specs.Opening.{CanOpen};
 
 use decl_text::{Accepted, ReadFault, read_decl};
@@ -149,7 +149,7 @@ fn read(alloc: Global, text: &[u8]) -> Result<Scene, ReadFault>
 
 /// What a text says that is to be accepted.
 pub fn scene_of(alloc: Global, text: &str) -> Result<Scene, Fail>
-    ensures named { IfOk result (λ scene. IsNamed scene.accepted.stack) }
+    ensures named { IfOk result (λ scene. DevicesAreNamed scene.accepted.stack) }
     ensures stack { IfOk result (λ scene. IsStack scene.accepted.stack) }
     ensures read { IfOk result (λ scene. IsReadBehind scene.accepted scene.work) }
     ensures rescuers { IfOk result (λ scene. HasRescuers scene.accepted.stack) }

@@ -18,9 +18,9 @@ pub struct Limit {
 }
 
 impl Model for Limit {
-    ghost use Rattle.limit_split.specs.Numbers.{Numbers, IsKept};
+    ghost use Rattle.limit_split.specs.Numbers.{LimitNumbers, IsKept};
 
-    ghost Value = { Numbers };
+    ghost Value = { LimitNumbers };
 
     ghost view = { λ l. record { longest = l.max; chunk = l.chunk; sectors = l.size } };
 

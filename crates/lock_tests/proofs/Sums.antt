@@ -8,11 +8,11 @@ use Rattle.std.proofs.lemmas.Bool.{lt-ltb, le-ltb}
 use Rattle.seat_lock.specs.declared.view.Entry.{Entry}
 use Rattle.std.specs.declared.snapshot.Snapshot.{Snapshot}
 use Rattle.seat_lock.specs.declared.view.Known.{Known}
-use Rattle.seat_lock.specs.History.{count, one_if, calls_by, Leads}
+use Rattle.seat_lock.specs.History.{count, indicator, calls_by, Leads}
 use Rattle.seat_lock.specs.Seats.{own, call_of, first_seat, split_more, new_seat, Calls, HasJoined}
 use Rattle.seat_lock.proofs.Histories.{count_one, count_append}
 use Rattle.lock_tests.specs.declared.number.Number.{Number}
-use Rattle.lock_tests.specs.Adding.{asked_for, HasAsked}
+use Rattle.lock_tests.specs.Adding.{asked_for, SeatHasAsked}
 
 abbrev Call : Type 0
 Call = Entry ℕ ℕ
@@ -31,10 +31,10 @@ by_none : (ns : List ℕ) (call : Call) (calls : List Call) → count call.by ns
 by_none ns call calls h = ap (λ b. asked_for (cond b (call ∷ calls_by ns calls) (calls_by ns calls))) (le-ltb 0 (count call.by ns) (omega arith))
 
 there : (x y : ℕ) → y ≡ x → count x (y ∷ []) ≡ 1
-there x y e = count_one x y ∙ ap one_if (eq-eqb y x e)
+there x y e = count_one x y ∙ ap indicator (eq-eqb y x e)
 
 not_there : (x y : ℕ) → y ≢ x → count x (y ∷ []) ≡ 0
-not_there x y ne = count_one x y ∙ ap one_if (ne_eqb y x ne)
+not_there x y ne = count_one x y ∙ ap indicator (ne_eqb y x ne)
 
 -- the calls of two numbers are those of the one and those of the other
 pub two_seats : (n m : ℕ) → n ≢ m → (calls : List Call) → asked_for (calls_by (n ∷ m ∷ []) calls) ≡ asked_for (calls_by (n ∷ []) calls) + asked_for (calls_by (m ∷ []) calls)
@@ -66,7 +66,7 @@ adds_up before after (call ∷ calls) h run =
     next ∙ ap (λ n. (n + asked_for calls) % 2 ^ 64) run.1.0 ∙ mod-add-mod (before + call.asked) (2 ^ 64) (asked_for calls) ∙ ap (λ n. n % 2 ^ 64) (omega arith)
 
 -- a seat that has called has asked for as much more
-pub one_call : (start : ℕ) (v w : Known Number ℕ ℕ) (more told : ℕ) → Calls Adds start v more told w → HasAsked v w more
+pub one_call : (start : ℕ) (v w : Known Number ℕ ℕ) (more told : ℕ) → Calls Adds start v more told w → SeatHasAsked v w more
 one_call start v w more told c = record {
   rank = ap (λ (k : Known Number ℕ ℕ). k.rank) c.seen;
   joined = ap (λ (k : Known Number ℕ ℕ). k.joined) c.seen;
@@ -82,7 +82,7 @@ module _ (key : Snapshot Number) where
   second = new_seat (first_seat key)
 
   -- what two seats have asked for, the one split from the other, is what all of the history has
-  pub all_asked : (v w u : Known Number ℕ ℕ) (a b : ℕ) → own second ≡ [] → HasAsked first v a → HasAsked second w b → HasJoined v w u → own u ≡ u.seen → asked_for u.seen ≡ a + b
+  pub all_asked : (v w u : Known Number ℕ ℕ) (a b : ℕ) → own second ≡ [] → SeatHasAsked first v a → SeatHasAsked second w b → HasJoined v w u → own u ≡ u.seen → asked_for u.seen ≡ a + b
   all_asked v w u a b fresh mine theirs join whole =
       let numbers : u.numbers ≡ 0 ∷ 1 ∷ [] = ap (λ (k : Known Number ℕ ℕ). k.numbers) join.joined ∙ ap (λ ns. ns ++ w.numbers) mine.numbers ∙ ap (λ ns. 0 ∷ ns) theirs.numbers in
       let all : asked_for u.seen ≡ asked_for (calls_by (0 ∷ 1 ∷ []) u.seen) = ap asked_for (sym whole) ∙ ap (λ ns. asked_for (calls_by ns u.seen)) numbers in
@@ -92,10 +92,10 @@ module _ (key : Snapshot Number) where
       omega (arith, all, two_seats 0 1 (λ e. omega arith) u.seen, one, other, none, mine.asked, theirs.asked)
 
   -- so the number becomes that
-  pub added_up : (v0 w0 v w u : Known Number ℕ ℕ) (a b after : ℕ) → key.value.total ≡ 0 → v0 ≡ first → w0 ≡ second → own w0 ≡ [] → HasAsked v0 v a → HasAsked w0 w b → HasJoined v w u → own u ≡ u.seen
+  pub added_up : (v0 w0 v w u : Known Number ℕ ℕ) (a b after : ℕ) → key.value.total ≡ 0 → v0 ≡ first → w0 ≡ second → own w0 ≡ [] → SeatHasAsked v0 v a → SeatHasAsked w0 w b → HasJoined v w u → own u ≡ u.seen
       → Leads Adds key.value.total u.seen after → after ≡ (a + b) % 2 ^ 64
   added_up v0 w0 v w u a b after zero_at is is' fresh mine theirs join whole run =
-      let sums = all_asked v w u a b (subst (λ k. own k ≡ []) is' fresh) (subst (λ k. HasAsked k v a) is mine) (subst (λ k. HasAsked k w b) is' theirs) join whole in
+      let sums = all_asked v w u a b (subst (λ k. own k ≡ []) is' fresh) (subst (λ k. SeatHasAsked k v a) is mine) (subst (λ k. SeatHasAsked k w b) is' theirs) join whole in
       let end = adds_up 0 after u.seen (omega arith) (subst (λ n. Leads Adds n u.seen after) zero_at run) in
       let same : 0 + asked_for u.seen ≡ a + b = omega (arith, sums) in
       end ∙ ap (λ n. n % 2 ^ 64) same

@@ -10,7 +10,7 @@ abbrev pub asked_for : List (Entry ℕ ℕ) → ℕ
 asked_for calls = sum_by (λ (call : Entry ℕ ℕ). call.asked) calls
 
 -- the same seat, through which calls have asked for so much more
-pub record HasAsked (old new : Known Number ℕ ℕ) (more : ℕ) : Type 0 where
+pub record SeatHasAsked (old new : Known Number ℕ ℕ) (more : ℕ) : Type 0 where
   pub rank : new.rank ≡ old.rank
   pub joined : new.joined ≡ old.joined
   pub numbers : new.numbers ≡ old.numbers

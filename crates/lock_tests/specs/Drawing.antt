@@ -4,14 +4,14 @@ use Rattle.tick_clock.specs.declared.ticking.Ticket.{Ticket}
 use Rattle.tick_clock.specs.Tickets.{PassState}
 
 -- the numbers of tickets
-abbrev pub numbers_of : List Ticket → List ℕ
-numbers_of tickets = map (λ (t : Ticket). t.number) tickets
+abbrev pub ticket_numbers : List Ticket → List ℕ
+ticket_numbers tickets = map (λ (t : Ticket). t.number) tickets
 
 -- the same pass, with which these tickets were drawn
-pub record HasDrawn (old new : PassState) (tickets : List ℕ) : Type 0 where
+pub record PassHasDrawn (old new : PassState) (tickets : List ℕ) : Type 0 where
   pub clock : new.clock ≡ old.clock
   pub rank : new.rank ≡ old.rank
-  pub drawn : numbers_of new.drawn ≡ numbers_of old.drawn ++ tickets
+  pub drawn : ticket_numbers new.drawn ≡ ticket_numbers old.drawn ++ tickets
 
 -- how often a number stands in a list
 abbrev pub times_in : ℕ → List ℕ → ℕ

@@ -1,7 +1,7 @@
 //! Two threads that draw tickets from one clock.
 ghost use Rattle.std.specs.Prelude.{◌≡◌, true, false, IfOk};
-ghost use Rattle.tick_clock.specs.Tickets.{first_pass, is_first};
-ghost use Rattle.lock_tests.specs.Drawing.{HasDrawn, Differ};
+ghost use Rattle.tick_clock.specs.Tickets.{first_pass, is_first_pass};
+ghost use Rattle.lock_tests.specs.Drawing.{PassHasDrawn, Differ};
 
 use std::alloc::{AllocError, Global};
 use std::thread;
@@ -16,7 +16,7 @@ fn draw_often(
     often: u64,
 ) -> Result<(Pass, Vec<u64>), AllocError>
     requires { pass.clock ≡ clock.now }
-    ensures { IfOk result (λ drawn. HasDrawn pass drawn.0 drawn.1.items) }
+    ensures { IfOk result (λ drawn. PassHasDrawn pass drawn.0 drawn.1.items) }
 {
     let mut note = Note::new();
     let mut tickets = Vec::new(alloc);
@@ -46,11 +46,11 @@ pub fn drawn_by_two<R: Threads + Sync>(
         rt,
         || -> Result<(Pass, Vec<u64>), AllocError>
             requires { first.clock ≡ clock }
-            ensures { IfOk result (λ drawn. HasDrawn first drawn.0 drawn.1.items) }
+            ensures { IfOk result (λ drawn. PassHasDrawn first drawn.0 drawn.1.items) }
         { draw_often(alloc, &clock, first, often) },
         || -> Result<(Pass, Vec<u64>), AllocError>
             requires { second.clock ≡ clock }
-            ensures { IfOk result (λ drawn. HasDrawn second drawn.0 drawn.1.items) }
+            ensures { IfOk result (λ drawn. PassHasDrawn second drawn.0 drawn.1.items) }
         { draw_often(alloc, &clock, second, often) },
     );
     let (mut first, mine) = mine?;

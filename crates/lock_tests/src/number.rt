@@ -1,7 +1,7 @@
 //! A number behind a lock, as an example of a thing with a machine.
 ghost use Rattle.std.specs.Prelude.{◌≡◌, ◌+◌, ◌^◌, ◌%◌, IfOk};
 ghost use Rattle.seat_lock.specs.Seats.{IsOf, first_seat, own};
-ghost use Rattle.lock_tests.specs.Adding.{HasAsked};
+ghost use Rattle.lock_tests.specs.Adding.{SeatHasAsked};
 ghost use Rattle.seat_lock.specs.declared.view.Rank.TheVariants.{First, Other};
 
 use seat_lock::{Seat, SeatLock, Thing};
@@ -93,7 +93,7 @@ fn add_often<R: Wait>(
 ) -> (Seat<Number>, bool)
     requires { IsOf lock.now seat }
     ensures of { IsOf lock.now result.0 }
-    ensures asked { HasAsked seat.known result.0.known often }
+    ensures asked { SeatHasAsked seat.known result.0.known often }
 {
     let mut last = 0;
     let mut rising = true;
@@ -123,11 +123,11 @@ pub fn added_by_two<R: Threads + Wait + Sync>(
         rt,
         || -> (Seat<Number>, bool)
             requires { IsOf lock first }
-            ensures { IsOf lock result.0 × HasAsked first.known result.0.known often }
+            ensures { IsOf lock result.0 × SeatHasAsked first.known result.0.known often }
         { add_often(rt, &lock, first, often) },
         || -> (Seat<Number>, bool)
             requires { IsOf lock second }
-            ensures { IsOf lock result.0 × HasAsked second.known result.0.known often }
+            ensures { IsOf lock result.0 × SeatHasAsked second.known result.0.known often }
         { add_often(rt, &lock, second, often) },
     );
     lock.join(&mut first, second);

@@ -12,13 +12,13 @@ use Rattle.stack_base.specs.Stack.{IsStack}
 use Rattle.stack_base.specs.Tree.{Tree, Shape, Keeps, Cuts, Copies, shape_of, size, tree}
 use Rattle.layout_model.proofs.ByShape.{copies_is, cuts_is, keeps_is, member_is}
 use Rattle.layout_model.proofs.Chosen.{leg_known}
-use Rattle.mirror_scrub.specs.Seen.{leg_at, legs}
+use Rattle.mirror_scrub.specs.Seen.{mirror_member, legs}
 
 -- the member of a mirror at a place
 pub record IsLegOf (stack : Stack) (mirror place : ℕ) (m : DevId) : Type 0 where
   pub known : m.0 < length stack.devices.items
   pub inside : size (tree stack mirror) ≤ size (tree stack m.0)
-  pub leg : leg_at (tree stack mirror) place ≡ tree stack m.0
+  pub leg : mirror_member (tree stack mirror) place ≡ tree stack m.0
 
 module _ (stack : Stack) (good : IsStack stack) (number : ℕ) (device : Device) (found : slice_get stack.devices.items number ≡ Some device) where
   -- a mirror has as many as were declared
@@ -54,6 +54,6 @@ module _ (stack : Stack) (good : IsStack stack) (number : ℕ) (device : Device)
         record {
           known = known.1;
           inside = known.2;
-          leg = ap (λ (t : Tree). leg_at t place) (copies_is stack good number device found copies) ∙ member_is stack good number device found place _ there;
+          leg = ap (λ (t : Tree). mirror_member t place) (copies_is stack good number device found copies) ∙ member_is stack good number device found place _ there;
         },
       )

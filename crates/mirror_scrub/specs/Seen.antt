@@ -47,10 +47,10 @@ legs (Split number kind sizes members) = 0
 legs (Mirrored number sizes members) = length sizes
 
 -- the member of a mirror at a place
-abbrev pub leg_at : Tree → ℕ → Tree
-leg_at (Leaf number sectors) k = Leaf number sectors
-leg_at (Split number kind sizes members) k = Split number kind sizes members
-leg_at (Mirrored number sizes members) k = members k
+abbrev pub mirror_member : Tree → ℕ → Tree
+mirror_member (Leaf number sectors) k = Leaf number sectors
+mirror_member (Split number kind sizes members) k = Split number kind sizes members
+mirror_member (Mirrored number sizes members) k = members k
 
 -- the places of those that are compared with the first
 abbrev pub compared : Tree → List ℕ
@@ -58,7 +58,7 @@ compared t = range_with_len 1 (legs t - 1)
 
 -- whether each sector of a mirror is unlike on leg k: that leg shows other words there than leg 0
 abbrev pub unlikes : Images → Tree → ℕ → List Bool
-unlikes images mirror k = differing images (leg_at mirror k) (leg_at mirror 0) (size mirror)
+unlikes images mirror k = differing images (mirror_member mirror k) (mirror_member mirror 0) (size mirror)
 
 -- how many sectors are
 abbrev pub unlike_count : Images → Tree → ℕ → ℕ

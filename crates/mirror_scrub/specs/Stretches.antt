@@ -63,11 +63,11 @@ pub record IsFirstSo (s : Stretch) (from : ℕ) (so : Bool) (place : ℕ) : Type
   pub here : place < s.len → differ_at s place ≡ so
 
 -- the run begins at the first flag at or behind `from` that is set, and ends at the first one behind it that is not
-pub record IsFirstRun (flags : List Bool) (from : ℕ) (run : Range) : Type 0 where
+pub record IsFirstSetRun (flags : List Bool) (from : ℕ) (run : Range) : Type 0 where
   pub start : IsFirst flags from true run.start
   pub inside : run.start < length flags
   pub end : IsFirst flags run.start false (run.start + run.len)
 
 -- and the first of them, if there is one
 abbrev pub IsFirstRunOf : List Bool → ℕ → Option Range → Type 0
-IsFirstRunOf flags from run = MatchOption run (IsFirst flags from true (length flags)) (IsFirstRun flags from)
+IsFirstRunOf flags from run = MatchOption run (IsFirst flags from true (length flags)) (IsFirstSetRun flags from)

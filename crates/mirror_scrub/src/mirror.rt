@@ -3,7 +3,7 @@ ghost use Rattle.std.specs.Prelude.{◌≡◌, ◌==◌, ◌+◌, ◌<◌, ◌�
 ghost use Rattle.stack_base.specs.Stack.{IsStack};
 ghost use Rattle.stack_base.specs.Tree.{size as size_of, tree};
 ghost use Rattle.model_disks.specs.Runs.{IsApart};
-ghost use Rattle.mirror_scrub.specs.Seen.{AreDisksOf, held, leg_at, legs, stretches_from, unlike_count, unlikes};
+ghost use Rattle.mirror_scrub.specs.Seen.{AreDisksOf, held, mirror_member, legs, stretches_from, unlike_count, unlikes};
 ghost use Rattle.mirror_scrub.specs.Stretches.{IsPair, flags_in};
 ghost use Rattle.mirror_scrub.specs.Text.{all_alike, mirror_alike};
 
@@ -31,7 +31,7 @@ fn leg_at(stack: &Stack, mirror: DevId, place: u32) -> DevId
     requires place { place < legs (tree stack.now mirror.0) }
     ensures known { result.0 < length stack.now.devices.items }
     ensures inside { size_of (tree stack.now mirror.0) ≤ size_of (tree stack.now result.0) }
-    ensures leg { leg_at (tree stack.now mirror.0) place ≡ tree stack.now result.0 }
+    ensures leg { mirror_member (tree stack.now mirror.0) place ≡ tree stack.now result.0 }
 {
     stack.device(mirror).members[place as usize]
 }

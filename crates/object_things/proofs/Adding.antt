@@ -27,7 +27,7 @@ use Rattle.task_core.specs.Plains.{Advances}
 use Rattle.task_core.specs.Resizing.{Resizes}
 use Rattle.object_things.specs.Stamps.{Held, MarkState, ThingState, Told, StepOf, Answers, thing_state}
 use Rattle.object_things.specs.Histories.{Call}
-use Rattle.object_things.specs.Homes.{AddsUpAtHome, PoolAddsUp, ListAddsUp, DiskAddsUp, TallyAddsUp, punted, popped, pushes, completions, dones}
+use Rattle.object_things.specs.Homes.{AddsUpAtHome, PoolAddsUp, ListAddsUp, DiskAddsUp, TallyAddsUp, punted_by_call, popped_by_call, pushes, completions, dones}
 use Rattle.object_things.specs.Pools.{PoolServes, PoolLooks, HasOne, Undone}
 use Rattle.object_things.specs.Lists.{ListServes, ListLooks}
 use Rattle.object_things.specs.Disks.{DiskServes, DiskLooks}
@@ -116,13 +116,13 @@ pool_one old mid call (Some n) new rest step more = then [] rest (call ∷ rest)
 list_same : (old new : Rescue) → new ≡ old → old.bios ++ [] ≡ new.bios
 list_same old new e = append-nil old.bios ∙ ap (λ (r : Rescue). r.bios) (sym e)
 
-list_served : (old : Rescue) (asked : Request) (reply : Reply) (new : Rescue) → ListServes old asked reply new → old.bios ++ punted asked reply ≡ popped asked reply ++ new.bios
+list_served : (old : Rescue) (asked : Request) (reply : Reply) (new : Rescue) → ListServes old asked reply new → old.bios ++ punted_by_call asked reply ≡ popped_by_call asked reply ++ new.bios
 list_served old (Punt dev handed) Did new s = ap (λ (r : Rescue). r.bios) (sym s.1)
 list_served old (Pop dev) (Popped bio) new s = append-nil old.bios ∙ s.1
 list_served old asked reply new s = absurd s
 
 list_looked : (old : ThingState Rescue) (asked : Request) (reply : Reply) (new : ThingState Rescue) → ListLooks old asked reply new
-    → old.object.bios ++ punted asked reply ≡ popped asked reply ++ new.object.bios
+    → old.object.bios ++ punted_by_call asked reply ≡ popped_by_call asked reply ++ new.object.bios
 list_looked old (Pop dev) Nothing new l = list_same old.object new.object l.1.0
 list_looked old (Punt dev handed) Spent new l = list_same old.object new.object l.0
 list_looked old (Pop dev) Spent new l = list_same old.object new.object l.0
@@ -139,10 +139,10 @@ in_turn old in_now mid out_now in_later new out_later now later =
 pub list_one : (old mid : ThingState Rescue) (call : Call) (ticket : Option ℕ) (new : Rescue) (rest : List Call) → StepOf ListServes ListLooks old call.asked call.told.reply ticket mid
     → ListAddsUp mid.object rest new → ListAddsUp old.object (call ∷ rest) new
 list_one old mid call ticket new rest step more =
-    in_turn old.object.bios (punted call.asked call.told.reply) mid.object.bios (popped call.asked call.told.reply) (flat_map (λ (c : Call). punted c.asked c.told.reply) rest) new.bios
-    (flat_map (λ (c : Call). popped c.asked c.told.reply) rest) (by_ticket ticket step) more
+    in_turn old.object.bios (punted_by_call call.asked call.told.reply) mid.object.bios (popped_by_call call.asked call.told.reply) (flat_map (λ (c : Call). punted_by_call c.asked c.told.reply) rest) new.bios
+    (flat_map (λ (c : Call). popped_by_call c.asked c.told.reply) rest) (by_ticket ticket step) more
   where
-    by_ticket : (t : Option ℕ) → StepOf ListServes ListLooks old call.asked call.told.reply t mid → old.object.bios ++ punted call.asked call.told.reply ≡ popped call.asked call.told.reply ++ mid.object.bios
+    by_ticket : (t : Option ℕ) → StepOf ListServes ListLooks old call.asked call.told.reply t mid → old.object.bios ++ punted_by_call call.asked call.told.reply ≡ popped_by_call call.asked call.told.reply ++ mid.object.bios
     by_ticket None s = list_looked old call.asked call.told.reply mid s.0
     by_ticket (Some n) s = list_served old.object call.asked call.told.reply mid.object s.0
 

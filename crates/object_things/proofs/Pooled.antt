@@ -13,7 +13,7 @@ use Rattle.run_machine.specs.Objects.{clear_bio, clear_vector, clear_slip}
 use Rattle.task_steps.specs.Stage.{Stage}
 use Rattle.run_machine.specs.declared.event.Got.TheVariants as got
 use Rattle.object_things.specs.Stamps.{StampState, ThingState, FindsNone, thing_state}
-use Rattle.object_things.specs.Pools.{PoolServes, PoolLooks, TakeFindsNone, TookFrom, GoesBack, Undone, WaitsAt, IsPoolOf, take_of, give_of, took, is_look}
+use Rattle.object_things.specs.Pools.{PoolServes, PoolLooks, TakeFindsNone, TookFrom, GoesBack, Undone, WaitsAt, IsPoolOf, take_request, give_of, took, is_look}
 
 told_so : (waits used : Bool) → (waits && not used) ≡ false → waits ≡ true → used ≡ true
 told_so true true e h = refl
@@ -22,7 +22,7 @@ told_so false used e h = absurd (cc h)
 
 module _ {P : Type 0} (is_clear : P → Type 0) where
   pub took_served : (name : PoolId) (waits : Bool) (old new : LedgerPool) (taken : Taken P) → WaitsAt name waits → is_look waits taken ≡ false → TakeOf is_clear old taken new
-      → PoolServes old (take_of name waits) (took name (Ok taken)) new
+      → PoolServes old (take_request name waits) (took name (Ok taken)) new
   took_served FsBios waits old new (Ordinary el) w told takes = (takes.0, ap clear_bio takes.1.share)
   took_served FsBios waits old new (Spare el) w told takes = (takes.0, ap clear_bio takes.1.share)
   took_served FsBios waits old new (Miss used) w told takes = (takes, told_so waits used told)
@@ -42,14 +42,14 @@ module _ {P : Type 0} (is_clear : P → Type 0) where
   looks_at false used e = absurd (cc e)
 
   looks_by : (name : PoolId) (waits used : Bool) (old new : LedgerPool) (stamp : StampState) → WaitsAt name waits → (waits ≡ true) × (used ≡ false) → PoolMoves old (misses used) new
-      → PoolLooks (thing_state old stamp) (take_of name waits) (Missed false) (thing_state new stamp)
+      → PoolLooks (thing_state old stamp) (take_request name waits) (Missed false) (thing_state new stamp)
   looks_by FsBios waits used old new stamp w told moves = (told.0, refl, subst (λ u. PoolMoves old (misses u) new) told.1 moves, refl)
   looks_by (Bios dev) waits used old new stamp w told moves = (told.0, refl, subst (λ u. PoolMoves old (misses u) new) told.1 moves, refl)
   looks_by FsVecs waits used old new stamp w told moves = (refl, refl, subst (λ u. PoolMoves old (misses u) new) told.1 moves, refl)
   looks_by (Records dev) waits used old new stamp w told moves = (refl, refl, subst (λ u. PoolMoves old (misses u) new) told.1 moves, refl)
 
   pub miss_looks : (name : PoolId) (waits : Bool) (old new : LedgerPool) (stamp : StampState) (taken : Taken P) → WaitsAt name waits → is_look waits taken ≡ true → TakeOf is_clear old taken new
-      → PoolLooks (thing_state old stamp) (take_of name waits) (Missed false) (thing_state new stamp)
+      → PoolLooks (thing_state old stamp) (take_request name waits) (Missed false) (thing_state new stamp)
   miss_looks name waits old new stamp (Ordinary el) w look takes = absurd (cc look)
   miss_looks name waits old new stamp (Spare el) w look takes = absurd (cc look)
   miss_looks name waits old new stamp (Miss used) w look takes = looks_by name waits used old new stamp w (looks_at waits used look) takes
@@ -69,7 +69,7 @@ module _ {P : Type 0} (is_clear : P → Type 0) where
   take_stays old new (Spare el) takes = (takes.0.ledger, takes.0.most)
   take_stays old new (Miss used) takes = (takes.ledger, takes.most)
 
-pub take_spent : (name : PoolId) (waits : Bool) (old new : ThingState LedgerPool) → TakeFindsNone old new → PoolLooks old (take_of name waits) Spent new
+pub take_spent : (name : PoolId) (waits : Bool) (old new : ThingState LedgerPool) → TakeFindsNone old new → PoolLooks old (take_request name waits) Spent new
 take_spent FsBios waits old new none = none
 take_spent (Bios dev) waits old new none = none
 take_spent FsVecs waits old new none = none

@@ -5,12 +5,12 @@ use Rattle.seat_lock.specs.History.{Leads}
 use Rattle.run_machine.specs.Events.{what_of}
 use Rattle.run_machine.specs.Requests.{Request, Reply}
 use Rattle.object_things.specs.Stamps.{ThingState, StepOf, Answers}
-use Rattle.object_things.specs.Histories.{Call, IsNext, or_last, TicketsRise, drawn_in, IsQuiet, LeadDrawn, DrawnRun, KeepsHistory}
+use Rattle.object_things.specs.Histories.{Call, IsNextTicket, or_last, TicketsRise, drawn_in, IsQuiet, LeadDrawn, DrawnRun, KeepsHistory}
 
 module _ {O : Type 0} (serves : O → Request → Reply → O → Type 0) (looks : ThingState O → Request → Reply → ThingState O → Type 0)
     (quiet : (old new : ThingState O) (asked : Request) (reply : Reply) → looks old asked reply new → IsQuiet old (what_of asked reply) new) where
   next_of : (old new : ThingState O) (asked : Request) (reply : Reply) (ticket : Option ℕ) → StepOf serves looks old asked reply ticket new
-      → IsNext old.note ticket × (new.note ≡ or_last old.note ticket)
+      → IsNextTicket old.note ticket × (new.note ≡ or_last old.note ticket)
   next_of old new asked reply None s = (tt, s.1)
   next_of old new asked reply (Some n) s = (s.2, s.3)
 

@@ -7,8 +7,8 @@ use Rattle.task_steps.specs.declared.objects.Unmade.TheVariants as unmade
 use Rattle.run_machine.specs.Requests.{Request, Reply, Link, Drop, LinkedTo, DroppedTo, Spent}
 use Rattle.run_machine.specs.Objects.{Opened}
 use Rattle.run_machine.specs.Laws.{OfBook, object_of}
-use Rattle.task_steps.specs.Stage.{Fits, Owes}
-use Rattle.task_steps.specs.Views.{opening_of, linked, dropped, unmade_part, IsAskAlone, LinkedAlone, DroppedAlone}
+use Rattle.task_steps.specs.Stage.{RequestFits, Owes}
+use Rattle.task_steps.specs.Views.{opening_of, linked_reply, dropped_reply, unmade_part, IsAskAlone, LinkedAlone, DroppedAlone}
 use Rattle.object_things.specs.declared.stamp.Asking.{Asking}
 use Rattle.object_things.specs.declared.stamp.Replied.{Replied}
 use Rattle.object_things.specs.declared.book.BookAsk.{BookAsk}
@@ -22,8 +22,8 @@ book_asked (ask.Link writer asked) = Link writer (opening_of asked)
 book_asked (ask.Drop writer node status part) = Drop writer node status (bio_of part)
 
 abbrev pub book_replied : BookSaid → Reply
-book_replied (said.Linked result) = linked result
-book_replied (said.Dropped result) = dropped result
+book_replied (said.Linked result) = linked_reply result
+book_replied (said.Dropped result) = dropped_reply result
 
 abbrev pub book_told : Replied BookSaid → Told
 book_told replied = record { reply = book_replied replied.said; note = replied.note; drew = replied.drew; ticket = replied.ticket }
@@ -48,7 +48,7 @@ BookAskAlone (ask.Link writer asked) = IsAskAlone asked
 BookAskAlone (ask.Drop writer node status part) = IsAlonePart part
 
 abbrev pub BookFits : MarkState → Asking BookAsk → Type 0
-BookFits mark asking = (asking.pass.clock ≡ mark.common.clock) × (object_of (book_asked asking.ask) ≡ mark.name) × Fits (stage_in mark.common) (book_asked asking.ask) × BookAskAlone asking.ask
+BookFits mark asking = (asking.pass.clock ≡ mark.common.clock) × (object_of (book_asked asking.ask) ≡ mark.name) × RequestFits (stage_in mark.common) (book_asked asking.ask) × BookAskAlone asking.ask
 
 -- beside what is owed by the stage, bios that come back are in no list, and where there was no ticket all that was handed over comes back
 abbrev pub BookSays : BookAsk → BookSaid → Type 0

@@ -8,8 +8,8 @@ use Rattle.task_steps.specs.declared.objects.Unmade.{Unmade}
 use Rattle.task_steps.specs.declared.objects.Unmade.TheVariants as unmade
 use Rattle.run_machine.specs.Requests.{Request, Reply, Push, Complete, Did, Completed, LeftOver, Nothing, Spent}
 use Rattle.run_machine.specs.Laws.{OfDisk, object_of}
-use Rattle.task_steps.specs.Stage.{Stage, Fits, Owes}
-use Rattle.task_steps.specs.Views.{did, completed, CompletedAlone}
+use Rattle.task_steps.specs.Stage.{Stage, RequestFits, Owes}
+use Rattle.task_steps.specs.Views.{did, completed_reply, CompletedAlone}
 use Rattle.object_things.specs.declared.stamp.Asking.{Asking}
 use Rattle.object_things.specs.declared.stamp.Replied.{Replied}
 use Rattle.object_things.specs.declared.disk.DiskAsk.{DiskAsk}
@@ -27,7 +27,7 @@ disk_asked (ask.Complete disk index) = Complete disk
 abbrev pub disk_replied : DiskSaid → Reply
 disk_replied (said.Pushed result) = did result
 disk_replied (said.Waiting count) = LeftOver count
-disk_replied (said.Completed result) = completed result
+disk_replied (said.Completed result) = completed_reply result
 
 abbrev pub disk_told : Replied DiskSaid → Told
 disk_told replied = record { reply = disk_replied replied.said; note = replied.note; drew = replied.drew; ticket = replied.ticket }
@@ -53,7 +53,7 @@ DiskAskAlone (ask.Look disk) = Unit {0}
 DiskAskAlone (ask.Complete disk index) = Unit {0}
 
 abbrev pub DiskFits : MarkState → Asking DiskAsk → Type 0
-DiskFits mark asking = (asking.pass.clock ≡ mark.common.clock) × (object_of (disk_asked asking.ask) ≡ mark.name) × Fits (stage_in mark.common) (disk_asked asking.ask) × DiskAskAlone asking.ask
+DiskFits mark asking = (asking.pass.clock ≡ mark.common.clock) × (object_of (disk_asked asking.ask) ≡ mark.name) × RequestFits (stage_in mark.common) (disk_asked asking.ask) × DiskAskAlone asking.ask
 
 -- the index is the one that was asked for, or the last one where fewer waited
 abbrev pub IsUpTo : ℕ → Result (Option (ℕ × DoneBio)) Unmade → Type 0
@@ -65,7 +65,7 @@ abbrev pub DiskSays : Stage → DiskAsk → DiskSaid → Type 0
 DiskSays stage (ask.Push el) (said.Pushed result) = IfErr result (λ back. back ≡ unmade.Bio el) × Owes stage (Push (item_of el)) (did result)
 DiskSays stage (ask.Look disk) (said.Waiting count) = Unit {0}
 DiskSays stage (ask.Complete disk index) (said.Completed result) =
-    CompletedAlone result × IfErr result (λ back. back ≡ unmade.Nothing) × IsUpTo index result × Owes stage (Complete disk) (completed result)
+    CompletedAlone result × IfErr result (λ back. back ≡ unmade.Nothing) × IsUpTo index result × Owes stage (Complete disk) (completed_reply result)
 DiskSays stage asked reply = ⊥
 
 pub record DiskOwes (mark : MarkState) (asking : Asking DiskAsk) (replied : Replied DiskSaid) : Type 0 where

@@ -13,9 +13,9 @@ abbrev pub Call : Type 0
 Call = Entry Request Told
 
 -- a ticket, where there is one, is above the last one
-abbrev pub IsNext : ℕ → Option ℕ → Type 0
-IsNext last None = Unit {0}
-IsNext last (Some n) = last < n
+abbrev pub IsNextTicket : ℕ → Option ℕ → Type 0
+IsNextTicket last None = Unit {0}
+IsNextTicket last (Some n) = last < n
 
 abbrev pub or_last : ℕ → Option ℕ → ℕ
 or_last last None = last
@@ -24,7 +24,7 @@ or_last last (Some n) = n
 -- tickets of calls rise from one number to another
 abbrev pub TicketsRise : ℕ → List Call → ℕ → Type 0
 TicketsRise last [] end = last ≡ end
-TicketsRise last (c ∷ cs) end = IsNext last c.told.ticket × TicketsRise (or_last last c.told.ticket) cs end
+TicketsRise last (c ∷ cs) end = IsNextTicket last c.told.ticket × TicketsRise (or_last last c.told.ticket) cs end
 
 -- the calls that drew a ticket
 abbrev pub drawn_in : List Call → List Call

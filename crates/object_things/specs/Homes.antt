@@ -35,18 +35,18 @@ pub record PoolAddsUp (old : LedgerPool) (history : List Call) (new : LedgerPool
   pub most : new.most ≡ old.most
 
 -- the bios that were handed to a rescuer's list, and those that it handed out
-abbrev pub punted : Request → Reply → List (Item Pad)
-punted (Punt dev moved) Did = moved
-punted asked reply = []
+abbrev pub punted_by_call : Request → Reply → List (Item Pad)
+punted_by_call (Punt dev moved) Did = moved
+punted_by_call asked reply = []
 
-abbrev pub popped : Request → Reply → List (Item Pad)
-popped (Pop dev) (Popped bio) = bio ∷ []
-popped asked reply = []
+abbrev pub popped_by_call : Request → Reply → List (Item Pad)
+popped_by_call (Pop dev) (Popped bio) = bio ∷ []
+popped_by_call asked reply = []
 
 -- What waited and what was handed over since was handed out in this order, or waits.
 abbrev pub ListAddsUp : Rescue → List Call → Rescue → Type 0
 ListAddsUp old history new =
-    old.bios ++ flat_map (λ (c : Call). punted c.asked c.told.reply) history ≡ flat_map (λ (c : Call). popped c.asked c.told.reply) history ++ new.bios
+    old.bios ++ flat_map (λ (c : Call). punted_by_call c.asked c.told.reply) history ≡ flat_map (λ (c : Call). popped_by_call c.asked c.told.reply) history ++ new.bios
 
 -- how many bios came into a disk, and how many were completed
 abbrev pub pushes : Request → Reply → ℕ

@@ -4,8 +4,8 @@ use Rattle.bio_records.specs.Rescue.{Rescue}
 use Rattle.task_steps.specs.declared.objects.Unmade.TheVariants as unmade
 use Rattle.run_machine.specs.Requests.{Request, Reply, Punt, Pop, Did, Popped, Nothing, Spent}
 use Rattle.run_machine.specs.Laws.{OfRescuer, object_of}
-use Rattle.task_steps.specs.Stage.{Fits, Owes}
-use Rattle.task_steps.specs.Views.{did, popped, PoppedAlone}
+use Rattle.task_steps.specs.Stage.{RequestFits, Owes}
+use Rattle.task_steps.specs.Views.{did, popped_reply, PoppedAlone}
 use Rattle.object_things.specs.declared.stamp.Asking.{Asking}
 use Rattle.object_things.specs.declared.stamp.Replied.{Replied}
 use Rattle.object_things.specs.declared.list.ListAsk.{ListAsk}
@@ -20,7 +20,7 @@ list_asked (ask.Pop dev) = Pop dev
 
 abbrev pub list_replied : ListSaid → Reply
 list_replied (said.Punted result) = did result
-list_replied (said.Popped result) = popped result
+list_replied (said.Popped result) = popped_reply result
 
 abbrev pub list_told : Replied ListSaid → Told
 list_told replied = record { reply = list_replied replied.said; note = replied.note; drew = replied.drew; ticket = replied.ticket }
@@ -40,7 +40,7 @@ abbrev pub ListAnswers : ThingState Rescue → Request → Told → ThingState R
 ListAnswers = Answers ListServes ListLooks
 
 abbrev pub ListFits : MarkState → Asking ListAsk → Type 0
-ListFits mark asking = (asking.pass.clock ≡ mark.common.clock) × (object_of (list_asked asking.ask) ≡ mark.name) × Fits (stage_in mark.common) (list_asked asking.ask)
+ListFits mark asking = (asking.pass.clock ≡ mark.common.clock) × (object_of (list_asked asking.ask) ≡ mark.name) × RequestFits (stage_in mark.common) (list_asked asking.ask)
 
 abbrev pub ListSays : ListAsk → ListSaid → Type 0
 ListSays (ask.Punt dev moved) (said.Punted result) = IfErr result (λ back. back ≡ unmade.List moved)

@@ -20,7 +20,7 @@ use Rattle.run_machine.specs.Objects.{clear_bio, clear_vector, clear_slip}
 use Rattle.run_machine.specs.Laws.{Object, OfPool, object_of}
 use Rattle.task_core.specs.Resizing.{Resizes}
 use Rattle.task_steps.specs.Stage.{Stage}
-use Rattle.task_steps.specs.Views.{resized}
+use Rattle.task_steps.specs.Views.{resized_reply}
 use Rattle.object_things.specs.declared.stamp.Asking.{Asking}
 use Rattle.object_things.specs.declared.stamp.Replied.{Replied}
 use Rattle.object_things.specs.declared.pool.PoolAsk.{PoolAsk}
@@ -35,11 +35,11 @@ pub record IsPoolOf (stage : Stage) (pool : LedgerPool) : Type 0 where
   pub most : pool.most ≡ stage.most pool.ledger.no
 
 -- takes and gives by the pool. An element that is given is kept with an empty body: the pool does not see it
-abbrev pub take_of : PoolId → Bool → Request
-take_of FsBios waits = TakeBio Fs waits
-take_of (Bios dev) waits = TakeBio (Of dev) waits
-take_of FsVecs waits = TakeVec
-take_of (Records dev) waits = TakeSlip dev
+abbrev pub take_request : PoolId → Bool → Request
+take_request FsBios waits = TakeBio Fs waits
+take_request (Bios dev) waits = TakeBio (Of dev) waits
+take_request FsVecs waits = TakeVec
+take_request (Records dev) waits = TakeSlip dev
 
 abbrev pub give_of : PoolId → LedgerId → Request
 give_of FsBios share = GiveBio (clear_bio share)
@@ -55,7 +55,7 @@ had_of (Records dev) from share = HadSlip from (clear_slip share)
 
 module _ {P : Type 0} where
   abbrev pub pool_asked : PoolAsk P → Request
-  pool_asked (ask.Take pool waits) = take_of pool waits
+  pool_asked (ask.Take pool waits) = take_request pool waits
   pool_asked (ask.Give pool el) = give_of pool el.share
   pool_asked (ask.Resize pool min) = Resize pool min
 
@@ -72,7 +72,7 @@ module _ {P : Type 0} where
   abbrev pub pool_replied : PoolSaid P → Reply
   pool_replied (said.Took pool result) = took pool result
   pool_replied (said.Gave result) = gave result
-  pool_replied (said.Resized result) = resized result
+  pool_replied (said.Resized result) = resized_reply result
 
   abbrev pub pool_told : Replied (PoolSaid P) → Told
   pool_told replied = record { reply = pool_replied replied.said; note = replied.note; drew = replied.drew; ticket = replied.ticket }
@@ -141,9 +141,9 @@ WaitsAt FsVecs waits = waits ≡ true
 WaitsAt (Records dev) waits = waits ≡ true
 
 -- the number of a pool
-abbrev pub number_of : Object → ℕ
-number_of (OfPool number) = number
-number_of name = 0
+abbrev pub object_pool_number : Object → ℕ
+object_pool_number (OfPool number) = number
+object_pool_number name = 0
 
 module _ {P : Type 0} where
   abbrev pub PoolAskFits : Stage → PoolAsk P → Type 0
@@ -169,7 +169,7 @@ module _ {P : Type 0} where
 
   pub record PoolOwes (is_clear : P → Type 0) (mark : MarkState) (asking : Asking (PoolAsk P)) (replied : Replied (PoolSaid P)) : Type 0 where
     pub pass : PassBy asking.pass replied.note (is_spent (pool_replied replied.said)) replied.drew replied.ticket replied.pass
-    pub says : PoolSays is_clear ((stage_in mark.common).ledger (number_of mark.name)) asking.ask replied.said
+    pub says : PoolSays is_clear ((stage_in mark.common).ledger (object_pool_number mark.name)) asking.ask replied.said
 
 abbrev pub pool_mark : Held LedgerPool → MarkState
 pool_mark held = mark_of (OfPool held.object.ledger.no) held

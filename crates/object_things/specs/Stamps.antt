@@ -17,8 +17,8 @@ pub record CommonState : Type 0 where
 abbrev pub stage_in : CommonState → Stage
 stage_in common = stage_of common.opened
 
-abbrev pub tally_in : CommonState → TallyState
-tally_in common = tally_of common.opened.tally
+abbrev pub opened_tally : CommonState → TallyState
+opened_tally common = tally_of common.opened.tally
 
 -- which object a thing holds, and what it has in common with others
 pub record MarkState : Type 0 where

@@ -5,7 +5,7 @@ use Rattle.run_machine.specs.Requests.{Request, Reply, Done, NextRound, LookRoun
 use Rattle.run_machine.specs.Objects.{TallyState, done_one}
 use Rattle.task_core.specs.Plains.{Advances}
 use Rattle.run_machine.specs.Laws.{OfTally, object_of}
-use Rattle.task_steps.specs.Stage.{Fits, Owes}
+use Rattle.task_steps.specs.Stage.{RequestFits, Owes}
 use Rattle.task_steps.specs.Views.{did}
 use Rattle.object_things.specs.declared.stamp.Asking.{Asking}
 use Rattle.object_things.specs.declared.stamp.Replied.{Replied}
@@ -51,7 +51,7 @@ abbrev pub TallyAnswers : ThingState TallyState → Request → Told → ThingSt
 TallyAnswers = Answers TallyServes TallyLooks
 
 abbrev pub TallyFits : MarkState → Asking TallyAsk → Type 0
-TallyFits mark asking = (asking.pass.clock ≡ mark.common.clock) × (object_of (tally_asked asking.ask) ≡ mark.name) × Fits (stage_in mark.common) (tally_asked asking.ask)
+TallyFits mark asking = (asking.pass.clock ≡ mark.common.clock) × (object_of (tally_asked asking.ask) ≡ mark.name) × RequestFits (stage_in mark.common) (tally_asked asking.ask)
 
 abbrev pub TallySays : TallyAsk → TallySaid → Type 0
 TallySays (ask.Done write status) (said.Did result) = IfErr result (λ back. back ≡ unmade.Nothing)

@@ -4,7 +4,7 @@ ghost use Rattle.task_steps.specs.declared.objects.Unmade.TheVariants as unmade;
 ghost use Rattle.bio_books.specs.Views.{bio_of, IsAlonePart};
 ghost use Rattle.task_core.specs.ObjectsOf.{IsBookOf};
 ghost use Rattle.run_machine.specs.Requests.{Link as LinkOf, Drop as DropOf};
-ghost use Rattle.task_steps.specs.Stage.{Fits, Owes};
+ghost use Rattle.task_steps.specs.Stage.{RequestFits, Owes};
 ghost use Rattle.task_steps.specs.Views.{opening_of, unmade_part, IsAskAlone};
 ghost use Rattle.object_things.specs.declared.book.BookAsk.TheVariants as ask;
 ghost use Rattle.object_things.specs.Stamps.{PassBy, thing_state, is_spent, stage_in};
@@ -166,7 +166,7 @@ fn link(book: &mut Book, stamp: &mut Stamp, pass: Pass, writer: u32, what: Ask) 
     requires clock { pass.clock ≡ stamp.old.common.clock }
     requires own { writer ≡ book.old.writer }
     requires alone { IsAskAlone what }
-    requires fits { Fits (stage_in stamp.old.common) (LinkOf writer (opening_of what)) }
+    requires fits { RequestFits (stage_in stamp.old.common) (LinkOf writer (opening_of what)) }
     requires of { IsBookOf (stage_in stamp.old.common) book.old.writer book.old }
     ensures answers { BookAnswers (thing_state book.old stamp.old) (LinkOf writer (opening_of what)) (book_told result) (thing_state book.new stamp.new) }
     ensures pass { PassBy pass result.note (is_spent (book_replied result.said)) result.drew result.ticket result.pass }
@@ -195,7 +195,7 @@ fn drop_one(
     requires clock { pass.clock ≡ stamp.old.common.clock }
     requires own { writer ≡ book.old.writer }
     requires alone { IsAlonePart part }
-    requires fits { Fits (stage_in stamp.old.common) (DropOf writer node status (bio_of part)) }
+    requires fits { RequestFits (stage_in stamp.old.common) (DropOf writer node status (bio_of part)) }
     requires of { IsBookOf (stage_in stamp.old.common) book.old.writer book.old }
     ensures answers { BookAnswers (thing_state book.old stamp.old) (DropOf writer node status (bio_of part)) (book_told result) (thing_state book.new stamp.new) }
     ensures pass { PassBy pass result.note (is_spent (book_replied result.said)) result.drew result.ticket result.pass }

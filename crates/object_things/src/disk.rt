@@ -3,7 +3,7 @@ ghost use Rattle.std.specs.Prelude.{◌≡◌};
 ghost use Rattle.bio_records.specs.Items.{item_of, IsAlone};
 ghost use Rattle.task_core.specs.ObjectsOf.{IsDiskOf};
 ghost use Rattle.run_machine.specs.Requests.{Push, Complete as CompleteOf};
-ghost use Rattle.task_steps.specs.Stage.{Fits};
+ghost use Rattle.task_steps.specs.Stage.{RequestFits};
 ghost use Rattle.object_things.specs.declared.disk.DiskAsk.TheVariants as ask;
 ghost use Rattle.object_things.specs.Stamps.{PassBy, thing_state, is_spent, stage_in};
 ghost use Rattle.object_things.specs.Disks.{DiskAnswers, DiskSays, disk_told, disk_replied};
@@ -147,7 +147,7 @@ fn push(disk: &mut Disk, stamp: &mut Stamp, pass: Pass, el: BioElement) -> Repli
     requires clock { pass.clock ≡ stamp.old.common.clock }
     requires own { (item_of el).bio.dev.0 ≡ disk.old.dev.0 }
     requires alone { IsAlone el }
-    requires fits { Fits (stage_in stamp.old.common) (Push (item_of el)) }
+    requires fits { RequestFits (stage_in stamp.old.common) (Push (item_of el)) }
     requires of { IsDiskOf (stage_in stamp.old.common) disk.old.dev.0 disk.old }
     ensures answers { DiskAnswers (thing_state disk.old stamp.old) (Push (item_of el)) (disk_told result) (thing_state disk.new stamp.new) }
     ensures pass { PassBy pass result.note (is_spent (disk_replied result.said)) result.drew result.ticket result.pass }

@@ -4,7 +4,7 @@ ghost use Rattle.run_machine.specs.Requests.{Resize};
 ghost use Rattle.object_things.specs.declared.pool.PoolAsk.TheVariants as ask;
 ghost use Rattle.object_things.specs.declared.pool.PoolSaid.TheVariants as said;
 ghost use Rattle.object_things.specs.Stamps.{PassBy, thing_state, is_spent, stage_in};
-ghost use Rattle.object_things.specs.Pools.{GoesBack, IsPoolOf, PoolAnswers, PoolSays, WaitsAt, TakenOf, is_look, take_of, give_of, pool_told, pool_replied};
+ghost use Rattle.object_things.specs.Pools.{GoesBack, IsPoolOf, PoolAnswers, PoolSays, WaitsAt, TakenOf, is_look, take_request, give_of, pool_told, pool_replied};
 
 use crate::stamp::{Asked, Asking, Mark, Replied, Stamp, Told};
 use elem_ledger::{Element, Fresh};
@@ -186,7 +186,7 @@ fn take<P: Fresh + Drop>(
 ) -> Replied<PoolSaid<P>>
     requires clock { pass.clock ≡ stamp.old.common.clock }
     requires waits { WaitsAt name waits }
-    ensures answers { PoolAnswers (thing_state pool.old stamp.old) (take_of name waits) (pool_told result) (thing_state pool.new stamp.new) }
+    ensures answers { PoolAnswers (thing_state pool.old stamp.old) (take_request name waits) (pool_told result) (thing_state pool.new stamp.new) }
     ensures pass { PassBy pass result.note (is_spent (pool_replied result.said)) result.drew result.ticket result.pass }
     ensures says { PoolSays P.is_clear pool.old.ledger (ask.Take name waits) result.said }
     ensures pool { (pool.new.ledger ≡ pool.old.ledger) × (pool.new.most ≡ pool.old.most) }

@@ -5,7 +5,7 @@ ghost use Rattle.task_core.specs.Plains.{tally_of};
 ghost use Rattle.run_machine.specs.Requests.{Done as DoneOf, NextRound};
 ghost use Rattle.task_steps.specs.Stage.{Owes};
 ghost use Rattle.object_things.specs.declared.tally.TallyAsk.TheVariants as ask;
-ghost use Rattle.object_things.specs.Stamps.{PassBy, thing_state, is_spent, stage_in, tally_in};
+ghost use Rattle.object_things.specs.Stamps.{PassBy, thing_state, is_spent, stage_in, opened_tally};
 ghost use Rattle.object_things.specs.Tallies.{TallyAnswers, TallySays, IsLater, tally_told, tally_replied, tally_asked};
 
 use crate::stamp::{Asked, Asking, Mark, Replied, Stamp, Told};
@@ -68,20 +68,20 @@ impl Model for TallyThing {
     ghost use Rattle.run_machine.specs.Objects.{TallyState};
     ghost use Rattle.object_things.specs.Tallies.{IsLater};
     ghost use Rattle.task_core.specs.ObjectsOf.{IsTallyOf};
-    ghost use Rattle.object_things.specs.Stamps.{stage_in, tally_in};
+    ghost use Rattle.object_things.specs.Stamps.{stage_in, opened_tally};
     ghost use Rattle.task_core.specs.Plains.{tally_of};
 
     ghost Value = { Held TallyState };
 
     ghost view = { λ t. record { object = tally_of t.tally; stamp = t.stamp } };
 
-    ghost invariant = { λ t. IsTallyOf (stage_in t.stamp.common) (tally_of t.tally) × IsLater (tally_in t.stamp.common) (tally_of t.tally) };
+    ghost invariant = { λ t. IsTallyOf (stage_in t.stamp.common) (tally_of t.tally) × IsLater (opened_tally t.stamp.common) (tally_of t.tally) };
 }
 
 impl TallyThing {
     /// The tally with this stamp.
     pub fn new(tally: Tally, stamp: Stamp) -> TallyThing
-        requires { IsTallyOf (stage_in stamp.common) (tally_of tally) × IsLater (tally_in stamp.common) (tally_of tally) }
+        requires { IsTallyOf (stage_in stamp.common) (tally_of tally) × IsLater (opened_tally stamp.common) (tally_of tally) }
         ensures { result ≡ record { object = tally_of tally; stamp = stamp } }
     {
         TallyThing { tally, stamp }
@@ -154,13 +154,13 @@ fn done(
 ) -> Replied<TallySaid>
     requires clock { pass.clock ≡ stamp.old.common.clock }
     requires fits { write < (stage_in stamp.old.common).writes }
-    requires of { IsTallyOf (stage_in stamp.old.common) (tally_of tally.old) × IsLater (tally_in stamp.old.common) (tally_of tally.old) }
+    requires of { IsTallyOf (stage_in stamp.old.common) (tally_of tally.old) × IsLater (opened_tally stamp.old.common) (tally_of tally.old) }
     ensures answers { TallyAnswers (thing_state (tally_of tally.old) stamp.old) (DoneOf write status) (tally_told result) (thing_state (tally_of tally.new) stamp.new) }
     ensures pass { PassBy pass result.note (is_spent (tally_replied result.said)) result.drew result.ticket result.pass }
     ensures owed { Owes (stage_in stamp.old.common) (DoneOf write status) (tally_replied result.said) }
     ensures says { TallySays (ask.Done write status) result.said }
     ensures same { stamp.new.common ≡ stamp.old.common }
-    ensures of { IsTallyOf (stage_in stamp.old.common) (tally_of tally.new) × IsLater (tally_in stamp.old.common) (tally_of tally.new) }
+    ensures of { IsTallyOf (stage_in stamp.old.common) (tally_of tally.new) × IsLater (opened_tally stamp.old.common) (tally_of tally.new) }
 {
     let (turn, drawn) = stamp.turn(pass);
     match drawn {
@@ -175,13 +175,13 @@ fn done(
 // The next round.
 fn next(tally: &mut Tally, stamp: &mut Stamp, pass: Pass) -> Replied<TallySaid>
     requires clock { pass.clock ≡ stamp.old.common.clock }
-    requires of { IsTallyOf (stage_in stamp.old.common) (tally_of tally.old) × IsLater (tally_in stamp.old.common) (tally_of tally.old) }
+    requires of { IsTallyOf (stage_in stamp.old.common) (tally_of tally.old) × IsLater (opened_tally stamp.old.common) (tally_of tally.old) }
     ensures answers { TallyAnswers (thing_state (tally_of tally.old) stamp.old) (NextRound 0) (tally_told result) (thing_state (tally_of tally.new) stamp.new) }
     ensures pass { PassBy pass result.note (is_spent (tally_replied result.said)) result.drew result.ticket result.pass }
     ensures owed { Owes (stage_in stamp.old.common) (NextRound 0) (tally_replied result.said) }
     ensures says { TallySays ask.Next result.said }
     ensures same { stamp.new.common ≡ stamp.old.common }
-    ensures of { IsTallyOf (stage_in stamp.old.common) (tally_of tally.new) × IsLater (tally_in stamp.old.common) (tally_of tally.new) }
+    ensures of { IsTallyOf (stage_in stamp.old.common) (tally_of tally.new) × IsLater (opened_tally stamp.old.common) (tally_of tally.new) }
 {
     let (turn, drawn) = stamp.turn(pass);
     match drawn {

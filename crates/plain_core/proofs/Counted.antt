@@ -14,7 +14,7 @@ use Rattle.stack_base.proofs.Zones.{fold_max_le}
 use Rattle.run_machine.specs.Tasks.{Duty, Starts}
 use Rattle.work_text.specs.declared.Resize.{Resize}
 use Rattle.work_text.specs.declared.Work.{Work}
-use Rattle.plain_core.specs.Opening.{changes_in, count_from, count_in, counts_of, duties_for, duties_up_to, last_of}
+use Rattle.plain_core.specs.Opening.{changes_in, writes_from_round, writes_in_round, counts_of, duties_for, duties_up_to, last_round_of}
 
 -- one number more
 pub range_more : (a n j : ℕ) → a + n ≡ j → range_with_len a (n + 1) ≡ range_with_len a n ++ j ∷ []
@@ -54,7 +54,7 @@ filter_le p (x ∷ xs) = by_test (filter_le p xs) (p x) refl
     by_test rest false e = rw (e) (omega (arith, rest))
 
 -- each round is one of those up to the last
-pub round_le : (rounds : List ℕ) (i d : ℕ) → i < length rounds → get_or rounds i d ≤ last_of rounds
+pub round_le : (rounds : List ℕ) (i d : ℕ) → i < length rounds → get_or rounds i d ≤ last_round_of rounds
 round_le rounds i d lt = omega (arith, fold_max_le 0 rounds i lt, read rounds i d lt)
   where
     read : (xs : List ℕ) (i d : ℕ) → i < length xs → get_or xs i d ≡ get_or xs i 0
@@ -77,8 +77,8 @@ is_or_not a b = by (a == b) refl
 
 -- one more write is counted
 pub counted_more : (counts rounds : List ℕ) (i r n new : ℕ) → i < length rounds → get_or rounds i r ≡ r → r < length counts
-    → ((k : ℕ) → k < n → get_or counts k 0 ≡ count_in (take i rounds) k) → r < n → new ≡ get_or counts r 0 + 1
-    → (k : ℕ) → k < n → get_or (set counts r new) k 0 ≡ count_in (take (i + 1) rounds) k
+    → ((k : ℕ) → k < n → get_or counts k 0 ≡ writes_in_round (take i rounds) k) → r < n → new ≡ get_or counts r 0 + 1
+    → (k : ℕ) → k < n → get_or (set counts r new) k 0 ≡ writes_in_round (take (i + 1) rounds) k
 counted_more counts rounds i r n new lt at here so_far within is k few =
     elim (is_or_not r k) [
       | inl same ↦ omega (
@@ -87,7 +87,7 @@ counted_more counts rounds i r n new lt at here so_far within is k few =
         get_or-set_same counts r new 0 here,
         is,
         so_far r within,
-        ap (count_in (take i rounds)) same.0,
+        ap (writes_in_round (take i rounds)) same.0,
         more ∙ ap (λ b. length (filter (λ q. q == k) (take i rounds)) + cond b 1 0) (ap (λ q. q == k) at ∙ same.1),
       )
       | inr other ↦ omega (
@@ -98,7 +98,7 @@ counted_more counts rounds i r n new lt at here so_far within is k few =
       )
     ]
   where
-    more : count_in (take (i + 1) rounds) k ≡ length (filter (λ q. q == k) (take i rounds)) + cond (get_or rounds i r == k) 1 0
+    more : writes_in_round (take (i + 1) rounds) k ≡ length (filter (λ q. q == k) (take i rounds)) + cond (get_or rounds i r == k) 1 0
     more = length-filter_more (λ q. q == k) rounds i r lt
 
 -- those of a round and behind it
@@ -114,7 +114,7 @@ same_tests x k is = (grind (arith, nat_tests), grind (arith, nat_tests), grind (
 high_tests : (x k : ℕ) → k < x → ((x == k) ≡ false) × (nat_le k x ≡ true) × (nat_le (k + 1) x ≡ true)
 high_tests x k lt = (grind (arith, nat_tests), grind (arith, nat_tests), grind (arith, nat_tests))
 
-pub from_split : (rounds : List ℕ) (k : ℕ) → count_from rounds k ≡ count_in rounds k + count_from rounds (k + 1)
+pub from_split : (rounds : List ℕ) (k : ℕ) → writes_from_round rounds k ≡ writes_in_round rounds k + writes_from_round rounds (k + 1)
 from_split [] k = refl
 from_split (x ∷ xs) k = elim (below_or x k) [
   | inl lt ↦ with_tests (low_tests x k lt).0 (low_tests x k lt).1 (low_tests x k lt).2 (omega (arith, from_split xs k))
@@ -125,30 +125,30 @@ from_split (x ∷ xs) k = elim (below_or x k) [
     with_tests : {a b c : Bool} → (x == k) ≡ a → nat_le k x ≡ b → nat_le (k + 1) x ≡ c
         → length (cond b (x ∷ filter (λ r. nat_le k r) xs) (filter (λ r. nat_le k r) xs))
         ≡ length (cond a (x ∷ filter (λ r. r == k) xs) (filter (λ r. r == k) xs)) + length (cond c (x ∷ filter (λ r. nat_le (k + 1) r) xs) (filter (λ r. nat_le (k + 1) r) xs))
-        → count_from (x ∷ xs) k ≡ count_in (x ∷ xs) k + count_from (x ∷ xs) (k + 1)
+        → writes_from_round (x ∷ xs) k ≡ writes_in_round (x ∷ xs) k + writes_from_round (x ∷ xs) (k + 1)
     with_tests ea eb ec so = rw (ea, eb, ec) so
 
 all_from : (x : ℕ) → nat_le 0 x ≡ true
 all_from x = grind (arith, nat_tests)
 
-pub from_none : (rounds : List ℕ) → count_from rounds 0 ≡ length rounds
+pub from_none : (rounds : List ℕ) → writes_from_round rounds 0 ≡ length rounds
 from_none [] = refl
 from_none (x ∷ xs) = rw (all_from x) (ap suc (from_none xs))
 
 -- how many there are of a round
-pub count_at : (rounds counts : List ℕ) (k : ℕ) → counts ≡ counts_of rounds → k < 1 + last_of rounds → get_or counts k 0 ≡ count_in rounds k
+pub count_at : (rounds counts : List ℕ) (k : ℕ) → counts ≡ counts_of rounds → k < 1 + last_round_of rounds → get_or counts k 0 ≡ writes_in_round rounds k
 count_at rounds counts k is lt =
-    ap (λ cs. get_or cs k 0) is ∙ get_or-map-range_with_len (count_in rounds) 0 (1 + last_of rounds) k k 0 lt (omega arith)
+    ap (λ cs. get_or cs k 0) is ∙ get_or-map-range_with_len (writes_in_round rounds) 0 (1 + last_round_of rounds) k k 0 lt (omega arith)
 
-pub count_rounds : (rounds counts : List ℕ) → counts ≡ counts_of rounds → length counts ≡ 1 + last_of rounds
-count_rounds rounds counts is = ap length is ∙ length-map-range_with_len (count_in rounds) 0 (1 + last_of rounds)
+pub count_rounds : (rounds counts : List ℕ) → counts ≡ counts_of rounds → length counts ≡ 1 + last_round_of rounds
+count_rounds rounds counts is = ap length is ∙ length-map-range_with_len (writes_in_round rounds) 0 (1 + last_round_of rounds)
 
 -- one round more
 pub duties_more : (work : Work) (n m : ℕ) → n + 1 ≡ m → duties_up_to work (n + 1) ≡ duties_up_to work n ++ duties_for work m
 duties_more work n m is = flat_more (duties_for work) 1 n m (omega (arith, is))
 
 pub duties_step : (work : Work) (n : ℕ) (duties mid new : List Duty) (resizes : List Resize) (later : ℕ) → resizes ≡ work.resizes.items
-    → later ≡ count_from work.rounds.items (n + 1) → duties ≡ duties_up_to work n → mid ≡ duties ++ changes_in resizes (n + 1) later
+    → later ≡ writes_from_round work.rounds.items (n + 1) → duties ≡ duties_up_to work n → mid ≡ duties ++ changes_in resizes (n + 1) later
     → new ≡ mid ++ Starts (n + 1) later ∷ [] → new ≡ duties_up_to work (n + 1)
 duties_step work n duties mid new resizes later same left so_far changes starts =
     starts

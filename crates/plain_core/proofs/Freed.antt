@@ -29,9 +29,9 @@ use Rattle.run_machine.specs.Maps.{upd}
 use Rattle.run_machine.specs.Objects.{Objects, Opened, Serves, clear_bio, clear_vector, clear_slip}
 use Rattle.run_machine.specs.Requests.{Request, Reply, Opening, Write, Chain, Master, Leg, TakeBio, TakeVec, TakeSlip, GiveBio, GiveVec, GiveSlip, Punt, Pop, Push, Complete, Link, Drop, Done, Resize, NextRound, LookRound, LookLeft, Rest, HadBio, HadVec, HadSlip, Missed, Did, Popped, Completed, LinkedTo, DroppedTo, OutIs, Nothing}
 use Rattle.run_machine.proofs.Frames.{upd_same}
-use Rattle.plain_core.specs.Free.{CanFree, IsMet, Tells, link_need, need_of}
+use Rattle.plain_core.specs.Free.{CanFree, NeedIsMet, IsDecisionOf, link_need, need_of}
 use Rattle.plain_core.specs.Ledgers.{ledger_of}
-use Rattle.plain_core.specs.Plain.{Plain, pool_at, rescue_at, disk_at, book_at, objects_of}
+use Rattle.plain_core.specs.Plain.{CoreObjects, core_pool_at, core_rescue_at, core_disk_at, core_book_at, objects_of_core}
 use Rattle.plain_core.specs.declared.need.Need.{Need}
 
 same_what : {x y : What} → Some x ≡ Some y → y ≡ x
@@ -64,33 +64,33 @@ nothing_told : {X : Type 0} {told : What} → None ≡ Some told → X
 nothing_told e = absurd cc
 
 -- what links and ends need
-chain_at : (old : Plain) (writer parent place : ℕ) (node : Option Node) (new : BookState) → node_at (book_at old writer) parent ≡ node
-    → ChainsAt (book_at old writer) parent node (Made place) new → IsMet old (link_need writer (Chain parent))
+chain_at : (old : CoreObjects) (writer parent place : ℕ) (node : Option Node) (new : BookState) → node_at (core_book_at old writer) parent ≡ node
+    → ChainsAt (core_book_at old writer) parent node (Made place) new → NeedIsMet old (link_need writer (Chain parent))
 chain_at old writer parent place (Some node) new is c = (place, node, c.1, is, c.0)
 chain_at old writer parent place None new is c = absurd c
 
-child_at : (old : Plain) (writer parent place : ℕ) (part : Item Pad) (slip : _) (legs : ℕ) (node : Option Node) (new : BookState) → node_at (book_at old writer) parent ≡ node
-    → MastersAt (book_at old writer) parent node part slip legs (Made place) new → IsMet old (link_need writer (Leg parent))
+child_at : (old : CoreObjects) (writer parent place : ℕ) (part : Item Pad) (slip : _) (legs : ℕ) (node : Option Node) (new : BookState) → node_at (core_book_at old writer) parent ≡ node
+    → MastersAt (core_book_at old writer) parent node part slip legs (Made place) new → NeedIsMet old (link_need writer (Leg parent))
 child_at old writer parent place part slip legs (Some node) new is c = (place, node, c.0, is)
 child_at old writer parent place part slip legs None new is c = absurd c
 
-leg_at : (old : Plain) (writer parent place : ℕ) (node : Option Node) (new : BookState) → node_at (book_at old writer) parent ≡ node
-    → LegsAt (book_at old writer) parent node (Made place) new → IsMet old (link_need writer (Leg parent))
+leg_at : (old : CoreObjects) (writer parent place : ℕ) (node : Option Node) (new : BookState) → node_at (core_book_at old writer) parent ≡ node
+    → LegsAt (core_book_at old writer) parent node (Made place) new → NeedIsMet old (link_need writer (Leg parent))
 leg_at old writer parent place (Some node) new is c = (place, node, c.0, is)
 leg_at old writer parent place None new is c = absurd c
 
-link_met : (old : Plain) (writer : ℕ) (opening : Opening) (answer : Linked) (new : BookState) (told : What) → link_of writer opening answer ≡ Some told
-    → Opened (book_at old writer) opening answer new → IsMet old (link_need writer opening)
+link_met : (old : CoreObjects) (writer : ℕ) (opening : Opening) (answer : Linked) (new : BookState) (told : What) → link_of writer opening answer ≡ Some told
+    → Opened (core_book_at old writer) opening answer new → NeedIsMet old (link_need writer opening)
 link_met old writer (Write write vector) (Made place) new told is o = (place, o.0)
-link_met old writer (Chain parent) (Made place) new told is o = chain_at old writer parent place (node_at (book_at old writer) parent) new refl o
-link_met old writer (Master parent part slip legs) (Made place) new told is o = child_at old writer parent place part slip legs (node_at (book_at old writer) parent) new refl o
-link_met old writer (Leg parent) (Made place) new told is o = leg_at old writer parent place (node_at (book_at old writer) parent) new refl o
+link_met old writer (Chain parent) (Made place) new told is o = chain_at old writer parent place (node_at (core_book_at old writer) parent) new refl o
+link_met old writer (Master parent part slip legs) (Made place) new told is o = child_at old writer parent place part slip legs (node_at (core_book_at old writer) parent) new refl o
+link_met old writer (Leg parent) (Made place) new told is o = leg_at old writer parent place (node_at (core_book_at old writer) parent) new refl o
 link_met old writer opening (NoRoom back) new told is o = nothing_told is
 link_met old writer opening (Stray back) new told is o = nothing_told is
 
-end_met : (old : Plain) (writer place : ℕ) (ending : Status) (part : Option (Item Pad)) (node : Option Node) (ended : drop.Ended) (new : BookState) (told : What)
-    → node_at (book_at old writer) place ≡ node → drop_of writer place ending ended ≡ Some told → DropsAt (book_at old writer) place node ending part ended new
-    → (n : Node) × (node_at (book_at old writer) place ≡ Some n) × (0 < n.count)
+end_met : (old : CoreObjects) (writer place : ℕ) (ending : Status) (part : Option (Item Pad)) (node : Option Node) (ended : drop.Ended) (new : BookState) (told : What)
+    → node_at (core_book_at old writer) place ≡ node → drop_of writer place ending ended ≡ Some told → DropsAt (core_book_at old writer) place node ending part ended new
+    → (n : Node) × (node_at (core_book_at old writer) place ≡ Some n) × (0 < n.count)
 end_met old writer place ending part (Some n) drop.Left new told is tells d = (n, is, omega (arith, d.0))
 end_met old writer place ending part (Some n) (drop.Up closed) new told is tells d = (n, is, omega (arith, d.0))
 end_met old writer place ending part (Some n) (drop.Top closed) new told is tells d = (n, is, omega (arith, d.0))
@@ -104,8 +104,8 @@ home_met out facts pool min told true test is same = let e : out ≡ 0 = grind (
 home_met out facts pool min told false test is same = nothing_told is
 
 -- what is answered so has its need met
-met : (old : Plain) (request : Request) (told : What) (reply : Reply) (new : Objects) → what_of request reply ≡ Some told
-    → Serves ledger_of (objects_of old) request reply new → IsTrue (is_free told) → IsMet old (need_of request)
+met : (old : CoreObjects) (request : Request) (told : What) (reply : Reply) (new : Objects) → what_of request reply ≡ Some told
+    → Serves ledger_of (objects_of_core old) request reply new → IsTrue (is_free told) → NeedIsMet old (need_of request)
 met old (TakeBio set waits) told (HadBio got.Ordinary bio) new is serves free = absurd (ordinary_told waits (bios_of set) told is free)
 met old (TakeBio set waits) told (HadBio got.Spare bio) new is serves free = inl serves.0.0
 met old (TakeBio set waits) told (HadBio got.Missed bio) new is serves free = absurd serves.0
@@ -133,14 +133,14 @@ met old (Pop dev) told Nothing new is serves free = nothing_told is
 met old (Pop dev) told _ new is serves free = absurd serves
 met old (Push bio) told reply new is serves free = tt
 met old (Complete disk) told (Completed index bio ending) new is serves free =
-    let lt = slice_get_within (disk_at old disk.0).pending index bio serves.0.taken in
+    let lt = slice_get_within (core_disk_at old disk.0).pending index bio serves.0.taken in
     omega (arith, lt)
 met old (Complete disk) told Nothing new is serves free = nothing_told is
 met old (Complete disk) told _ new is serves free = absurd serves
 met old (Link writer opening) told (LinkedTo answer) new is serves free = link_met old writer opening answer (new.book writer) told is serves.0
 met old (Link writer opening) told _ new is serves free = absurd serves
 met old (Drop writer node ending part) told (DroppedTo ended) new is serves free =
-    end_met old writer node ending part (node_at (book_at old writer) node) ended (new.book writer) told refl is serves.0
+    end_met old writer node ending part (node_at (core_book_at old writer) node) ended (new.book writer) told refl is serves.0
 met old (Drop writer node ending part) told _ new is serves free = absurd serves
 met old (Done write ending) told reply new is serves free = tt
 met old (Resize pool min) told (OutIs out) new is serves free = home_met out _ pool min told (out == 0) refl is serves.0
@@ -152,85 +152,85 @@ met old LookLeft told reply new is serves free = nothing_told is
 met old Rest told reply new is serves free = nothing_told is
 
 -- the other way: how each is answered
-abbrev pool_free : (old : Plain) (n : ℕ) (p : PoolState) → Objects
-pool_free old n p = record (objects_of old) { pool = upd (pool_at old) n p }
+abbrev pool_free : (old : CoreObjects) (n : ℕ) (p : PoolState) → Objects
+pool_free old n p = record (objects_of_core old) { pool = upd (core_pool_at old) n p }
 
-popped : (old : Plain) (dev : DevId) (bios : List (Item Pad)) → rescue_at old dev.0 ≡ bios → 0 < length bios → CanFree old (Pop dev)
+popped : (old : CoreObjects) (dev : DevId) (bios : List (Item Pad)) → core_rescue_at old dev.0 ≡ bios → 0 < length bios → CanFree old (Pop dev)
 popped old dev [] is lt = absurd (omega (arith, lt))
 popped old dev (bio ∷ rest) is lt =
-    let kept : upd (rescue_at old) dev.0 rest dev.0 ≡ rest = upd_same (rescue_at old) dev.0 rest in
+    let kept : upd (core_rescue_at old) dev.0 rest dev.0 ≡ rest = upd_same (core_rescue_at old) dev.0 rest in
     record {
       what = what.Pop dev;
       reply = Popped bio;
-      new = record (objects_of old) { rescue = upd (rescue_at old) dev.0 rest };
+      new = record (objects_of_core old) { rescue = upd (core_rescue_at old) dev.0 rest };
       told = refl;
-      serves = (is ∙ ap (λ r. bio ∷ r) (sym kept), ap (λ r. record (objects_of old) { rescue = upd (rescue_at old) dev.0 r }) (sym kept));
+      serves = (is ∙ ap (λ r. bio ∷ r) (sym kept), ap (λ r. record (objects_of_core old) { rescue = upd (core_rescue_at old) dev.0 r }) (sym kept));
       free = refl;
     }
 
-completed : (old : Plain) (disk : DevId) (bios : List (Item Pad)) → (disk_at old disk.0).pending ≡ bios → 0 < length bios → CanFree old (Complete disk)
+completed : (old : CoreObjects) (disk : DevId) (bios : List (Item Pad)) → (core_disk_at old disk.0).pending ≡ bios → 0 < length bios → CanFree old (Complete disk)
 completed old disk [] is lt = absurd (omega (arith, lt))
 completed old disk (bio ∷ rest) is lt =
-    let here = disk_at old disk.0 in
+    let here = core_disk_at old disk.0 in
     let ending = fault here.bad bio.bio.range in
     let after : DiskState = record here {
       image = if status_eq ending status.Ok then written bio.bio here.image else here.image;
       pending = remove here.pending 0;
     } in
-    let kept : upd (disk_at old) disk.0 after disk.0 ≡ after = upd_same (disk_at old) disk.0 after in
+    let kept : upd (core_disk_at old) disk.0 after disk.0 ≡ after = upd_same (core_disk_at old) disk.0 after in
     record {
       what = what.Complete disk 0 ending;
       reply = Completed 0 bio ending;
-      new = record (objects_of old) { disk = upd (disk_at old) disk.0 after };
+      new = record (objects_of_core old) { disk = upd (core_disk_at old) disk.0 after };
       told = refl;
       serves = (
         subst (Completes here 0 bio ending) (sym kept) (record { taken = ap (λ (bs : List (Item Pad)). slice_get bs 0) is; status = refl; after = refl }),
-        ap (λ d. record (objects_of old) { disk = upd (disk_at old) disk.0 d }) (sym kept),
+        ap (λ d. record (objects_of_core old) { disk = upd (core_disk_at old) disk.0 d }) (sym kept),
       );
       free = refl;
     }
 
-linked : (old : Plain) (writer place : ℕ) (opening : Opening) (after : BookState) → Opened (book_at old writer) opening (Made place) after → CanFree old (Link writer opening)
+linked : (old : CoreObjects) (writer place : ℕ) (opening : Opening) (after : BookState) → Opened (core_book_at old writer) opening (Made place) after → CanFree old (Link writer opening)
 linked old writer place opening after is =
-    let kept : upd (book_at old) writer after writer ≡ after = upd_same (book_at old) writer after in
+    let kept : upd (core_book_at old) writer after writer ≡ after = upd_same (core_book_at old) writer after in
     record {
       what = what.Link writer (how_of opening) place;
       reply = LinkedTo (Made place);
-      new = record (objects_of old) { book = upd (book_at old) writer after };
+      new = record (objects_of_core old) { book = upd (core_book_at old) writer after };
       told = refl;
       serves = (
-        subst (Opened (book_at old writer) opening (Made place)) (sym kept) is,
-        ap (λ b. record (objects_of old) { book = upd (book_at old) writer b }) (sym kept),
+        subst (Opened (core_book_at old writer) opening (Made place)) (sym kept) is,
+        ap (λ b. record (objects_of_core old) { book = upd (core_book_at old) writer b }) (sym kept),
       );
       free = refl;
     }
 
-link_free : (old : Plain) (writer : ℕ) (opening : Opening) → IsMet old (link_need writer opening) → CanFree old (Link writer opening)
+link_free : (old : CoreObjects) (writer : ℕ) (opening : Opening) → NeedIsMet old (link_need writer opening) → CanFree old (Link writer opening)
 link_free old writer (Write write vector) m =
-    linked old writer m.0 (Write write vector) (with_node (book_at old writer) m.0 (Some (top_node write vector))) (m.1, refl)
+    linked old writer m.0 (Write write vector) (with_node (core_book_at old writer) m.0 (Some (top_node write vector))) (m.1, refl)
 link_free old writer (Chain parent) m =
-    let after = with_node (with_node (book_at old writer) m.0 (Some (child_node m.1.write parent))) parent (Some (raised m.1)) in
-    linked old writer m.0 (Chain parent) after (subst (λ node. ChainsAt (book_at old writer) parent node (Made m.0) after) (sym m.3) (m.4, m.2, refl))
+    let after = with_node (with_node (core_book_at old writer) m.0 (Some (child_node m.1.write parent))) parent (Some (raised m.1)) in
+    linked old writer m.0 (Chain parent) after (subst (λ node. ChainsAt (core_book_at old writer) parent node (Made m.0) after) (sym m.3) (m.4, m.2, refl))
 link_free old writer (Master parent part slip legs) m =
-    let after = with_node (with_node (book_at old writer) m.0 (Some (master_node m.1.write parent slip legs))) parent (Some (keeping part m.1)) in
+    let after = with_node (with_node (core_book_at old writer) m.0 (Some (master_node m.1.write parent slip legs))) parent (Some (keeping part m.1)) in
     linked old writer m.0 (Master parent part slip legs) after
-    (subst (λ node. MastersAt (book_at old writer) parent node part slip legs (Made m.0) after) (sym m.3) (m.2, refl))
+    (subst (λ node. MastersAt (core_book_at old writer) parent node part slip legs (Made m.0) after) (sym m.3) (m.2, refl))
 link_free old writer (Leg parent) m =
-    let after = with_node (book_at old writer) m.0 (Some (leg_node m.1.write parent)) in
-    linked old writer m.0 (Leg parent) after (subst (λ node. LegsAt (book_at old writer) parent node (Made m.0) after) (sym m.3) (m.2, refl))
+    let after = with_node (core_book_at old writer) m.0 (Some (leg_node m.1.write parent)) in
+    linked old writer m.0 (Leg parent) after (subst (λ node. LegsAt (core_book_at old writer) parent node (Made m.0) after) (sym m.3) (m.2, refl))
 
-dropped : (old : Plain) (writer place : ℕ) (ending : Status) (part : Option (Item Pad)) (ended : drop.Ended) (after : BookState) (told : What)
-    → drop_of writer place ending ended ≡ Some told → IsTrue (is_free told) → Drops (book_at old writer) place ending part ended after → CanFree old (Drop writer place ending part)
+dropped : (old : CoreObjects) (writer place : ℕ) (ending : Status) (part : Option (Item Pad)) (ended : drop.Ended) (after : BookState) (told : What)
+    → drop_of writer place ending ended ≡ Some told → IsTrue (is_free told) → Drops (core_book_at old writer) place ending part ended after → CanFree old (Drop writer place ending part)
 dropped old writer place ending part ended after told tells free is =
-    let kept : upd (book_at old) writer after writer ≡ after = upd_same (book_at old) writer after in
+    let kept : upd (core_book_at old) writer after writer ≡ after = upd_same (core_book_at old) writer after in
     record {
       what = told;
       reply = DroppedTo ended;
-      new = record (objects_of old) { book = upd (book_at old) writer after };
+      new = record (objects_of_core old) { book = upd (core_book_at old) writer after };
       told = tells;
       serves = (
-        subst (Drops (book_at old writer) place ending part ended) (sym kept) is,
-        ap (λ b. record (objects_of old) { book = upd (book_at old) writer b }) (sym kept),
+        subst (Drops (core_book_at old writer) place ending part ended) (sym kept) is,
+        ap (λ b. record (objects_of_core old) { book = upd (core_book_at old) writer b }) (sym kept),
       );
       free = free;
     }
@@ -238,34 +238,34 @@ dropped old writer place ending part ended after told tells free is =
 one_or_more : (n : ℕ) → 0 < n → (n ≡ 1) ⊎ (1 < n)
 one_or_more n lt = search (lt, arith)
 
-drop_free : (old : Plain) (writer place : ℕ) (ending : Status) (part : Option (Item Pad)) (n : Node) → node_at (book_at old writer) place ≡ Some n → 0 < n.count
+drop_free : (old : CoreObjects) (writer place : ℕ) (ending : Status) (part : Option (Item Pad)) (n : Node) → node_at (core_book_at old writer) place ≡ Some n → 0 < n.count
     → CanFree old (Drop writer place ending part)
 drop_free old writer place ending part n is lt =
     elim (one_or_more n.count lt) [
       | inl last ↦ by_parent last (parent_of n.role) refl
       | inr more ↦
-          let after = with_node (book_at old writer) place (Some (lowered (told n ending part))) in
+          let after = with_node (core_book_at old writer) place (Some (lowered (told n ending part))) in
           dropped old writer place ending part drop.Left after _ refl refl
-          (subst (λ node. DropsAt (book_at old writer) place node ending part drop.Left after) (sym is) (more, refl))
+          (subst (λ node. DropsAt (core_book_at old writer) place node ending part drop.Left after) (sym is) (more, refl))
     ]
   where
     by_parent : n.count ≡ 1 → (parent : Option ℕ) → parent_of n.role ≡ parent → CanFree old (Drop writer place ending part)
     by_parent last None none =
         let closed = closed_of (told n ending part) in
-        let after = with_node (book_at old writer) place None in
+        let after = with_node (core_book_at old writer) place None in
         dropped old writer place ending part (drop.Top closed) after _ refl refl
-        (subst (λ node. DropsAt (book_at old writer) place node ending part (drop.Top closed) after) (sym is) (last, none, refl, refl))
+        (subst (λ node. DropsAt (core_book_at old writer) place node ending part (drop.Top closed) after) (sym is) (last, none, refl, refl))
     by_parent last (Some parent) some =
         let closed = closed_of (told n ending part) in
-        let after = with_node (book_at old writer) place None in
+        let after = with_node (core_book_at old writer) place None in
         dropped old writer place ending part (drop.Up closed) after _ refl refl
-        (subst (λ node. DropsAt (book_at old writer) place node ending part (drop.Up closed) after) (sym is) (last, subst IsSome (sym some) refl, refl, refl))
+        (subst (λ node. DropsAt (core_book_at old writer) place node ending part (drop.Up closed) after) (sym is) (last, subst IsSome (sym some) refl, refl, refl))
 
-free : (old : Plain) (request : Request) → IsMet old (need_of request) → CanFree old request
+free : (old : CoreObjects) (request : Request) → NeedIsMet old (need_of request) → CanFree old request
 free old (TakeBio set waits) (inl can) = record {
   what = take_of waits (bios_of set) got.Spare;
   reply = HadBio got.Spare (clear_bio (ledger_of (pool_number (bios_of set))));
-  new = pool_free old (pool_number (bios_of set)) (after_move (pool_at old (pool_number (bios_of set))) takes_spare);
+  new = pool_free old (pool_number (bios_of set)) (after_move (core_pool_at old (pool_number (bios_of set))) takes_spare);
   told = refl;
   serves = ((can, refl), refl);
   free = spare_free waits (bios_of set);
@@ -273,8 +273,8 @@ free old (TakeBio set waits) (inl can) = record {
 free old (TakeBio set true) (inr miss) = never_true miss.0
 free old (TakeBio set false) (inr miss) = record {
   what = what.Try (bios_of set) got.Missed;
-  reply = Missed (uses_entry (pool_at old (pool_number (bios_of set))).script (pool_at old (pool_number (bios_of set))).facts.pos);
-  new = pool_free old (pool_number (bios_of set)) (after_move (pool_at old (pool_number (bios_of set))) (misses (uses_entry (pool_at old (pool_number (bios_of set))).script (pool_at old (pool_number (bios_of set))).facts.pos)));
+  reply = Missed (uses_entry (core_pool_at old (pool_number (bios_of set))).script (core_pool_at old (pool_number (bios_of set))).facts.pos);
+  new = pool_free old (pool_number (bios_of set)) (after_move (core_pool_at old (pool_number (bios_of set))) (misses (uses_entry (core_pool_at old (pool_number (bios_of set))).script (core_pool_at old (pool_number (bios_of set))).facts.pos)));
   told = refl;
   serves = ((miss.1, refl), refl);
   free = refl;
@@ -282,7 +282,7 @@ free old (TakeBio set false) (inr miss) = record {
 free old TakeVec (inl can) = record {
   what = what.Take FsVecs got.Spare;
   reply = HadVec got.Spare (clear_vector (ledger_of (pool_number FsVecs)));
-  new = pool_free old (pool_number FsVecs) (after_move (pool_at old (pool_number FsVecs)) takes_spare);
+  new = pool_free old (pool_number FsVecs) (after_move (core_pool_at old (pool_number FsVecs)) takes_spare);
   told = refl;
   serves = ((can, refl), refl);
   free = refl;
@@ -291,7 +291,7 @@ free old TakeVec (inr miss) = never_true miss.0
 free old (TakeSlip dev) (inl can) = record {
   what = what.Take (Records dev) got.Spare;
   reply = HadSlip got.Spare (clear_slip (ledger_of (pool_number (Records dev))));
-  new = pool_free old (pool_number (Records dev)) (after_move (pool_at old (pool_number (Records dev))) takes_spare);
+  new = pool_free old (pool_number (Records dev)) (after_move (core_pool_at old (pool_number (Records dev))) takes_spare);
   told = refl;
   serves = ((can, refl), refl);
   free = refl;
@@ -300,7 +300,7 @@ free old (TakeSlip dev) (inr miss) = never_true miss.0
 free old (GiveBio bio) lt = record {
   what = what.Give (pool_of bio.share.no);
   reply = Did;
-  new = pool_free old bio.share.no (after_move (pool_at old bio.share.no) gives);
+  new = pool_free old bio.share.no (after_move (core_pool_at old bio.share.no) gives);
   told = refl;
   serves = (lt, refl);
   free = refl;
@@ -308,7 +308,7 @@ free old (GiveBio bio) lt = record {
 free old (GiveVec vector) lt = record {
   what = what.Give (pool_of vector.share.no);
   reply = Did;
-  new = pool_free old vector.share.no (after_move (pool_at old vector.share.no) gives);
+  new = pool_free old vector.share.no (after_move (core_pool_at old vector.share.no) gives);
   told = refl;
   serves = (lt, refl);
   free = refl;
@@ -316,15 +316,15 @@ free old (GiveVec vector) lt = record {
 free old (GiveSlip slip) lt = record {
   what = what.Give (pool_of slip.share.no);
   reply = Did;
-  new = pool_free old slip.share.no (after_move (pool_at old slip.share.no) gives);
+  new = pool_free old slip.share.no (after_move (core_pool_at old slip.share.no) gives);
   told = refl;
   serves = (lt, refl);
   free = refl;
 }
 free old (Punt dev moved) m = record { what = what.Punt dev (min (length moved) (2 ^ 64 - 1)); reply = Did; new = _; told = refl; serves = refl; free = refl }
-free old (Pop dev) lt = popped old dev (rescue_at old dev.0) refl lt
+free old (Pop dev) lt = popped old dev (core_rescue_at old dev.0) refl lt
 free old (Push bio) m = record { what = what.Push bio.bio.dev bio.bio.range.start bio.bio.range.len bio.pad.leg; reply = Did; new = _; told = refl; serves = refl; free = refl }
-free old (Complete disk) lt = completed old disk (disk_at old disk.0).pending refl lt
+free old (Complete disk) lt = completed old disk (core_disk_at old disk.0).pending refl lt
 free old (Link writer opening) m = link_free old writer opening m
 free old (Drop writer node ending part) m = drop_free old writer node ending part m.0 m.1 m.2
 free old (Done write ending) m = record { what = what.Done write ending; reply = Did; new = _; told = refl; serves = refl; free = refl }
@@ -335,6 +335,6 @@ free old LookLeft never = absurd never
 free old Rest never = absurd never
 
 -- so the question for the need answers the other
-pub tells_free : (old : Plain) (request : Request) (need : Need) (answer : Bool) → need ≡ need_of request → Tells answer (IsMet old need) → Tells answer (CanFree old request)
-tells_free old request need true is so = free old request (subst (IsMet old) is so)
-tells_free old request need false is never = λ f. never (subst (IsMet old) (sym is) (met old request f.what f.reply f.new f.told f.serves f.free))
+pub tells_free : (old : CoreObjects) (request : Request) (need : Need) (answer : Bool) → need ≡ need_of request → IsDecisionOf answer (NeedIsMet old need) → IsDecisionOf answer (CanFree old request)
+tells_free old request need true is so = free old request (subst (NeedIsMet old) is so)
+tells_free old request need false is never = λ f. never (subst (NeedIsMet old) (sym is) (met old request f.what f.reply f.new f.told f.serves f.free))

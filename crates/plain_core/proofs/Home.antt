@@ -5,8 +5,8 @@ use Rattle.std.specs.List.{list_all}
 use Rattle.std.proofs.lemmas.Bool.Decides.{nat_tests}
 use Rattle.mempool_core.specs.Move.{PoolState}
 use Rattle.run_machine.specs.Runs.{HasEnded, unfinished}
-use Rattle.plain_core.specs.Cores.{CoreState, state_of}
-use Rattle.plain_core.specs.Plain.{is_home, no_pool}
+use Rattle.plain_core.specs.Cores.{CoreState, state_of_core}
+use Rattle.plain_core.specs.Plain.{is_home, no_core_pool}
 
 is_none : (n : ℕ) → (n == 0) ≡ true → n ≡ 0
 is_none n is = grind (arith, nat_tests)
@@ -19,18 +19,18 @@ both true b is = (refl, is)
 both false b is = absurd (true≢false (sym is))
 
 -- nothing is out of any pool
-all_home : (pools : List PoolState) → list_all is_home pools ≡ true → (n : ℕ) → (slice_index_or pools n no_pool).facts.out ≡ 0
+all_home : (pools : List PoolState) → list_all is_home pools ≡ true → (n : ℕ) → (slice_index_or pools n no_core_pool).facts.out ≡ 0
 all_home [] all n = refl
 all_home (pool ∷ pools) all zero = is_none pool.facts.out (both (is_home pool) (list_all is_home pools) all).0
 all_home (pool ∷ pools) all (suc n) = all_home pools (both (is_home pool) (list_all is_home pools) all).1 n
 
-home_all : (pools : List PoolState) → ((n : ℕ) → (slice_index_or pools n no_pool).facts.out ≡ 0) → list_all is_home pools ≡ true
+home_all : (pools : List PoolState) → ((n : ℕ) → (slice_index_or pools n no_core_pool).facts.out ≡ 0) → list_all is_home pools ≡ true
 home_all [] home = refl
 home_all (pool ∷ pools) home =
     ap (λ b. b && list_all is_home pools) (none_is pool.facts.out (home 0)) ∙ home_all pools (λ n. home (suc n))
 
 -- where every write is done, a run has ended exactly where all is home
-pub ended_told : (c : CoreState) (b : Bool) → b ≡ list_all is_home c.objects.pools → unfinished (state_of c) ≡ 0
-    → MatchBool b (HasEnded (state_of c)) (HasEnded (state_of c) → ⊥)
+pub ended_told : (c : CoreState) (b : Bool) → b ≡ list_all is_home c.objects.pools → unfinished (state_of_core c) ≡ 0
+    → MatchBool b (HasEnded (state_of_core c)) (HasEnded (state_of_core c) → ⊥)
 ended_told c true is done = record { writes = done; pools = all_home c.objects.pools (sym is) }
 ended_told c false is done = λ ended. true≢false (sym (is ∙ home_all c.objects.pools ended.pools))

@@ -26,14 +26,14 @@ use Rattle.run_machine.specs.Events.{pool_of}
 use Rattle.run_machine.specs.Lines.{rests}
 use Rattle.run_machine.specs.Opened.{Scenario, at, is_by, is_numbered, keepers, no_task, objects, places_of, records_of, reserve_of, script_at, tasks}
 use Rattle.run_machine.specs.Opened as opening
-use Rattle.task_steps.specs.Routed.{Routing, places_at, setup}
+use Rattle.task_steps.specs.Routed.{Routing, places_at, routing_setup}
 use Rattle.run_machine.specs.Scene.{keeps_data, setup_of}
 use Rattle.run_machine.specs.Tasks.{Duty, TaskState, Todo, Writer, Rescuer, Completer, Keeper, Keeps, NoBio, Empty}
 use Rattle.task_steps.specs.Within.{AreWithin, IsItemWithin, LineFits, TaskFits}
 use Rattle.plain_core.specs.Cores.{CoreState, AreFound, IsCore}
 use Rattle.plain_core.specs.Ledgers.{ledger_of}
-use Rattle.plain_core.specs.Opening.{CanOpen, IsOpened, completers_of, counts_of, duties_up_to, has_rescuer, has_write, is_disk, last_of, listed, new_book, new_books, new_disk, new_disks, new_pool, new_pools, nodes_of, rescuers_of, scenario_by, tasks_of, todos_by, writers_of}
-use Rattle.plain_core.specs.Plain.{Plain, HasPlaces, HasSize, disk_or, no_pool, objects_of, opened_disk}
+use Rattle.plain_core.specs.Opening.{CanOpen, IsOpenedCore, completers_of_stack, counts_of, duties_up_to, stack_has_rescuer, has_write, stack_has_disk, last_round_of, listed, new_book, new_books, new_disk, new_disks, new_pool, new_pools, nodes_of, rescuers_of_stack, scenario_by, tasks_of, todos_by, writers_of_work}
+use Rattle.plain_core.specs.Plain.{CoreObjects, HasPlacesForStack, HasSize, disk_or, no_core_pool, objects_of_core, opened_disk}
 use Rattle.plain_core.proofs.Listed.{any_by, none_by, served_by}
 
 abbrev no_bios : List (Item Pad)
@@ -103,7 +103,7 @@ module _ (stack : Stack) (scripts : List (PoolId × Answers)) where
 
   -- there is a place for all
   pub has_places : (pools : List PoolState) (rescues : List (List (Item Pad))) (disks : List (Option DiskState)) → pools ≡ new_pools stack scripts 66
-      → rescues ≡ replicate (length stack.devices.items) [] → disks ≡ new_disks stack (length stack.devices.items) → HasPlaces stack pools rescues disks
+      → rescues ≡ replicate (length stack.devices.items) [] → disks ≡ new_disks stack (length stack.devices.items) → HasPlacesForStack stack pools rescues disks
   has_places pools rescues disks are_pools are_rescues are_disks = record {
     pool = omega (arith, ap length are_pools, length-map-range_with_len (new_pool stack scripts) 0 66);
     rescue = omega (arith, ap length are_rescues, length-replicate {A = List (Item Pad)} (length stack.devices.items) []);
@@ -117,11 +117,11 @@ module _ (stack : Stack) (scripts : List (PoolId × Answers)) where
   }
 
 module _ (stack : Stack) (scripts : List (PoolId × Answers)) (work : Work) (can : CanOpen stack scripts work) where
-  pool_is : (number : ℕ) → slice_index_or (new_pools stack scripts 66) number no_pool ≡ new_pool stack scripts number
+  pool_is : (number : ℕ) → slice_index_or (new_pools stack scripts 66) number no_core_pool ≡ new_pool stack scripts number
   pool_is number = elim (within_or_past number 66) [
-    | inl lt ↦ get_or-map-range_with_len (new_pool stack scripts) 0 66 number number no_pool lt (from_none number)
+    | inl lt ↦ get_or-map-range_with_len (new_pool stack scripts) 0 66 number number no_core_pool lt (from_none number)
     | inr le ↦
-        get_or_past (new_pools stack scripts 66) number no_pool (omega (arith, le, length-map-range_with_len (new_pool stack scripts) 0 66))
+        get_or_past (new_pools stack scripts 66) number no_core_pool (omega (arith, le, length-map-range_with_len (new_pool stack scripts) 0 66))
         ∙ ap (λ n. opened n (only_tail true)) (sym (no_reserve stack number can.is_stack.few le))
         ∙ ap (λ o. opened (reserve_of stack (pool_of number)) (option_map_or (λ (script : PoolId × Answers). script.1) o (only_tail true))) (sym (no_script scripts number can.pools le))
   ]
@@ -139,10 +139,10 @@ module _ (stack : Stack) (scripts : List (PoolId × Answers)) (work : Work) (can
           (sym (none_by 0 work.rounds.items work.writes.items writer can.writers le))
     ]
 
-    last_is : 1 + last_of work.rounds.items - 1 ≡ last_of work.rounds.items
+    last_is : 1 + last_round_of work.rounds.items - 1 ≡ last_round_of work.rounds.items
     last_is = omega arith
 
-    pub tasks_is : tasks_of stack work (duties_up_to work (last_of work.rounds.items)) ≡ tasks (scenario_by stack scripts work)
+    pub tasks_is : tasks_of stack work (duties_up_to work (last_round_of work.rounds.items)) ≡ tasks (scenario_by stack scripts work)
     tasks_is = ap (λ n. tasks_of stack work (duties_up_to work n)) (sym last_is)
 
     setup_is : setup_of stack (places_at places) ≡ opening.setup (scenario_by stack scripts work)
@@ -158,25 +158,25 @@ module _ (stack : Stack) (scripts : List (PoolId × Answers)) (work : Work) (can
           books = new_books places 8;
           tally = record { round = 0; left = counts_of work.rounds.items; statuses = replicate (length work.writes.items) status.Ok };
         }
-        → core.tasks ≡ tasks_of stack work (duties_up_to work (last_of work.rounds.items)) → IsOpened (scenario_by stack scripts work) core
+        → core.tasks ≡ tasks_of stack work (duties_up_to work (last_round_of work.rounds.items)) → IsOpenedCore (scenario_by stack scripts work) core
     opened_so core is_routing is_objects is_tasks =
         let all = is_tasks ∙ tasks_is in
-        let written = ap (λ (o : Plain). length o.tally.statuses) is_objects ∙ length-replicate (length work.writes.items) status.Ok in
+        let written = ap (λ (o : CoreObjects). length o.tally.statuses) is_objects ∙ length-replicate (length work.writes.items) status.Ok in
         record {
           scene = λ k. record {
-            setup = (ap setup is_routing ∙ setup_is) k;
+            setup = (ap routing_setup is_routing ∙ setup_is) k;
             tasks = length (all k);
             books = 8;
             writes = written k;
             ledger = ledger_of;
           };
           state = λ k. record {
-            objects = (ap objects_of is_objects ∙ objects_are) k;
+            objects = (ap objects_of_core is_objects ∙ objects_are) k;
             task = λ place. slice_index_or (all k) place no_task;
           };
         }
       where
-        objects_are : objects_of (record {
+        objects_are : objects_of_core (record {
           stack = stack;
           pools = new_pools stack scripts 66;
           rescues = replicate (length stack.devices.items) [];
@@ -203,17 +203,17 @@ keeper_fits stack (duty ∷ duties) = All-cons (TaskFits stack) (Keeper (Keeps (
 pub tasks_fit : (stack : Stack) (work : Work) (duties : List Duty) → All (IsWrite stack) work.writes.items → All (TaskFits stack) (tasks_of stack work duties)
 tasks_fit stack work duties served =
     let devs = range_with_len 0 (length stack.devices.items) in
-    All-append (TaskFits stack) (writers_of work (range_with_len 0 8)) _
+    All-append (TaskFits stack) (writers_of_work work (range_with_len 0 8)) _
     (All-map (TaskFits stack) (λ writer. Writer writer (todos_by work writer) NoBio rests) (filter (has_write work) (range_with_len 0 8))
     (λ k d lt. (served_by stack work.rounds.items work.writes.items _ served, rest_fits stack)))
-    (All-append (TaskFits stack) (rescuers_of stack devs) _
-    (All-map (TaskFits stack) (λ dev. Rescuer (at dev) rests) (filter (has_rescuer stack) devs) (λ k d lt. rest_fits stack))
-    (All-append (TaskFits stack) (completers_of stack devs) (keepers duties)
-    (All-map (TaskFits stack) (λ dev. Completer (at dev) Empty) (filter (is_disk stack) devs) (λ k d lt. tt))
+    (All-append (TaskFits stack) (rescuers_of_stack stack devs) _
+    (All-map (TaskFits stack) (λ dev. Rescuer (at dev) rests) (filter (stack_has_rescuer stack) devs) (λ k d lt. rest_fits stack))
+    (All-append (TaskFits stack) (completers_of_stack stack devs) (keepers duties)
+    (All-map (TaskFits stack) (λ dev. Completer (at dev) Empty) (filter (stack_has_disk stack) devs) (λ k d lt. tt))
     (keeper_fits stack duties)))
 
 -- the core keeps what it stands on
-pub is_core : (stack : Stack) (scripts : List (PoolId × Answers)) (work : Work) (duties : List Duty) (routing : Routing) (objects : Plain) (all : List TaskState) (places : List ℕ)
+pub is_core : (stack : Stack) (scripts : List (PoolId × Answers)) (work : Work) (duties : List Duty) (routing : Routing) (objects : CoreObjects) (all : List TaskState) (places : List ℕ)
     → CanOpen stack scripts work → routing.stack ≡ stack → objects.stack ≡ stack → all ≡ tasks_of stack work duties → AreFound places all → IsCore routing objects all places
 is_core stack scripts work duties routing objects all places can is_routing is_objects is_all found = record {
   stack = is_objects ∙ sym is_routing;
@@ -222,12 +222,12 @@ is_core stack scripts work duties routing objects all places can is_routing is_o
 }
 
 -- a writer with a write, and one without
-pub one_writer : (work : Work) (writer : ℕ) → 0 < length (todos_by work writer) → writers_of work (writer ∷ []) ≡ Writer writer (todos_by work writer) NoBio rests ∷ []
+pub one_writer : (work : Work) (writer : ℕ) → 0 < length (todos_by work writer) → writers_of_work work (writer ∷ []) ≡ Writer writer (todos_by work writer) NoBio rests ∷ []
 one_writer work writer some =
     ap (λ b. map (λ w. Writer w (todos_by work w) NoBio rests) (cond b (writer ∷ []) []))
     ((any_by (is_by writer) (listed work.rounds.items work.writes.items)).1 some)
 
-pub no_writer : (work : Work) (writer : ℕ) → todos_by work writer ≡ [] → writers_of work (writer ∷ []) ≡ []
+pub no_writer : (work : Work) (writer : ℕ) → todos_by work writer ≡ [] → writers_of_work work (writer ∷ []) ≡ []
 no_writer work writer none =
     ap (λ b. map (λ w. Writer w (todos_by work w) NoBio rests) (cond b (writer ∷ []) []))
     ((any_by (is_by writer) (listed work.rounds.items work.writes.items)).0 none)

@@ -14,10 +14,10 @@ use Rattle.std.proofs.lemmas.List.Elements.{All-append, All-filter}
 use Rattle.stack_base.specs.declared.ids.DevId.{DevId}
 use Rattle.bio_records.specs.declared.tasks.TaskLists.{TaskLists}
 use Rattle.run_machine.specs.Lines.{is_of, punted}
-use Rattle.task_steps.specs.Within.{IsWithin, AreWithin, IsItemWithin, ListsAreWithin}
+use Rattle.task_steps.specs.Within.{IsWithinDevice, AreWithin, IsItemWithin, ListsAreWithin}
 use Rattle.bio_records.specs.Sorting.{is_lower, is_same}
 use Rattle.bio_lists.specs.Submission.{submitted, order}
-use Rattle.plain_core.specs.Plain.{HasSize, HasPlaces}
+use Rattle.plain_core.specs.Plain.{HasSize, HasPlacesForStack}
 
 -- a list with one place changed: what stands at a place is that, or what stood there
 pub at_set : {X : Type 0} (xs : List X) (i k : ℕ) (x d : X)
@@ -32,7 +32,7 @@ at_set (y ∷ xs) (suc i) (suc k) x d = elim (at_set xs i k x d) [
 ]
 
 pub rescued : {stack : Stack} {pools : List PoolState} {rescues : List (List (Item Pad))} {disks : List (Option DiskState)} (dev : ℕ) (bios : List (Item Pad))
-    → HasPlaces stack pools rescues disks → AreWithin stack bios → HasPlaces stack pools (slice_set rescues dev bios) disks
+    → HasPlacesForStack stack pools rescues disks → AreWithin stack bios → HasPlacesForStack stack pools (slice_set rescues dev bios) disks
 rescued {stack = stack} {rescues = rescues} dev bios kept within = record {
   pool = kept.pool;
   rescue = omega (arith, kept.rescue, length-set rescues dev bios);
@@ -44,8 +44,8 @@ rescued {stack = stack} {rescues = rescues} dev bios kept within = record {
 }
 
 pub disked : {stack : Stack} {pools : List PoolState} {rescues : List (List (Item Pad))} {disks : List (Option DiskState)} (dev : ℕ) (disk : Option DiskState)
-    → HasPlaces stack pools rescues disks → ((sectors : ℕ) → HasSize sectors (slice_index_or disks dev None) → HasSize sectors disk)
-    → HasPlaces stack pools rescues (slice_set disks dev disk)
+    → HasPlacesForStack stack pools rescues disks → ((sectors : ℕ) → HasSize sectors (slice_index_or disks dev None) → HasSize sectors disk)
+    → HasPlacesForStack stack pools rescues (slice_set disks dev disk)
 disked {stack = stack} {disks = disks} dev disk kept sized = record {
   pool = kept.pool;
   rescue = kept.rescue;
@@ -72,11 +72,11 @@ ordered_within stack dev lists within =
     (All-filter (is_same dev) (IsItemWithin stack) lists.list0 within.0) within.1)
 
 pub next_within : (stack : Stack) (dev : DevId) (lists : TaskLists) (part : Item Pad) (rest : List (Item Pad)) → ListsAreWithin stack lists
-    → order dev lists ≡ part ∷ rest → IsWithin stack part.bio
+    → order dev lists ≡ part ∷ rest → IsWithinDevice stack part.bio
 next_within stack dev lists part rest within is = subst (AreWithin stack) is (ordered_within stack dev lists within) 0 part (omega arith)
 
 -- one more that is submitted
-pub submitted_within : (stack : Stack) (lists : TaskLists) (part : Item Pad) → ListsAreWithin stack lists → IsWithin stack part.bio
+pub submitted_within : (stack : Stack) (lists : TaskLists) (part : Item Pad) → ListsAreWithin stack lists → IsWithinDevice stack part.bio
     → ListsAreWithin stack (submitted part lists)
 submitted_within stack lists part within is =
     (All-append (IsItemWithin stack) lists.list0 (part ∷ []) within.0 (λ k d lt. only k d lt), within.1)
@@ -87,18 +87,18 @@ submitted_within stack lists part within is =
 
 -- and two more
 pub both_within : (stack : Stack) (lists one two : TaskLists) (front rest : Item Pad) → ListsAreWithin stack lists → one ≡ submitted front lists → two ≡ submitted rest one
-    → IsWithin stack front.bio → IsWithin stack rest.bio → ListsAreWithin stack two
+    → IsWithinDevice stack front.bio → IsWithinDevice stack rest.bio → ListsAreWithin stack two
 both_within stack lists one two front rest within first second front_is rest_is =
     subst (ListsAreWithin stack) (sym second)
     (submitted_within stack one rest (subst (ListsAreWithin stack) (sym first) (submitted_within stack lists front within front_is)) rest_is)
 
 -- a bio within a device, by its device and its sectors alone
-pub same_place : (stack : Stack) (bio other : Bio) → IsWithin stack bio → other.dev ≡ bio.dev → other.range ≡ bio.range → IsWithin stack other
+pub same_place : (stack : Stack) (bio other : Bio) → IsWithinDevice stack bio → other.dev ≡ bio.dev → other.range ≡ bio.range → IsWithinDevice stack other
 same_place stack bio other within dev range = record {
   device = rw dev within.device;
   some = rw range within.some;
   within = rw (dev, range) within.within;
 }
 
-pub head_within : (stack : Stack) (items rest : List (Item Pad)) (part : Item Pad) → AreWithin stack items → items ≡ part ∷ rest → IsWithin stack part.bio
+pub head_within : (stack : Stack) (items rest : List (Item Pad)) (part : Item Pad) → AreWithin stack items → items ≡ part ∷ rest → IsWithinDevice stack part.bio
 head_within stack items rest part within is = subst (AreWithin stack) is within 0 part (omega arith)

@@ -22,9 +22,9 @@ use Rattle.task_steps.specs.TaskViews.{TaskOf}
 use Rattle.run_machine.specs.Tasks.{TaskState, Duty, Resizes, Starts, NoBio, Empty, Keeps, Writer, Rescuer, Completer, Keeper}
 use Rattle.plain_core.specs.declared.task.Task.{Task}
 use Rattle.plain_core.specs.Cores.{slot_of}
-use Rattle.plain_core.specs.Opening.{AreSeated, Seats}
-use Rattle.plain_core.specs.Seen.{IsFirst, IsOfPool, Rises}
-use Rattle.plain_core.specs.Views.{task_of}
+use Rattle.plain_core.specs.Opening.{AreTasksSeated, Seats}
+use Rattle.plain_core.specs.Seen.{HasNothingAtHand, IsOfPool, Rises}
+use Rattle.plain_core.specs.Views.{task_of_plain}
 use Rattle.plain_core.proofs.Seated.{seated_on}
 use Rattle.plain_core.proofs.Seen.{can}
 
@@ -87,7 +87,7 @@ module _ (o : Opened) (is : AreTheFirst o) where
   good = subst IsStack (sym is.stack) (can o is).is_stack
 
   abbrev Begins : TaskState → Type 0
-  Begins task = IsTaskOf stage task → IsFirst task
+  Begins task = IsTaskOf stage task → HasNothingAtHand task
 
   keepers_begin : (ds : List Duty) → All Begins (keepers ds)
   keepers_begin [] = All-nil Begins
@@ -107,7 +107,7 @@ module _ (o : Opened) (is : AreTheFirst o) where
   home : All (IsTaskOf stage) (states o.tasks.items)
   home = All-map (IsTaskOf stage) (λ (task : TaskOf). task.state) o.tasks.items is.one.home
 
-  pub firsts : All IsFirst (states o.tasks.items)
+  pub firsts : All HasNothingAtHand (states o.tasks.items)
   firsts =
       let begun = subst (All Begins) (sym is.tasks) begin in
       λ k d lt. begun k d lt (home k d lt)
@@ -137,14 +137,14 @@ module _ (tasks : List TaskOf) (count : ℕ) (task : TaskOf) (lt : count < lengt
   pub state_at : task.state ≡ get_or (states tasks) count no_task
   state_at = ap (λ (t : TaskOf). t.state) is ∙ sym (get_or-map (λ (t : TaskOf). t.state) tasks count task no_task lt)
 
-  pub first_at : All IsFirst (states tasks) → IsFirst task.state
-  first_at all = subst IsFirst (sym state_at) (all count no_task (omega (arith, lt, length-map tasks (λ (t : TaskOf). t.state))))
+  pub first_at : All HasNothingAtHand (states tasks) → HasNothingAtHand task.state
+  first_at all = subst HasNothingAtHand (sym state_at) (all count no_task (omega (arith, lt, length-map tasks (λ (t : TaskOf). t.state))))
 
 -- one task more is seated
 pub record AreSeen (all : List TaskState) (count : ℕ) (seen : List Task) (places : List ℕ) : Type 0 where
-  pub told : map task_of seen ≡ take count all
+  pub told : map task_of_plain seen ≡ take count all
   pub low : ℕ
-  pub seated : AreSeated (map task_of seen) places low
+  pub seated : AreTasksSeated (map task_of_plain seen) places low
   pub rest : Rises low (drop count all) 73
 
 module _ (tasks : List TaskOf) (count : ℕ) (seen : List Task) (places : List ℕ) (so_far : AreSeen (states tasks) count seen places) (lt : count < length tasks) where
@@ -164,11 +164,11 @@ module _ (tasks : List TaskOf) (count : ℕ) (seen : List Task) (places : List �
         let same = ap (λ t. slot_of (id_of t)) is in
         omega (arith, past, same)
 
-    pub seat_ready : AreSeated (map task_of seen) places (slot_of (id_of task))
+    pub seat_ready : AreTasksSeated (map task_of_plain seen) places (slot_of (id_of task))
     seat_ready =
         let first = rest_rises.0 in
         let same = ap (λ t. slot_of (id_of t)) is in
-        seated_on (map task_of seen) places so_far.low (slot_of (id_of task)) (omega (arith, first, same)) so_far.seated
+        seated_on (map task_of_plain seen) places so_far.low (slot_of (id_of task)) (omega (arith, first, same)) so_far.seated
 
     pub one_seen : (after : List Task) (table : List ℕ) → Seats seen (task ∷ []) after table (slot_of (id_of task) + 1) → AreSeen (states tasks) (count + 1) after table
     one_seen after table seats = record {

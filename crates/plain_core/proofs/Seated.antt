@@ -10,8 +10,8 @@ use Rattle.run_machine.specs.Opened.{no_task}
 use Rattle.run_machine.specs.Tasks.{TaskState}
 use Rattle.plain_core.specs.declared.task.Task.{Task}
 use Rattle.plain_core.specs.Cores.{AreFound, slot_of, task_at}
-use Rattle.plain_core.specs.Opening.{AreSeated, Seats}
-use Rattle.plain_core.specs.Views.{task_of}
+use Rattle.plain_core.specs.Opening.{AreTasksSeated, Seats}
+use Rattle.plain_core.specs.Views.{task_of_plain}
 
 -- what stands at a place of a changed table
 get_set_same : (xs : List ℕ) (i y : ℕ) → i < length xs → slice_get (slice_set xs i y) i ≡ Some y
@@ -27,7 +27,7 @@ get_set_other xs i j x y ne is =
 last_or : (k n : ℕ) → k < n + 1 → (k < n) ⊎ (k ≡ n)
 last_or k n lt = search (lt, arith)
 
-module _ (tasks : List TaskState) (task : TaskState) (places : List ℕ) (so_far : AreSeated tasks places (slot_of (id_of task))) (small : slot_of (id_of task) < 73) where
+module _ (tasks : List TaskState) (task : TaskState) (places : List ℕ) (so_far : AreTasksSeated tasks places (slot_of (id_of task))) (small : slot_of (id_of task) < 73) where
   found_with : AreFound (slice_set places (slot_of (id_of task)) (length tasks)) (tasks ++ task ∷ [])
   found_with k lt =
       elim (last_or k (length tasks) (omega (arith, lt, length-append tasks (task ∷ [])))) [
@@ -42,7 +42,7 @@ module _ (tasks : List TaskState) (task : TaskState) (places : List ℕ) (so_far
             (get_set_same places (slot_of (id_of task)) (length tasks) (omega (arith, small, so_far.long)) ∙ ap Some (sym last))
       ]
 
-  pub seated_with : AreSeated (tasks ++ task ∷ []) (slice_set places (slot_of (id_of task)) (length tasks)) (slot_of (id_of task) + 1)
+  pub seated_with : AreTasksSeated (tasks ++ task ∷ []) (slice_set places (slot_of (id_of task)) (length tasks)) (slot_of (id_of task) + 1)
   seated_with = record {
     found = found_with;
     below = All-push (λ t. slot_of (id_of t) < slot_of (id_of task) + 1) tasks task
@@ -53,21 +53,21 @@ module _ (tasks : List TaskState) (task : TaskState) (places : List ℕ) (so_far
   }
 
 -- a task was seated
-pub seats_one : (old new : List Task) (task : Task) (places after : List ℕ) → AreSeated (map task_of old) places (slot_of (id_of (task_of task)))
-    → slot_of (id_of (task_of task)) < 73 → new ≡ old ++ task ∷ [] → after ≡ slice_set places (slot_of (id_of (task_of task))) (length old)
-    → Seats old (task_of task ∷ []) new after (slot_of (id_of (task_of task)) + 1)
+pub seats_one : (old new : List Task) (task : Task) (places after : List ℕ) → AreTasksSeated (map task_of_plain old) places (slot_of (id_of (task_of_plain task)))
+    → slot_of (id_of (task_of_plain task)) < 73 → new ≡ old ++ task ∷ [] → after ≡ slice_set places (slot_of (id_of (task_of_plain task))) (length old)
+    → Seats old (task_of_plain task ∷ []) new after (slot_of (id_of (task_of_plain task)) + 1)
 seats_one old new task places after so_far small is_new is_after =
-    let tasks : map task_of new ≡ map task_of old ++ task_of task ∷ [] = ap (map task_of) is_new ∙ map-append task_of old (task ∷ []) in
-    let table : after ≡ slice_set places (slot_of (id_of (task_of task))) (length (map task_of old)) =
-    is_after ∙ ap (slice_set places (slot_of (id_of (task_of task)))) (sym (length-map old task_of)) in (
+    let tasks : map task_of_plain new ≡ map task_of_plain old ++ task_of_plain task ∷ [] = ap (map task_of_plain) is_new ∙ map-append task_of_plain old (task ∷ []) in
+    let table : after ≡ slice_set places (slot_of (id_of (task_of_plain task))) (length (map task_of_plain old)) =
+    is_after ∙ ap (slice_set places (slot_of (id_of (task_of_plain task)))) (sym (length-map old task_of_plain)) in (
       tasks,
-      subst (λ ts. AreSeated ts after (slot_of (id_of (task_of task)) + 1)) (sym tasks)
-          (subst (λ ps. AreSeated (map task_of old ++ task_of task ∷ []) ps (slot_of (id_of (task_of task)) + 1)) (sym table)
-          (seated_with (map task_of old) (task_of task) places so_far small)),
+      subst (λ ts. AreTasksSeated ts after (slot_of (id_of (task_of_plain task)) + 1)) (sym tasks)
+          (subst (λ ps. AreTasksSeated (map task_of_plain old ++ task_of_plain task ∷ []) ps (slot_of (id_of (task_of_plain task)) + 1)) (sym table)
+          (seated_with (map task_of_plain old) (task_of_plain task) places so_far small)),
     )
 
 -- a slot higher, nothing changes
-pub seated_on : (tasks : List TaskState) (places : List ℕ) (slot more : ℕ) → slot ≤ more → AreSeated tasks places slot → AreSeated tasks places more
+pub seated_on : (tasks : List TaskState) (places : List ℕ) (slot more : ℕ) → slot ≤ more → AreTasksSeated tasks places slot → AreTasksSeated tasks places more
 seated_on tasks places slot more le seated = record {
   found = seated.found;
   below = All-weaker (λ t. slot_of (id_of t) < slot) (λ t. slot_of (id_of t) < more) (λ t lt. omega (arith, lt, le)) tasks seated.below;
@@ -76,13 +76,13 @@ seated_on tasks places slot more le seated = record {
 }
 
 -- none is seated
-pub seats_none : (old : List Task) (places : List ℕ) (slot more : ℕ) → slot ≤ more → AreSeated (map task_of old) places slot → Seats old [] old places more
-seats_none old places slot more le seated = (sym (append-nil (map task_of old)), seated_on (map task_of old) places slot more le seated)
+pub seats_none : (old : List Task) (places : List ℕ) (slot more : ℕ) → slot ≤ more → AreTasksSeated (map task_of_plain old) places slot → Seats old [] old places more
+seats_none old places slot more le seated = (sym (append-nil (map task_of_plain old)), seated_on (map task_of_plain old) places slot more le seated)
 
 -- some are, and then others
 pub seats_then : (old mid new : List Task) (one two both : List TaskState) (before after : List ℕ) (low slot : ℕ) → both ≡ one ++ two
     → Seats old one mid before low → Seats mid two new after slot → Seats old both new after slot
 seats_then old mid new one two both before after low slot is first second = (
-  second.0 ∙ ap (λ ts. ts ++ two) first.0 ∙ append_assoc (map task_of old) one two ∙ ap (λ ts. map task_of old ++ ts) (sym is),
+  second.0 ∙ ap (λ ts. ts ++ two) first.0 ∙ append_assoc (map task_of_plain old) one two ∙ ap (λ ts. map task_of_plain old ++ ts) (sym is),
   second.1,
 )

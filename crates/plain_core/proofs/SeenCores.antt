@@ -9,8 +9,8 @@ use Rattle.task_steps.specs.Routed.{Routing, places_at}
 use Rattle.run_machine.specs.Scene.{Setup}
 use Rattle.run_machine.specs.Tasks.{TaskState}
 use Rattle.plain_core.specs.Cores.{CoreState, AreFound, IsCore}
-use Rattle.plain_core.specs.Opening.{IsOpened, duties_up_to, last_of, new_books, new_disks, new_pools, nodes_of, tasks_of, todos_by}
-use Rattle.plain_core.specs.Plain.{Plain}
+use Rattle.plain_core.specs.Opening.{IsOpenedCore, duties_up_to, last_round_of, new_books, new_disks, new_pools, nodes_of, tasks_of, todos_by}
+use Rattle.plain_core.specs.Plain.{CoreObjects}
 use Rattle.plain_core.proofs.Opened.{is_core, opened_so, tasks_is}
 use Rattle.plain_core.proofs.Seen.{can, same}
 
@@ -25,7 +25,7 @@ module _ (o : Opened) (is : AreTheFirst o) where
   routing = (stage_of o.objects).routing
 
   -- the objects, with the places of its books
-  abbrev pub objects_with : List ℕ → Plain
+  abbrev pub objects_with : List ℕ → CoreObjects
   objects_with places = record {
     stack = s.stack;
     pools = new_pools s.stack s.scripts 66;
@@ -38,16 +38,16 @@ module _ (o : Opened) (is : AreTheFirst o) where
   placed : (writer : ℕ) → places_at routing.places writer ≡ nodes_of s.stack (todos_by work writer)
   placed writer = ap (λ (su : Setup). su.places writer) is.setup
 
-  tasks_are : states o.tasks.items ≡ tasks_of s.stack work (duties_up_to work (last_of work.rounds.items))
+  tasks_are : states o.tasks.items ≡ tasks_of s.stack work (duties_up_to work (last_round_of work.rounds.items))
   tasks_are = is.tasks ∙ sym (tasks_is s.stack s.scripts work (can o is) routing.places placed)
 
-  pub seen_so : (core : CoreState) → core.routing ≡ routing → core.objects ≡ objects_with core.routing.places → core.tasks ≡ states o.tasks.items → IsOpened s core
+  pub seen_so : (core : CoreState) → core.routing ≡ routing → core.objects ≡ objects_with core.routing.places → core.tasks ≡ states o.tasks.items → IsOpenedCore s core
   seen_so core is_routing is_objects is_tasks =
       opened_so s.stack s.scripts work (can o is) routing.places placed core (is_routing ∙ same o is)
       (is_objects ∙ ap (λ (r : Routing). objects_with r.places) is_routing) (is_tasks ∙ tasks_are)
 
-  pub seen_is_core : (own : Routing) (plain : Plain) (all : List TaskState) (places : List ℕ) → own ≡ routing → plain ≡ objects_with own.places
+  pub seen_is_core : (own : Routing) (plain : CoreObjects) (all : List TaskState) (places : List ℕ) → own ≡ routing → plain ≡ objects_with own.places
       → all ≡ states o.tasks.items → AreFound places all → IsCore own plain all places
   seen_is_core own plain all places is_own is_plain is_all found =
-      is_core s.stack s.scripts work (duties_up_to work (last_of work.rounds.items)) own plain all places (can o is)
-      (ap (λ (r : Routing). r.stack) is_own ∙ is.stack) (ap (λ (p : Plain). p.stack) is_plain) (is_all ∙ tasks_are) found
+      is_core s.stack s.scripts work (duties_up_to work (last_round_of work.rounds.items)) own plain all places (can o is)
+      (ap (λ (r : Routing). r.stack) is_own ∙ is.stack) (ap (λ (p : CoreObjects). p.stack) is_plain) (is_all ∙ tasks_are) found

@@ -32,13 +32,13 @@ use Rattle.run_machine.specs.Lines.{punted}
 use Rattle.run_machine.specs.Maps.{upd}
 use Rattle.run_machine.specs.Objects.{Objects, Opened, Has, clear_bio, clear_vector, clear_slip, done_one}
 use Rattle.plain_core.specs.Ledgers.{ledger_of}
-use Rattle.plain_core.specs.Pools.{uses, move_of, CanTake, IsTold}
-use Rattle.plain_core.specs.Books.{ended_of, end_of, IsToldBy}
+use Rattle.plain_core.specs.Pools.{uses, move_of, CanTake, IsTakeTold}
+use Rattle.plain_core.specs.Books.{ended_of_plain, end_of, IsToldBy}
 use Rattle.plain_core.specs.declared.book.Ended.{Ended}
 use Rattle.plain_core.specs.declared.book.Ended.TheVariants as ended
-use Rattle.plain_core.specs.Plain.{Plain, Gives, pool_at, rescue_at, kept_disk, disk_at, disk_or, opened_disk, book_at, objects_of}
-use Rattle.plain_core.specs.Told.{Moves, Takes, MovesAs, IsPunt, Punts, Pops, IsPush, PushesIn, Pushes, CompletesIn, IsComplete, Links, Joins, IsDrop}
-use Rattle.plain_core.specs.Steps.{IsAnswer, Refuses, HasAnswer, Answers, Lacks, TakesPart, TakesSlip, TakesVector, TakesWant}
+use Rattle.plain_core.specs.Plain.{CoreObjects, Gives, core_pool_at, core_rescue_at, kept_disk, core_disk_at, disk_or, opened_disk, core_book_at, objects_of_core}
+use Rattle.plain_core.specs.Told.{CorePoolMoves, Takes, MovesAs, IsPunt, Punts, Pops, IsPush, PushesIn, Pushes, CompletesIn, IsComplete, Links, Joins, IsDrop}
+use Rattle.plain_core.specs.Steps.{IsAnswer, Refuses, HasAnswer, AnswersRequest, Lacks, TakesPart, TakesSlip, TakesVector, TakesWant}
 use Rattle.plain_core.specs.declared.fault.CoreFault.{CoreFault}
 use Rattle.plain_core.specs.declared.fault.CoreFault.TheVariants as fault
 use Rattle.plain_core.proofs.Updated.{moves, rescue_set, book_set, disk_set, upd_here}
@@ -48,19 +48,19 @@ one : {X : Type 0} {x y : X} → Some x ≡ Some y → y ≡ x
 one same = cc
 
 -- a take that had an element
-has : (old new : Plain) (n : ℕ) (g : Got) → (g ≡ got.Missed → ⊥) → Moves old n (move_of (pool_at old n) g) new → Has (objects_of old) n g (objects_of new)
+has : (old new : CoreObjects) (n : ℕ) (g : Got) → (g ≡ got.Missed → ⊥) → CorePoolMoves old n (move_of (core_pool_at old n) g) new → Has (objects_of_core old) n g (objects_of_core new)
 has old new n got.Ordinary some m = moves old new n takes_ordinary m
 has old new n got.Spare some m = moves old new n takes_spare m
 has old new n got.Missed some m = absurd (some refl)
 
 -- an element that was had could be taken
-can_have : (old : Plain) (new : Objects) (n : ℕ) (waits : Bool) (g : Got) → Has (objects_of old) n g new → CanTake (pool_at old n) waits g
+can_have : (old : CoreObjects) (new : Objects) (n : ℕ) (waits : Bool) (g : Got) → Has (objects_of_core old) n g new → CanTake (core_pool_at old n) waits g
 can_have old new n waits got.Ordinary has = (has.0, tt)
 can_have old new n waits got.Spare has = (has.0, tt)
 can_have old new n waits got.Missed has = absurd has
 
 -- a miss that is told
-missed_told : (pool : PoolState) (waits : Bool) (id : PoolId) → IsTold pool waits got.Missed → miss_of waits (uses pool) id ≡ Some (take_of waits id got.Missed)
+missed_told : (pool : PoolState) (waits : Bool) (id : PoolId) → IsTakeTold pool waits got.Missed → miss_of waits (uses pool) id ≡ Some (take_of waits id got.Missed)
 missed_told pool true id is = rw (is refl) refl
 missed_told pool false id is = refl
 
@@ -85,109 +85,109 @@ slip_reply n got.Ordinary used = HadSlip got.Ordinary (clear_slip (ledger_of n))
 slip_reply n got.Spare used = HadSlip got.Spare (clear_slip (ledger_of n))
 slip_reply n got.Missed used = Missed used
 
-taken_bio : (old new : Plain) (set : SetId) (waits : Bool) (what : What) (g : Got)
-    → what ≡ take_of waits (bios_of set) g → CanTake (pool_at old (pool_number (bios_of set))) waits g
-    → Moves old (pool_number (bios_of set)) (move_of (pool_at old (pool_number (bios_of set))) g) new
-    → IsAnswer old (TakeBio set waits) what (bio_reply (pool_number (bios_of set)) g (uses (pool_at old (pool_number (bios_of set))))) new
-taken_bio old new set waits what got.Ordinary is can m = record { stack = ap (λ (o : Plain). o.stack) m.2; told = ap Some (sym is); serves = (moves old new _ takes_ordinary m, refl) }
-taken_bio old new set waits what got.Spare is can m = record { stack = ap (λ (o : Plain). o.stack) m.2; told = ap Some (sym is); serves = (moves old new _ takes_spare m, refl) }
+taken_bio : (old new : CoreObjects) (set : SetId) (waits : Bool) (what : What) (g : Got)
+    → what ≡ take_of waits (bios_of set) g → CanTake (core_pool_at old (pool_number (bios_of set))) waits g
+    → CorePoolMoves old (pool_number (bios_of set)) (move_of (core_pool_at old (pool_number (bios_of set))) g) new
+    → IsAnswer old (TakeBio set waits) what (bio_reply (pool_number (bios_of set)) g (uses (core_pool_at old (pool_number (bios_of set))))) new
+taken_bio old new set waits what got.Ordinary is can m = record { stack = ap (λ (o : CoreObjects). o.stack) m.2; told = ap Some (sym is); serves = (moves old new _ takes_ordinary m, refl) }
+taken_bio old new set waits what got.Spare is can m = record { stack = ap (λ (o : CoreObjects). o.stack) m.2; told = ap Some (sym is); serves = (moves old new _ takes_spare m, refl) }
 taken_bio old new set waits what got.Missed is can m = record {
-  stack = ap (λ (o : Plain). o.stack) m.2;
-  told = missed_told (pool_at old (pool_number (bios_of set))) waits (bios_of set) can.1 ∙ ap Some (sym is);
-  serves = moves old new _ (misses (uses (pool_at old (pool_number (bios_of set))))) m;
+  stack = ap (λ (o : CoreObjects). o.stack) m.2;
+  told = missed_told (core_pool_at old (pool_number (bios_of set))) waits (bios_of set) can.1 ∙ ap Some (sym is);
+  serves = moves old new _ (misses (uses (core_pool_at old (pool_number (bios_of set))))) m;
 }
 
-not_taken_bio : (old : Plain) (set : SetId) (waits : Bool) (what : What)
-    → ((g : Got) → what ≡ take_of waits (bios_of set) g → CanTake (pool_at old (pool_number (bios_of set))) waits g → ⊥) → Refuses old (TakeBio set waits) what
+not_taken_bio : (old : CoreObjects) (set : SetId) (waits : Bool) (what : What)
+    → ((g : Got) → what ≡ take_of waits (bios_of set) g → CanTake (core_pool_at old (pool_number (bios_of set))) waits g → ⊥) → Refuses old (TakeBio set waits) what
 not_taken_bio old set waits what never (HadBio g bio) new is serves = never g (one is) (can_have old new _ waits g serves.0)
 not_taken_bio old set waits what never (Missed used) new is serves =
     let t = told_missed waits used (bios_of set) what is in
     never got.Missed t.0 ((serves.0.0, refl), λ w. sym serves.0.1 ∙ t.1 w)
 not_taken_bio old set waits what never _ new is serves = absurd serves
 
-pub take_bio : (old new : Plain) (set : SetId) (waits : Bool) (what : What) (result : Result Got CoreFault)
+pub take_bio : (old new : CoreObjects) (set : SetId) (waits : Bool) (what : What) (result : Result Got CoreFault)
     → Takes old (pool_number (bios_of set)) (bios_of set) waits what result new
-    → Answers old (TakeBio set waits) what (λ g. bio_reply (pool_number (bios_of set)) g (uses (pool_at old (pool_number (bios_of set))))) result new
+    → AnswersRequest old (TakeBio set waits) what (λ g. bio_reply (pool_number (bios_of set)) g (uses (core_pool_at old (pool_number (bios_of set))))) result new
 take_bio old new set waits what (Ok g) t = taken_bio old new set waits what g t.0 t.1 t.2
 take_bio old new set waits what (Err fault.NotEnabled) t = (t.0, not_taken_bio old set waits what t.1)
 take_bio old new set waits what (Err fault.Memory) t = absurd t
 
-taken_vec : (old new : Plain) (what : What) (g : Got) → what ≡ take_of true FsVecs g → CanTake (pool_at old 64) true g
-    → Moves old 64 (move_of (pool_at old 64) g) new → IsAnswer old TakeVec what (vec_reply 64 g (uses (pool_at old 64))) new
-taken_vec old new what got.Ordinary is can m = record { stack = ap (λ (o : Plain). o.stack) m.2; told = ap Some (sym is); serves = (moves old new _ takes_ordinary m, refl) }
-taken_vec old new what got.Spare is can m = record { stack = ap (λ (o : Plain). o.stack) m.2; told = ap Some (sym is); serves = (moves old new _ takes_spare m, refl) }
+taken_vec : (old new : CoreObjects) (what : What) (g : Got) → what ≡ take_of true FsVecs g → CanTake (core_pool_at old 64) true g
+    → CorePoolMoves old 64 (move_of (core_pool_at old 64) g) new → IsAnswer old TakeVec what (vec_reply 64 g (uses (core_pool_at old 64))) new
+taken_vec old new what got.Ordinary is can m = record { stack = ap (λ (o : CoreObjects). o.stack) m.2; told = ap Some (sym is); serves = (moves old new _ takes_ordinary m, refl) }
+taken_vec old new what got.Spare is can m = record { stack = ap (λ (o : CoreObjects). o.stack) m.2; told = ap Some (sym is); serves = (moves old new _ takes_spare m, refl) }
 taken_vec old new what got.Missed is can m = record {
-  stack = ap (λ (o : Plain). o.stack) m.2;
-  told = missed_told (pool_at old 64) true FsVecs can.1 ∙ ap Some (sym is);
-  serves = moves old new _ (misses (uses (pool_at old 64))) m;
+  stack = ap (λ (o : CoreObjects). o.stack) m.2;
+  told = missed_told (core_pool_at old 64) true FsVecs can.1 ∙ ap Some (sym is);
+  serves = moves old new _ (misses (uses (core_pool_at old 64))) m;
 }
 
-not_taken_vec : (old : Plain) (what : What) → ((g : Got) → what ≡ take_of true FsVecs g → CanTake (pool_at old 64) true g → ⊥) → Refuses old TakeVec what
+not_taken_vec : (old : CoreObjects) (what : What) → ((g : Got) → what ≡ take_of true FsVecs g → CanTake (core_pool_at old 64) true g → ⊥) → Refuses old TakeVec what
 not_taken_vec old what never (HadVec g vector) new is serves = never g (one is) (can_have old new 64 true g serves.0)
 not_taken_vec old what never (Missed used) new is serves =
     let t = told_missed true used FsVecs what is in
     never got.Missed t.0 ((serves.0.0, refl), λ w. sym serves.0.1 ∙ t.1 w)
 not_taken_vec old what never _ new is serves = absurd serves
 
-pub take_vec : (old new : Plain) (what : What) (result : Result Got CoreFault) → Takes old 64 FsVecs true what result new
-    → Answers old TakeVec what (λ g. vec_reply 64 g (uses (pool_at old 64))) result new
+pub take_vec : (old new : CoreObjects) (what : What) (result : Result Got CoreFault) → Takes old 64 FsVecs true what result new
+    → AnswersRequest old TakeVec what (λ g. vec_reply 64 g (uses (core_pool_at old 64))) result new
 take_vec old new what (Ok g) t = taken_vec old new what g t.0 t.1 t.2
 take_vec old new what (Err fault.NotEnabled) t = (t.0, not_taken_vec old what t.1)
 take_vec old new what (Err fault.Memory) t = absurd t
 
-taken_slip : (old new : Plain) (dev : DevId) (what : What) (g : Got) → what ≡ take_of true (Records dev) g
-    → CanTake (pool_at old (pool_number (Records dev))) true g → Moves old (pool_number (Records dev)) (move_of (pool_at old (pool_number (Records dev))) g) new
-    → IsAnswer old (TakeSlip dev) what (slip_reply (pool_number (Records dev)) g (uses (pool_at old (pool_number (Records dev))))) new
-taken_slip old new dev what got.Ordinary is can m = record { stack = ap (λ (o : Plain). o.stack) m.2; told = ap Some (sym is); serves = (moves old new _ takes_ordinary m, refl) }
-taken_slip old new dev what got.Spare is can m = record { stack = ap (λ (o : Plain). o.stack) m.2; told = ap Some (sym is); serves = (moves old new _ takes_spare m, refl) }
+taken_slip : (old new : CoreObjects) (dev : DevId) (what : What) (g : Got) → what ≡ take_of true (Records dev) g
+    → CanTake (core_pool_at old (pool_number (Records dev))) true g → CorePoolMoves old (pool_number (Records dev)) (move_of (core_pool_at old (pool_number (Records dev))) g) new
+    → IsAnswer old (TakeSlip dev) what (slip_reply (pool_number (Records dev)) g (uses (core_pool_at old (pool_number (Records dev))))) new
+taken_slip old new dev what got.Ordinary is can m = record { stack = ap (λ (o : CoreObjects). o.stack) m.2; told = ap Some (sym is); serves = (moves old new _ takes_ordinary m, refl) }
+taken_slip old new dev what got.Spare is can m = record { stack = ap (λ (o : CoreObjects). o.stack) m.2; told = ap Some (sym is); serves = (moves old new _ takes_spare m, refl) }
 taken_slip old new dev what got.Missed is can m = record {
-  stack = ap (λ (o : Plain). o.stack) m.2;
-  told = missed_told (pool_at old (pool_number (Records dev))) true (Records dev) can.1 ∙ ap Some (sym is);
-  serves = moves old new _ (misses (uses (pool_at old (pool_number (Records dev))))) m;
+  stack = ap (λ (o : CoreObjects). o.stack) m.2;
+  told = missed_told (core_pool_at old (pool_number (Records dev))) true (Records dev) can.1 ∙ ap Some (sym is);
+  serves = moves old new _ (misses (uses (core_pool_at old (pool_number (Records dev))))) m;
 }
 
-not_taken_slip : (old : Plain) (dev : DevId) (what : What)
-    → ((g : Got) → what ≡ take_of true (Records dev) g → CanTake (pool_at old (pool_number (Records dev))) true g → ⊥) → Refuses old (TakeSlip dev) what
+not_taken_slip : (old : CoreObjects) (dev : DevId) (what : What)
+    → ((g : Got) → what ≡ take_of true (Records dev) g → CanTake (core_pool_at old (pool_number (Records dev))) true g → ⊥) → Refuses old (TakeSlip dev) what
 not_taken_slip old dev what never (HadSlip g slip) new is serves = never g (one is) (can_have old new _ true g serves.0)
 not_taken_slip old dev what never (Missed used) new is serves =
     let t = told_missed true used (Records dev) what is in
     never got.Missed t.0 ((serves.0.0, refl), λ w. sym serves.0.1 ∙ t.1 w)
 not_taken_slip old dev what never _ new is serves = absurd serves
 
-pub take_slip : (old new : Plain) (dev : DevId) (what : What) (result : Result Got CoreFault) → Takes old (pool_number (Records dev)) (Records dev) true what result new
-    → Answers old (TakeSlip dev) what (λ g. slip_reply (pool_number (Records dev)) g (uses (pool_at old (pool_number (Records dev))))) result new
+pub take_slip : (old new : CoreObjects) (dev : DevId) (what : What) (result : Result Got CoreFault) → Takes old (pool_number (Records dev)) (Records dev) true what result new
+    → AnswersRequest old (TakeSlip dev) what (λ g. slip_reply (pool_number (Records dev)) g (uses (core_pool_at old (pool_number (Records dev))))) result new
 take_slip old new dev what (Ok g) t = taken_slip old new dev what g t.0 t.1 t.2
 take_slip old new dev what (Err fault.NotEnabled) t = (t.0, not_taken_slip old dev what t.1)
 take_slip old new dev what (Err fault.Memory) t = absurd t
 
 -- gives
-not_given_bio : (old : Plain) (bio : Item Pad) (what : What) → (what ≡ told.Give (pool_of bio.share.no) → CanMove (pool_at old bio.share.no) gives → ⊥) → Refuses old (GiveBio bio) what
+not_given_bio : (old : CoreObjects) (bio : Item Pad) (what : What) → (what ≡ told.Give (pool_of bio.share.no) → CanMove (core_pool_at old bio.share.no) gives → ⊥) → Refuses old (GiveBio bio) what
 not_given_bio old bio what never Did new is serves = never (one is) serves.0
 not_given_bio old bio what never _ new is serves = absurd serves
 
-pub give_bio : (old new : Plain) (bio : Item Pad) (what : What) (result : Result (Unit {0}) CoreFault)
-    → MovesAs old bio.share.no gives (told.Give (pool_of bio.share.no)) what result new → Answers old (GiveBio bio) what (λ d. Did) result new
-give_bio old new bio what (Ok d) t = record { stack = ap (λ (o : Plain). o.stack) t.1.2; told = ap Some (sym t.0); serves = moves old new _ gives t.1 }
+pub give_bio : (old new : CoreObjects) (bio : Item Pad) (what : What) (result : Result (Unit {0}) CoreFault)
+    → MovesAs old bio.share.no gives (told.Give (pool_of bio.share.no)) what result new → AnswersRequest old (GiveBio bio) what (λ d. Did) result new
+give_bio old new bio what (Ok d) t = record { stack = ap (λ (o : CoreObjects). o.stack) t.1.2; told = ap Some (sym t.0); serves = moves old new _ gives t.1 }
 give_bio old new bio what (Err fault.NotEnabled) t = (t.0, not_given_bio old bio what t.1)
 give_bio old new bio what (Err fault.Memory) t = absurd t
 
-not_given_vec : (old : Plain) (vector : VectorItem) (what : What) → (what ≡ told.Give (pool_of vector.share.no) → CanMove (pool_at old vector.share.no) gives → ⊥) → Refuses old (GiveVec vector) what
+not_given_vec : (old : CoreObjects) (vector : VectorItem) (what : What) → (what ≡ told.Give (pool_of vector.share.no) → CanMove (core_pool_at old vector.share.no) gives → ⊥) → Refuses old (GiveVec vector) what
 not_given_vec old vector what never Did new is serves = never (one is) serves.0
 not_given_vec old vector what never _ new is serves = absurd serves
 
-pub give_vec : (old new : Plain) (vector : VectorItem) (what : What) (result : Result (Unit {0}) CoreFault)
-    → MovesAs old vector.share.no gives (told.Give (pool_of vector.share.no)) what result new → Answers old (GiveVec vector) what (λ d. Did) result new
-give_vec old new vector what (Ok d) t = record { stack = ap (λ (o : Plain). o.stack) t.1.2; told = ap Some (sym t.0); serves = moves old new _ gives t.1 }
+pub give_vec : (old new : CoreObjects) (vector : VectorItem) (what : What) (result : Result (Unit {0}) CoreFault)
+    → MovesAs old vector.share.no gives (told.Give (pool_of vector.share.no)) what result new → AnswersRequest old (GiveVec vector) what (λ d. Did) result new
+give_vec old new vector what (Ok d) t = record { stack = ap (λ (o : CoreObjects). o.stack) t.1.2; told = ap Some (sym t.0); serves = moves old new _ gives t.1 }
 give_vec old new vector what (Err fault.NotEnabled) t = (t.0, not_given_vec old vector what t.1)
 give_vec old new vector what (Err fault.Memory) t = absurd t
 
-not_given_slip : (old : Plain) (slip : SlipItem) (what : What) → (what ≡ told.Give (pool_of slip.share.no) → CanMove (pool_at old slip.share.no) gives → ⊥) → Refuses old (GiveSlip slip) what
+not_given_slip : (old : CoreObjects) (slip : SlipItem) (what : What) → (what ≡ told.Give (pool_of slip.share.no) → CanMove (core_pool_at old slip.share.no) gives → ⊥) → Refuses old (GiveSlip slip) what
 not_given_slip old slip what never Did new is serves = never (one is) serves.0
 not_given_slip old slip what never _ new is serves = absurd serves
 
-pub give_slip : (old new : Plain) (slip : SlipItem) (what : What) (result : Result (Unit {0}) CoreFault)
-    → MovesAs old slip.share.no gives (told.Give (pool_of slip.share.no)) what result new → Answers old (GiveSlip slip) what (λ d. Did) result new
-give_slip old new slip what (Ok d) t = record { stack = ap (λ (o : Plain). o.stack) t.1.2; told = ap Some (sym t.0); serves = moves old new _ gives t.1 }
+pub give_slip : (old new : CoreObjects) (slip : SlipItem) (what : What) (result : Result (Unit {0}) CoreFault)
+    → MovesAs old slip.share.no gives (told.Give (pool_of slip.share.no)) what result new → AnswersRequest old (GiveSlip slip) what (λ d. Did) result new
+give_slip old new slip what (Ok d) t = record { stack = ap (λ (o : CoreObjects). o.stack) t.1.2; told = ap Some (sym t.0); serves = moves old new _ gives t.1 }
 give_slip old new slip what (Err fault.NotEnabled) t = (t.0, not_given_slip old slip what t.1)
 give_slip old new slip what (Err fault.Memory) t = absurd t
 
@@ -199,18 +199,18 @@ resized_by : (pool : PoolId) (min : ℕ) (what : What) (none : Bool) → resize_
 resized_by pool min what true is = (refl, one is)
 resized_by pool min what false is = absurd cc
 
-not_resized : (old : Plain) (pool : PoolId) (min : ℕ) (what : What)
-    → (what ≡ told.Resize pool min → CanMove (pool_at old (pool_number pool)) (resizes min) → ⊥) → Refuses old (Resize pool min) what
+not_resized : (old : CoreObjects) (pool : PoolId) (min : ℕ) (what : What)
+    → (what ≡ told.Resize pool min → CanMove (core_pool_at old (pool_number pool)) (resizes min) → ⊥) → Refuses old (Resize pool min) what
 not_resized old pool min what never (OutIs out) new is serves =
     let t = resized_by pool min what (out == 0) is in
     let none : out ≡ 0 = grind (arith, nat_tests, t.0) in
     never t.1 (sym serves.0 ∙ none)
 not_resized old pool min what never _ new is serves = absurd serves
 
-pub resize : (old new : Plain) (pool : PoolId) (min : ℕ) (what : What) (result : Result (Unit {0}) CoreFault)
-    → MovesAs old (pool_number pool) (resizes min) (told.Resize pool min) what result new → Answers old (Resize pool min) what (λ d. OutIs 0) result new
+pub resize : (old new : CoreObjects) (pool : PoolId) (min : ℕ) (what : What) (result : Result (Unit {0}) CoreFault)
+    → MovesAs old (pool_number pool) (resizes min) (told.Resize pool min) what result new → AnswersRequest old (Resize pool min) what (λ d. OutIs 0) result new
 resize old new pool min what (Ok d) t = record {
-  stack = ap (λ (o : Plain). o.stack) t.1.2;
+  stack = ap (λ (o : CoreObjects). o.stack) t.1.2;
   told = ap Some (sym t.0);
   serves = (sym t.1.0, (moves old new _ (resizes min) t.1).1);
 }
@@ -218,28 +218,28 @@ resize old new pool min what (Err fault.NotEnabled) t = (t.0, not_resized old po
 resize old new pool min what (Err fault.Memory) t = absurd t
 
 -- rescuers
-pub punt_answer : (old new : Plain) (dev : DevId) (lists : TaskLists) (what : What) → IsPunt lists dev what
-    → rescue_at new dev.0 ≡ rescue_at old dev.0 ++ punted dev lists → new ≡ record old { rescues = slice_set old.rescues dev.0 (rescue_at new dev.0) }
+pub punt_answer : (old new : CoreObjects) (dev : DevId) (lists : TaskLists) (what : What) → IsPunt lists dev what
+    → core_rescue_at new dev.0 ≡ core_rescue_at old dev.0 ++ punted dev lists → new ≡ record old { rescues = slice_set old.rescues dev.0 (core_rescue_at new dev.0) }
     → IsAnswer old (Punt dev (punted dev lists)) what Did new
 punt_answer old new dev lists what is added set = record {
-  stack = ap (λ (o : Plain). o.stack) set;
+  stack = ap (λ (o : CoreObjects). o.stack) set;
   told = ap Some (sym is);
-  serves = rescue_set old new dev.0 set ∙ ap (λ bios. record (objects_of old) { rescue = upd (rescue_at old) dev.0 bios }) added;
+  serves = rescue_set old new dev.0 set ∙ ap (λ bios. record (objects_of_core old) { rescue = upd (core_rescue_at old) dev.0 bios }) added;
 }
 
-pub not_punted : (old : Plain) (dev : DevId) (lists : TaskLists) (what : What) → (IsPunt lists dev what → ⊥) → Refuses old (Punt dev (punted dev lists)) what
+pub not_punted : (old : CoreObjects) (dev : DevId) (lists : TaskLists) (what : What) → (IsPunt lists dev what → ⊥) → Refuses old (Punt dev (punted dev lists)) what
 not_punted old dev lists what never Did new is serves = never (one is)
 not_punted old dev lists what never _ new is serves = absurd serves
 
-can_punt : (old : Plain) (dev : DevId) (lists : TaskLists) (what : What) → IsPunt lists dev what → HasAnswer old (Punt dev (punted dev lists)) what
+can_punt : (old : CoreObjects) (dev : DevId) (lists : TaskLists) (what : What) → IsPunt lists dev what → HasAnswer old (Punt dev (punted dev lists)) what
 can_punt old dev lists what is = record {
   reply = Did;
-  new = record (objects_of old) { rescue = upd (rescue_at old) dev.0 (rescue_at old dev.0 ++ punted dev lists) };
+  new = record (objects_of_core old) { rescue = upd (core_rescue_at old) dev.0 (core_rescue_at old dev.0 ++ punted dev lists) };
   told = ap Some (sym is);
   serves = refl;
 }
 
-pub punt_failed : (old new : Plain) (dev other : DevId) (lists rest : TaskLists) (what : What) (e : CoreFault) → dev ≡ other → Punts old lists dev what (Err e) new rest
+pub punt_failed : (old new : CoreObjects) (dev other : DevId) (lists rest : TaskLists) (what : What) (e : CoreFault) → dev ≡ other → Punts old lists dev what (Err e) new rest
     → Lacks old (Punt other (punted other lists)) what e new × (rest ≡ lists)
 punt_failed old new dev other lists rest what e is p = by e (subst (λ d. Punts old lists d what (Err e) new rest) is p)
   where
@@ -247,20 +247,20 @@ punt_failed old new dev other lists rest what e is p = by e (subst (λ d. Punts 
     by fault.NotEnabled p = ((p.0, not_punted old other lists what p.2), p.1)
     by fault.Memory p = ((p.0, can_punt old other lists what p.2), p.1)
 
-not_popped : (old : Plain) (dev : DevId) (what : What)
-    → ((part : Item Pad) (rest : List (Item Pad)) → what ≡ told.Pop dev → rescue_at old dev.0 ≡ part ∷ rest → ⊥) → Refuses old (Pop dev) what
+not_popped : (old : CoreObjects) (dev : DevId) (what : What)
+    → ((part : Item Pad) (rest : List (Item Pad)) → what ≡ told.Pop dev → core_rescue_at old dev.0 ≡ part ∷ rest → ⊥) → Refuses old (Pop dev) what
 not_popped old dev what never (Popped bio) new is serves = never bio (new.rescue dev.0) (one is) serves.0
 not_popped old dev what never Nothing new is serves = absurd cc
 not_popped old dev what never _ new is serves = absurd serves
 
-pub pop : (old new : Plain) (dev : DevId) (what : What) (result : Result (Item Pad) CoreFault) → Pops old dev what result new → Answers old (Pop dev) what Popped result new
-pop old new dev what (Ok part) t = record { stack = ap (λ (o : Plain). o.stack) t.2; told = ap Some (sym t.0); serves = (t.1, rescue_set old new dev.0 t.2) }
+pub pop : (old new : CoreObjects) (dev : DevId) (what : What) (result : Result (Item Pad) CoreFault) → Pops old dev what result new → AnswersRequest old (Pop dev) what Popped result new
+pop old new dev what (Ok part) t = record { stack = ap (λ (o : CoreObjects). o.stack) t.2; told = ap Some (sym t.0); serves = (t.1, rescue_set old new dev.0 t.2) }
 pop old new dev what (Err fault.NotEnabled) t = (t.0, not_popped old dev what t.1)
 pop old new dev what (Err fault.Memory) t = absurd t
 
 -- disks
-pushed_at : (old new : Plain) (part : Item Pad) → PushesIn (kept_disk old part.bio.dev.0) part (kept_disk new part.bio.dev.0)
-    → disk_at new part.bio.dev.0 ≡ pushed part (disk_at old part.bio.dev.0)
+pushed_at : (old new : CoreObjects) (part : Item Pad) → PushesIn (kept_disk old part.bio.dev.0) part (kept_disk new part.bio.dev.0)
+    → core_disk_at new part.bio.dev.0 ≡ pushed part (core_disk_at old part.bio.dev.0)
 pushed_at old new part is = at (kept_disk old part.bio.dev.0) (kept_disk new part.bio.dev.0) is
   where
     at : (before after : Option DiskState) → PushesIn before part after
@@ -268,31 +268,31 @@ pushed_at old new part is = at (kept_disk old part.bio.dev.0) (kept_disk new par
     at None after is = absurd is
     at (Some disk) after is = rw is refl
 
-pub not_pushed : (old : Plain) (part : Item Pad) (what : What) → (IsPush part what → ⊥) → Refuses old (Push part) what
+pub not_pushed : (old : CoreObjects) (part : Item Pad) (what : What) → (IsPush part what → ⊥) → Refuses old (Push part) what
 not_pushed old part what never Did new is serves = never (one is)
 not_pushed old part what never _ new is serves = absurd serves
 
-pub push : (old new : Plain) (part : Item Pad) (what : What) → Pushes old part what (Ok (tt {0})) new → IsAnswer old (Push part) what Did new
+pub push : (old new : CoreObjects) (part : Item Pad) (what : What) → Pushes old part what (Ok (tt {0})) new → IsAnswer old (Push part) what Did new
 push old new part what t = record {
-  stack = ap (λ (o : Plain). o.stack) t.2;
+  stack = ap (λ (o : CoreObjects). o.stack) t.2;
   told = ap Some (sym t.0);
-  serves = disk_set old new part.bio.dev.0 t.2 ∙ ap (λ disk. record (objects_of old) { disk = upd (disk_at old) part.bio.dev.0 disk }) (pushed_at old new part t.1);
+  serves = disk_set old new part.bio.dev.0 t.2 ∙ ap (λ disk. record (objects_of_core old) { disk = upd (core_disk_at old) part.bio.dev.0 disk }) (pushed_at old new part t.1);
 }
 
-can_push : (old : Plain) (part : Item Pad) (what : What) → IsPush part what → HasAnswer old (Push part) what
+can_push : (old : CoreObjects) (part : Item Pad) (what : What) → IsPush part what → HasAnswer old (Push part) what
 can_push old part what is = record {
   reply = Did;
-  new = record (objects_of old) { disk = upd (disk_at old) part.bio.dev.0 (pushed part (disk_at old part.bio.dev.0)) };
+  new = record (objects_of_core old) { disk = upd (core_disk_at old) part.bio.dev.0 (pushed part (core_disk_at old part.bio.dev.0)) };
   told = ap Some (sym is);
   serves = refl;
 }
 
-pub push_failed : (old new : Plain) (part : Item Pad) (what : What) (e : CoreFault) → Pushes old part what (Err e) new → Lacks old (Push part) what e new
+pub push_failed : (old new : CoreObjects) (part : Item Pad) (what : What) (e : CoreFault) → Pushes old part what (Err e) new → Lacks old (Push part) what e new
 push_failed old new part what fault.NotEnabled p = (p.0, not_pushed old part what p.1)
 push_failed old new part what fault.Memory p = (p.0, can_push old part what p.1)
 
-completed_at : (old new : Plain) (dev : ℕ) (index : ℕ) (part : Item Pad) (status : Status) → CompletesIn (kept_disk old dev) index part status (kept_disk new dev)
-    → Completes (disk_at old dev) index part status (disk_at new dev)
+completed_at : (old new : CoreObjects) (dev : ℕ) (index : ℕ) (part : Item Pad) (status : Status) → CompletesIn (kept_disk old dev) index part status (kept_disk new dev)
+    → Completes (core_disk_at old dev) index part status (core_disk_at new dev)
 completed_at old new dev index part status is = at (kept_disk old dev) (kept_disk new dev) is
   where
     at : (before after : Option DiskState) → CompletesIn before index part status after
@@ -302,7 +302,7 @@ completed_at old new dev index part status is = at (kept_disk old dev) (kept_dis
     at None after is = absurd is
 
 -- a disk that completes a bio is kept, since in others none waits
-kept_of : (old : Plain) (dev index : ℕ) (part : Item Pad) (status : Status) (after : DiskState) → Completes (disk_at old dev) index part status after
+kept_of : (old : CoreObjects) (dev index : ℕ) (part : Item Pad) (status : Status) (after : DiskState) → Completes (core_disk_at old dev) index part status after
     → CompletesIn (kept_disk old dev) index part status (Some after)
 kept_of old dev index part status after is = at (kept_disk old dev) is
   where
@@ -310,7 +310,7 @@ kept_of old dev index part status after is = at (kept_disk old dev) is
     at (Some disk) is = is
     at None is = absurd (let none : None ≡ Some part = is.taken in cc)
 
-not_completed : (old : Plain) (disk : DevId) (what : What)
+not_completed : (old : CoreObjects) (disk : DevId) (what : What)
     → ((index : ℕ) (part : Item Pad) (status : Status) (after : Option DiskState) → what ≡ told.Complete disk index status
     → CompletesIn (kept_disk old disk.0) index part status after → ⊥) → Refuses old (Complete disk) what
 not_completed old disk what never (Completed index bio status) new is serves =
@@ -318,10 +318,10 @@ not_completed old disk what never (Completed index bio status) new is serves =
 not_completed old disk what never Nothing new is serves = absurd cc
 not_completed old disk what never _ new is serves = absurd serves
 
-pub complete : (old new : Plain) (disk : DevId) (what : What) (result : Result (ℕ × Item Pad × Status) CoreFault) → IsComplete old disk what result new
-    → Answers old (Complete disk) what (λ done. Completed done.0 done.1 done.2) result new
+pub complete : (old new : CoreObjects) (disk : DevId) (what : What) (result : Result (ℕ × Item Pad × Status) CoreFault) → IsComplete old disk what result new
+    → AnswersRequest old (Complete disk) what (λ done. Completed done.0 done.1 done.2) result new
 complete old new disk what (Ok done) t = record {
-  stack = ap (λ (o : Plain). o.stack) t.2;
+  stack = ap (λ (o : CoreObjects). o.stack) t.2;
   told = ap Some (sym t.0);
   serves = (completed_at old new disk.0 done.0 done.1 done.2 t.1, disk_set old new disk.0 t.2);
 }
@@ -329,62 +329,62 @@ complete old new disk what (Err fault.NotEnabled) t = (t.0, not_completed old di
 complete old new disk what (Err fault.Memory) t = absurd t
 
 -- books
-not_linked : (old : Plain) (writer : ℕ) (opening : Opening) (what : What)
-    → ((node : ℕ) (book : BookState) → what ≡ told.Link writer (how_of opening) node → Opened (book_at old writer) opening (Made node) book → ⊥)
+not_linked : (old : CoreObjects) (writer : ℕ) (opening : Opening) (what : What)
+    → ((node : ℕ) (book : BookState) → what ≡ told.Link writer (how_of opening) node → Opened (core_book_at old writer) opening (Made node) book → ⊥)
     → Refuses old (Link writer opening) what
 not_linked old writer opening what never (LinkedTo (Made node)) new is serves = never node (new.book writer) (one is) serves.0
 not_linked old writer opening what never (LinkedTo (NoRoom back)) new is serves = absurd cc
 not_linked old writer opening what never (LinkedTo (Stray back)) new is serves = absurd cc
 not_linked old writer opening what never _ new is serves = absurd serves
 
-pub link : (old new : Plain) (writer : ℕ) (opening : Opening) (what : What) (result : Result ℕ CoreFault) → Links old writer opening what result new
-    → Answers old (Link writer opening) what (λ node. LinkedTo (Made node)) result new
+pub link : (old new : CoreObjects) (writer : ℕ) (opening : Opening) (what : What) (result : Result ℕ CoreFault) → Links old writer opening what result new
+    → AnswersRequest old (Link writer opening) what (λ node. LinkedTo (Made node)) result new
 link old new writer opening what (Ok node) t = record {
-  stack = ap (λ (o : Plain). o.stack) t.2;
+  stack = ap (λ (o : CoreObjects). o.stack) t.2;
   told = ap Some (sym t.0);
   serves = (t.1, book_set old new writer t.2);
 }
 link old new writer opening what (Err fault.NotEnabled) t = (t.0, not_linked old writer opening what t.1)
 link old new writer opening what (Err fault.Memory) t = absurd t
 
-pub joined : (old new : Plain) (writer node : ℕ) (opening : Opening) (what : What) → Joins old writer opening what (Ok node) new
+pub joined : (old new : CoreObjects) (writer node : ℕ) (opening : Opening) (what : What) → Joins old writer opening what (Ok node) new
     → IsAnswer old (Link writer opening) what (LinkedTo (Made node)) new
 joined old new writer node opening what t = link old new writer opening what (Ok node) t
 
-can_link : (old : Plain) (writer : ℕ) (opening : Opening) (what : What) (node : ℕ) (book : BookState) → what ≡ told.Link writer (how_of opening) node
-    → Opened (book_at old writer) opening (Made node) book → HasAnswer old (Link writer opening) what
+can_link : (old : CoreObjects) (writer : ℕ) (opening : Opening) (what : What) (node : ℕ) (book : BookState) → what ≡ told.Link writer (how_of opening) node
+    → Opened (core_book_at old writer) opening (Made node) book → HasAnswer old (Link writer opening) what
 can_link old writer opening what node book is opened =
-    let here = sym (upd_here (book_at old) writer book) in
+    let here = sym (upd_here (core_book_at old) writer book) in
     record {
       reply = LinkedTo (Made node);
-      new = record (objects_of old) { book = upd (book_at old) writer book };
+      new = record (objects_of_core old) { book = upd (core_book_at old) writer book };
       told = ap Some (sym is);
-      serves = (subst (Opened (book_at old writer) opening (Made node)) here opened, ap (λ b. record (objects_of old) { book = upd (book_at old) writer b }) here);
+      serves = (subst (Opened (core_book_at old writer) opening (Made node)) here opened, ap (λ b. record (objects_of_core old) { book = upd (core_book_at old) writer b }) here);
     }
 
-pub join_failed : (old new : Plain) (writer : ℕ) (opening : Opening) (what : What) (e : CoreFault) → Joins old writer opening what (Err e) new
+pub join_failed : (old new : CoreObjects) (writer : ℕ) (opening : Opening) (what : What) (e : CoreFault) → Joins old writer opening what (Err e) new
     → Lacks old (Link writer opening) what e new
 join_failed old new writer opening what fault.NotEnabled t = link old new writer opening what (Err fault.NotEnabled) t
 join_failed old new writer opening what fault.Memory t = (t.0, can_link old writer opening what t.1 t.2 t.3 t.4)
 
-not_dropped : (old : Plain) (writer place : ℕ) (status : Status) (part : Option (Item Pad)) (what : What)
+not_dropped : (old : CoreObjects) (writer place : ℕ) (status : Status) (part : Option (Item Pad)) (what : What)
     → ((end : End) (answer : drop.Ended) (book : BookState) → what ≡ told.Drop writer place status end → IsToldBy end answer
-    → Drops (book_at old writer) place status part answer book → ⊥) → Refuses old (Drop writer place status part) what
+    → Drops (core_book_at old writer) place status part answer book → ⊥) → Refuses old (Drop writer place status part) what
 not_dropped old writer place status part what never (DroppedTo drop.Left) new is serves = never ends.Left drop.Left (new.book writer) (one is) tt serves.0
 not_dropped old writer place status part what never (DroppedTo (drop.Up closed)) new is serves = never ends.Up (drop.Up closed) (new.book writer) (one is) tt serves.0
 not_dropped old writer place status part what never (DroppedTo (drop.Top closed)) new is serves = never ends.Top (drop.Top closed) (new.book writer) (one is) tt serves.0
 not_dropped old writer place status part what never (DroppedTo (drop.Stray back)) new is serves = absurd cc
 not_dropped old writer place status part what never _ new is serves = absurd serves
 
-told_drop : (writer place : ℕ) (status : Status) (e : Ended) → drop_of writer place status (ended_of e) ≡ Some (told.Drop writer place status (end_of e))
+told_drop : (writer place : ℕ) (status : Status) (e : Ended) → drop_of writer place status (ended_of_plain e) ≡ Some (told.Drop writer place status (end_of e))
 told_drop writer place status ended.Left = refl
 told_drop writer place status (ended.Up closed) = refl
 told_drop writer place status (ended.Top closed) = refl
 
-pub tell : (old new : Plain) (writer place : ℕ) (status : Status) (part : Option (Item Pad)) (what : What) (result : Result Ended CoreFault)
-    → IsDrop old writer place status part what result new → Answers old (Drop writer place status part) what (λ e. DroppedTo (ended_of e)) result new
+pub tell : (old new : CoreObjects) (writer place : ℕ) (status : Status) (part : Option (Item Pad)) (what : What) (result : Result Ended CoreFault)
+    → IsDrop old writer place status part what result new → AnswersRequest old (Drop writer place status part) what (λ e. DroppedTo (ended_of_plain e)) result new
 tell old new writer place status part what (Ok e) t = record {
-  stack = ap (λ (o : Plain). o.stack) t.2;
+  stack = ap (λ (o : CoreObjects). o.stack) t.2;
   told = told_drop writer place status e ∙ ap Some (sym t.0);
   serves = (t.1, book_set old new writer t.2);
 }
@@ -392,57 +392,57 @@ tell old new writer place status part what (Err fault.NotEnabled) t = (t.0, not_
 tell old new writer place status part what (Err fault.Memory) t = absurd t
 
 -- the tally
-not_done : (old : Plain) (write : ℕ) (status : Status) (what : What) → (what ≡ told.Done write status → ⊥) → Refuses old (Done write status) what
+not_done : (old : CoreObjects) (write : ℕ) (status : Status) (what : What) → (what ≡ told.Done write status → ⊥) → Refuses old (Done write status) what
 not_done old write status what never Did new is serves = never (one is)
 not_done old write status what never _ new is serves = absurd serves
 
-pub done : (old new : Plain) (write : ℕ) (status : Status) (what : What) (result : Result (Unit {0}) CoreFault)
+pub done : (old new : CoreObjects) (write : ℕ) (status : Status) (what : What) (result : Result (Unit {0}) CoreFault)
     → Gives old (λ d next. (what ≡ told.Done write status) × (next ≡ record old { tally = done_one write status old.tally })) (what ≡ told.Done write status → ⊥) result new
-    → Answers old (Done write status) what (λ d. Did) result new
-done old new write status what (Ok d) t = record { stack = ap (λ (o : Plain). o.stack) t.1; told = ap Some (sym t.0); serves = ap objects_of t.1 }
+    → AnswersRequest old (Done write status) what (λ d. Did) result new
+done old new write status what (Ok d) t = record { stack = ap (λ (o : CoreObjects). o.stack) t.1; told = ap Some (sym t.0); serves = ap objects_of_core t.1 }
 done old new write status what (Err fault.NotEnabled) t = (t.0, not_done old write status what t.1)
 done old new write status what (Err fault.Memory) t = absurd t
 
-not_started : (old : Plain) (round : ℕ) (what : What) → (what ≡ told.Round round → old.tally.round + 1 < length old.tally.left → ⊥) → Refuses old (NextRound round) what
+not_started : (old : CoreObjects) (round : ℕ) (what : What) → (what ≡ told.Round round → old.tally.round + 1 < length old.tally.left → ⊥) → Refuses old (NextRound round) what
 not_started old round what never Did new is serves = never (one is) serves.0
 not_started old round what never _ new is serves = absurd serves
 
-pub next_round : (old new : Plain) (round : ℕ) (what : What) (result : Result (Unit {0}) CoreFault)
+pub next_round : (old new : CoreObjects) (round : ℕ) (what : What) (result : Result (Unit {0}) CoreFault)
     → Gives old (λ d next. (what ≡ told.Round round) × (old.tally.round + 1 < length old.tally.left)
     × (next ≡ record old { tally = record old.tally { round = old.tally.round + 1 } }))
     (what ≡ told.Round round → old.tally.round + 1 < length old.tally.left → ⊥) result new
-    → Answers old (NextRound round) what (λ d. Did) result new
-next_round old new round what (Ok d) t = record { stack = ap (λ (o : Plain). o.stack) t.2; told = ap Some (sym t.0); serves = (t.1, ap objects_of t.2) }
+    → AnswersRequest old (NextRound round) what (λ d. Did) result new
+next_round old new round what (Ok d) t = record { stack = ap (λ (o : CoreObjects). o.stack) t.2; told = ap Some (sym t.0); serves = (t.1, ap objects_of_core t.2) }
 next_round old new round what (Err fault.NotEnabled) t = (t.0, not_started old round what t.1)
 next_round old new round what (Err fault.Memory) t = absurd t
 
 -- attempts, as a task sees them
-pub part_failed : (old new : Plain) (set : SetId) (waits : Bool) (what : What) (e : CoreFault)
+pub part_failed : (old new : CoreObjects) (set : SetId) (waits : Bool) (what : What) (e : CoreFault)
     → Takes old (pool_number (bios_of set)) (bios_of set) waits what (Err e) new → TakesPart old set waits what (Err e) new
 part_failed old new set waits what fault.NotEnabled t = take_bio old new set waits what (Err fault.NotEnabled) t
 part_failed old new set waits what fault.Memory t = absurd t
 
-pub slip_failed : (old new : Plain) (dev : DevId) (what : What) (e : CoreFault)
+pub slip_failed : (old new : CoreObjects) (dev : DevId) (what : What) (e : CoreFault)
     → Takes old (pool_number (Records dev)) (Records dev) true what (Err e) new → TakesSlip old dev what (Err e) new
 slip_failed old new dev what fault.NotEnabled t = take_slip old new dev what (Err fault.NotEnabled) t
 slip_failed old new dev what fault.Memory t = absurd t
 
 -- a take of the pool of a set, by the name of the pool
-of_set : (old new : Plain) (set : SetId) (waits : Bool) (what : What) (pool : PoolId) (r s : Result Got CoreFault) → pool ≡ bios_of set → r ≡ s
+of_set : (old new : CoreObjects) (set : SetId) (waits : Bool) (what : What) (pool : PoolId) (r s : Result Got CoreFault) → pool ≡ bios_of set → r ≡ s
     → Takes old (pool_number pool) pool waits what r new → Takes old (pool_number (bios_of set)) (bios_of set) waits what s new
 of_set old new set waits what pool r s is was t =
     subst (λ (p : PoolId). Takes old (pool_number p) p waits what s new) is (subst (λ q. Takes old (pool_number pool) pool waits what q new) was t)
 
-pub part_refused : (old new : Plain) (set : SetId) (waits : Bool) (what : What) (pool : PoolId) (r : Result Got CoreFault) (e : CoreFault) → pool ≡ bios_of set → r ≡ Err e
+pub part_refused : (old new : CoreObjects) (set : SetId) (waits : Bool) (what : What) (pool : PoolId) (r : Result Got CoreFault) (e : CoreFault) → pool ≡ bios_of set → r ≡ Err e
     → Takes old (pool_number pool) pool waits what r new → TakesPart old set waits what (Err e) new
 part_refused old new set waits what pool r e is was t = part_failed old new set waits what e (of_set old new set waits what pool r (Err e) is was t)
 
-pub part_missed : (old new : Plain) (set : SetId) (waits : Bool) (what : What) (pool : PoolId) (r : Result Got CoreFault) → pool ≡ bios_of set → r ≡ Ok got.Missed
+pub part_missed : (old new : CoreObjects) (set : SetId) (waits : Bool) (what : What) (pool : PoolId) (r : Result Got CoreFault) → pool ≡ bios_of set → r ≡ Ok got.Missed
     → Takes old (pool_number pool) pool waits what r new → TakesPart old set waits what (Ok None) new
 part_missed old new set waits what pool r is was t =
-    (uses (pool_at old (pool_number (bios_of set))), take_bio old new set waits what (Ok got.Missed) (of_set old new set waits what pool r (Ok got.Missed) is was t))
+    (uses (core_pool_at old (pool_number (bios_of set))), take_bio old new set waits what (Ok got.Missed) (of_set old new set waits what pool r (Ok got.Missed) is was t))
 
-pub part_had : (old new : Plain) (set : SetId) (waits : Bool) (what : What) (pool : PoolId) (r : Result Got CoreFault) (n : ℕ) (part : Item Pad) → pool ≡ bios_of set
+pub part_had : (old new : CoreObjects) (set : SetId) (waits : Bool) (what : What) (pool : PoolId) (r : Result Got CoreFault) (n : ℕ) (part : Item Pad) → pool ≡ bios_of set
     → n ≡ pool_number pool → part ≡ clear_bio (ledger_of n) → (r ≡ Ok got.Ordinary) ⊎ (r ≡ Ok got.Spare)
     → Takes old (pool_number pool) pool waits what r new → TakesPart old set waits what (Ok (Some part)) new
 part_had old new set waits what pool r n part is number clear (inl was) t =
@@ -458,18 +458,18 @@ part_had old new set waits what pool r n part is number clear (inr was) t =
           (take_bio old new set waits what (Ok got.Spare) (of_set old new set waits what pool r (Ok got.Spare) is was t)),
     )
 
-pub slip_missed : (old new : Plain) (dev : DevId) (what : What) (r : Result Got CoreFault) → r ≡ Ok got.Missed
+pub slip_missed : (old new : CoreObjects) (dev : DevId) (what : What) (r : Result Got CoreFault) → r ≡ Ok got.Missed
     → Takes old (pool_number (Records dev)) (Records dev) true what r new → TakesSlip old dev what (Ok None) new
 slip_missed old new dev what r was t = (
-  uses (pool_at old (pool_number (Records dev))),
+  uses (core_pool_at old (pool_number (Records dev))),
   take_slip old new dev what (Ok got.Missed) (subst (λ q. Takes old (pool_number (Records dev)) (Records dev) true what q new) was t),
 )
 
-pub slip_refused : (old new : Plain) (dev : DevId) (what : What) (r : Result Got CoreFault) (e : CoreFault) → r ≡ Err e
+pub slip_refused : (old new : CoreObjects) (dev : DevId) (what : What) (r : Result Got CoreFault) (e : CoreFault) → r ≡ Err e
     → Takes old (pool_number (Records dev)) (Records dev) true what r new → TakesSlip old dev what (Err e) new
 slip_refused old new dev what r e was t = slip_failed old new dev what e (subst (λ q. Takes old (pool_number (Records dev)) (Records dev) true what q new) was t)
 
-pub slip_had : (old new : Plain) (dev : DevId) (what : What) (r : Result Got CoreFault) (n : ℕ) (slip : SlipItem)
+pub slip_had : (old new : CoreObjects) (dev : DevId) (what : What) (r : Result Got CoreFault) (n : ℕ) (slip : SlipItem)
     → n ≡ pool_number (Records dev) → slip ≡ clear_slip (ledger_of n) → (r ≡ Ok got.Ordinary) ⊎ (r ≡ Ok got.Spare)
     → Takes old (pool_number (Records dev)) (Records dev) true what r new → TakesSlip old dev what (Ok (Some slip)) new
 slip_had old new dev what r n slip number clear (inl was) t = (
@@ -483,14 +483,14 @@ slip_had old new dev what r n slip number clear (inr was) t = (
       (take_slip old new dev what (Ok got.Spare) (subst (λ q. Takes old (pool_number (Records dev)) (Records dev) true what q new) was t)),
 )
 
-pub vec_refused : (old new : Plain) (what : What) (r : Result Got CoreFault) (e : CoreFault) → r ≡ Err e → Takes old 64 FsVecs true what r new → TakesVector old what (Err e) new
+pub vec_refused : (old new : CoreObjects) (what : What) (r : Result Got CoreFault) (e : CoreFault) → r ≡ Err e → Takes old 64 FsVecs true what r new → TakesVector old what (Err e) new
 vec_refused old new what r fault.NotEnabled was t = take_vec old new what (Err fault.NotEnabled) (subst (λ q. Takes old 64 FsVecs true what q new) was t)
 vec_refused old new what r fault.Memory was t = absurd (subst (λ q. Takes old 64 FsVecs true what q new) was t)
 
-pub vec_missed : (old new : Plain) (what : What) (r : Result Got CoreFault) → r ≡ Ok got.Missed → Takes old 64 FsVecs true what r new → TakesVector old what (Ok None) new
-vec_missed old new what r was t = (uses (pool_at old 64), take_vec old new what (Ok got.Missed) (subst (λ q. Takes old 64 FsVecs true what q new) was t))
+pub vec_missed : (old new : CoreObjects) (what : What) (r : Result Got CoreFault) → r ≡ Ok got.Missed → Takes old 64 FsVecs true what r new → TakesVector old what (Ok None) new
+vec_missed old new what r was t = (uses (core_pool_at old 64), take_vec old new what (Ok got.Missed) (subst (λ q. Takes old 64 FsVecs true what q new) was t))
 
-pub vec_had : (old new : Plain) (what : What) (r : Result Got CoreFault) (vector : VectorItem) → vector ≡ clear_vector (ledger_of 64)
+pub vec_had : (old new : CoreObjects) (what : What) (r : Result Got CoreFault) (vector : VectorItem) → vector ≡ clear_vector (ledger_of 64)
     → (r ≡ Ok got.Ordinary) ⊎ (r ≡ Ok got.Spare) → Takes old 64 FsVecs true what r new → TakesVector old what (Ok (Some vector)) new
 vec_had old new what r vector clear (inl was) t = (
   got.Ordinary,

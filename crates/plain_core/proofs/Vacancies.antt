@@ -5,7 +5,7 @@ use Rattle.std.proofs.lemmas.Bool.Decides.{nat_tests}
 use Rattle.std.proofs.lemmas.List.Sums.{sum_by-cons, sum_by-set}
 use Rattle.std.proofs.lemmas.Option.{get_or_from_slice_get, slice_get_within}
 use Rattle.bio_books.specs.Books.{Node}
-use Rattle.plain_core.specs.Free.{Tells}
+use Rattle.plain_core.specs.Free.{IsDecisionOf}
 
 -- 1 where none is open
 abbrev one : Option Node → ℕ
@@ -37,9 +37,9 @@ counted (Some node ∷ nodes) zero is = absurd cc
 counted (x ∷ nodes) (suc place) is = omega (arith, counted nodes place is, sum_by-cons one x nodes)
 
 -- so the number tells whether there is one
-pub some_vacant : (nodes : List (Option Node)) (vacant : ℕ) → count_by is_none nodes ≡ vacant → Tells (nat_lt 0 vacant) ((place : ℕ) × (slice_get nodes place ≡ Some None))
+pub some_vacant : (nodes : List (Option Node)) (vacant : ℕ) → count_by is_none nodes ≡ vacant → IsDecisionOf (nat_lt 0 vacant) ((place : ℕ) × (slice_get nodes place ≡ Some None))
 some_vacant nodes vacant is = by (nat_lt 0 vacant) refl
   where
-    by : (answer : Bool) → nat_lt 0 vacant ≡ answer → Tells answer ((place : ℕ) × (slice_get nodes place ≡ Some None))
+    by : (answer : Bool) → nat_lt 0 vacant ≡ answer → IsDecisionOf answer ((place : ℕ) × (slice_get nodes place ≡ Some None))
     by true e = found nodes (grind (arith, nat_tests, e, is))
     by false e = λ there. let some = counted nodes there.0 there.1 in grind (arith, nat_tests, e, is, some)

@@ -14,10 +14,10 @@ use Rattle.plain_core.specs.declared.fault.CoreFault.{CoreFault}
 use Rattle.plain_core.specs.declared.fault.CoreFault.TheVariants as fault
 
 -- what an end left of a node, and how an event tells it
-abbrev pub ended_of : Ended → drop.Ended
-ended_of ended.Left = drop.Left
-ended_of (ended.Up closed) = drop.Up closed
-ended_of (ended.Top closed) = drop.Top closed
+abbrev pub ended_of_plain : Ended → drop.Ended
+ended_of_plain ended.Left = drop.Left
+ended_of_plain (ended.Up closed) = drop.Up closed
+ended_of_plain (ended.Top closed) = drop.Top closed
 
 abbrev pub end_of : Ended → End
 end_of ended.Left = told.Left
@@ -31,10 +31,10 @@ IsToldBy told.Top (drop.Top closed) = Unit {0}
 IsToldBy end ended = ⊥
 
 -- a node was told of an end, or can't be told so that the event tells it
-abbrev pub IsTold : BookState → ℕ → Status → Option (Item Pad) → End → Option Ended → BookState → Type 0
-IsTold old place status part end None new =
+abbrev pub IsEndTold : BookState → ℕ → Status → Option (Item Pad) → End → Option Ended → BookState → Type 0
+IsEndTold old place status part end None new =
     (new ≡ old) × ((answer : drop.Ended) (new : BookState) → IsToldBy end answer → Drops old place status part answer new → ⊥)
-IsTold old place status part end (Some ended) new = IsToldBy end (ended_of ended) × Drops old place status part (ended_of ended) new
+IsEndTold old place status part end (Some ended) new = IsToldBy end (ended_of_plain ended) × Drops old place status part (ended_of_plain ended) new
 
 -- A node was opened so, or none can be, or one could be but for memory.
 abbrev pub OpensSo : BookState → (BookState → Type 0) → Result (Unit {0}) CoreFault → BookState → Type 0

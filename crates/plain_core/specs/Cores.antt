@@ -8,32 +8,32 @@ use Rattle.run_machine.specs.Tasks.{TaskState}
 use Rattle.run_machine.specs.Events.{id_of}
 use Rattle.run_machine.specs.Runs.{State, Happens, IsEnabled}
 use Rattle.run_machine.specs.Opened.{most_writers, no_task}
-use Rattle.task_steps.specs.Routed.{Routing, setup}
+use Rattle.task_steps.specs.Routed.{Routing, routing_setup}
 use Rattle.task_steps.specs.Within.{TaskFits}
 use Rattle.run_machine.specs.declared.event.What.{What}
 use Rattle.plain_core.specs.declared.task.Task.{Task}
-use Rattle.plain_core.specs.Views.{task_of}
+use Rattle.plain_core.specs.Views.{task_of_plain}
 use Rattle.plain_core.specs.Steps.{Submits, TaskMoves}
 use Rattle.plain_core.specs.Ledgers.{ledger_of}
-use Rattle.plain_core.specs.Plain.{Plain, objects_of}
+use Rattle.plain_core.specs.Plain.{CoreObjects, objects_of_core}
 use Rattle.plain_core.specs.declared.fault.CoreFault.{CoreFault}
 use Rattle.plain_core.specs.declared.fault.CoreFault.TheVariants as fault
 
 pub record CoreState : Type 0 where
   pub routing : Routing
-  pub objects : Plain
+  pub objects : CoreObjects
   pub tasks : List TaskState
 
 abbrev pub task_at : List TaskState → ℕ → TaskState
 task_at tasks place = slice_index_or tasks place no_task
 
-abbrev pub state_of : CoreState → State
-state_of c = record { objects = objects_of c.objects; task = task_at c.tasks }
+abbrev pub state_of_core : CoreState → State
+state_of_core c = record { objects = objects_of_core c.objects; task = task_at c.tasks }
 
 -- no event names a ledger, so any names serve that tell the pools
-abbrev pub scene_of : CoreState → Scene
-scene_of c = record {
-  setup = setup c.routing;
+abbrev pub scene_of_core : CoreState → Scene
+scene_of_core c = record {
+  setup = routing_setup c.routing;
   tasks = length c.tasks;
   books = most_writers;
   writes = length c.objects.tally.statuses;
@@ -52,43 +52,43 @@ abbrev pub AreFound : List ℕ → List TaskState → Type 0
 AreFound places tasks = (place : ℕ) → place < length tasks → slice_get places (slot_of (id_of (task_at tasks place))) ≡ Some place
 
 -- the tasks are those of the objects' stack, each within it, and each is found
-pub record IsCore (routing : Routing) (objects : Plain) (tasks : List TaskState) (places : List ℕ) : Type 0 where
+pub record IsCore (routing : Routing) (objects : CoreObjects) (tasks : List TaskState) (places : List ℕ) : Type 0 where
   pub stack : objects.stack ≡ routing.stack
   pub fits : All (TaskFits routing.stack) tasks
   pub found : AreFound places tasks
 
 -- the one task of this name
-pub record IsPlace (tasks : List TaskState) (name : TaskId) (place : ℕ) : Type 0 where
+pub record IsPlaceOfTask (tasks : List TaskState) (name : TaskId) (place : ℕ) : Type 0 where
   pub within : place < length tasks
   pub named : name ≡ id_of (task_at tasks place)
   pub only : (other : ℕ) → other < length tasks → name ≡ id_of (task_at tasks other) → other ≡ place
 
 -- no task has it
-abbrev pub HasNone : List TaskState → TaskId → Type 0
-HasNone tasks name = (place : ℕ) → place < length tasks → name ≡ id_of (task_at tasks place) → ⊥
+abbrev pub HasNoTask : List TaskState → TaskId → Type 0
+HasNoTask tasks name = (place : ℕ) → place < length tasks → name ≡ id_of (task_at tasks place) → ⊥
 
 -- the event is one of a task with a submission under way
 abbrev pub IsOfSubmission : List TaskState → TaskId → Type 0
-IsOfSubmission tasks name = (place : ℕ) × IsPlace tasks name place × Submits (task_at tasks place)
+IsOfSubmission tasks name = (place : ℕ) × IsPlaceOfTask tasks name place × Submits (task_at tasks place)
 
 -- An event was applied: it is a step of the machine to the state afterwards and to no other one, and what no event changes is as before.
 pub record IsApplied (old : CoreState) (event : Event) (new : CoreState) : Type 0 where
-  pub happens : Happens (scene_of old) (state_of old) event (state_of new)
-  pub only : (other : State) → Happens (scene_of old) (state_of old) event other → other ≡ state_of new
-  pub scene : scene_of new ≡ scene_of old
+  pub happens : Happens (scene_of_core old) (state_of_core old) event (state_of_core new)
+  pub only : (other : State) → Happens (scene_of_core old) (state_of_core old) event other → other ≡ state_of_core new
+  pub scene : scene_of_core new ≡ scene_of_core old
   pub routing : new.routing ≡ old.routing
 
 -- Where an event is no step of the machine, or one for which there is no memory, nothing is changed. A submission alone takes memory.
 abbrev pub Applies : CoreState → Event → Result (Unit {0}) CoreFault → CoreState → Type 0
 Applies old event (Ok done) new = IsApplied old event new
-Applies old event (Err fault.NotEnabled) new = (new ≡ old) × ((next : State) → Happens (scene_of old) (state_of old) event next → ⊥)
-Applies old event (Err fault.Memory) new = (new ≡ old) × IsEnabled (scene_of old) (state_of old) event × IsOfSubmission old.tasks event.task
+Applies old event (Err fault.NotEnabled) new = (new ≡ old) × ((next : State) → Happens (scene_of_core old) (state_of_core old) event next → ⊥)
+Applies old event (Err fault.Memory) new = (new ≡ old) × IsEnabled (scene_of_core old) (state_of_core old) event × IsOfSubmission old.tasks event.task
 
 -- the task at this place goes on, and all others stay
-abbrev pub StepsFrom : Routing → Plain → List Task → ℕ → Option Task → What → Result (Unit {0}) CoreFault → Plain → Option Task → List Task → Type 0
+abbrev pub StepsFrom : Routing → CoreObjects → List Task → ℕ → Option Task → What → Result (Unit {0}) CoreFault → CoreObjects → Option Task → List Task → Type 0
 StepsFrom r old tasks place (Some before) what result new (Some after) rest =
-    TaskMoves r old (task_of before) what result new (task_of after) × (rest ≡ slice_set tasks place after)
+    TaskMoves r old (task_of_plain before) what result new (task_of_plain after) × (rest ≡ slice_set tasks place after)
 StepsFrom r old tasks place before what result new after rest = ⊥
 
-abbrev pub StepsAt : Routing → Plain → List Task → ℕ → What → Result (Unit {0}) CoreFault → Plain → List Task → Type 0
+abbrev pub StepsAt : Routing → CoreObjects → List Task → ℕ → What → Result (Unit {0}) CoreFault → CoreObjects → List Task → Type 0
 StepsAt r old tasks place what result new rest = StepsFrom r old tasks place (slice_get tasks place) what result new (slice_get rest place) rest

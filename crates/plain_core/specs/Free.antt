@@ -12,26 +12,26 @@ use Rattle.run_machine.specs.declared.event.What.{What}
 use Rattle.run_machine.specs.Events.{id_of, is_free, what_of}
 use Rattle.run_machine.specs.Objects.{Objects, Serves}
 use Rattle.run_machine.specs.Requests.{Request, Reply, Opening, Write, Chain, Master, Leg, TakeBio, TakeVec, TakeSlip, GiveBio, GiveVec, GiveSlip, Punt, Pop, Push, Complete, Link, Drop, Done, Resize, NextRound, LookRound, LookLeft, Rest}
-use Rattle.task_steps.specs.Routed.{Routing, setup}
+use Rattle.task_steps.specs.Routed.{Routing, routing_setup}
 use Rattle.run_machine.specs.Runs.{State, Steps, IsLet}
 use Rattle.run_machine.specs.Tasks.{TaskState, look_of, request}
 use Rattle.plain_core.specs.declared.need.Need.{Need}
 use Rattle.plain_core.specs.declared.need.Need.TheVariants as need
-use Rattle.plain_core.specs.Cores.{CoreState, task_at, scene_of, state_of}
+use Rattle.plain_core.specs.Cores.{CoreState, task_at, scene_of_core, state_of_core}
 use Rattle.plain_core.specs.Ledgers.{ledger_of}
-use Rattle.plain_core.specs.Plain.{Plain, pool_at, rescue_at, disk_at, book_at, objects_of}
+use Rattle.plain_core.specs.Plain.{CoreObjects, core_pool_at, core_rescue_at, core_disk_at, core_book_at, objects_of_core}
 
 -- yes where it is so, and no where it is not
-abbrev pub Tells : Bool → Type 0 → Type 0
-Tells answer P = MatchBool answer P (P → ⊥)
+abbrev pub IsDecisionOf : Bool → Type 0 → Type 0
+IsDecisionOf answer P = MatchBool answer P (P → ⊥)
 
 -- the request can be answered so that an event tells it which needs no ordinary memory
-pub record CanFree (old : Plain) (request : Request) : Type 0 where
+pub record CanFree (old : CoreObjects) (request : Request) : Type 0 where
   pub what : What
   pub reply : Reply
   pub new : Objects
   pub told : what_of request reply ≡ Some what
-  pub serves : Serves ledger_of (objects_of old) request reply new
+  pub serves : Serves ledger_of (objects_of_core old) request reply new
   pub free : IsTrue (is_free what)
 
 -- a pool has neither a spare to give nor room for one more to be out
@@ -66,23 +66,23 @@ need_of LookLeft = need.Never
 need_of Rest = need.Never
 
 -- when it is met
-abbrev pub IsMet : Plain → Need → Type 0
-IsMet old need.Nothing = Unit {0}
-IsMet old need.Never = ⊥
+abbrev pub NeedIsMet : CoreObjects → Need → Type 0
+NeedIsMet old need.Nothing = Unit {0}
+NeedIsMet old need.Never = ⊥
 -- a take that does not wait may miss
-IsMet old (need.Spare pool waits) =
-    CanMove (pool_at old (pool_number pool)) takes_spare ⊎ ((waits ≡ false) × IsShort (pool_at old (pool_number pool)))
-IsMet old (need.Out number) = 0 < (pool_at old number).facts.out
-IsMet old (need.Home pool) = (pool_at old (pool_number pool)).facts.out ≡ 0
-IsMet old (need.Rescued dev) = 0 < length (rescue_at old dev.0)
-IsMet old (need.Pending disk) = 0 < length (disk_at old disk.0).pending
-IsMet old (need.Place writer) = (place : ℕ) × IsVacant (book_at old writer) place
-IsMet old (need.Chain writer parent) =
-    (place : ℕ) × (node : Node) × IsVacant (book_at old writer) place × (node_at (book_at old writer) parent ≡ Some node) × (node.count < 2 ^ 64 - 1)
-IsMet old (need.Child writer parent) =
-    (place : ℕ) × (node : Node) × IsVacant (book_at old writer) place × (node_at (book_at old writer) parent ≡ Some node)
-IsMet old (need.End writer place) = (node : Node) × (node_at (book_at old writer) place ≡ Some node) × (0 < node.count)
-IsMet old need.Round = old.tally.round + 1 < length old.tally.left
+NeedIsMet old (need.Spare pool waits) =
+    CanMove (core_pool_at old (pool_number pool)) takes_spare ⊎ ((waits ≡ false) × IsShort (core_pool_at old (pool_number pool)))
+NeedIsMet old (need.Out number) = 0 < (core_pool_at old number).facts.out
+NeedIsMet old (need.Home pool) = (core_pool_at old (pool_number pool)).facts.out ≡ 0
+NeedIsMet old (need.Rescued dev) = 0 < length (core_rescue_at old dev.0)
+NeedIsMet old (need.Pending disk) = 0 < length (core_disk_at old disk.0).pending
+NeedIsMet old (need.Place writer) = (place : ℕ) × IsVacant (core_book_at old writer) place
+NeedIsMet old (need.Chain writer parent) =
+    (place : ℕ) × (node : Node) × IsVacant (core_book_at old writer) place × (node_at (core_book_at old writer) parent ≡ Some node) × (node.count < 2 ^ 64 - 1)
+NeedIsMet old (need.Child writer parent) =
+    (place : ℕ) × (node : Node) × IsVacant (core_book_at old writer) place × (node_at (core_book_at old writer) parent ≡ Some node)
+NeedIsMet old (need.End writer place) = (node : Node) × (node_at (core_book_at old writer) place ≡ Some node) × (0 < node.count)
+NeedIsMet old need.Round = old.tally.round + 1 < length old.tally.left
 
 -- how many ends the node at a place waits for, if one is open there
 abbrev pub IsCountAt : Option Node → ℕ → Type 0
@@ -90,18 +90,18 @@ IsCountAt None count = ⊥
 IsCountAt (Some node) count = node.count ≡ count
 
 -- what a task looks at lets it ask
-abbrev pub TaskIsLet : Plain → TaskState → Type 0
-TaskIsLet old task = IsLet ledger_of (objects_of old) task (look_of task)
+abbrev pub TaskIsLet : CoreObjects → TaskState → Type 0
+TaskIsLet old task = IsLet ledger_of (objects_of_core old) task (look_of task)
 
 -- a task can go on without ordinary memory
-abbrev pub TaskIsFree : Routing → Plain → TaskState → Type 0
-TaskIsFree r old task = TaskIsLet old task × CanFree old (request (setup r) task)
+abbrev pub TaskIsFree : Routing → CoreObjects → TaskState → Type 0
+TaskIsFree r old task = TaskIsLet old task × CanFree old (request (routing_setup r) task)
 
 -- the task at this place of a core has a step that needs no ordinary memory
 pub record IsFreeAt (c : CoreState) (place : ℕ) : Type 0 where
   pub event : Event
   pub new : State
-  pub steps : Steps (scene_of c) (state_of c) place event new
+  pub steps : Steps (scene_of_core c) (state_of_core c) place event new
   pub free : IsTrue (is_free event.what)
 
 -- the first task of all that has one is of this name

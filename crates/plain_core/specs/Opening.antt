@@ -1,5 +1,5 @@
 -- The state that is opened of a stack, the scripts of its pools and work over it: when it can be, part by part, and as a whole.
-use Rattle.std.specs.Prelude.{◌≡◌, ◌+◌, ◌<◌, ◌≤◌, ◌==◌, ◌&&◌, ◌++◌, if◌then◌else◌, nat_le, nat_lt, ℕ, Bool, List, [], ◌∷◌, All, length, map, filter, fold, flat_map, max, replicate, sum_by, zip, slice_get, Option, None, Some}
+use Rattle.std.specs.Prelude.{◌≡◌, ◌+◌, ◌<◌, ◌≤◌, ◌==◌, ◌&&◌, ◌++◌, if◌then◌else◌, nat_le, nat_lt, ℕ, Bool, List, [], ◌∷◌, All, length, map, filter, fold, flat_map, max, replicate, zip, slice_get, Option, None, Some}
 use Rattle.std.specs.List.{list_any, range_with_len}
 use Rattle.fail_script.specs.Script.{Answers}
 use Rattle.stack_base.specs.declared.ids.PoolId.{PoolId}
@@ -24,10 +24,11 @@ use Rattle.run_machine.specs.Scenario.{change_of}
 use Rattle.run_machine.specs.Scene.{keeps_data, rescuer_at}
 use Rattle.run_machine.specs.Tasks.{TaskState, Todo, Duty, Resizes, Starts, NoBio, Empty, Writer, Rescuer, Completer}
 use Rattle.plain_core.specs.declared.task.Task.{Task}
-use Rattle.plain_core.specs.Cores.{CoreState, AreFound, scene_of, slot_of, state_of}
+use Rattle.plain_core.specs.Cores.{CoreState, AreFound, scene_of_core, slot_of, state_of_core}
 use Rattle.plain_core.specs.Ledgers.{ledger_of}
 use Rattle.plain_core.specs.Plain.{opened_disk}
-use Rattle.plain_core.specs.Views.{task_of}
+use Rattle.plain_core.specs.Views.{task_of_plain}
+pub use Rattle.task_core.specs.opened.NewTasks.{nodes_of}
 
 -- the scenario that these mean together
 abbrev pub scenario_by : Stack → List (PoolId × Answers) → Work → Scenario
@@ -55,9 +56,9 @@ pub record CanOpen (stack : Stack) (scripts : List (PoolId × Answers)) (work : 
   pub rounds : All (λ round. round ≤ 1024) work.rounds.items
 
 -- the core in which the runs of a scenario begin
-pub record IsOpened (s : Scenario) (core : CoreState) : Type 0 where
-  pub scene : scene_of core ≡ scene s ledger_of
-  pub state : state_of core ≡ start s
+pub record IsOpenedCore (s : Scenario) (core : CoreState) : Type 0 where
+  pub scene : scene_of_core core ≡ scene s ledger_of
+  pub state : state_of_core core ≡ start s
 
 -- pools, the first of all by their numbers: full
 abbrev pub new_pool : Stack → List (PoolId × Answers) → ℕ → PoolState
@@ -91,23 +92,19 @@ listed rounds writes = listed_from 0 rounds writes
 abbrev pub todos_by : Work → ℕ → List Todo
 todos_by work writer = filter (is_by writer) (listed work.rounds.items work.writes.items)
 
--- how many places writes need, one for each node that they open
-abbrev pub nodes_of : Stack → List Todo → ℕ
-nodes_of stack todos = sum_by (λ todo. nodes stack todo.write) todos
-
 -- how many writes are of a round, and of it and those behind it
-abbrev pub count_in : List ℕ → ℕ → ℕ
-count_in rounds round = length (filter (λ r. r == round) rounds)
+abbrev pub writes_in_round : List ℕ → ℕ → ℕ
+writes_in_round rounds round = length (filter (λ r. r == round) rounds)
 
-abbrev pub count_from : List ℕ → ℕ → ℕ
-count_from rounds round = length (filter (λ r. nat_le round r) rounds)
+abbrev pub writes_from_round : List ℕ → ℕ → ℕ
+writes_from_round rounds round = length (filter (λ r. nat_le round r) rounds)
 
 -- how many there are of each round up to the last one
-abbrev pub last_of : List ℕ → ℕ
-last_of rounds = fold max 0 rounds
+abbrev pub last_round_of : List ℕ → ℕ
+last_round_of rounds = fold max 0 rounds
 
 abbrev pub counts_of : List ℕ → List ℕ
-counts_of rounds = map (count_in rounds) (range_with_len 0 (1 + last_of rounds))
+counts_of rounds = map (writes_in_round rounds) (range_with_len 0 (1 + last_round_of rounds))
 
 -- the changes of reserves before a round starts, with so many writes still to come
 abbrev pub changes_in : List Resize → ℕ → ℕ → List Duty
@@ -117,13 +114,13 @@ changes_in resizes round later =
 -- what the keeper does for one round, and for so many rounds behind the first
 abbrev pub duties_for : Work → ℕ → List Duty
 duties_for work round =
-    changes_in work.resizes.items round (count_from work.rounds.items round) ++ Starts round (count_from work.rounds.items round) ∷ []
+    changes_in work.resizes.items round (writes_from_round work.rounds.items round) ++ Starts round (writes_from_round work.rounds.items round) ∷ []
 
 abbrev pub duties_up_to : Work → ℕ → List Duty
 duties_up_to work count = flat_map (duties_for work) (range_with_len 1 count)
 
 -- each task is found, and the slots of those still to come are this one and higher ones
-pub record AreSeated (tasks : List TaskState) (places : List ℕ) (slot : ℕ) : Type 0 where
+pub record AreTasksSeated (tasks : List TaskState) (places : List ℕ) (slot : ℕ) : Type 0 where
   pub found : AreFound places tasks
   pub below : All (λ task. slot_of (id_of task) < slot) tasks
   pub few : length tasks ≤ slot
@@ -131,31 +128,31 @@ pub record AreSeated (tasks : List TaskState) (places : List ℕ) (slot : ℕ) :
 
 -- these tasks were seated behind the others
 abbrev pub Seats : List Task → List TaskState → List Task → List ℕ → ℕ → Type 0
-Seats old more new places slot = (map task_of new ≡ map task_of old ++ more) × AreSeated (map task_of new) places slot
+Seats old more new places slot = (map task_of_plain new ≡ map task_of_plain old ++ more) × AreTasksSeated (map task_of_plain new) places slot
 
 -- the tasks of the first writers that have a write, and those of the first devices that have a rescuer or are disks
 abbrev pub has_write : Work → ℕ → Bool
 has_write work writer = list_any (is_by writer) (listed work.rounds.items work.writes.items)
 
-abbrev pub writers_of : Work → List ℕ → List TaskState
-writers_of work numbers = map (λ writer. Writer writer (todos_by work writer) NoBio rests) (filter (has_write work) numbers)
+abbrev pub writers_of_work : Work → List ℕ → List TaskState
+writers_of_work work numbers = map (λ writer. Writer writer (todos_by work writer) NoBio rests) (filter (has_write work) numbers)
 
-abbrev pub has_rescuer : Stack → ℕ → Bool
-has_rescuer stack dev = rescuer_at (slice_get stack.devices.items dev)
+abbrev pub stack_has_rescuer : Stack → ℕ → Bool
+stack_has_rescuer stack dev = rescuer_at (slice_get stack.devices.items dev)
 
-abbrev pub rescuers_of : Stack → List ℕ → List TaskState
-rescuers_of stack devs = map (λ dev. Rescuer (at dev) rests) (filter (has_rescuer stack) devs)
+abbrev pub rescuers_of_stack : Stack → List ℕ → List TaskState
+rescuers_of_stack stack devs = map (λ dev. Rescuer (at dev) rests) (filter (stack_has_rescuer stack) devs)
 
-abbrev pub is_disk : Stack → ℕ → Bool
-is_disk stack dev = nat_lt dev (length stack.devices.items) && keeps_data (tree stack dev)
+abbrev pub stack_has_disk : Stack → ℕ → Bool
+stack_has_disk stack dev = nat_lt dev (length stack.devices.items) && keeps_data (tree stack dev)
 
-abbrev pub completers_of : Stack → List ℕ → List TaskState
-completers_of stack devs = map (λ dev. Completer (at dev) Empty) (filter (is_disk stack) devs)
+abbrev pub completers_of_stack : Stack → List ℕ → List TaskState
+completers_of_stack stack devs = map (λ dev. Completer (at dev) Empty) (filter (stack_has_disk stack) devs)
 
 -- all tasks in their order
 abbrev pub tasks_of : Stack → Work → List Duty → List TaskState
 tasks_of stack work duties =
-    writers_of work (range_with_len 0 8)
-    ++ (rescuers_of stack (range_with_len 0 (length stack.devices.items))
-    ++ (completers_of stack (range_with_len 0 (length stack.devices.items))
+    writers_of_work work (range_with_len 0 8)
+    ++ (rescuers_of_stack stack (range_with_len 0 (length stack.devices.items))
+    ++ (completers_of_stack stack (range_with_len 0 (length stack.devices.items))
     ++ keepers duties))

@@ -17,7 +17,7 @@ use Rattle.run_machine.specs.Opened.{at}
 use Rattle.plain_core.specs.declared.fault.CoreFault.{CoreFault}
 use Rattle.plain_core.specs.declared.fault.CoreFault.TheVariants as fault
 
-pub record Plain : Type 0 where
+pub record CoreObjects : Type 0 where
   -- whose objects they are
   pub stack : Stack
   pub pools : List PoolState
@@ -28,35 +28,35 @@ pub record Plain : Type 0 where
   pub tally : TallyState
 
 -- a pool that no stack has
-abbrev pub no_pool : PoolState
-no_pool = opened 0 (only_tail true)
+abbrev pub no_core_pool : PoolState
+no_core_pool = opened 0 (only_tail true)
 
-abbrev pub pool_at : Plain → ℕ → PoolState
-pool_at o number = slice_index_or o.pools number no_pool
+abbrev pub core_pool_at : CoreObjects → ℕ → PoolState
+core_pool_at o number = slice_index_or o.pools number no_core_pool
 
 -- every element of a pool is at home
 abbrev pub is_home : PoolState → Bool
 is_home pool = pool.facts.out == 0
 
-abbrev pub with_pool : Plain → ℕ → PoolState → Plain
+abbrev pub with_pool : CoreObjects → ℕ → PoolState → CoreObjects
 with_pool o number pool = record o { pools = slice_set o.pools number pool }
 
-abbrev pub rescue_at : Plain → ℕ → List (Item Pad)
-rescue_at o dev = slice_index_or o.rescues dev []
+abbrev pub core_rescue_at : CoreObjects → ℕ → List (Item Pad)
+core_rescue_at o dev = slice_index_or o.rescues dev []
 
-abbrev pub with_rescue : Plain → ℕ → List (Item Pad) → Plain
+abbrev pub with_rescue : CoreObjects → ℕ → List (Item Pad) → CoreObjects
 with_rescue o dev bios = record o { rescues = slice_set o.rescues dev bios }
 
-abbrev pub kept_disk : Plain → ℕ → Option DiskState
+abbrev pub kept_disk : CoreObjects → ℕ → Option DiskState
 kept_disk o dev = slice_index_or o.disks dev None
 
-abbrev pub with_disk : Plain → ℕ → Option DiskState → Plain
+abbrev pub with_disk : CoreObjects → ℕ → Option DiskState → CoreObjects
 with_disk o dev disk = record o { disks = slice_set o.disks dev disk }
 
-abbrev pub book_at : Plain → ℕ → BookState
-book_at o writer = slice_index_or o.books writer (record { writer = writer; nodes = [] })
+abbrev pub core_book_at : CoreObjects → ℕ → BookState
+core_book_at o writer = slice_index_or o.books writer (record { writer = writer; nodes = [] })
 
-abbrev pub with_book : Plain → ℕ → BookState → Plain
+abbrev pub with_book : CoreObjects → ℕ → BookState → CoreObjects
 with_book o writer book = record o { books = slice_set o.books writer book }
 
 -- what is not kept of a device that is no disk
@@ -67,12 +67,12 @@ disk_or (Some disk) other = disk
 abbrev pub opened_disk : Stack → ℕ → DiskState
 opened_disk stack dev = disk.opened (at dev) (size (tree stack dev)) (bads_of stack dev)
 
-abbrev pub disk_at : Plain → ℕ → DiskState
-disk_at o dev = disk_or (kept_disk o dev) (opened_disk o.stack dev)
+abbrev pub core_disk_at : CoreObjects → ℕ → DiskState
+core_disk_at o dev = disk_or (kept_disk o dev) (opened_disk o.stack dev)
 
 -- the objects of the machine that these are
-abbrev pub objects_of : Plain → Objects
-objects_of o = record { pool = pool_at o; rescue = rescue_at o; disk = disk_at o; book = book_at o; tally = o.tally }
+abbrev pub objects_of_core : CoreObjects → Objects
+objects_of_core o = record { pool = core_pool_at o; rescue = core_rescue_at o; disk = core_disk_at o; book = core_book_at o; tally = o.tally }
 
 -- a disk of so many sectors
 abbrev pub HasSize : ℕ → Option DiskState → Type 0
@@ -81,7 +81,7 @@ HasSize sectors (Some disk) = length disk.image ≡ sectors
 
 -- There is a place for each pool and each device of the stack. Each disk has the size that the stack gives it, and the bios that wait for
 -- rescuers are within their devices.
-pub record HasPlaces (stack : Stack) (pools : List PoolState) (rescues : List (List (Item Pad))) (disks : List (Option DiskState)) : Type 0 where
+pub record HasPlacesForStack (stack : Stack) (pools : List PoolState) (rescues : List (List (Item Pad))) (disks : List (Option DiskState)) : Type 0 where
   pub pool : 66 ≤ length pools
   pub rescue : length stack.devices.items ≤ length rescues
   pub disk : (dev : ℕ) → dev < length stack.devices.items → keeps_data (tree stack dev) ≡ true
@@ -89,7 +89,7 @@ pub record HasPlaces (stack : Stack) (pools : List PoolState) (rescues : List (L
   pub within : (dev : ℕ) → AreWithin stack (slice_index_or rescues dev [])
 
 -- A call answers so, and makes this of the objects. Where it can't, they are as they were. It takes no memory, so it never lacks any.
-abbrev pub Gives : {X : Type 0} → Plain → (X → Plain → Type 0) → Type 0 → Result X CoreFault → Plain → Type 0
+abbrev pub Gives : {X : Type 0} → CoreObjects → (X → CoreObjects → Type 0) → Type 0 → Result X CoreFault → CoreObjects → Type 0
 Gives old Does Cannot (Ok x) new = Does x new
 Gives old Does Cannot (Err fault.NotEnabled) new = (new ≡ old) × Cannot
 Gives old Does Cannot (Err fault.Memory) new = ⊥

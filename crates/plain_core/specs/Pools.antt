@@ -16,11 +16,11 @@ move_of pool got.Spare = takes_spare
 move_of pool got.Missed = misses (uses pool)
 
 -- a missed take that waits is told where it uses up an entry, and any other always
-abbrev pub IsTold : PoolState → Bool → Got → Type 0
-IsTold pool waits got.Ordinary = Unit {0}
-IsTold pool waits got.Spare = Unit {0}
-IsTold pool waits got.Missed = waits ≡ true → uses pool ≡ true
+abbrev pub IsTakeTold : PoolState → Bool → Got → Type 0
+IsTakeTold pool waits got.Ordinary = Unit {0}
+IsTakeTold pool waits got.Spare = Unit {0}
+IsTakeTold pool waits got.Missed = waits ≡ true → uses pool ≡ true
 
 -- a take can have this, and an event tells it
 abbrev pub CanTake : PoolState → Bool → Got → Type 0
-CanTake pool waits got = CanMove pool (move_of pool got) × IsTold pool waits got
+CanTake pool waits got = CanMove pool (move_of pool got) × IsTakeTold pool waits got

@@ -12,12 +12,12 @@ IsOfPool (Resizes pool min later) = IsOfStack pool
 IsOfPool (Starts round later) = Unit {0}
 
 -- it has nothing at hand
-abbrev pub IsFirst : TaskState → Type 0
-IsFirst (Writer number todo taken line) = (taken ≡ NoBio) × (line ≡ rests)
-IsFirst (Rescuer dev line) = line ≡ rests
-IsFirst (Completer disk carried) = carried ≡ Empty
-IsFirst (Keeper (Keeps duties)) = All IsOfPool duties
-IsFirst (Keeper (Stops breach)) = ⊥
+abbrev pub HasNothingAtHand : TaskState → Type 0
+HasNothingAtHand (Writer number todo taken line) = (taken ≡ NoBio) × (line ≡ rests)
+HasNothingAtHand (Rescuer dev line) = line ≡ rests
+HasNothingAtHand (Completer disk carried) = carried ≡ Empty
+HasNothingAtHand (Keeper (Keeps duties)) = All IsOfPool duties
+HasNothingAtHand (Keeper (Stops breach)) = ⊥
 
 -- the slots of tasks rise from one number up to below another
 abbrev pub Rises : ℕ → List TaskState → ℕ → Type 0

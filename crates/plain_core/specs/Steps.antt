@@ -18,7 +18,7 @@ use Rattle.run_machine.specs.Lines as line
 use Rattle.run_machine.specs.Tasks as task
 use Rattle.run_machine.specs.Tasks.{TaskState, request, answered, look_of}
 use Rattle.run_machine.specs.Runs.{IsLet}
-use Rattle.task_steps.specs.Routed.{Routing, setup}
+use Rattle.task_steps.specs.Routed.{Routing, routing_setup}
 use Rattle.run_machine.specs.Scene.{Setup}
 use Rattle.task_steps.specs.Within.{ListsAreWithin}
 use Rattle.plain_core.specs.declared.line.Next.{Next}
@@ -28,34 +28,34 @@ use Rattle.plain_core.specs.declared.task.Want.{Want}
 use Rattle.plain_core.specs.declared.task.Carried.{Carried}
 use Rattle.plain_core.specs.declared.task.Copying.{Copying}
 use Rattle.plain_core.specs.Ledgers.{ledger_of}
-use Rattle.plain_core.specs.Plain.{Plain, objects_of}
-use Rattle.plain_core.specs.Lists.{HasRoom, lists_of}
-use Rattle.plain_core.specs.Views.{want_of, carried_of}
+use Rattle.plain_core.specs.Plain.{CoreObjects, objects_of_core}
+use Rattle.plain_core.specs.Lists.{ListsHaveCapacity, lists_of}
+use Rattle.plain_core.specs.Views.{want_of_plain, carried_of_plain}
 use Rattle.plain_core.specs.declared.fault.CoreFault.{CoreFault}
 use Rattle.plain_core.specs.declared.fault.CoreFault.TheVariants as fault
 
 -- the reply answers the request, and the event tells so
-pub record IsAnswer (old : Plain) (request : Request) (what : What) (reply : Reply) (new : Plain) : Type 0 where
+pub record IsAnswer (old : CoreObjects) (request : Request) (what : What) (reply : Reply) (new : CoreObjects) : Type 0 where
   pub stack : new.stack ≡ old.stack
   pub told : what_of request reply ≡ Some what
-  pub serves : Serves ledger_of (objects_of old) request reply (objects_of new)
+  pub serves : Serves ledger_of (objects_of_core old) request reply (objects_of_core new)
 
 -- no reply does
-abbrev pub Refuses : Plain → Request → What → Type 0
-Refuses old request what = (reply : Reply) (new : Objects) → what_of request reply ≡ Some what → Serves ledger_of (objects_of old) request reply new → ⊥
+abbrev pub Refuses : CoreObjects → Request → What → Type 0
+Refuses old request what = (reply : Reply) (new : Objects) → what_of request reply ≡ Some what → Serves ledger_of (objects_of_core old) request reply new → ⊥
 
 -- some reply does
-pub record HasAnswer (old : Plain) (request : Request) (what : What) : Type 0 where
+pub record HasAnswer (old : CoreObjects) (request : Request) (what : What) : Type 0 where
   pub reply : Reply
   pub new : Objects
   pub told : what_of request reply ≡ Some what
-  pub serves : Serves ledger_of (objects_of old) request reply new
+  pub serves : Serves ledger_of (objects_of_core old) request reply new
 
 -- a request that takes no memory is answered, or it can't be so that the event tells it
-abbrev pub Answers : {X : Type 0} → Plain → Request → What → (X → Reply) → Result X CoreFault → Plain → Type 0
-Answers old request what replied (Ok x) new = IsAnswer old request what (replied x) new
-Answers old request what replied (Err fault.NotEnabled) new = (new ≡ old) × Refuses old request what
-Answers old request what replied (Err fault.Memory) new = ⊥
+abbrev pub AnswersRequest : {X : Type 0} → CoreObjects → Request → What → (X → Reply) → Result X CoreFault → CoreObjects → Type 0
+AnswersRequest old request what replied (Ok x) new = IsAnswer old request what (replied x) new
+AnswersRequest old request what replied (Err fault.NotEnabled) new = (new ≡ old) × Refuses old request what
+AnswersRequest old request what replied (Err fault.Memory) new = ⊥
 
 -- what comes behind an answer makes this of a submission
 abbrev pub turned : Setup → line.Doing → TaskLists → Next → line.Line
@@ -66,29 +66,29 @@ turned setup doing lists (next.Copies bio master) = line.copies setup lists bio 
 -- the lists of one that is not to stay can be gone through
 abbrev pub CanTurn : Stack → Lists → Next → Type 0
 CanTurn stack lists next.Stays = Unit {0}
-CanTurn stack lists (next.Returns dev) = HasRoom 0 lists × ListsAreWithin stack (lists_of lists)
-CanTurn stack lists (next.Copies bio master) = HasRoom 0 lists × ListsAreWithin stack (lists_of lists) × (bio.dev.0 < length stack.devices.items)
+CanTurn stack lists (next.Returns dev) = ListsHaveCapacity 0 lists × ListsAreWithin stack (lists_of lists)
+CanTurn stack lists (next.Copies bio master) = ListsHaveCapacity 0 lists × ListsAreWithin stack (lists_of lists) × (bio.dev.0 < length stack.devices.items)
 
 -- a submission has an answer to what it asks for, and this comes next; it lacks memory only where there is an answer
-abbrev pub LineSteps : Routing → Plain → line.Doing → TaskLists → What → Result Next CoreFault → Plain → line.Doing → TaskLists → Type 0
+abbrev pub LineSteps : Routing → CoreObjects → line.Doing → TaskLists → What → Result Next CoreFault → CoreObjects → line.Doing → TaskLists → Type 0
 LineSteps r old doing lists what (Ok next) new after rest =
     (reply : Reply)
-    × IsAnswer old (line.line_request (setup r) doing lists) what reply new
-    × (line.line_answered (setup r) doing lists reply ≡ turned (setup r) after rest next)
+    × IsAnswer old (line.line_request (routing_setup r) doing lists) what reply new
+    × (line.line_answered (routing_setup r) doing lists reply ≡ turned (routing_setup r) after rest next)
 LineSteps r old doing lists what (Err fault.NotEnabled) new after rest =
-    (new ≡ old) × (after ≡ doing) × (rest ≡ lists) × Refuses old (line.line_request (setup r) doing lists) what
+    (new ≡ old) × (after ≡ doing) × (rest ≡ lists) × Refuses old (line.line_request (routing_setup r) doing lists) what
 LineSteps r old doing lists what (Err fault.Memory) new after rest =
-    (new ≡ old) × (after ≡ doing) × (rest ≡ lists) × HasAnswer old (line.line_request (setup r) doing lists) what
+    (new ≡ old) × (after ≡ doing) × (rest ≡ lists) × HasAnswer old (line.line_request (routing_setup r) doing lists) what
 
 -- an attempt at a bio of a set had one, or missed
-abbrev pub TakesPart : Plain → SetId → Bool → What → Result (Option (Item Pad)) CoreFault → Plain → Type 0
+abbrev pub TakesPart : CoreObjects → SetId → Bool → What → Result (Option (Item Pad)) CoreFault → CoreObjects → Type 0
 TakesPart old set waits what (Ok (Some part)) new = (got : Got) × IsAnswer old (TakeBio set waits) what (HadBio got part) new
 TakesPart old set waits what (Ok None) new = (used : Bool) × IsAnswer old (TakeBio set waits) what (Missed used) new
 TakesPart old set waits what (Err fault.NotEnabled) new = (new ≡ old) × Refuses old (TakeBio set waits) what
 TakesPart old set waits what (Err fault.Memory) new = ⊥
 
 -- an attempt at a record of a mirror
-abbrev pub TakesSlip : Plain → DevId → What → Result (Option SlipItem) CoreFault → Plain → Type 0
+abbrev pub TakesSlip : CoreObjects → DevId → What → Result (Option SlipItem) CoreFault → CoreObjects → Type 0
 TakesSlip old dev what (Ok (Some slip)) new = (got : Got) × IsAnswer old (TakeSlip dev) what (HadSlip got slip) new
 TakesSlip old dev what (Ok None) new = (used : Bool) × IsAnswer old (TakeSlip dev) what (Missed used) new
 TakesSlip old dev what (Err fault.NotEnabled) new = (new ≡ old) × Refuses old (TakeSlip dev) what
@@ -100,9 +100,9 @@ IsWanted waits (HadBio got hand) want = want ≡ line.Links hand
 IsWanted waits (Missed used) want = want ≡ line.after_miss waits
 IsWanted waits reply want = ⊥
 
-abbrev pub TakesWant : Plain → DevId → Bool → What → Result Want CoreFault → Plain → Type 0
+abbrev pub TakesWant : CoreObjects → DevId → Bool → What → Result Want CoreFault → CoreObjects → Type 0
 TakesWant old dev waits what (Ok want) new =
-    (reply : Reply) × IsAnswer old (TakeBio (Of dev) waits) what reply new × IsWanted waits reply (want_of want)
+    (reply : Reply) × IsAnswer old (TakeBio (Of dev) waits) what reply new × IsWanted waits reply (want_of_plain want)
 TakesWant old dev waits what (Err fault.NotEnabled) new = (new ≡ old) × Refuses old (TakeBio (Of dev) waits) what
 TakesWant old dev waits what (Err fault.Memory) new = ⊥
 
@@ -117,42 +117,42 @@ abbrev pub copies_for : Copying → line.Want → line.Doing
 copies_for copying want = line.Copies copying.bio copying.master copying.leg want
 
 -- the same for a submission as a whole
-abbrev pub LineMoves : Routing → Plain → line.Line → What → Result (Unit {0}) CoreFault → Plain → line.Line → Type 0
+abbrev pub LineMoves : Routing → CoreObjects → line.Line → What → Result (Unit {0}) CoreFault → CoreObjects → line.Line → Type 0
 LineMoves r old before what (Ok done) new after =
     (reply : Reply)
-    × IsAnswer old (line.line_request (setup r) before.doing before.lists) what reply new
-    × (after ≡ line.line_answered (setup r) before.doing before.lists reply)
+    × IsAnswer old (line.line_request (routing_setup r) before.doing before.lists) what reply new
+    × (after ≡ line.line_answered (routing_setup r) before.doing before.lists reply)
 LineMoves r old before what (Err fault.NotEnabled) new after =
-    (new ≡ old) × (after ≡ before) × Refuses old (line.line_request (setup r) before.doing before.lists) what
+    (new ≡ old) × (after ≡ before) × Refuses old (line.line_request (routing_setup r) before.doing before.lists) what
 LineMoves r old before what (Err fault.Memory) new after =
-    (new ≡ old) × (after ≡ before) × HasAnswer old (line.line_request (setup r) before.doing before.lists) what
+    (new ≡ old) × (after ≡ before) × HasAnswer old (line.line_request (routing_setup r) before.doing before.lists) what
 
 -- a submission is under way
-abbrev pub IsBusy : line.Doing → Type 0
-IsBusy line.Rests = ⊥
-IsBusy doing = Unit {0}
+abbrev pub IsSubmitting : line.Doing → Type 0
+IsSubmitting line.Rests = ⊥
+IsSubmitting doing = Unit {0}
 
 -- a writer or a rescuer with a submission under way: these alone take memory
 abbrev pub Submits : TaskState → Type 0
-Submits (task.Writer number todo taken l) = IsBusy l.doing
-Submits (task.Rescuer dev l) = IsBusy l.doing
+Submits (task.Writer number todo taken l) = IsSubmitting l.doing
+Submits (task.Rescuer dev l) = IsSubmitting l.doing
 Submits state = ⊥
 
 -- a task goes on with an answer to what it asks for, where what it looks at lets it ask; it lacks memory only where it could go on so
-abbrev pub TaskMoves : Routing → Plain → TaskState → What → Result (Unit {0}) CoreFault → Plain → TaskState → Type 0
+abbrev pub TaskMoves : Routing → CoreObjects → TaskState → What → Result (Unit {0}) CoreFault → CoreObjects → TaskState → Type 0
 TaskMoves r old before what (Ok done) new after =
     (reply : Reply)
-    × IsLet ledger_of (objects_of old) before (look_of before)
-    × IsAnswer old (request (setup r) before) what reply new
-    × (after ≡ answered (setup r) before reply)
+    × IsLet ledger_of (objects_of_core old) before (look_of before)
+    × IsAnswer old (request (routing_setup r) before) what reply new
+    × (after ≡ answered (routing_setup r) before reply)
 TaskMoves r old before what (Err fault.NotEnabled) new after =
-    (new ≡ old) × (after ≡ before) × (IsLet ledger_of (objects_of old) before (look_of before) → Refuses old (request (setup r) before) what)
+    (new ≡ old) × (after ≡ before) × (IsLet ledger_of (objects_of_core old) before (look_of before) → Refuses old (request (routing_setup r) before) what)
 TaskMoves r old before what (Err fault.Memory) new after =
     (new ≡ old)
     × (after ≡ before)
     × Submits before
-    × IsLet ledger_of (objects_of old) before (look_of before)
-    × HasAnswer old (request (setup r) before) what
+    × IsLet ledger_of (objects_of_core old) before (look_of before)
+    × HasAnswer old (request (routing_setup r) before) what
 
 -- what the keeper's duty is answered with
 abbrev pub duty_reply : task.Duty → Reply
@@ -160,7 +160,7 @@ duty_reply (task.Resizes pool min later) = OutIs 0
 duty_reply (task.Starts round later) = Did
 
 -- a completer goes on
-abbrev pub IsCarried : Plain → DevId → task.Carried → What → Result (Unit {0}) CoreFault → Plain → task.Carried → Type 0
+abbrev pub IsCarried : CoreObjects → DevId → task.Carried → What → Result (Unit {0}) CoreFault → CoreObjects → task.Carried → Type 0
 IsCarried old disk before what (Ok done) new after =
     (reply : Reply)
     × IsAnswer old (task.carried_request disk before) what reply new
@@ -169,7 +169,7 @@ IsCarried old disk before what (Err fault.NotEnabled) new after = (new ≡ old) 
 IsCarried old disk before what (Err fault.Memory) new after = ⊥
 
 -- the first of the elements that a closed node holds went back, or it holds none
-abbrev pub GivesFirst : Plain → Option VectorItem → Option (Item Pad) → Option SlipItem → What → Result Bool CoreFault → Plain
+abbrev pub GivesFirst : CoreObjects → Option VectorItem → Option (Item Pad) → Option SlipItem → What → Result Bool CoreFault → CoreObjects
     → Option VectorItem → Option (Item Pad) → Option SlipItem → Type 0
 GivesFirst old vector bio slip what (Ok true) new vector1 bio1 slip1 =
     (writer : ℕ) (closed : Closed) (parent : Option ℕ)
@@ -194,16 +194,16 @@ abbrev pub bare : Closed → Closed
 bare closed = record closed { held = record { vector = None; bio = None; slip = None } }
 
 -- it is passed on
-abbrev pub PassesOn : Plain → ℕ → Closed → What → Result Carried CoreFault → Plain → Type 0
+abbrev pub PassesOn : CoreObjects → ℕ → Closed → What → Result Carried CoreFault → CoreObjects → Type 0
 PassesOn old writer closed what (Ok after) new =
     (reply : Reply)
     × IsAnswer old (closed_asks writer (bare closed)) what reply new
-    × (carried_of after ≡ closed_becomes writer (bare closed) reply)
+    × (carried_of_plain after ≡ closed_becomes writer (bare closed) reply)
 PassesOn old writer closed what (Err fault.NotEnabled) new = (new ≡ old) × Refuses old (closed_asks writer (bare closed)) what
 PassesOn old writer closed what (Err fault.Memory) new = ⊥
 
 -- it goes on, and is still carried or no more
-abbrev pub ClosesOn : Plain → ℕ → Closed → What → Result (Option Carried) CoreFault → Plain → Closed → Type 0
+abbrev pub ClosesOn : CoreObjects → ℕ → Closed → What → Result (Option Carried) CoreFault → CoreObjects → Closed → Type 0
 ClosesOn old writer closed what (Ok None) new after =
     (reply : Reply)
     × IsAnswer old (closed_asks writer closed) what reply new
@@ -211,23 +211,23 @@ ClosesOn old writer closed what (Ok None) new after =
 ClosesOn old writer closed what (Ok (Some carried)) new after =
     (reply : Reply)
     × IsAnswer old (closed_asks writer closed) what reply new
-    × (carried_of carried ≡ closed_becomes writer closed reply)
+    × (carried_of_plain carried ≡ closed_becomes writer closed reply)
 ClosesOn old writer closed what (Err fault.NotEnabled) new after = (new ≡ old) × (after ≡ closed) × Refuses old (closed_asks writer closed) what
 ClosesOn old writer closed what (Err fault.Memory) new after = ⊥
 
 -- an attempt at a vector
-abbrev pub TakesVector : Plain → What → Result (Option VectorItem) CoreFault → Plain → Type 0
+abbrev pub TakesVector : CoreObjects → What → Result (Option VectorItem) CoreFault → CoreObjects → Type 0
 TakesVector old what (Ok (Some vector)) new = (got : Got) × IsAnswer old TakeVec what (HadVec got vector) new
 TakesVector old what (Ok None) new = (used : Bool) × IsAnswer old TakeVec what (Missed used) new
 TakesVector old what (Err fault.NotEnabled) new = (new ≡ old) × Refuses old TakeVec what
 TakesVector old what (Err fault.Memory) new = ⊥
 
 -- a request that takes no memory was not answered
-abbrev pub Fails : Plain → Request → What → CoreFault → Plain → Type 0
-Fails old request what fault.NotEnabled new = (new ≡ old) × Refuses old request what
-Fails old request what fault.Memory new = ⊥
+abbrev pub FailsRequest : CoreObjects → Request → What → CoreFault → CoreObjects → Type 0
+FailsRequest old request what fault.NotEnabled new = (new ≡ old) × Refuses old request what
+FailsRequest old request what fault.Memory new = ⊥
 
 -- one that takes some was not answered: it can't be, or it could be but for memory
-abbrev pub Lacks : Plain → Request → What → CoreFault → Plain → Type 0
+abbrev pub Lacks : CoreObjects → Request → What → CoreFault → CoreObjects → Type 0
 Lacks old request what fault.NotEnabled new = (new ≡ old) × Refuses old request what
 Lacks old request what fault.Memory new = (new ≡ old) × HasAnswer old request what

@@ -23,50 +23,50 @@ use Rattle.run_machine.specs.Requests.{Opening}
 use Rattle.run_machine.specs.Objects.{Opened}
 use Rattle.plain_core.specs.Pools.{move_of, CanTake}
 use Rattle.plain_core.specs.declared.book.Ended.{Ended}
-use Rattle.plain_core.specs.Books.{ended_of, end_of, IsToldBy}
-use Rattle.plain_core.specs.Plain.{Plain, Gives, pool_at, with_pool, rescue_at, with_rescue, kept_disk, with_disk, book_at, with_book}
+use Rattle.plain_core.specs.Books.{ended_of_plain, end_of, IsToldBy}
+use Rattle.plain_core.specs.Plain.{CoreObjects, Gives, core_pool_at, with_pool, core_rescue_at, with_rescue, kept_disk, with_disk, core_book_at, with_book}
 use Rattle.plain_core.specs.declared.fault.CoreFault.{CoreFault}
 use Rattle.plain_core.specs.declared.fault.CoreFault.TheVariants as fault
 
 -- the pool of this number makes a move
-abbrev pub Moves : Plain → ℕ → Move → Plain → Type 0
-Moves old number move new =
-    CanMove (pool_at old number) move
-    × (pool_at new number ≡ after_move (pool_at old number) move)
-    × (new ≡ with_pool old number (pool_at new number))
+abbrev pub CorePoolMoves : CoreObjects → ℕ → Move → CoreObjects → Type 0
+CorePoolMoves old number move new =
+    CanMove (core_pool_at old number) move
+    × (core_pool_at new number ≡ after_move (core_pool_at old number) move)
+    × (new ≡ with_pool old number (core_pool_at new number))
 
 -- a take of a pool had this
-abbrev pub Takes : Plain → ℕ → PoolId → Bool → What → Result Got CoreFault → Plain → Type 0
+abbrev pub Takes : CoreObjects → ℕ → PoolId → Bool → What → Result Got CoreFault → CoreObjects → Type 0
 Takes old number pool waits what result new =
     Gives old
-    (λ got next. (what ≡ take_of waits pool got) × CanTake (pool_at old number) waits got × Moves old number (move_of (pool_at old number) got) next)
-    ((got : Got) → what ≡ take_of waits pool got → CanTake (pool_at old number) waits got → ⊥)
+    (λ got next. (what ≡ take_of waits pool got) × CanTake (core_pool_at old number) waits got × CorePoolMoves old number (move_of (core_pool_at old number) got) next)
+    ((got : Got) → what ≡ take_of waits pool got → CanTake (core_pool_at old number) waits got → ⊥)
     result new
 
 -- the pool of this number makes a move that the event tells
-abbrev pub MovesAs : Plain → ℕ → Move → What → What → Result (Unit {0}) CoreFault → Plain → Type 0
+abbrev pub MovesAs : CoreObjects → ℕ → Move → What → What → Result (Unit {0}) CoreFault → CoreObjects → Type 0
 MovesAs old number move tells what result new =
-    Gives old (λ done next. (what ≡ tells) × Moves old number move next) (what ≡ tells → CanMove (pool_at old number) move → ⊥) result new
+    Gives old (λ done next. (what ≡ tells) × CorePoolMoves old number move next) (what ≡ tells → CanMove (core_pool_at old number) move → ⊥) result new
 
 -- all bios of a device's set that wait in these lists go to its rescuer
 abbrev pub IsPunt : TaskLists → DevId → What → Type 0
 IsPunt lists dev what = what ≡ told.Punt dev (min (length (punted dev lists)) (2 ^ 64 - 1))
 
-abbrev pub Punts : Plain → TaskLists → DevId → What → Result (Unit {0}) CoreFault → Plain → TaskLists → Type 0
+abbrev pub Punts : CoreObjects → TaskLists → DevId → What → Result (Unit {0}) CoreFault → CoreObjects → TaskLists → Type 0
 Punts old lists dev what (Ok done) new rest =
     IsPunt lists dev what
-    × (rescue_at new dev.0 ≡ rescue_at old dev.0 ++ punted dev lists)
-    × (new ≡ with_rescue old dev.0 (rescue_at new dev.0))
+    × (core_rescue_at new dev.0 ≡ core_rescue_at old dev.0 ++ punted dev lists)
+    × (new ≡ with_rescue old dev.0 (core_rescue_at new dev.0))
     × (rest ≡ not_punted dev lists)
 Punts old lists dev what (Err fault.NotEnabled) new rest = (new ≡ old) × (rest ≡ lists) × (IsPunt lists dev what → ⊥)
 Punts old lists dev what (Err fault.Memory) new rest = (new ≡ old) × (rest ≡ lists) × IsPunt lists dev what
 
 -- the first bio that waits for a rescuer was taken
-abbrev pub Pops : Plain → DevId → What → Result (Item Pad) CoreFault → Plain → Type 0
+abbrev pub Pops : CoreObjects → DevId → What → Result (Item Pad) CoreFault → CoreObjects → Type 0
 Pops old dev what result new =
     Gives old
-    (λ part next. (what ≡ told.Pop dev) × (rescue_at old dev.0 ≡ part ∷ rescue_at next dev.0) × (next ≡ with_rescue old dev.0 (rescue_at next dev.0)))
-    ((part : Item Pad) (rest : List (Item Pad)) → what ≡ told.Pop dev → rescue_at old dev.0 ≡ part ∷ rest → ⊥)
+    (λ part next. (what ≡ told.Pop dev) × (core_rescue_at old dev.0 ≡ part ∷ core_rescue_at next dev.0) × (next ≡ with_rescue old dev.0 (core_rescue_at next dev.0)))
+    ((part : Item Pad) (rest : List (Item Pad)) → what ≡ told.Pop dev → core_rescue_at old dev.0 ≡ part ∷ rest → ⊥)
     result new
 
 -- a bio came to the disk that it is at
@@ -77,7 +77,7 @@ abbrev pub PushesIn : Option DiskState → Item Pad → Option DiskState → Typ
 PushesIn None part after = ⊥
 PushesIn (Some disk) part after = after ≡ Some (pushed part disk)
 
-abbrev pub Pushes : Plain → Item Pad → What → Result (Unit {0}) CoreFault → Plain → Type 0
+abbrev pub Pushes : CoreObjects → Item Pad → What → Result (Unit {0}) CoreFault → CoreObjects → Type 0
 Pushes old part what (Ok done) new =
     IsPush part what
     × PushesIn (kept_disk old part.bio.dev.0) part (kept_disk new part.bio.dev.0)
@@ -90,7 +90,7 @@ abbrev pub CompletesIn : Option DiskState → ℕ → Item Pad → Status → Op
 CompletesIn (Some disk) index part status (Some after) = Completes disk index part status after
 CompletesIn old index part status new = ⊥
 
-abbrev pub IsComplete : Plain → DevId → What → Result (ℕ × Item Pad × Status) CoreFault → Plain → Type 0
+abbrev pub IsComplete : CoreObjects → DevId → What → Result (ℕ × Item Pad × Status) CoreFault → CoreObjects → Type 0
 IsComplete old disk what result new =
     Gives old
     (λ done next. (what ≡ told.Complete disk done.0 done.2)
@@ -101,17 +101,17 @@ IsComplete old disk what result new =
     result new
 
 -- a node was opened in a writer's book
-abbrev pub Links : Plain → ℕ → Opening → What → Result ℕ CoreFault → Plain → Type 0
+abbrev pub Links : CoreObjects → ℕ → Opening → What → Result ℕ CoreFault → CoreObjects → Type 0
 Links old writer opening what result new =
     Gives old
     (λ node next. (what ≡ told.Link writer (how_of opening) node)
-    × Opened (book_at old writer) opening (Made node) (book_at next writer)
-    × (next ≡ with_book old writer (book_at next writer)))
-    ((node : ℕ) (book : BookState) → what ≡ told.Link writer (how_of opening) node → Opened (book_at old writer) opening (Made node) book → ⊥)
+    × Opened (core_book_at old writer) opening (Made node) (core_book_at next writer)
+    × (next ≡ with_book old writer (core_book_at next writer)))
+    ((node : ℕ) (book : BookState) → what ≡ told.Link writer (how_of opening) node → Opened (core_book_at old writer) opening (Made node) book → ⊥)
     result new
 
 -- the same where room is made for what comes of it: that can lack memory, and then a node could be opened else
-abbrev pub Joins : Plain → ℕ → Opening → What → Result ℕ CoreFault → Plain → Type 0
+abbrev pub Joins : CoreObjects → ℕ → Opening → What → Result ℕ CoreFault → CoreObjects → Type 0
 Joins old writer opening what (Ok node) new = Links old writer opening what (Ok node) new
 Joins old writer opening what (Err fault.NotEnabled) new = Links old writer opening what (Err fault.NotEnabled) new
 Joins old writer opening what (Err fault.Memory) new =
@@ -119,15 +119,15 @@ Joins old writer opening what (Err fault.Memory) new =
     × (node : ℕ)
     × (book : BookState)
     × (what ≡ told.Link writer (how_of opening) node)
-    × Opened (book_at old writer) opening (Made node) book
+    × Opened (core_book_at old writer) opening (Made node) book
 
 -- a node of a writer's book was told of an end
-abbrev pub IsDrop : Plain → ℕ → ℕ → Status → Option (Item Pad) → What → Result Ended CoreFault → Plain → Type 0
+abbrev pub IsDrop : CoreObjects → ℕ → ℕ → Status → Option (Item Pad) → What → Result Ended CoreFault → CoreObjects → Type 0
 IsDrop old writer place status part what result new =
     Gives old
     (λ ended next. (what ≡ told.Drop writer place status (end_of ended))
-    × Drops (book_at old writer) place status part (ended_of ended) (book_at next writer)
-    × (next ≡ with_book old writer (book_at next writer)))
+    × Drops (core_book_at old writer) place status part (ended_of_plain ended) (core_book_at next writer)
+    × (next ≡ with_book old writer (core_book_at next writer)))
     ((end : End) (answer : drop.Ended) (book : BookState) → what ≡ told.Drop writer place status end → IsToldBy end answer
-    → Drops (book_at old writer) place status part answer book → ⊥)
+    → Drops (core_book_at old writer) place status part answer book → ⊥)
     result new

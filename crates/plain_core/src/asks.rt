@@ -3,8 +3,8 @@ ghost use Rattle.std.specs.Prelude.{◌<◌};
 ghost use Rattle.run_machine.specs.Requests.{GiveBio, GiveVec, GiveSlip, Pop, Complete, Drop, Done, Resize, NextRound, Link, Write, LinkedTo, Did, Popped, Completed, DroppedTo, OutIs};
 ghost use Rattle.bio_books.specs.Links.{Made};
 ghost use Rattle.stack_base.specs.PoolId.{pool_number};
-ghost use Rattle.plain_core.specs.Books.{ended_of};
-ghost use Rattle.plain_core.specs.Steps.{Answers};
+ghost use Rattle.plain_core.specs.Books.{ended_of_plain};
+ghost use Rattle.plain_core.specs.Steps.{AnswersRequest};
 
 use crate::book::Ended;
 use crate::fault::CoreFault;
@@ -15,21 +15,21 @@ use task_core::What;
 
 /// A bio goes back to its pool.
 pub fn give_part(objects: &mut Objects, part: &Part, what: &What) -> Result<(), CoreFault>
-    ensures { Answers objects.old (GiveBio part.now) what.now (λ done. Did) result objects.new }
+    ensures { AnswersRequest objects.old (GiveBio part.now) what.now (λ done. Did) result objects.new }
 {
     objects.give(part.pool(), what)
 }
 
 /// A vector goes back to its pool.
 pub fn give_vector(objects: &mut Objects, vector: &Vector, what: &What) -> Result<(), CoreFault>
-    ensures { Answers objects.old (GiveVec vector.now) what.now (λ done. Did) result objects.new }
+    ensures { AnswersRequest objects.old (GiveVec vector.now) what.now (λ done. Did) result objects.new }
 {
     objects.give(vector.pool(), what)
 }
 
 /// A record goes back to its pool.
 pub fn give_slip(objects: &mut Objects, slip: &Slip, what: &What) -> Result<(), CoreFault>
-    ensures { Answers objects.old (GiveSlip slip.now) what.now (λ done. Did) result objects.new }
+    ensures { AnswersRequest objects.old (GiveSlip slip.now) what.now (λ done. Did) result objects.new }
 {
     objects.give(slip.pool(), what)
 }
@@ -37,21 +37,21 @@ pub fn give_slip(objects: &mut Objects, slip: &Slip, what: &What) -> Result<(), 
 /// A reserve changes.
 pub fn resize(objects: &mut Objects, pool: PoolId, min: u32, what: &What) -> Result<(), CoreFault>
     requires { pool_number pool < 66 }
-    ensures { Answers objects.old (Resize pool min) what.now (λ done. OutIs 0) result objects.new }
+    ensures { AnswersRequest objects.old (Resize pool min) what.now (λ done. OutIs 0) result objects.new }
 {
     objects.resize(pool, min, what)
 }
 
 /// A round starts.
 pub fn next_round(objects: &mut Objects, round: u32, what: &What) -> Result<(), CoreFault>
-    ensures { Answers objects.old (NextRound round) what.now (λ done. Did) result objects.new }
+    ensures { AnswersRequest objects.old (NextRound round) what.now (λ done. Did) result objects.new }
 {
     objects.next_round(round, what)
 }
 
 /// A rescuer takes a bio.
 pub fn pop(objects: &mut Objects, dev: DevId, what: &What) -> Result<Part, CoreFault>
-    ensures { Answers objects.old (Pop dev) what.now Popped result objects.new }
+    ensures { AnswersRequest objects.old (Pop dev) what.now Popped result objects.new }
 {
     objects.pop(dev, what)
 }
@@ -62,7 +62,7 @@ pub fn complete(
     disk: DevId,
     what: &What,
 ) -> Result<(u64, Part, Status), CoreFault>
-    ensures { Answers objects.old (Complete disk) what.now (λ done. Completed done.0 done.1 done.2) result objects.new }
+    ensures { AnswersRequest objects.old (Complete disk) what.now (λ done. Completed done.0 done.1 done.2) result objects.new }
 {
     objects.complete(disk, what)
 }
@@ -76,14 +76,14 @@ pub fn tell(
     part: Option<Part>,
     what: &What,
 ) -> Result<Ended, CoreFault>
-    ensures { Answers objects.old (Drop writer place status part) what.now (λ ended. DroppedTo (ended_of ended)) result objects.new }
+    ensures { AnswersRequest objects.old (Drop writer place status part) what.now (λ ended. DroppedTo (ended_of_plain ended)) result objects.new }
 {
     objects.tell(writer, place, status, part, what)
 }
 
 /// A write is done.
 pub fn done(objects: &mut Objects, write: u32, status: Status, what: &What) -> Result<(), CoreFault>
-    ensures { Answers objects.old (Done write status) what.now (λ done. Did) result objects.new }
+    ensures { AnswersRequest objects.old (Done write status) what.now (λ done. Did) result objects.new }
 {
     objects.done(write, status, what)
 }
@@ -96,7 +96,7 @@ pub fn open_write(
     vector: Option<Vector>,
     what: &What,
 ) -> Result<u32, CoreFault>
-    ensures { Answers objects.old (Link writer (Write write vector)) what.now (λ node. LinkedTo (Made node)) result objects.new }
+    ensures { AnswersRequest objects.old (Link writer (Write write vector)) what.now (λ node. LinkedTo (Made node)) result objects.new }
 {
     objects.open_write(writer, write, vector, what)
 }

@@ -3,9 +3,9 @@ ghost use Rattle.std.specs.Prelude.{◌≡◌, ℕ, ◌^◌, ◌-◌, ◌<◌, I
 ghost use Rattle.bio_books.specs.Books.{BookState, Node as Open, parent_of, told, lowered, raised, keeping, node_at, with_node};
 ghost use Rattle.bio_books.specs.Links.{Made, IsVacant, Opens, Chains, Masters, Legs};
 ghost use Rattle.bio_books.specs.Drops.{closed_of};
-ghost use Rattle.plain_core.specs.Books.{IsTold, OpensSo};
-ghost use Rattle.plain_core.specs.Lists.{lists_of, HasRoom};
-ghost use Rattle.plain_core.specs.Free.{IsCountAt, Tells};
+ghost use Rattle.plain_core.specs.Books.{IsEndTold, OpensSo};
+ghost use Rattle.plain_core.specs.Lists.{lists_of, ListsHaveCapacity};
+ghost use Rattle.plain_core.specs.Free.{IsCountAt, IsDecisionOf};
 
 use crate::fault::CoreFault;
 use crate::lists::Lists;
@@ -141,7 +141,7 @@ impl Book {
 
     /// Whether no node is open at some place.
     pub fn has_place(&self) -> bool
-        ensures { Tells result ((place : ℕ) × IsVacant self.now place) }
+        ensures { IsDecisionOf result ((place : ℕ) × IsVacant self.now place) }
     {
         self.vacant > 0
     }
@@ -188,7 +188,7 @@ impl Book {
     ) -> Result<(), CoreFault>
         ensures opens { OpensSo self.old (Chains self.old parent (Made place)) result self.new }
         ensures same { lists_of lists.new ≡ lists_of lists.old }
-        ensures room { OnOk result (HasRoom 2 lists.new) }
+        ensures room { OnOk result (ListsHaveCapacity 2 lists.new) }
     {
         let Some(node) = self.node(parent) else {
             return Err(CoreFault::NotEnabled);
@@ -220,7 +220,7 @@ impl Book {
     ) -> Result<(), CoreFault>
         ensures opens { OpensSo self.old (Masters self.old parent part.now slip.now legs (Made place)) result self.new }
         ensures same { lists_of lists.new ≡ lists_of lists.old }
-        ensures room { OnOk result (HasRoom 2 lists.new) }
+        ensures room { OnOk result (ListsHaveCapacity 2 lists.new) }
     {
         let Some(node) = self.node(parent) else {
             return Err(CoreFault::NotEnabled);
@@ -243,7 +243,7 @@ impl Book {
     pub fn open_leg(&mut self, master: u32, place: u32, lists: &mut Lists) -> Result<(), CoreFault>
         ensures opens { OpensSo self.old (Legs self.old master (Made place)) result self.new }
         ensures same { lists_of lists.new ≡ lists_of lists.old }
-        ensures room { OnOk result (HasRoom 2 lists.new) }
+        ensures room { OnOk result (ListsHaveCapacity 2 lists.new) }
     {
         let Some(node) = self.node(master) else {
             return Err(CoreFault::NotEnabled);
@@ -265,7 +265,7 @@ impl Book {
         part: Option<Part>,
         end: End,
     ) -> Option<Ended>
-        ensures { IsTold self.old place status part end result self.new }
+        ensures { IsEndTold self.old place status part end result self.new }
     {
         let node = self.node(place)?;
         let (count, role) = (node.count, node.role);

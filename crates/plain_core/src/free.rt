@@ -2,8 +2,8 @@
 ghost use Rattle.std.specs.Prelude.{◌≡◌};
 ghost use Rattle.run_machine.specs.Lines.{Rests as AtRest};
 ghost use Rattle.task_steps.specs.Routed.{Routing};
-ghost use Rattle.plain_core.specs.Free.{IsMet, TaskIsFree, TaskIsLet, Tells};
-ghost use Rattle.plain_core.specs.Views.{doing_of, keeper_of, task_of, writer_of};
+ghost use Rattle.plain_core.specs.Free.{NeedIsMet, TaskIsFree, TaskIsLet, IsDecisionOf};
+ghost use Rattle.plain_core.specs.Views.{doing_of_plain, keeper_of, task_of_plain, writer_of};
 ghost use Rattle.plain_core.specs.declared.need.Need.TheVariants as need;
 
 use crate::need::{Need, task_need};
@@ -14,7 +14,7 @@ use crate::task::{Keeper, Taken, Task, Writer};
 
 // Whether the writer's book has a vacant place, and the node at the place of a parent can wait for one more end.
 fn can_chain(objects: &Objects, writer: u32, parent: u32) -> bool
-    ensures { Tells result (IsMet objects.now (need.Chain writer parent)) }
+    ensures { IsDecisionOf result (NeedIsMet objects.now (need.Chain writer parent)) }
 {
     match objects.count_at(writer, parent) {
         None => false,
@@ -24,7 +24,7 @@ fn can_chain(objects: &Objects, writer: u32, parent: u32) -> bool
 
 // Whether the writer's book has a vacant place, and the node at the place of a parent is open.
 fn can_hang(objects: &Objects, writer: u32, parent: u32) -> bool
-    ensures { Tells result (IsMet objects.now (need.Child writer parent)) }
+    ensures { IsDecisionOf result (NeedIsMet objects.now (need.Child writer parent)) }
 {
     match objects.count_at(writer, parent) {
         None => false,
@@ -34,7 +34,7 @@ fn can_hang(objects: &Objects, writer: u32, parent: u32) -> bool
 
 // Whether the node at a place of the writer's book is open, and waits for an end.
 fn can_end(objects: &Objects, writer: u32, place: u32) -> bool
-    ensures { Tells result (IsMet objects.now (need.End writer place)) }
+    ensures { IsDecisionOf result (NeedIsMet objects.now (need.End writer place)) }
 {
     match objects.count_at(writer, place) {
         None => false,
@@ -44,7 +44,7 @@ fn can_end(objects: &Objects, writer: u32, place: u32) -> bool
 
 // Whether the objects meet a need.
 fn is_met(objects: &Objects, need: Need) -> bool
-    ensures { Tells result (IsMet objects.now need) }
+    ensures { IsDecisionOf result (NeedIsMet objects.now need) }
 {
     match need {
         Need::Nothing => true,
@@ -64,8 +64,8 @@ fn is_met(objects: &Objects, need: Need) -> bool
 
 // Whether the round of a writer at rest has come, if it has a write to begin.
 fn write_is_let(objects: &Objects, writer: &Writer) -> bool
-    requires { doing_of writer.now.line.doing ≡ AtRest }
-    ensures { Tells result (TaskIsLet objects.now (writer_of writer.now)) }
+    requires { doing_of_plain writer.now.line.doing ≡ AtRest }
+    ensures { IsDecisionOf result (TaskIsLet objects.now (writer_of writer.now)) }
 {
     let Some(next) = next_todo(&writer.todo, writer.begun) else {
         return true;
@@ -79,14 +79,14 @@ fn write_is_let(objects: &Objects, writer: &Writer) -> bool
 
 // Whether what a writer looks at lets it ask.
 fn writer_is_let(objects: &Objects, writer: &Writer) -> bool
-    ensures { Tells result (TaskIsLet objects.now (writer_of writer.now)) }
+    ensures { IsDecisionOf result (TaskIsLet objects.now (writer_of writer.now)) }
 {
     !writer.line.rests() || write_is_let(objects, writer)
 }
 
 // Whether what the keeper looks at lets it ask.
 fn keeper_is_let(objects: &Objects, keeper: &Keeper) -> bool
-    ensures { Tells result (TaskIsLet objects.now (keeper_of keeper.now)) }
+    ensures { IsDecisionOf result (TaskIsLet objects.now (keeper_of keeper.now)) }
 {
     match next_duty(&keeper.duties, keeper.done) {
         None => true,
@@ -96,7 +96,7 @@ fn keeper_is_let(objects: &Objects, keeper: &Keeper) -> bool
 
 // Whether what a task looks at lets it ask.
 fn task_is_let(objects: &Objects, task: &Task) -> bool
-    ensures { Tells result (TaskIsLet objects.now (task_of task.now)) }
+    ensures { IsDecisionOf result (TaskIsLet objects.now (task_of_plain task.now)) }
 {
     match task {
         Task::Writer(writer) => writer_is_let(objects, writer),
@@ -108,7 +108,7 @@ fn task_is_let(objects: &Objects, task: &Task) -> bool
 
 /// Whether a task can go on without ordinary memory.
 pub fn task_is_free(objects: &Objects, task: &Task) -> bool
-    ensures { (r : Routing) → Tells result (TaskIsFree r objects.now (task_of task.now)) }
+    ensures { (r : Routing) → IsDecisionOf result (TaskIsFree r objects.now (task_of_plain task.now)) }
 {
     task_is_let(objects, task) && is_met(objects, task_need(task))
 }

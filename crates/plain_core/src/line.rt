@@ -6,10 +6,10 @@ ghost use Rattle.bio_records.specs.declared.bio.Pad.{Pad as Padding};
 ghost use Rattle.bio_records.specs.Items.{Item};
 ghost use Rattle.bioset_pools.specs.Sets.{bios_of};
 ghost use Rattle.run_machine.specs.Lines.{first_waits, asks_at, driven, goes_on, after_miss, cut_at};
-ghost use Rattle.task_steps.specs.Routed.{setup};
-ghost use Rattle.task_steps.specs.Within.{IsWithin, ListsAreWithin, DoingFits, LineFits, is_cut};
-ghost use Rattle.plain_core.specs.Lists.{lists_of, HasRoom};
-ghost use Rattle.plain_core.specs.Views.{ask_of, doing_of, line_of, want_of};
+ghost use Rattle.task_steps.specs.Routed.{routing_setup};
+ghost use Rattle.task_steps.specs.Within.{IsWithinDevice, ListsAreWithin, DoingFits, LineFits, is_cut};
+ghost use Rattle.plain_core.specs.Lists.{lists_of, ListsHaveCapacity};
+ghost use Rattle.plain_core.specs.Views.{ask_of_plain, doing_of_plain, line_of_plain, want_of_plain};
 ghost use Rattle.plain_core.specs.declared.line.Next.TheVariants as then;
 ghost use Rattle.plain_core.specs.Steps.{LineSteps, LineMoves, CanTurn, turned, cuts_for, drives_for, TakesPart, TakesSlip, TakesWant};
 
@@ -28,7 +28,7 @@ use task_core::{Got, Manner, Routes, What};
 // Whether the first attempt at a bio of the device's set waits.
 pub(crate) fn first_waits(routes: &Routes, dev: DevId, lists: &Lists) -> bool
     requires { dev.0 < length routes.now.stack.devices.items }
-    ensures { result ≡ first_waits (setup routes.now) dev (lists_of lists.now) }
+    ensures { result ≡ first_waits (routing_setup routes.now) dev (lists_of lists.now) }
 {
     !routes.rescuer(dev) || !lists.busy()
 }
@@ -47,7 +47,7 @@ pub enum Next {
 // What the driver of a device does first with a bio.
 fn first_ask(routes: &Routes, dev: DevId, lists: &Lists) -> Ask
     requires { dev.0 < length routes.now.stack.devices.items }
-    ensures { (part : Item Padding) → part.bio.dev ≡ dev → drives_for part (ask_of result) ≡ asks_at (setup routes.now) (lists_of lists.now) part (tree routes.now.stack dev.0) }
+    ensures { (part : Item Padding) → part.bio.dev ≡ dev → drives_for part (ask_of_plain result) ≡ asks_at (routing_setup routes.now) (lists_of lists.now) part (tree routes.now.stack dev.0) }
 {
     match routes.manner(dev) {
         Manner::Keeps => Ask::ToPush,
@@ -58,8 +58,8 @@ fn first_ask(routes: &Routes, dev: DevId, lists: &Lists) -> Ask
 
 // A bio is served next.
 pub fn drive(routes: &Routes, part: Part, line: &mut Line)
-    requires { IsWithin routes.now.stack part.bio }
-    ensures { line_of line.new ≡ record { doing = driven (setup routes.now) (lists_of line.old.lists) part; lists = lists_of line.old.lists } }
+    requires { IsWithinDevice routes.now.stack part.bio }
+    ensures { line_of_plain line.new ≡ record { doing = driven (routing_setup routes.now) (lists_of line.old.lists) part; lists = lists_of line.old.lists } }
 {
     let at = routes.land(part.bio());
     let ask = first_ask(routes, at.dev, &line.lists);
@@ -68,9 +68,9 @@ pub fn drive(routes: &Routes, part: Part, line: &mut Line)
 
 // The driver of this device has returned.
 pub(crate) fn go_on(routes: &Routes, dev: DevId, line: &mut Line)
-    requires room { HasRoom 0 line.old.lists }
+    requires room { ListsHaveCapacity 0 line.old.lists }
     requires within { ListsAreWithin routes.now.stack (lists_of line.old.lists) }
-    ensures { line_of line.new ≡ goes_on (setup routes.now) dev (lists_of line.old.lists) }
+    ensures { line_of_plain line.new ≡ goes_on (routing_setup routes.now) dev (lists_of line.old.lists) }
 {
     match line.lists.next(dev) {
         None => line.doing = Doing::Rests,
@@ -123,7 +123,7 @@ fn take_slip(objects: &mut Objects, dev: DevId, what: &What) -> Result<Option<Sl
 
 // Behind a miss.
 fn after_miss(waits: bool) -> Want
-    ensures { want_of result ≡ after_miss waits }
+    ensures { want_of_plain result ≡ after_miss waits }
 {
     if waits {
         Want::Takes(true)
@@ -151,13 +151,13 @@ pub(crate) fn take_for(
 
 // A bio is split: its first piece goes to its member, and the rest comes again (`bio_split`, `block/bio.c`).
 fn cut(routes: &Routes, part: &Part, hand: &Hand, node: u32, lists: &mut Lists)
-    requires room { HasRoom 2 lists.old }
-    requires within { IsWithin routes.now.stack part.now.bio }
+    requires room { ListsHaveCapacity 2 lists.old }
+    requires within { IsWithinDevice routes.now.stack part.now.bio }
     requires cut { is_cut (tree routes.now.stack part.now.bio.dev.0) part.now.bio.range ≡ true }
     requires lists { ListsAreWithin routes.now.stack (lists_of lists.old) }
-    ensures cut { cut_at (setup routes.now) (lists_of lists.old) part.now hand.now node (tree routes.now.stack part.now.bio.dev.0)
-        ≡ goes_on (setup routes.now) part.now.bio.dev (lists_of lists.new) }
-    ensures room { HasRoom 0 lists.new }
+    ensures cut { cut_at (routing_setup routes.now) (lists_of lists.old) part.now hand.now node (tree routes.now.stack part.now.bio.dev.0)
+        ≡ goes_on (routing_setup routes.now) part.now.bio.dev (lists_of lists.new) }
+    ensures room { ListsHaveCapacity 0 lists.new }
     ensures within { ListsAreWithin routes.now.stack (lists_of lists.new) }
 {
     let bio = part.bio();
@@ -180,7 +180,7 @@ fn cut(routes: &Routes, part: &Part, hand: &Hand, node: u32, lists: &mut Lists)
 
 // A driver goes on with what it does, and wants this.
 pub(crate) fn stay(want: &mut Want, next: Want) -> Next
-    ensures want { want_of want.new ≡ want_of next }
+    ensures want { want_of_plain want.new ≡ want_of_plain next }
     ensures stays { result ≡ then.Stays }
 {
     *want = next;
@@ -197,9 +197,9 @@ fn cut_step(
     what: &What,
 ) -> Result<Next, CoreFault>
     requires stack { objects.old.stack ≡ routes.now.stack }
-    requires fits { DoingFits routes.now.stack (cuts_for part.now (want_of want.old)) }
+    requires fits { DoingFits routes.now.stack (cuts_for part.now (want_of_plain want.old)) }
     requires lists { ListsAreWithin routes.now.stack (lists_of lists.old) }
-    ensures steps { LineSteps routes.now objects.old (cuts_for part.now (want_of want.old)) (lists_of lists.old) what.now result objects.new (cuts_for part.now (want_of want.new)) (lists_of lists.new) }
+    ensures steps { LineSteps routes.now objects.old (cuts_for part.now (want_of_plain want.old)) (lists_of lists.old) what.now result objects.new (cuts_for part.now (want_of_plain want.new)) (lists_of lists.new) }
     ensures turns { IfOk result (CanTurn routes.now.stack lists.new) }
 {
     routes.known();
@@ -233,9 +233,9 @@ fn drive_step(
     what: &What,
 ) -> Result<Next, CoreFault>
     requires stack { objects.old.stack ≡ routes.now.stack }
-    requires fits { DoingFits routes.now.stack (drives_for part.now (ask_of ask.old)) }
+    requires fits { DoingFits routes.now.stack (drives_for part.now (ask_of_plain ask.old)) }
     requires lists { ListsAreWithin routes.now.stack (lists_of lists.old) }
-    ensures steps { LineSteps routes.now objects.old (drives_for part.now (ask_of ask.old)) (lists_of lists.old) what.now result objects.new (drives_for part.now (ask_of ask.new)) (lists_of lists.new) }
+    ensures steps { LineSteps routes.now objects.old (drives_for part.now (ask_of_plain ask.old)) (lists_of lists.old) what.now result objects.new (drives_for part.now (ask_of_plain ask.new)) (lists_of lists.new) }
     ensures turns { IfOk result (CanTurn routes.now.stack lists.new) }
 {
     routes.known();
@@ -266,7 +266,7 @@ fn drive_step(
 // What comes behind an answer is done.
 fn turn(routes: &Routes, next: Next, line: &mut Line)
     requires { CanTurn routes.now.stack line.old.lists next }
-    ensures { line_of line.new ≡ turned (setup routes.now) (doing_of line.old.doing) (lists_of line.old.lists) next }
+    ensures { line_of_plain line.new ≡ turned (routing_setup routes.now) (doing_of_plain line.old.doing) (lists_of line.old.lists) next }
 {
     match next {
         Next::Stays => {}
@@ -284,9 +284,9 @@ fn answer(
     what: &What,
 ) -> Result<Next, CoreFault>
     requires stack { objects.old.stack ≡ routes.now.stack }
-    requires fits { DoingFits routes.now.stack (doing_of doing.old) }
+    requires fits { DoingFits routes.now.stack (doing_of_plain doing.old) }
     requires lists { ListsAreWithin routes.now.stack (lists_of lists.old) }
-    ensures steps { LineSteps routes.now objects.old (doing_of doing.old) (lists_of lists.old) what.now result objects.new (doing_of doing.new) (lists_of lists.new) }
+    ensures steps { LineSteps routes.now objects.old (doing_of_plain doing.old) (lists_of lists.old) what.now result objects.new (doing_of_plain doing.new) (lists_of lists.new) }
     ensures turns { IfOk result (CanTurn routes.now.stack lists.new) }
 {
     match doing {
@@ -307,8 +307,8 @@ pub fn line_step(
     what: &What,
 ) -> Result<(), CoreFault>
     requires stack { objects.old.stack ≡ routes.now.stack }
-    requires fits { LineFits routes.now.stack (line_of line.old) }
-    ensures { LineMoves routes.now objects.old (line_of line.old) what.now result objects.new (line_of line.new) }
+    requires fits { LineFits routes.now.stack (line_of_plain line.old) }
+    ensures { LineMoves routes.now objects.old (line_of_plain line.old) what.now result objects.new (line_of_plain line.new) }
 {
     match answer(routes, objects, &mut line.doing, &mut line.lists, what) {
         Err(fault) => Err(fault),

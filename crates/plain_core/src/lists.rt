@@ -3,7 +3,7 @@ ghost use Rattle.std.specs.Prelude.{◌≡◌, ℕ, ◌&&◌, ◌+◌, ◌*◌, 
 ghost use Rattle.std.specs.VecDeque.{deque_capacity};
 ghost use Rattle.bio_lists.specs.Submission.{no_lists, submitted, order};
 ghost use Rattle.run_machine.specs.Lines.{is_empty, is_of, punted, not_punted};
-ghost use Rattle.plain_core.specs.Lists.{lists_of, is_picked, HasRoom};
+ghost use Rattle.plain_core.specs.Lists.{lists_of, is_picked, ListsHaveCapacity};
 
 use crate::part::Part;
 use stack_base::{DevId, SetId};
@@ -107,7 +107,7 @@ impl Lists {
     /// Where there is no memory. The lists have the same bios in any case.
     pub fn reserve(&mut self) -> Result<(), AllocError>
         ensures same { lists_of self.new ≡ lists_of self.old }
-        ensures room { OnOk result (HasRoom 2 self.new) }
+        ensures room { OnOk result (ListsHaveCapacity 2 self.new) }
     {
         self.list0.reserve(2)?;
         self.list1.reserve(2 * (self.list0.len() + 2))?;
@@ -130,16 +130,16 @@ impl Lists {
 
     /// Submits a bio from within a driver.
     pub fn submit(&mut self, part: Part)
-        requires { HasRoom 1 self.old }
+        requires { ListsHaveCapacity 1 self.old }
         ensures submitted { lists_of self.new ≡ submitted part (lists_of self.old) }
-        ensures room { (more : ℕ) → HasRoom (more + 1) self.old → HasRoom more self.new }
+        ensures room { (more : ℕ) → ListsHaveCapacity (more + 1) self.old → ListsHaveCapacity more self.new }
     {
         self.list0.push_back(part).unwrap();
     }
 
     /// The bio to serve next when the driver of a device has returned, if one waits (`__submit_bio_noacct`, `block/blk-core.c`).
     pub fn next(&mut self, served: DevId) -> Option<Part>
-        requires { HasRoom 0 self.old }
+        requires { ListsHaveCapacity 0 self.old }
         ensures list0 { self.new.list0.items ≡ [] }
         ensures list1 { MatchOption result ((order served (lists_of self.old) ≡ []) × (self.new.list1.items ≡ []))
             (λ part. order served (lists_of self.old) ≡ part ∷ self.new.list1.items) }

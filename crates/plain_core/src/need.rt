@@ -7,7 +7,7 @@ ghost use Rattle.run_machine.specs.Tasks.{closed_request, request};
 ghost use Rattle.plain_core.specs.Free.{need_of};
 ghost use Rattle.plain_core.specs.Lists.{lists_of};
 ghost use Rattle.plain_core.specs.Steps.{copies_for, cuts_for, drives_for};
-ghost use Rattle.plain_core.specs.Views.{ask_of, completer_of, doing_of, keeper_of, rescuer_of, task_of, want_of, writer_of};
+ghost use Rattle.plain_core.specs.Views.{ask_of_plain, completer_of, doing_of_plain, keeper_of, rescuer_of, task_of_plain, want_of_plain, writer_of};
 
 use crate::node::Closed;
 use crate::part::Part;
@@ -48,7 +48,7 @@ pub enum Need {
 
 // What a driver needs that cuts a bio.
 fn cut_need(part: &Part, want: &Want) -> Need
-    ensures { (s : Setup) (lists : TaskLists) → result ≡ need_of (line_request s (cuts_for part.now (want_of want.now)) lists) }
+    ensures { (s : Setup) (lists : TaskLists) → result ≡ need_of (line_request s (cuts_for part.now (want_of_plain want.now)) lists) }
 {
     let bio = part.bio();
     match want {
@@ -66,7 +66,7 @@ fn cut_need(part: &Part, want: &Want) -> Need
 
 // What the driver of a bio's device needs.
 fn drive_need(part: &Part, ask: &Ask) -> Need
-    ensures { (s : Setup) (lists : TaskLists) → result ≡ need_of (line_request s (drives_for part.now (ask_of ask.now)) lists) }
+    ensures { (s : Setup) (lists : TaskLists) → result ≡ need_of (line_request s (drives_for part.now (ask_of_plain ask.now)) lists) }
 {
     let bio = part.bio();
     match ask {
@@ -85,7 +85,7 @@ fn drive_need(part: &Part, ask: &Ask) -> Need
 
 // What a mirror needs that copies a bio.
 fn copy_need(copying: &Copying, want: &Want) -> Need
-    ensures { (s : Setup) (lists : TaskLists) → result ≡ need_of (line_request s (copies_for copying.now (want_of want.now)) lists) }
+    ensures { (s : Setup) (lists : TaskLists) → result ≡ need_of (line_request s (copies_for copying.now (want_of_plain want.now)) lists) }
 {
     let bio = copying.bio;
     match want {
@@ -103,7 +103,7 @@ fn copy_need(copying: &Copying, want: &Want) -> Need
 
 // What a submission needs.
 fn line_need(line: &Line) -> Need
-    ensures { (s : Setup) → result ≡ need_of (line_request s (doing_of line.now.doing) (lists_of line.now.lists)) }
+    ensures { (s : Setup) → result ≡ need_of (line_request s (doing_of_plain line.now.doing) (lists_of line.now.lists)) }
 {
     match &line.doing {
         Doing::Rests => Need::Never,
@@ -114,7 +114,7 @@ fn line_need(line: &Line) -> Need
 
 // What a writer at rest needs.
 fn write_need(writer: &Writer) -> Need
-    requires { doing_of writer.now.line.doing ≡ AtRest }
+    requires { doing_of_plain writer.now.line.doing ≡ AtRest }
     ensures { (s : Setup) → result ≡ need_of (request s (writer_of writer.now)) }
 {
     let Some(next) = next_todo(&writer.todo, writer.begun) else {
@@ -223,7 +223,7 @@ fn keeper_need(keeper: &Keeper) -> Need
 
 /// What a task needs.
 pub fn task_need(task: &Task) -> Need
-    ensures { (s : Setup) → result ≡ need_of (request s (task_of task.now)) }
+    ensures { (s : Setup) → result ≡ need_of (request s (task_of_plain task.now)) }
 {
     match task {
         Task::Writer(writer) => writer_need(writer),

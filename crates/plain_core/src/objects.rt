@@ -5,8 +5,8 @@ ghost use Rattle.stack_base.specs.PoolId.{pool_number};
 ghost use Rattle.mempool_core.specs.Move.{takes_spare, CanMove};
 ghost use Rattle.bio_books.specs.Books.{node_at};
 ghost use Rattle.bio_books.specs.Links.{IsVacant};
-ghost use Rattle.plain_core.specs.Free.{IsCountAt, IsShort, Tells};
-ghost use Rattle.plain_core.specs.Plain.{HasPlaces, book_at, disk_at, is_home, pool_at, rescue_at};
+ghost use Rattle.plain_core.specs.Free.{IsCountAt, IsShort, IsDecisionOf};
+ghost use Rattle.plain_core.specs.Plain.{HasPlacesForStack, core_book_at, core_disk_at, is_home, core_pool_at, core_rescue_at};
 
 mod moves;
 
@@ -47,9 +47,9 @@ pub struct Objects {
 }
 
 impl Model for Objects {
-    ghost use Rattle.plain_core.specs.Plain.{Plain, HasPlaces};
+    ghost use Rattle.plain_core.specs.Plain.{CoreObjects, HasPlacesForStack};
 
-    ghost Value = { Plain };
+    ghost Value = { CoreObjects };
 
     ghost view = { λ o. record {
       stack = o.stage.value.stack;
@@ -60,7 +60,7 @@ impl Model for Objects {
       tally = o.tally;
     } };
 
-    ghost invariant = { λ o. HasPlaces o.stage.value.stack o.pools.items o.rescues.items o.disks.items };
+    ghost invariant = { λ o. HasPlacesForStack o.stage.value.stack o.pools.items o.rescues.items o.disks.items };
 }
 
 impl Objects {
@@ -73,7 +73,7 @@ impl Objects {
         books: Vec<Book>,
         tally: Tally,
     ) -> Objects
-        requires { HasPlaces routes.now.stack pools.items rescues.items disks.items }
+        requires { HasPlacesForStack routes.now.stack pools.items rescues.items disks.items }
         ensures { result ≡ record {
           stack = routes.now.stack;
           pools = pools.items;
@@ -95,7 +95,7 @@ impl Objects {
 
     /// There is a place for all that the stack has.
     pub fn known(&self)
-        ensures { HasPlaces self.now.stack self.now.pools self.now.rescues self.now.disks }
+        ensures { HasPlacesForStack self.now.stack self.now.pools self.now.rescues self.now.disks }
     {
         let _ = &self.pools;
     }
@@ -123,14 +123,14 @@ impl Objects {
 
     /// Whether a round is behind the present one.
     pub fn has_next(&self) -> bool
-        ensures { Tells result (self.now.tally.round + 1 < length self.now.tally.left) }
+        ensures { IsDecisionOf result (self.now.tally.round + 1 < length self.now.tally.left) }
     {
         self.tally.has_next()
     }
 
     /// Whether a take of this pool can have a spare.
     pub fn has_spare(&self, pool: PoolId) -> bool
-        ensures { MatchBool result (CanMove (pool_at self.now (pool_number pool)) takes_spare) (IsShort (pool_at self.now (pool_number pool))) }
+        ensures { MatchBool result (CanMove (core_pool_at self.now (pool_number pool)) takes_spare) (IsShort (core_pool_at self.now (pool_number pool))) }
     {
         match self.pools.get(number_of(pool) as usize) {
             None => false,
@@ -140,7 +140,7 @@ impl Objects {
 
     /// How many elements of the pool of this number are out.
     pub fn out(&self, number: u64) -> u64
-        ensures { result ≡ (pool_at self.now number).facts.out }
+        ensures { result ≡ (core_pool_at self.now number).facts.out }
     {
         match self.pools.get(number as usize) {
             None => 0,
@@ -150,7 +150,7 @@ impl Objects {
 
     /// The numbers of the pool of this number, which are those of an empty one where there is none.
     pub fn facts(&self, number: u64) -> Facts
-        ensures { result ≡ (pool_at self.now number).facts }
+        ensures { result ≡ (core_pool_at self.now number).facts }
     {
         match self.pools.get(number as usize) {
             None => Facts {
@@ -175,7 +175,7 @@ impl Objects {
 
     /// Whether a bio waits for the rescuer of this device's set.
     pub fn has_rescued(&self, dev: DevId) -> bool
-        ensures { Tells result (0 < length (rescue_at self.now dev.0)) }
+        ensures { IsDecisionOf result (0 < length (core_rescue_at self.now dev.0)) }
     {
         match self.rescues.get(dev.0 as usize) {
             None => false,
@@ -185,7 +185,7 @@ impl Objects {
 
     /// Whether a bio waits in this disk.
     pub fn has_pending(&self, disk: DevId) -> bool
-        ensures { Tells result (0 < length (disk_at self.now disk.0).pending) }
+        ensures { IsDecisionOf result (0 < length (core_disk_at self.now disk.0).pending) }
     {
         match self.disks.get(disk.0 as usize) {
             Some(Some(disk)) => disk.is_busy(),
@@ -195,7 +195,7 @@ impl Objects {
 
     /// Whether the writer's book has a vacant place.
     pub fn has_place(&self, writer: u32) -> bool
-        ensures { Tells result ((place : ℕ) × IsVacant (book_at self.now writer) place) }
+        ensures { IsDecisionOf result ((place : ℕ) × IsVacant (core_book_at self.now writer) place) }
     {
         match self.books.get(writer as usize) {
             None => false,
@@ -205,7 +205,7 @@ impl Objects {
 
     /// How many ends the node at a place of the writer's book waits for, if one is open there.
     pub fn count_at(&self, writer: u32, place: u32) -> Option<u64>
-        ensures { MatchOption result (node_at (book_at self.now writer) place ≡ None) (IsCountAt (node_at (book_at self.now writer) place)) }
+        ensures { MatchOption result (node_at (core_book_at self.now writer) place ≡ None) (IsCountAt (node_at (core_book_at self.now writer) place)) }
     {
         self.books.get(writer as usize)?.count_at(place)
     }

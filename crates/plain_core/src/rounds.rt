@@ -2,7 +2,7 @@
 ghost use Rattle.std.specs.Prelude.{◌≡◌, ◌++◌, ◌-◌, ◌<◌, ◌^◌, length, All, IfOk, OnOk};
 ghost use Rattle.stack_base.specs.PoolId.{IsOfStack};
 ghost use Rattle.work_text.specs.declared.Resize.{Resize as Resizes};
-ghost use Rattle.plain_core.specs.Opening.{changes_in, counts_of, duties_up_to, last_of};
+ghost use Rattle.plain_core.specs.Opening.{changes_in, counts_of, duties_up_to, last_round_of};
 
 use crate::task::Duty;
 use std::alloc::{AllocError, Global};
@@ -10,7 +10,7 @@ use work_text::{Resize, Work};
 
 // The last round of all.
 fn last_of(rounds: &[u32]) -> u32
-    ensures { result ≡ last_of rounds.now }
+    ensures { result ≡ last_round_of rounds.now }
 {
     let mut last = 0;
     'looking: for round in rounds {
@@ -57,9 +57,9 @@ fn push_changes(
 /// What the keeper does, round by round.
 pub fn duties_of(alloc: Global, work: &Work, counts: &[u64]) -> Result<Vec<Duty>, AllocError>
     requires counts { counts.now ≡ counts_of work.now.rounds.items }
-    requires few { last_of work.now.rounds.items < 2 ^ 32 - 1 }
+    requires few { last_round_of work.now.rounds.items < 2 ^ 32 - 1 }
     requires pools { All (λ (resize : Resizes). IsOfStack resize.pool) work.now.resizes.items }
-    ensures { IfOk result (λ duties. duties.items ≡ duties_up_to work.now (last_of work.now.rounds.items)) }
+    ensures { IfOk result (λ duties. duties.items ≡ duties_up_to work.now (last_round_of work.now.rounds.items)) }
 {
     let mut duties = Vec::new(alloc);
     let mut later = work.rounds.len() as u64;

@@ -8,8 +8,8 @@ ghost use Rattle.run_machine.specs.Opened.{keepers};
 ghost use Rattle.run_machine.specs.Scene.{keeps_data};
 ghost use Rattle.plain_core.specs.Cores.{slot_of, AreFound};
 ghost use Rattle.run_machine.specs.Lines.{rests};
-ghost use Rattle.plain_core.specs.Opening.{AreSeated, Seats, completers_of, rescuers_of, tasks_of, writers_of};
-ghost use Rattle.plain_core.specs.Views.{line_of, task_of};
+ghost use Rattle.plain_core.specs.Opening.{AreTasksSeated, Seats, completers_of_stack, rescuers_of_stack, tasks_of, writers_of_work};
+ghost use Rattle.plain_core.specs.Views.{line_of_plain, task_of_plain};
 
 use crate::lists::Lists;
 use crate::task::{Carried, Completer, Doing, Duty, Keeper, Line, Rescuer, Taken, Task, Writer};
@@ -36,9 +36,9 @@ pub fn slot_of(task: TaskId) -> u64
 /// # Errors
 /// Where there is no memory.
 pub fn seat(tasks: &mut Vec<Task>, places: &mut Vec<u32>, task: Task) -> Result<(), AllocError>
-    requires small { slot_of (id_of (task_of task)) < 73 }
-    requires seated { AreSeated (map task_of tasks.old.items) places.old.items (slot_of (id_of (task_of task))) }
-    ensures { OnOk result (Seats tasks.old.items (task_of task ∷ []) tasks.new.items places.new.items (slot_of (id_of (task_of task)) + 1)) }
+    requires small { slot_of (id_of (task_of_plain task)) < 73 }
+    requires seated { AreTasksSeated (map task_of_plain tasks.old.items) places.old.items (slot_of (id_of (task_of_plain task))) }
+    ensures { OnOk result (Seats tasks.old.items (task_of_plain task ∷ []) tasks.new.items places.new.items (slot_of (id_of (task_of_plain task)) + 1)) }
 {
     let slot = slot_of(task.id());
     places[slot as usize] = tasks.len() as u32;
@@ -48,7 +48,7 @@ pub fn seat(tasks: &mut Vec<Task>, places: &mut Vec<u32>, task: Task) -> Result<
 
 /// A submission that has not begun.
 pub fn resting(alloc: Global) -> Line
-    ensures { line_of result ≡ rests }
+    ensures { line_of_plain result ≡ rests }
 {
     Line {
         doing: Doing::Rests,
@@ -67,8 +67,8 @@ fn seat_writer(
     requires paired { length work.now.rounds.items ≡ length work.now.writes.items }
     requires few { length work.now.writes.items < 2 ^ 32 }
     requires writer { writer < 8 }
-    requires seated { AreSeated (map task_of tasks.old.items) places.old.items writer }
-    ensures { OnOk result (Seats tasks.old.items (writers_of work.now (writer ∷ [])) tasks.new.items places.new.items (writer + 1)) }
+    requires seated { AreTasksSeated (map task_of_plain tasks.old.items) places.old.items writer }
+    ensures { OnOk result (Seats tasks.old.items (writers_of_work work.now (writer ∷ [])) tasks.new.items places.new.items (writer + 1)) }
 {
     let todo = todos_by(alloc, work, writer)?;
     if todo.is_empty() {
@@ -93,8 +93,8 @@ fn seat_writers(
 ) -> Result<(), AllocError>
     requires paired { length work.now.rounds.items ≡ length work.now.writes.items }
     requires few { length work.now.writes.items < 2 ^ 32 }
-    requires seated { AreSeated (map task_of tasks.old.items) places.old.items 0 }
-    ensures { OnOk result (Seats tasks.old.items (writers_of work.now (range_with_len 0 8)) tasks.new.items places.new.items 8) }
+    requires seated { AreTasksSeated (map task_of_plain tasks.old.items) places.old.items 0 }
+    ensures { OnOk result (Seats tasks.old.items (writers_of_work work.now (range_with_len 0 8)) tasks.new.items places.new.items 8) }
 {
     'seating: for writer in 0..8 {
         seat_writer(alloc, work, writer, tasks, places)?;
@@ -112,8 +112,8 @@ fn seat_rescuer(
 ) -> Result<(), AllocError>
     requires stack { IsStack stack.now }
     requires device { dev.0 < length stack.now.devices.items }
-    requires seated { AreSeated (map task_of tasks.old.items) places.old.items (8 + dev.0) }
-    ensures { OnOk result (Seats tasks.old.items (rescuers_of stack.now (dev.0 ∷ [])) tasks.new.items places.new.items (8 + dev.0 + 1)) }
+    requires seated { AreTasksSeated (map task_of_plain tasks.old.items) places.old.items (8 + dev.0) }
+    ensures { OnOk result (Seats tasks.old.items (rescuers_of_stack stack.now (dev.0 ∷ [])) tasks.new.items places.new.items (8 + dev.0 + 1)) }
 {
     if !stack.device(dev).rescuer {
         return Ok(());
@@ -133,8 +133,8 @@ fn seat_rescuers(
     places: &mut Vec<u32>,
 ) -> Result<(), AllocError>
     requires stack { IsStack stack.now }
-    requires seated { AreSeated (map task_of tasks.old.items) places.old.items 8 }
-    ensures { OnOk result (Seats tasks.old.items (rescuers_of stack.now (range_with_len 0 (length stack.now.devices.items))) tasks.new.items places.new.items 40) }
+    requires seated { AreTasksSeated (map task_of_plain tasks.old.items) places.old.items 8 }
+    ensures { OnOk result (Seats tasks.old.items (rescuers_of_stack stack.now (range_with_len 0 (length stack.now.devices.items))) tasks.new.items places.new.items 40) }
 {
     'seating: for number in 0..stack.devices.len() {
         seat_rescuer(alloc, stack, DevId(number as u32), tasks, places)?;
@@ -167,8 +167,8 @@ fn seat_completer(
 ) -> Result<(), AllocError>
     requires stack { IsStack stack.now }
     requires device { dev.0 < length stack.now.devices.items }
-    requires seated { AreSeated (map task_of tasks.old.items) places.old.items (40 + dev.0) }
-    ensures { OnOk result (Seats tasks.old.items (completers_of stack.now (dev.0 ∷ [])) tasks.new.items places.new.items (40 + dev.0 + 1)) }
+    requires seated { AreTasksSeated (map task_of_plain tasks.old.items) places.old.items (40 + dev.0) }
+    ensures { OnOk result (Seats tasks.old.items (completers_of_stack stack.now (dev.0 ∷ [])) tasks.new.items places.new.items (40 + dev.0 + 1)) }
 {
     if !is_disk(stack, dev) {
         return Ok(());
@@ -187,8 +187,8 @@ fn seat_completers(
     places: &mut Vec<u32>,
 ) -> Result<(), AllocError>
     requires stack { IsStack stack.now }
-    requires seated { AreSeated (map task_of tasks.old.items) places.old.items 40 }
-    ensures { OnOk result (Seats tasks.old.items (completers_of stack.now (range_with_len 0 (length stack.now.devices.items))) tasks.new.items places.new.items 72) }
+    requires seated { AreTasksSeated (map task_of_plain tasks.old.items) places.old.items 40 }
+    ensures { OnOk result (Seats tasks.old.items (completers_of_stack stack.now (range_with_len 0 (length stack.now.devices.items))) tasks.new.items places.new.items 72) }
 {
     'seating: for number in 0..stack.devices.len() {
         seat_completer(stack, DevId(number as u32), tasks, places)?;
@@ -202,7 +202,7 @@ fn seat_keeper(
     tasks: &mut Vec<Task>,
     places: &mut Vec<u32>,
 ) -> Result<(), AllocError>
-    requires { AreSeated (map task_of tasks.old.items) places.old.items 72 }
+    requires { AreTasksSeated (map task_of_plain tasks.old.items) places.old.items 72 }
     ensures { OnOk result (Seats tasks.old.items (keepers duties.items) tasks.new.items places.new.items 73) }
 {
     if duties.is_empty() {
@@ -236,8 +236,8 @@ pub fn seat_all(
     requires stack { IsStack stack.now }
     requires paired { length work.now.rounds.items ≡ length work.now.writes.items }
     requires few { length work.now.writes.items < 2 ^ 32 }
-    ensures { IfOk result (λ seated. (map task_of seated.0.items ≡ tasks_of stack.now work.now duties.items)
-        × AreFound seated.1.items (map task_of seated.0.items)) }
+    ensures { IfOk result (λ seated. (map task_of_plain seated.0.items ≡ tasks_of stack.now work.now duties.items)
+        × AreFound seated.1.items (map task_of_plain seated.0.items)) }
 {
     let mut tasks = Vec::new(alloc);
     let mut places = open_slots(alloc)?;

@@ -3,7 +3,7 @@ ghost use Rattle.std.specs.Prelude.{◌≡◌, ◌<◌, [], IfOk, length, replic
 ghost use Rattle.task_core.specs.opened.OfOne.{scenario_in, IsOpened as AreTheFirst};
 ghost use Rattle.run_machine.specs.Opened.{objects as objects_at};
 ghost use Rattle.task_core.specs.Plains.{stage_of};
-ghost use Rattle.task_steps.specs.Routed.{setup};
+ghost use Rattle.task_steps.specs.Routed.{routing_setup};
 ghost use Rattle.run_machine.specs.Scene.{is_mirror, keeps_data};
 ghost use Rattle.task_steps.specs.Stage.{is_pool};
 ghost use Rattle.plain_core.specs.Opening.{new_books, new_disk, new_disks, new_pool, new_pools};
@@ -22,7 +22,7 @@ use task_core::{Manner, Opened, Routes};
 // Whether a device is a disk.
 fn is_disk(routes: &Routes, dev: DevId) -> bool
     requires { dev.0 < length routes.now.stack.devices.items }
-    ensures { result ≡ keeps_data ((setup routes.now).tree dev.0) }
+    ensures { result ≡ keeps_data ((routing_setup routes.now).tree dev.0) }
 {
     match routes.manner(dev) {
         Manner::Keeps => true,
@@ -34,7 +34,7 @@ fn is_disk(routes: &Routes, dev: DevId) -> bool
 // Whether a device is a mirror.
 fn is_mirror(routes: &Routes, dev: DevId) -> bool
     requires { dev.0 < length routes.now.stack.devices.items }
-    ensures { result ≡ is_mirror ((setup routes.now).tree dev.0) }
+    ensures { result ≡ is_mirror ((routing_setup routes.now).tree dev.0) }
 {
     match routes.manner(dev) {
         Manner::Keeps => false,

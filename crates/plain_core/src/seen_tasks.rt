@@ -5,8 +5,8 @@ ghost use Rattle.task_core.specs.opened.OfOne.{states};
 ghost use Rattle.run_machine.specs.Tasks.{Keeper as Keeping};
 ghost use Rattle.task_steps.specs.WriterViews.{writer_task};
 ghost use Rattle.plain_core.specs.Cores.{AreFound};
-ghost use Rattle.plain_core.specs.Seen.{IsFirst, IsOfPool, Rises};
-ghost use Rattle.plain_core.specs.Views.{keeper_of, task_of, writer_of};
+ghost use Rattle.plain_core.specs.Seen.{HasNothingAtHand, IsOfPool, Rises};
+ghost use Rattle.plain_core.specs.Views.{keeper_of, task_of_plain, writer_of};
 
 use crate::seats::{open_slots, resting, seat};
 use crate::task::{Carried, Completer, Duty, Keeper, Rescuer, Taken, Task, Todo, Writer};
@@ -63,7 +63,7 @@ fn duties_seen(alloc: Global, rest: &[opened::Duty]) -> Result<Vec<Duty>, AllocE
 
 // A writer that has not begun.
 fn writer_seen(alloc: Global, writer: &opened::Writer) -> Result<Writer, AllocError>
-    requires { IsFirst (writer_task writer.now) }
+    requires { HasNothingAtHand (writer_task writer.now) }
     ensures { IfOk result (λ seen. writer_of seen ≡ writer_task writer.now) }
 {
     Ok(Writer {
@@ -77,7 +77,7 @@ fn writer_seen(alloc: Global, writer: &opened::Writer) -> Result<Writer, AllocEr
 
 // A keeper that has not begun.
 fn keeper_seen(alloc: Global, keeper: &opened::Keeper) -> Result<Keeper, AllocError>
-    requires { IsFirst (Keeping keeper.now) }
+    requires { HasNothingAtHand (Keeping keeper.now) }
     ensures { IfOk result (λ seen. keeper_of seen ≡ Keeping keeper.now) }
 {
     Ok(Keeper {
@@ -88,8 +88,8 @@ fn keeper_seen(alloc: Global, keeper: &opened::Keeper) -> Result<Keeper, AllocEr
 
 // A task that has not begun.
 fn task_seen(alloc: Global, task: &opened::Task) -> Result<Task, AllocError>
-    requires { IsFirst task.now.state }
-    ensures { IfOk result (λ seen. task_of seen ≡ task.now.state) }
+    requires { HasNothingAtHand task.now.state }
+    ensures { IfOk result (λ seen. task_of_plain seen ≡ task.now.state) }
 {
     match task.kind() {
         Kind::Writer(writer) => Ok(Task::Writer(writer_seen(alloc, writer)?)),
@@ -113,9 +113,9 @@ pub fn tasks_seen(
     alloc: Global,
     tasks: &[opened::Task],
 ) -> Result<(Vec<Task>, Vec<u32>), AllocError>
-    requires first { All IsFirst (states tasks.now) }
+    requires first { All HasNothingAtHand (states tasks.now) }
     requires rising { Rises 0 (states tasks.now) 73 }
-    ensures { IfOk result (λ seen. (map task_of seen.0.items ≡ states tasks.now) × AreFound seen.1.items (map task_of seen.0.items)) }
+    ensures { IfOk result (λ seen. (map task_of_plain seen.0.items ≡ states tasks.now) × AreFound seen.1.items (map task_of_plain seen.0.items)) }
 {
     let mut seen = Vec::with_capacity(alloc, tasks.len())?;
     let mut places = open_slots(alloc)?;

@@ -1,14 +1,14 @@
 //! A state of the machine of a run as a running value.
 ghost use Rattle.std.specs.Prelude.{◌≡◌, ◌<◌, map, length, slice_get, MatchBool, MatchOption, IfOk};
-ghost use Rattle.task_steps.specs.Routed.{setup};
+ghost use Rattle.task_steps.specs.Routed.{routing_setup};
 ghost use Rattle.task_steps.specs.Within.{TaskFits};
 ghost use Rattle.task_core.specs.opened.OfOne.{IsOpened as AreTheFirst, scenario_in};
-ghost use Rattle.plain_core.specs.Views.{task_of};
-ghost use Rattle.plain_core.specs.Opening.{CanOpen, IsOpened, scenario_by};
+ghost use Rattle.plain_core.specs.Views.{task_of_plain};
+ghost use Rattle.plain_core.specs.Opening.{CanOpen, IsOpenedCore, scenario_by};
 ghost use Rattle.stack_base.specs.PoolId.{pool_number};
 ghost use Rattle.run_machine.specs.Runs.{HasEnded, HasFree, unfinished};
 ghost use Rattle.plain_core.specs.Free.{IsFirstFree};
-ghost use Rattle.plain_core.specs.Cores.{scene_of, state_of, task_at, AreFound, IsPlace, HasNone, StepsAt, Applies};
+ghost use Rattle.plain_core.specs.Cores.{scene_of_core, state_of_core, task_at, AreFound, IsPlaceOfTask, HasNoTask, StepsAt, Applies};
 
 use crate::fault::CoreFault;
 use crate::free::task_is_free;
@@ -43,14 +43,14 @@ pub struct Core {
 
 impl Model for Core {
     ghost use Rattle.std.specs.Prelude.{map};
-    ghost use Rattle.plain_core.specs.Views.{task_of};
+    ghost use Rattle.plain_core.specs.Views.{task_of_plain};
     ghost use Rattle.plain_core.specs.Cores.{CoreState, IsCore};
 
     ghost Value = { CoreState };
 
-    ghost view = { λ c. record { routing = c.routes.value; objects = c.objects; tasks = map task_of c.tasks.items } };
+    ghost view = { λ c. record { routing = c.routes.value; objects = c.objects; tasks = map task_of_plain c.tasks.items } };
 
-    ghost invariant = { λ c. IsCore c.routes.value c.objects (map task_of c.tasks.items) c.places.items };
+    ghost invariant = { λ c. IsCore c.routes.value c.objects (map task_of_plain c.tasks.items) c.places.items };
 }
 
 // Whether two names are of one task.
@@ -67,8 +67,8 @@ fn is_same(one: TaskId, other: TaskId) -> bool
 
 // The place of a task, if there is one of this name.
 fn find(tasks: &[Task], places: &[u32], name: TaskId) -> Option<usize>
-    requires { AreFound places.now (map task_of tasks.now) }
-    ensures { MatchOption result (HasNone (map task_of tasks.now) name) (IsPlace (map task_of tasks.now) name) }
+    requires { AreFound places.now (map task_of_plain tasks.now) }
+    ensures { MatchOption result (HasNoTask (map task_of_plain tasks.now) name) (IsPlaceOfTask (map task_of_plain tasks.now) name) }
 {
     let place = *places.get(slot_of(name) as usize)? as usize;
     if !is_same(name, tasks.get(place)?.id()) {
@@ -87,7 +87,7 @@ fn step_at(
 ) -> Result<(), CoreFault>
     requires stack { objects.old.stack ≡ routes.now.stack }
     requires place { place < length tasks.old.items }
-    requires fits { TaskFits routes.now.stack (task_at (map task_of tasks.old.items) place) }
+    requires fits { TaskFits routes.now.stack (task_at (map task_of_plain tasks.old.items) place) }
     ensures { StepsAt routes.now objects.old tasks.old.items place what.now result objects.new tasks.new.items }
 {
     let Some(task) = tasks.get_mut(place) else {
@@ -109,7 +109,7 @@ impl Core {
         work: &Work,
     ) -> Result<Core, AllocError>
         requires { CanOpen stack.now scripts.now work.now }
-        ensures { IfOk result (IsOpened (scenario_by stack.now scripts.now work.now)) }
+        ensures { IfOk result (IsOpenedCore (scenario_by stack.now scripts.now work.now)) }
     {
         let places = places(alloc, stack, work)?;
         let counts = counts_of(alloc, &work.rounds)?;
@@ -132,7 +132,7 @@ impl Core {
     /// Where there is no memory.
     pub fn of(alloc: Global, opened: &Opened) -> Result<Core, AllocError>
         requires { AreTheFirst opened.now }
-        ensures { IfOk result (IsOpened (scenario_in opened.now)) }
+        ensures { IfOk result (IsOpenedCore (scenario_in opened.now)) }
     {
         let routes = opened.routes()?;
         let objects = objects_seen(alloc, opened, &routes)?;
@@ -148,7 +148,7 @@ impl Core {
     /// The first task of all, in their order, that has an event which can come next and needs no ordinary memory: one with no ordinary element,
     /// and no missed take that waited.
     pub fn free(&self) -> Option<TaskId>
-        ensures { MatchOption result (HasFree (scene_of self.now) (state_of self.now) → ⊥) (IsFirstFree self.now) }
+        ensures { MatchOption result (HasFree (scene_of_core self.now) (state_of_core self.now) → ⊥) (IsFirstFree self.now) }
     {
         'asking: for place in 0..self.tasks.len() {
             if task_is_free(&self.objects, &self.tasks[place]) {
@@ -160,21 +160,21 @@ impl Core {
 
     /// How many writes are unfinished.
     pub fn unfinished(&self) -> u128
-        ensures { result ≡ unfinished (state_of self.now) }
+        ensures { result ≡ unfinished (state_of_core self.now) }
     {
         self.objects.unfinished()
     }
 
     /// The numbers of a pool, which are those of an empty one where the stack has no such pool.
     pub fn facts(&self, pool: PoolId) -> Facts
-        ensures { result ≡ ((state_of self.now).objects.pool (pool_number pool)).facts }
+        ensures { result ≡ ((state_of_core self.now).objects.pool (pool_number pool)).facts }
     {
         self.objects.facts(number_of(pool))
     }
 
     /// Whether the run has ended: every write is done, and every element is at home.
     pub fn has_ended(&self) -> bool
-        ensures { MatchBool result (HasEnded (state_of self.now)) (HasEnded (state_of self.now) → ⊥) }
+        ensures { MatchBool result (HasEnded (state_of_core self.now)) (HasEnded (state_of_core self.now) → ⊥) }
     {
         self.unfinished() == 0 && self.objects.are_home()
     }

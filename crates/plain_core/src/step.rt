@@ -1,7 +1,7 @@
 //! Steps of tasks.
 ghost use Rattle.std.specs.Prelude.{◌≡◌, ◌<◌};
 ghost use Rattle.task_steps.specs.Within.{TaskFits};
-ghost use Rattle.plain_core.specs.Views.{task_of, rescuer_of};
+ghost use Rattle.plain_core.specs.Views.{task_of_plain, rescuer_of};
 ghost use Rattle.plain_core.specs.Steps.{TaskMoves};
 
 pub(crate) mod completer;
@@ -56,8 +56,8 @@ pub fn task_step(
     what: &What,
 ) -> Result<(), CoreFault>
     requires stack { objects.old.stack ≡ routes.now.stack }
-    requires fits { TaskFits routes.now.stack (task_of task.old) }
-    ensures { TaskMoves routes.now objects.old (task_of task.old) what.now result objects.new (task_of task.new) }
+    requires fits { TaskFits routes.now.stack (task_of_plain task.old) }
+    ensures { TaskMoves routes.now objects.old (task_of_plain task.old) what.now result objects.new (task_of_plain task.new) }
 {
     match task {
         Task::Writer(writer) => writer_step(routes, objects, writer, what),

@@ -2,8 +2,8 @@
 ghost use Rattle.std.specs.Prelude.{◌≡◌, MatchBool};
 ghost use Rattle.run_machine.specs.Events.{id_of};
 ghost use Rattle.run_machine.specs.Lines.{Rests};
-ghost use Rattle.plain_core.specs.Views.{doing_of, taken_of, task_of};
-ghost use Rattle.plain_core.specs.Steps.{IsBusy};
+ghost use Rattle.plain_core.specs.Views.{doing_of_plain, taken_of_plain, task_of_plain};
+ghost use Rattle.plain_core.specs.Steps.{IsSubmitting};
 ghost use Rattle.run_machine.specs.Tasks.{later_of};
 
 use crate::lists::Lists;
@@ -63,7 +63,7 @@ pub struct Line {
 impl Line {
     /// Whether no submission is under way.
     pub fn rests(&self) -> bool
-        ensures { MatchBool result (doing_of self.now.doing ≡ Rests) (IsBusy (doing_of self.now.doing)) }
+        ensures { MatchBool result (doing_of_plain self.now.doing ≡ Rests) (IsSubmitting (doing_of_plain self.now.doing)) }
     {
         match self.doing {
             Doing::Rests => true,
@@ -113,7 +113,7 @@ impl Todo {
 impl Taken {
     /// The same once more.
     pub fn again(&self) -> Taken
-        ensures { taken_of result ≡ taken_of self.now }
+        ensures { taken_of_plain result ≡ taken_of_plain self.now }
     {
         match self {
             Taken::NoBio => Taken::NoBio,
@@ -144,11 +144,11 @@ impl Model for Duty {
     ghost use Rattle.std.specs.Prelude.{IfSome};
     ghost use Rattle.run_machine.specs.Tasks.{Duty as Ahead};
     ghost use Rattle.stack_base.specs.PoolId.{IsOfStack};
-    ghost use Rattle.plain_core.specs.Duties.{duty_of};
+    ghost use Rattle.plain_core.specs.Duties.{duty_of_numbers};
 
     ghost Value = { Ahead };
 
-    ghost view = { λ d. duty_of d.pool d.number d.later };
+    ghost view = { λ d. duty_of_numbers d.pool d.number d.later };
 
     ghost invariant = { λ d. IfSome d.pool IsOfStack };
 }
@@ -205,7 +205,7 @@ pub enum Task {
 impl Task {
     /// Its name, as events tell it.
     pub fn id(&self) -> TaskId
-        ensures { result ≡ id_of (task_of self.now) }
+        ensures { result ≡ id_of (task_of_plain self.now) }
     {
         match self {
             Task::Writer(writer) => TaskId::Writer(writer.number),

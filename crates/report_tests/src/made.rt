@@ -1,7 +1,7 @@
 //! A stack and what a run over it has left, made by hand.
 ghost use Rattle.std.specs.Prelude.{◌≡◌, IfOk};
 ghost use Rattle.bio_records.specs.Items.{IsAlone, item_of};
-ghost use Rattle.report_text.specs.Views.{IsOf};
+ghost use Rattle.report_text.specs.Views.{IsEndedOfStack};
 
 use arrayvec::{ArrayString, ArrayVec};
 use bio_records::{Bio, BioBody, BioElement, Iter, Pad};
@@ -115,7 +115,7 @@ fn facts(min: u64, ordinary: u64, spare: u64) -> Facts {
 /// The disks `a` and `b`, the mirror `m` of them and the limit `l` over that, with the disks, the pools and the steps that a run has left, and
 /// the statuses of two writes.
 pub fn made(rt: &(impl Abort + AllocGlobal)) -> Result<(Stack, Ended), Fail>
-    ensures { IfOk result (λ made. IsOf made.0 made.1) }
+    ensures { IfOk result (λ made. IsEndedOfStack made.0 made.1) }
 {
     let alloc = rt.alloc();
     let a = disk("a", Vec::new(alloc))?;

@@ -1,6 +1,6 @@
 //! Texts, whole and cut short.
 ghost use Rattle.std.specs.Prelude.{◌≤◌};
-ghost use Rattle.report_text.specs.Views.{IsOf};
+ghost use Rattle.report_text.specs.Views.{IsEndedOfStack};
 
 use crate::made::made;
 use layout_model::{Bounds, Fragment};
@@ -36,7 +36,7 @@ const BOUND: Bounds = Bounds { e: 5, g: 2, z: 2 };
 
 // Whether the report was written whole.
 fn report_to<K: Sink>(ended: &Ended, stack: &Stack, out: &mut K) -> bool
-    requires { IsOf stack.now ended.now }
+    requires { IsEndedOfStack stack.now ended.now }
 {
     write_report(ended, stack, &BOUND, out).is_ok()
 }
@@ -67,7 +67,7 @@ fn held_of(
     number: u64,
     most: usize,
 ) -> Result<usize, Fail>
-    requires of { IsOf stack.now ended.now }
+    requires of { IsEndedOfStack stack.now ended.now }
     requires most { 1 ≤ most }
 {
     let mut out = FailSink::new(rt.alloc(), 1000, vec![in rt.alloc(); number]?, most)?;

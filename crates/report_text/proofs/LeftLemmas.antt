@@ -10,7 +10,7 @@ use Rattle.task_core.specs.declared.ended.Ended.{Ended}
 use Rattle.task_core.specs.Leaving.{IsLeft, disks_of, falling_pools}
 use Rattle.run_machine.specs.Objects.{Objects}
 use Rattle.run_machine.specs.Opened.{at}
-use Rattle.report_text.specs.Views.{IsOf, image_of, told_by, told_of}
+use Rattle.report_text.specs.Views.{IsEndedOfStack, image_of, told_by, told_of}
 
 module _ (objects : Objects) (named : (number : ℕ) → (objects.disk number).dev ≡ at number) where
   -- disks that are named by their numbers
@@ -28,7 +28,7 @@ module _ (objects : Objects) (named : (number : ℕ) → (objects.disk number).d
   pools_are (pool ∷ pools) = λ k. pool ∷ pools_are pools k
 
   -- the disks and the pools are the stack's
-  pub left_of : (stack : Stack) (steps : ℕ) (ended : Ended) → IsLeft stack objects steps ended → IsOf stack ended
+  pub left_of : (stack : Stack) (steps : ℕ) (ended : Ended) → IsLeft stack objects steps ended → IsEndedOfStack stack ended
   left_of stack steps ended left = record {
     disks = ap (map (λ (disk : DiskState). disk.dev)) left.disks ∙ devs_are (disks_of stack);
     pools = ap (map (λ (p : PoolId × Facts). p.0)) left.pools ∙ pools_are (falling_pools stack);

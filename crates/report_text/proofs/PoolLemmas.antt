@@ -18,7 +18,7 @@ use Rattle.stack_base.specs.declared.stack.Stack.{Stack}
 use Rattle.outside_io.specs.Saying.{PenState, Says, joined_text}
 use Rattle.outside_io.proofs.SaysLemmas.{says_then, says_silence}
 use Rattle.mempool_core.specs.declared.Facts.{Facts}
-use Rattle.report_text.specs.Pools.{HasPool, at, disk_at, pools_at, disks_from, rising_from, falling_from, falling_pools, same_pool, pool_name}
+use Rattle.report_text.specs.Pools.{HasDeviceOfPool, at, disk_at, pools_at, disks_from, rising_from, falling_from, falling_pools, same_pool, pool_name}
 use Rattle.report_text.specs.Report.{facts_of, pool_line, pool_lines}
 use Rattle.report_text.specs.Views.{facts_line, own_of_each}
 
@@ -212,14 +212,14 @@ one_at_all : {X : Type 0} (P : X → Type 0) (x : X) → P x → All P (x ∷ []
 one_at_all P x holds = All-cons P x [] holds (none_at_all P)
 
 -- the pools of a device of the stack
-pub device_has : (stack : Stack) (number : ℕ) (kind : Kind) → number < length stack.devices.items → All (HasPool stack) (pools_at number kind)
-device_has stack number (Disk sectors bad) lt = none_at_all (HasPool stack)
-device_has stack number Linear lt = one_at_all (HasPool stack) (Bios (at number)) lt
-device_has stack number (Stripe chunk) lt = one_at_all (HasPool stack) (Bios (at number)) lt
-device_has stack number (Zoned chunk) lt = one_at_all (HasPool stack) (Bios (at number)) lt
-device_has stack number (Limit longest chunk) lt = one_at_all (HasPool stack) (Bios (at number)) lt
+pub device_has : (stack : Stack) (number : ℕ) (kind : Kind) → number < length stack.devices.items → All (HasDeviceOfPool stack) (pools_at number kind)
+device_has stack number (Disk sectors bad) lt = none_at_all (HasDeviceOfPool stack)
+device_has stack number Linear lt = one_at_all (HasDeviceOfPool stack) (Bios (at number)) lt
+device_has stack number (Stripe chunk) lt = one_at_all (HasDeviceOfPool stack) (Bios (at number)) lt
+device_has stack number (Zoned chunk) lt = one_at_all (HasDeviceOfPool stack) (Bios (at number)) lt
+device_has stack number (Limit longest chunk) lt = one_at_all (HasDeviceOfPool stack) (Bios (at number)) lt
 device_has stack number (Mirror records) lt =
-    All-cons (HasPool stack) (Records (at number)) (Bios (at number) ∷ []) lt (one_at_all (HasPool stack) (Bios (at number)) lt)
+    All-cons (HasDeviceOfPool stack) (Records (at number)) (Bios (at number) ∷ []) lt (one_at_all (HasDeviceOfPool stack) (Bios (at number)) lt)
 
 abbrev IsBelow : ℕ → DevId → Type 0
 IsBelow total dev = dev.0 < total

@@ -27,13 +27,13 @@ device_lines stack number [] = []
 device_lines stack number (device ∷ more) = device_line device (size (tree stack number)) ++ device_lines stack (number + 1) more
 
 -- no run has more steps: 8 for each element, 2 for each fragment and 1 for each entry of a script
-abbrev pub most_steps : Bounds → ℕ
-most_steps bound = 8 * bound.e + 2 * bound.g + bound.z
+abbrev pub steps_bound : Bounds → ℕ
+steps_bound bound = 8 * bound.e + 2 * bound.g + bound.z
 
 -- `need e E g G z Z bound B`
 abbrev pub need_line : Bounds → List ℕ
 need_line bound =
-    joined_text (codes "need e " ∷ decimal bound.e ∷ codes " g " ∷ decimal bound.g ∷ codes " z " ∷ decimal bound.z ∷ codes " bound " ∷ decimal (most_steps bound) ∷ codes "\n" ∷ [])
+    joined_text (codes "need e " ∷ decimal bound.e ∷ codes " g " ∷ decimal bound.g ∷ codes " z " ∷ decimal bound.z ∷ codes " bound " ∷ decimal (steps_bound bound) ∷ codes "\n" ∷ [])
 
 -- all of it
 abbrev pub check_text : Stack → Bounds → List ℕ

@@ -4,12 +4,12 @@ use Rattle.std.specs.List.{flat_map}
 use Rattle.stack_base.specs.declared.stack.Stack.{Stack}
 use Rattle.layout_model.specs.declared.fragment.Fragment.{Fragment}
 use Rattle.outside_io.specs.Saying.{joined_text}
-use Rattle.report_text.specs.Pools.{name_at}
+use Rattle.report_text.specs.Pools.{name_of_device}
 
 -- `fragment W OFFSET LEN DISK AT`
 abbrev pub fragment_line : Stack → Fragment → List ℕ
 fragment_line stack f =
-    joined_text (codes "fragment " ∷ decimal f.write ∷ codes " " ∷ decimal f.offset ∷ codes " " ∷ decimal f.len ∷ codes " " ∷ name_at stack f.disk.0 ∷ codes " " ∷ decimal f.at ∷ codes "\n" ∷ [])
+    joined_text (codes "fragment " ∷ decimal f.write ∷ codes " " ∷ decimal f.offset ∷ codes " " ∷ decimal f.len ∷ codes " " ∷ name_of_device stack f.disk.0 ∷ codes " " ∷ decimal f.at ∷ codes "\n" ∷ [])
 
 -- a line for each fragment, in their order
 unfoldable pub layout_text : Stack → List Fragment → List ℕ

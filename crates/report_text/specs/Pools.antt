@@ -26,19 +26,19 @@ same_pool (Records one) (Records other) = one.0 == other.0
 same_pool one other = false
 
 -- the name of the device with a number, and nothing where there is none
-abbrev pub name_at : Stack → ℕ → List ℕ
-name_at stack number = option_map_or (λ (device : Device). device.name.bytes) (slice_get stack.devices.items number) []
+abbrev pub name_of_device : Stack → ℕ → List ℕ
+name_of_device stack number = option_map_or (λ (device : Device). device.name.bytes) (slice_get stack.devices.items number) []
 
 -- `fs.bios`, `fs.vecs`, `NAME.bios`, `NAME.records`
 abbrev pub pool_name : Stack → PoolId → List ℕ
 pool_name stack FsBios = codes "fs.bios"
 pool_name stack FsVecs = codes "fs.vecs"
-pool_name stack (Bios dev) = name_at stack dev.0 ++ codes ".bios"
-pool_name stack (Records dev) = name_at stack dev.0 ++ codes ".records"
+pool_name stack (Bios dev) = name_of_device stack dev.0 ++ codes ".bios"
+pool_name stack (Records dev) = name_of_device stack dev.0 ++ codes ".records"
 
 -- a pool of the writers, or of a device of the stack
-abbrev pub HasPool : Stack → PoolId → Type 0
-HasPool stack FsBios = Unit {0}
-HasPool stack FsVecs = Unit {0}
-HasPool stack (Bios dev) = dev.0 < length stack.devices.items
-HasPool stack (Records dev) = dev.0 < length stack.devices.items
+abbrev pub HasDeviceOfPool : Stack → PoolId → Type 0
+HasDeviceOfPool stack FsBios = Unit {0}
+HasDeviceOfPool stack FsVecs = Unit {0}
+HasDeviceOfPool stack (Bios dev) = dev.0 < length stack.devices.items
+HasDeviceOfPool stack (Records dev) = dev.0 < length stack.devices.items

@@ -13,26 +13,26 @@ use Rattle.outside_io.specs.Saying.{joined_text}
 use Rattle.mempool_core.specs.declared.Facts.{Facts}
 use Rattle.model_disks.specs.Disks.{sum_of_words}
 use Rattle.model_disks.specs.Runs.{written_runs}
-use Rattle.report_text.specs.Pools.{told_pools, same_pool, name_at, pool_name}
+use Rattle.report_text.specs.Pools.{told_pools, same_pool, name_of_device, pool_name}
 
 -- what a report tells of: the status of each write in the order of the text, each disk with its image in the order of the devices, the facts
 -- of each pool, how many events there were, and the bound on them
-pub record Told : Type 0 where
+pub record Reported : Type 0 where
   pub statuses : List Status
   pub disks : List (DevId × List (List ℕ))
   pub pools : List (PoolId × Facts)
   pub steps : ℕ
   pub bound : ℕ
 
-abbrev pub status_word : Status → List ℕ
-status_word status.Ok = codes "ok"
-status_word status.Io = codes "io"
-status_word status.Medium = codes "medium"
-status_word status.NoSpace = codes "nospace"
+abbrev pub reported_status : Status → List ℕ
+reported_status status.Ok = codes "ok"
+reported_status status.Io = codes "io"
+reported_status status.Medium = codes "medium"
+reported_status status.NoSpace = codes "nospace"
 
 -- `write W STATUS`
 abbrev pub write_line : ℕ → Status → List ℕ
-write_line number status = joined_text (codes "write " ∷ decimal number ∷ codes " " ∷ status_word status ∷ codes "\n" ∷ [])
+write_line number status = joined_text (codes "write " ∷ decimal number ∷ codes " " ∷ reported_status status ∷ codes "\n" ∷ [])
 
 -- `disk NAME sum HEX`, the sum in 16 hexadecimal digits
 abbrev pub disk_line : List ℕ → ℕ → List ℕ
@@ -64,11 +64,11 @@ run_lines name runs = flat_map (run_line name) runs
 
 -- the line of a disk's sum
 abbrev pub sum_line : Stack → DevId × List (List ℕ) → List ℕ
-sum_line stack disk = disk_line (name_at stack disk.0.0) (sum_of_words disk.1)
+sum_line stack disk = disk_line (name_of_device stack disk.0.0) (sum_of_words disk.1)
 
 -- that line, and those of the disk's written runs
 abbrev pub image_lines : Stack → DevId × List (List ℕ) → List ℕ
-image_lines stack disk = sum_line stack disk ++ run_lines (name_at stack disk.0.0) (written_runs disk.1)
+image_lines stack disk = sum_line stack disk ++ run_lines (name_of_device stack disk.0.0) (written_runs disk.1)
 
 -- the facts that a list has of a pool
 abbrev pub no_facts : Facts
@@ -83,14 +83,14 @@ abbrev pub pool_lines : Stack → List (PoolId × Facts) → List ℕ
 pool_lines stack pools = flat_map (λ pool. pool_line (pool_name stack pool) (facts_of pools pool)) (told_pools stack)
 
 -- the whole report
-abbrev pub report : Stack → Told → List ℕ
+abbrev pub report : Stack → Reported → List ℕ
 report stack told = write_lines 0 told.statuses
     ++ (flat_map (image_lines stack) told.disks
     ++ (pool_lines stack told.pools
     ++ steps_line told.steps told.bound))
 
 -- what is told of a run of the scenario that a number makes: how many writes and sectors it had, each disk's sum, and the steps
-abbrev pub gen_text : ℕ → ℕ → ℕ → Stack → Told → List ℕ
+abbrev pub gen_text : ℕ → ℕ → ℕ → Stack → Reported → List ℕ
 gen_text number writes sectors stack told = gen_line number writes sectors
     ++ (flat_map (sum_line stack) told.disks
     ++ steps_line told.steps told.bound)

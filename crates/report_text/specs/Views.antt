@@ -9,15 +9,15 @@ use Rattle.mempool_core.specs.declared.Facts.{Facts}
 use Rattle.model_disks.specs.Disks.{DiskState}
 use Rattle.task_core.specs.declared.ended.Ended.{Ended}
 use Rattle.run_machine.specs.Objects.{Objects}
-use Rattle.report_text.specs.Pools.{HasPool, disks_of, falling_pools, pool_name, pools_at}
-use Rattle.report_text.specs.Report.{Told, pool_line}
+use Rattle.report_text.specs.Pools.{HasDeviceOfPool, disks_of, falling_pools, pool_name, pools_at}
+use Rattle.report_text.specs.Report.{Reported, pool_line}
 
 -- a disk with what it holds
 abbrev pub image_of : DiskState → DevId × List (List ℕ)
 image_of disk = (disk.dev, disk.image)
 
 -- what is told of a run that has ended
-abbrev pub told_of : Ended → ℕ → Told
+abbrev pub told_of : Ended → ℕ → Reported
 told_of ended bound = record {
   statuses = ended.statuses.items;
   disks = map image_of ended.disks.items;
@@ -27,12 +27,12 @@ told_of ended bound = record {
 }
 
 -- the disks are those of the stack in the order of its devices, and the pools are the stack's by falling number
-pub record IsOf (stack : Stack) (ended : Ended) : Type 0 where
+pub record IsEndedOfStack (stack : Stack) (ended : Ended) : Type 0 where
   pub disks : map (λ (disk : DiskState). disk.dev) ended.disks.items ≡ disks_of stack
   pub pools : map (λ (p : PoolId × Facts). p.0) ended.pools.items ≡ falling_pools stack
 
 -- what is told of the objects of a machine, whose disks and pools go by numbers
-abbrev pub told_by : Stack → Objects → ℕ → ℕ → Told
+abbrev pub told_by : Stack → Objects → ℕ → ℕ → Reported
 told_by stack objects steps bound = record {
   statuses = objects.tally.statuses;
   disks = map (λ (dev : DevId). (dev, (objects.disk dev.0).image)) (disks_of stack);
@@ -47,7 +47,7 @@ AreKnown stack disks = All (λ (dev : DevId). dev.0 < length stack.devices.items
 
 -- each of these pools is one of the stack
 abbrev pub AreOfStack : Stack → List (PoolId × Facts) → Type 0
-AreOfStack stack pools = All (HasPool stack) (map (λ (p : PoolId × Facts). p.0) pools)
+AreOfStack stack pools = All (HasDeviceOfPool stack) (map (λ (p : PoolId × Facts). p.0) pools)
 
 -- the line of a pool with these facts
 abbrev pub facts_line : Stack → PoolId × Facts → List ℕ

@@ -2,7 +2,7 @@
 ghost use Rattle.std.specs.Prelude.{◌≡◌, ◌+◌, ◌*◌, ◌^◌, ◌<◌};
 ghost use Rattle.stack_base.specs.Stack.{IsStack};
 ghost use Rattle.outside_io.specs.Saying.{Says, Writes};
-ghost use Rattle.report_text.specs.CheckText.{kind_name, device_line, device_lines, most_steps, need_line, check_text};
+ghost use Rattle.report_text.specs.CheckText.{kind_name, device_line, device_lines, steps_bound, need_line, check_text};
 
 use itoa::Buffer;
 use layout_model::Bounds;
@@ -58,7 +58,7 @@ fn device_lines<K: Sink>(pen: &mut Pen, out: &mut K, stack: &Stack)
 
 // `need e E g G z Z bound B`
 fn need_line<K: Sink>(pen: &mut Pen, out: &mut K, bound: &Bounds)
-    requires { most_steps bound.now < 2 ^ 64 }
+    requires { steps_bound bound.now < 2 ^ 64 }
     ensures { Says K.held K.faults out.old pen.old out.new pen.new
         (need_line bound.now) }
 {
@@ -85,7 +85,7 @@ fn need_line<K: Sink>(pen: &mut Pen, out: &mut K, bound: &Bounds)
 /// `Failed` only where the sink's count of faults rose. The sink took a front of the text then.
 pub fn write_check<K: Sink>(stack: &Stack, bound: &Bounds, out: &mut K) -> Result<(), Failed>
     requires stack { IsStack stack.now }
-    requires bound { most_steps bound.now < 2 ^ 64 }
+    requires bound { steps_bound bound.now < 2 ^ 64 }
     ensures { Writes K.held K.faults out.old out.new result
         (check_text stack.now bound.now) }
 {

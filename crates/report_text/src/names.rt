@@ -1,20 +1,20 @@
 //! The names of devices and of pools.
 ghost use Rattle.std.specs.Prelude.{◌≡◌, ◌++◌, ◌<◌, length};
-ghost use Rattle.report_text.specs.Pools.{HasPool, name_at, pool_name};
+ghost use Rattle.report_text.specs.Pools.{HasDeviceOfPool, name_of_device, pool_name};
 
 use stack_base::{DevId, PoolId, Stack};
 
 /// The name of a device.
 pub(crate) fn device_name(stack: &Stack, device: DevId) -> &[u8]
     requires { device.0 < length stack.now.devices.items }
-    ensures { result.now ≡ name_at stack.now device.0 }
+    ensures { result.now ≡ name_of_device stack.now device.0 }
 {
     stack.devices[device.0 as usize].name.as_str().as_bytes()
 }
 
 /// The name of a pool in two parts: whose it is, and what it holds.
 pub fn pool_parts(stack: &Stack, pool: PoolId) -> (&[u8], &[u8])
-    requires { HasPool stack.now pool }
+    requires { HasDeviceOfPool stack.now pool }
     ensures { result.0.now ++ result.1.now ≡ pool_name stack.now pool }
 {
     match pool {

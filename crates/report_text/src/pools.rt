@@ -2,7 +2,7 @@
 ghost use Rattle.std.specs.Prelude.{◌≡◌, ◌++◌, length, map};
 ghost use Rattle.std.specs.List.{flat_map};
 ghost use Rattle.outside_io.specs.Saying.{Says};
-ghost use Rattle.report_text.specs.Pools.{HasPool, falling_from, falling_pools, pool_name, pools_at};
+ghost use Rattle.report_text.specs.Pools.{HasDeviceOfPool, falling_from, falling_pools, pool_name, pools_at};
 ghost use Rattle.report_text.specs.Report.{pool_line, pool_lines};
 ghost use Rattle.report_text.specs.Views.{AreOfStack, facts_line, own_of_each};
 
@@ -54,7 +54,7 @@ fn named_line<K: Sink>(pen: &mut Pen, out: &mut K, owner: &[u8], element: &[u8],
 
 // The line of a pool.
 fn pool_line<K: Sink>(pen: &mut Pen, out: &mut K, stack: &Stack, pool: PoolId, facts: &Facts)
-    requires { HasPool stack.now pool }
+    requires { HasDeviceOfPool stack.now pool }
     ensures { Says K.held K.faults out.old pen.old out.new pen.new
         (pool_line (pool_name stack.now pool) facts.now) }
 {

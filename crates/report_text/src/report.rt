@@ -1,9 +1,9 @@
 //! Writes the report of a run that has ended.
 ghost use Rattle.std.specs.Prelude.{◌≡◌, ◌^◌, ◌<◌};
 ghost use Rattle.outside_io.specs.Saying.{Says, Writes};
-ghost use Rattle.report_text.specs.CheckText.{most_steps};
-ghost use Rattle.report_text.specs.Report.{report, status_word, steps_line, write_line, write_lines};
-ghost use Rattle.report_text.specs.Views.{IsOf, told_of};
+ghost use Rattle.report_text.specs.CheckText.{steps_bound};
+ghost use Rattle.report_text.specs.Report.{report, reported_status, steps_line, write_line, write_lines};
+ghost use Rattle.report_text.specs.Views.{IsEndedOfStack, told_of};
 
 use crate::images::image_lines;
 use crate::pools::pool_lines;
@@ -14,7 +14,7 @@ use stack_base::{Stack, Status};
 use task_core::Ended;
 
 fn status_word(status: Status) -> &'static [u8]
-    ensures { result.now ≡ status_word status }
+    ensures { result.now ≡ reported_status status }
 {
     match status {
         Status::Ok => b"ok",
@@ -62,9 +62,9 @@ pub(crate) fn steps_line<K: Sink>(pen: &mut Pen, out: &mut K, steps: u64, bound:
 ///
 /// `Failed` only where the sink's count of faults rose. The sink took a front of the line then.
 pub fn write_steps<K: Sink>(steps: u64, bound: &Bounds, out: &mut K) -> Result<(), Failed>
-    requires bound { most_steps bound.now < 2 ^ 64 }
+    requires bound { steps_bound bound.now < 2 ^ 64 }
     ensures { Writes K.held K.faults out.old out.new result
-        (steps_line steps (most_steps bound.now)) }
+        (steps_line steps (steps_bound bound.now)) }
 {
     let mut pen = Pen::new();
     steps_line(&mut pen, out, steps, bound.total());
@@ -83,10 +83,10 @@ pub fn write_report<K: Sink>(
     bound: &Bounds,
     out: &mut K,
 ) -> Result<(), Failed>
-    requires ended { IsOf stack.now ended.now }
-    requires bound { most_steps bound.now < 2 ^ 64 }
+    requires ended { IsEndedOfStack stack.now ended.now }
+    requires bound { steps_bound bound.now < 2 ^ 64 }
     ensures { Writes K.held K.faults out.old out.new result
-        (report stack.now (told_of ended.now (most_steps bound.now))) }
+        (report stack.now (told_of ended.now (steps_bound bound.now))) }
 {
     let mut pen = Pen::new();
     write_lines(&mut pen, out, &ended.statuses);

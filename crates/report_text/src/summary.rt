@@ -1,9 +1,9 @@
 //! Writes the summary of a run of a generated scenario.
 ghost use Rattle.std.specs.Prelude.{◌^◌, ◌<◌};
 ghost use Rattle.outside_io.specs.Saying.{Says, Writes};
-ghost use Rattle.report_text.specs.CheckText.{most_steps};
+ghost use Rattle.report_text.specs.CheckText.{steps_bound};
 ghost use Rattle.report_text.specs.Report.{gen_line, gen_text};
-ghost use Rattle.report_text.specs.Views.{IsOf, told_of};
+ghost use Rattle.report_text.specs.Views.{IsEndedOfStack, told_of};
 
 use crate::images::sum_lines;
 use crate::report::steps_line;
@@ -53,10 +53,10 @@ pub fn write_gen<K: Sink>(
     bound: &Bounds,
     out: &mut K,
 ) -> Result<(), Failed>
-    requires ended { IsOf stack.now ended.now }
-    requires bound { most_steps bound.now < 2 ^ 64 }
+    requires ended { IsEndedOfStack stack.now ended.now }
+    requires bound { steps_bound bound.now < 2 ^ 64 }
     ensures { Writes K.held K.faults out.old out.new result
-        (gen_text number writes sectors stack.now (told_of ended.now (most_steps bound.now))) }
+        (gen_text number writes sectors stack.now (told_of ended.now (steps_bound bound.now))) }
 {
     let mut pen = Pen::new();
     gen_line(&mut pen, out, number, writes, sectors);

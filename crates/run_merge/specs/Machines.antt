@@ -14,7 +14,7 @@ use Rattle.run_machine.specs.declared.event.Got.TheVariants as got
 use Rattle.run_machine.specs.Laws.{Object, OfPool, OfRescuer, OfDisk, OfBook, OfTally, OfNone, object_of}
 use Rattle.run_machine.specs.Objects.{TallyState, Opened, clear_bio, clear_vector, clear_slip, done_one}
 use Rattle.run_machine.specs.Requests.{Request, Reply, TakeBio, TakeVec, TakeSlip, GiveBio, GiveVec, GiveSlip, Punt, Pop, Push, Complete, Link, Drop, Done, Resize, NextRound, LookRound, LookLeft, HadBio, HadVec, HadSlip, Missed, Did, Popped, Completed, LinkedTo, DroppedTo, OutIs, Present, LeftOver, Nothing}
-use Rattle.shared_objects.specs.Calls.{is_same}
+use Rattle.shared_objects.specs.Calls.{is_same_object}
 use Rattle.run_merge.specs.Entries.{Entry}
 use Rattle.run_merge.specs.ObjectsByName.{StateAt}
 
@@ -83,4 +83,4 @@ LeadsObject ledger name old (e ∷ es) new =
 
 -- the entries at it
 abbrev pub entries_at : Object → List Entry → List Entry
-entries_at name entries = filter (λ (e : Entry). is_same name (object_of e.asked)) entries
+entries_at name entries = filter (λ (e : Entry). is_same_object name (object_of e.asked)) entries

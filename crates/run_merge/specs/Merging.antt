@@ -8,7 +8,7 @@ use Rattle.run_machine.specs.Requests.{Request, Reply}
 use Rattle.run_machine.specs.Runs.{State}
 use Rattle.run_machine.specs.Tasks.{TaskState, look_of, lets}
 use Rattle.block_core.specs.Scenarios.{IsScenario, IsNaming}
-use Rattle.shared_objects.specs.Calls.{is_same}
+use Rattle.shared_objects.specs.Calls.{is_same_object}
 use Rattle.shared_objects.specs.Logs.{is_event}
 use Rattle.run_merge.specs.Entries.{Entry}
 use Rattle.run_merge.specs.Machines.{TallyMachine, LeadsObject}
@@ -47,12 +47,12 @@ all_of (h ∷ hs) = h.1 ++ all_of hs
 
 abbrev pub history_of : Object → Histories → List Ticketed
 history_of name [] = []
-history_of name (h ∷ hs) = if is_same name h.0 then h.1 else history_of name hs
+history_of name (h ∷ hs) = if is_same_object name h.0 then h.1 else history_of name hs
 
 -- no two are of one object
 abbrev pub AreOfDifferentObjects : Histories → Type 0
 AreOfDifferentObjects [] = Unit {0}
-AreOfDifferentObjects (h ∷ hs) = All (λ (other : Object × List Ticketed). is_same h.0 other.0 ≡ false) hs × AreOfDifferentObjects hs
+AreOfDifferentObjects (h ∷ hs) = All (λ (other : Object × List Ticketed). is_same_object h.0 other.0 ≡ false) hs × AreOfDifferentObjects hs
 
 -- the entries of each are at its object
 abbrev pub AreTagged : Histories → Type 0

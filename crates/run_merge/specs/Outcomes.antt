@@ -13,7 +13,7 @@ use Rattle.task_core.specs.Leaving.{IsLeft}
 use Rattle.task_core.specs.Plains.{stage_of}
 use Rattle.task_core.specs.opened.OfOne.{scenario_in}
 use Rattle.shared_objects.specs.Calls.{calls_at}
-use Rattle.shared_objects.specs.Closed.{history_in, left_in, names_in}
+use Rattle.shared_objects.specs.Closed.{history_in, object_left_in, names_in}
 use Rattle.shared_objects.specs.Holding.{calls_of}
 use Rattle.shared_objects.specs.declared.closed.Closed.{Closed}
 use Rattle.shared_objects.specs.declared.closed.ClosedTask.{ClosedTask}
@@ -42,7 +42,7 @@ histories_by closed seats = entry_histories (names_in closed) (calls_at (calls_o
 -- the closed objects and tasks, as a state of runs
 abbrev pub state_in : Closed → State
 state_in closed = record {
-  objects = made_of (λ name. seen_at name (left_in closed closed.told.value.objects name).object);
+  objects = made_of (λ name. seen_at name (object_left_in closed closed.told.value.objects name).object);
   task = λ place. slice_index_or (map (λ (task : ClosedTask). task.task.state) closed.tasks.items) place no_task;
 }
 

@@ -6,7 +6,7 @@ use Rattle.run_machine.specs.Laws.{Object, OfPool, OfRescuer, OfDisk, OfBook, Of
 use Rattle.run_machine.specs.Opened.{no_task}
 use Rattle.run_machine.specs.Runs.{State}
 use Rattle.run_machine.specs.Tasks.{TaskState}
-use Rattle.task_steps.specs.Routed.{setup}
+use Rattle.task_steps.specs.Routed.{routing_setup}
 use Rattle.task_core.specs.declared.opening.Opened.{Opened}
 use Rattle.task_core.specs.Plains.{stage_of}
 use Rattle.task_core.specs.opened.OfOne.{IsOpened, scenario_in, states}
@@ -55,7 +55,7 @@ abbrev pub ClosesAreRuns : Type 0
 ClosesAreRuns = (opened : Opened) (names : List Object) (history : Object → List Call) (left : (name : Object) → ThingState (ThingAt name))
     (tasks : List Returned) (pass : PassState) → IsOpened opened
     → map (λ (task : Returned). task.first) tasks ≡ states opened.tasks.items
-    → ClosesAs (setup (stage_of opened.objects).routing) opened.objects names history left tasks pass
+    → ClosesAs (routing_setup (stage_of opened.objects).routing) opened.objects names history left tasks pass
     → All (λ (task : Returned). found_by task.desk.pass ≤ pass.known) tasks
     → MergeIsEndedRun (scenario_in opened) (stage_of opened.objects).ledger (entry_histories names history) (numbers_of pass.drawn) (state_left left tasks)
     × ((name : Object) → All DrewAsEvent (history name))

@@ -6,7 +6,7 @@ use Rattle.run_machine.specs.declared.event.Event.{Event}
 use Rattle.run_machine.specs.Laws.{Object}
 use Rattle.run_machine.specs.Runs.{State}
 use Rattle.run_machine.specs.Scene.{Setup}
-use Rattle.task_steps.specs.Routed.{setup}
+use Rattle.task_steps.specs.Routed.{routing_setup}
 use Rattle.task_core.specs.declared.opening.Opened.{Opened}
 use Rattle.task_core.specs.Plains.{stage_of}
 use Rattle.task_core.specs.opened.OfOne.{IsOpened, scenario_in, states}
@@ -29,7 +29,7 @@ notes_in setup tasks = flat_map (λ (task : Returned). notes_of setup task.first
 abbrev pub NotesAreRuns : Type 0
 NotesAreRuns = (opened : Opened) (names : List Object) (history : Object → List Call) (left : (name : Object) → ThingState (ThingAt name))
     (tasks : List Returned) (pass : PassState) → IsOpened opened → map (λ (task : Returned). task.first) tasks ≡ states opened.tasks.items
-    → ClosesAs (setup (stage_of opened.objects).routing) opened.objects names history left tasks pass
-    → (joined : List Event) (last : State) → IsJoined (notes_in (setup (stage_of opened.objects).routing) tasks) joined
+    → ClosesAs (routing_setup (stage_of opened.objects).routing) opened.objects names history left tasks pass
+    → (joined : List Event) (last : State) → IsJoined (notes_in (routing_setup (stage_of opened.objects).routing) tasks) joined
     → (run : AreOfRun (scenario_in opened) (stage_of opened.objects).ledger (without_tickets (sorted (all_of (entry_histories names history)))) last)
     → run.0 ≡ joined

@@ -14,7 +14,7 @@ use Rattle.atomic_table.proofs.Lists.{at_set, set_else, at_longer, at_snoc}
 use Rattle.seat_lock.specs.declared.view.View.{View}
 use Rattle.seat_lock.specs.declared.view.Rank.TheVariants.{First}
 use Rattle.seat_lock.specs.declared.view.Phase.TheVariants.{Idle, Serving}
-use Rattle.seat_lock.specs.History.{one_if, count, calls_by, IsLeft}
+use Rattle.seat_lock.specs.History.{indicator, count, calls_by, IsLeft}
 use Rattle.seat_lock.specs.Seats.{is_first, split_of, own}
 use Rattle.seat_lock.specs.Turning.{around, is_live, firsts_of, others_of, out_of, firsts, others, split_by, joined_by, out, has_number, HasTurn, Stands, Knows, IsServed, IsTurning, first_after_split, new_view, joined_view, spent_view, Learnt}
 use Rattle.seat_lock.proofs.Sums.{sum_by-put, sum_by-at, sum_by-two, sum_none, put_all, tail_all}
@@ -64,7 +64,7 @@ module _ {T D A R M : Type 0} (plain : T → D) (mark : T → M) (answers : D �
       let cut : calls_by ((split_of v.known.rank + 1) ∷ []) v.known.seen ++ calls_by ((split_of v.known.rank + 1) ∷ []) k.prefix.0 ≡ [] = sym (calls_by-append ((split_of v.known.rank + 1) ∷ []) v.known.seen k.prefix.0) ∙ ap (calls_by ((split_of v.known.rank + 1) ∷ [])) (sym k.prefix.1) ∙ none_log in
       let none_seen : calls_by ((split_of v.known.rank + 1) ∷ []) v.known.seen ≡ [] = nil_left (calls_by ((split_of v.known.rank + 1) ∷ []) v.known.seen) (calls_by ((split_of v.known.rank + 1) ∷ []) k.prefix.0) cut in
       let knows_u : Knows t.served t.drawn t.log key u = record { start = λ _. k.start live.0; prefix = k.prefix; own_calls = k.own_calls; own_number = λ _. k.own_number live.0; spent = λ d. absurd (true_not (sym live.1 ∙ d)); parts = k.parts; stands = k.stands } in
-      let knows_w : Knows t.served t.drawn t.log key w = record { start = λ _. k.start live.0; prefix = k.prefix; own_calls = none_log ∙ sym none_seen; own_number = λ _. count_one (split_of v.known.rank + 1) (split_of v.known.rank + 1) ∙ ap one_if (eq-eqb (split_of v.known.rank + 1) (split_of v.known.rank + 1) refl); spent = λ d. absurd (true_not d); parts = (((v.known.seen, refl), none_seen), ((v.known.seen, refl), all_none v.known.seen)); stands = tt } in
+      let knows_w : Knows t.served t.drawn t.log key w = record { start = λ _. k.start live.0; prefix = k.prefix; own_calls = none_log ∙ sym none_seen; own_number = λ _. count_one (split_of v.known.rank + 1) (split_of v.known.rank + 1) ∙ ap indicator (eq-eqb (split_of v.known.rank + 1) (split_of v.known.rank + 1) refl); spent = λ d. absurd (true_not d); parts = (((v.known.seen, refl), none_seen), ((v.known.seen, refl), all_none v.known.seen)); stands = tt } in
       record {
         log = t.log;
         served = t.served;
@@ -169,7 +169,7 @@ module _ {T D A R M : Type 0} (plain : T → D) (mark : T → M) (answers : D �
       let all_mine = λ (x : ℕ) (h : x < t.given).
       let none : sum_by (has_number x) rest ≡ 0 = sum_none (has_number x) rest (λ i y a. ap (count x) (bare i y a).0) in
       let yes : nat_lt x t.given ≡ true = lt-ltb x t.given h in
-      let got : count x v.known.numbers ≡ 1 = omega (arith, put (has_number x), t.numbers x, none, ap one_if yes) in got in
+      let got : count x v.known.numbers ≡ 1 = omega (arith, put (has_number x), t.numbers x, none, ap indicator yes) in got in
       let whole : calls_by v.known.numbers t.log ≡ t.log = all_calls v.known.numbers t.log (λ i d h. all_mine _ (t.made i d h)) in
       let full : t.log ≡ own v.known = sym whole ∙ k.own_calls in
       let seen : calls_by v.known.numbers v.known.seen ≡ v.known.seen = all_prefix v.known.numbers v.known.seen t.log k.prefix (λ i d h. all_mine _ (t.made i d h)) in

@@ -6,14 +6,14 @@ use Rattle.std.proofs.lemmas.List.Elements.{filter-append}
 use Rattle.std.proofs.lemmas.List.Sums.{sum_by-append, sum_by-cons}
 use Rattle.std.proofs.lemmas.Bool.{lt-ltb, le-ltb, ltb-true, ltb-false}
 use Rattle.seat_lock.specs.declared.view.Entry.{Entry}
-use Rattle.seat_lock.specs.History.{one_if, count, IsPrefix, calls_by, longer, ContinuesOn, PartsContinue, Leads, EachInPlace}
+use Rattle.seat_lock.specs.History.{indicator, count, IsPrefix, calls_by, longer, ContinuesOn, PartsContinue, Leads, EachInPlace}
 
 -- numbers
-pub count_one : (x y : ℕ) → count x (y ∷ []) ≡ one_if (eqb y x)
-count_one x y = omega (arith, sum_by-cons (λ (z : ℕ). one_if (eqb z x)) y [])
+pub count_one : (x y : ℕ) → count x (y ∷ []) ≡ indicator (eqb y x)
+count_one x y = omega (arith, sum_by-cons (λ (z : ℕ). indicator (eqb z x)) y [])
 
 pub count_append : (x : ℕ) (ns ms : List ℕ) → count x (ns ++ ms) ≡ count x ns + count x ms
-count_append x ns ms = sum_by-append (λ (z : ℕ). one_if (eqb z x)) ns ms
+count_append x ns ms = sum_by-append (λ (z : ℕ). indicator (eqb z x)) ns ms
 
 pub all_one : {B : Type 0} (P : B → Type 0) (x : B) → P x → All P (x ∷ [])
 all_one P x p zero d h = p
@@ -42,7 +42,7 @@ module _ {A R : Type 0} where
   none_of n [] a = refl
   none_of n (x ∷ xs) a =
       let below : x.by < n = a 0 x (omega arith) in
-      let zero_of : count x.by (n ∷ []) ≡ 0 = count_one x.by n ∙ ap one_if (ne_eqb n x.by (λ h. omega arith)) in
+      let zero_of : count x.by (n ∷ []) ≡ 0 = count_one x.by n ∙ ap indicator (ne_eqb n x.by (λ h. omega arith)) in
       ap (λ b. cond b (x ∷ calls_by (n ∷ []) xs) (calls_by (n ∷ []) xs)) (le-ltb 0 (count x.by (n ∷ [])) (omega arith)) ∙ none_of n xs (λ k d h. a (suc k) d (omega arith))
 
   pub nil_left : (xs ys : List (Entry A R)) → xs ++ ys ≡ [] → xs ≡ []

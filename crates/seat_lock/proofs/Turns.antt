@@ -9,7 +9,7 @@ use Rattle.seat_lock.specs.declared.view.Rank.{Rank}
 use Rattle.seat_lock.specs.declared.view.Rank.TheVariants.{First, Other, Spent}
 use Rattle.seat_lock.specs.declared.view.Phase.{Phase}
 use Rattle.seat_lock.specs.declared.view.Phase.TheVariants.{Idle, Waiting, Serving}
-use Rattle.seat_lock.specs.History.{one_if, count}
+use Rattle.seat_lock.specs.History.{indicator, count}
 use Rattle.seat_lock.specs.Seats.{is_first, split_of, one_more}
 use Rattle.seat_lock.specs.Turning.{is_live, firsts_of, others_of, out_of, HasTurn, Stands}
 use Rattle.seat_lock.proofs.Histories.{count_one}
@@ -102,25 +102,25 @@ plain_other Other h l = (refl, refl, refl)
 plain_other Spent h l = absurd (true_not (sym l))
 
 -- numbers that were given
-pub one_most : (b : Bool) → one_if b ≤ 1
+pub one_most : (b : Bool) → indicator b ≤ 1
 one_most true = omega arith
 one_most false = omega arith
 
-by_test : (x n : ℕ) (b : Bool) → nat_lt x n ≡ b → 1 ≤ one_if b → x < n
+by_test : (x n : ℕ) (b : Bool) → nat_lt x n ≡ b → 1 ≤ indicator b → x < n
 by_test x n true e h = ltb-true x n e
 by_test x n false e h = absurd (omega arith)
 
-pub below : (x n : ℕ) → 1 ≤ one_if (nat_lt x n) → x < n
+pub below : (x n : ℕ) → 1 ≤ indicator (nat_lt x n) → x < n
 below x n h = by_test x n (nat_lt x n) refl h
 
-pub number_one : (x : ℕ) → sum_by (λ (ns : List ℕ). count x ns) ((0 ∷ []) ∷ []) ≡ one_if (nat_lt x 1)
+pub number_one : (x : ℕ) → sum_by (λ (ns : List ℕ). count x ns) ((0 ∷ []) ∷ []) ≡ indicator (nat_lt x 1)
 number_one zero = refl
 number_one (suc x) =
     let a = ne_eqb 0 (suc x) (λ h. omega arith) in
     let b : nat_lt (suc x) 1 ≡ false = le-ltb (suc x) 1 (omega arith) in
-    ap (λ c. 0 + (0 + one_if c)) a ∙ ap one_if (sym b)
+    ap (λ c. 0 + (0 + indicator c)) a ∙ ap indicator (sym b)
 
-pub number_step : (x g : ℕ) → one_if (nat_lt x g) + count x (g ∷ []) ≡ one_if (nat_lt x (g + 1))
+pub number_step : (x g : ℕ) → indicator (nat_lt x g) + count x (g ∷ []) ≡ indicator (nat_lt x (g + 1))
 number_step x g = rw (count_one x g) (dite (ℕ_discrete g x)
     (λ e. let a : nat_lt x g ≡ false = le-ltb x g (omega arith) in let b : nat_lt x (g + 1) ≡ true = lt-ltb x (g + 1) (omega arith) in rw (a, b, eq-eqb g x e) refl)
     (λ ne. rw (ne_eqb g x ne) (dite (dec_le g x)

@@ -2,13 +2,13 @@
 use Rattle.std.specs.Prelude.{◌≡◌, ℕ, Bool, true, false, eqb, List, [], ◌∷◌, ◌++◌, sum_by, length, filter, if◌then◌else◌, nat_lt}
 use Rattle.seat_lock.specs.declared.view.Entry.{Entry}
 
-abbrev pub one_if : Bool → ℕ
-one_if true = 1
-one_if false = 0
+abbrev pub indicator : Bool → ℕ
+indicator true = 1
+indicator false = 0
 
 -- how often a number stands in the list
 abbrev pub count : ℕ → List ℕ → ℕ
-count x xs = sum_by (λ y. one_if (eqb y x)) xs
+count x xs = sum_by (λ y. indicator (eqb y x)) xs
 
 module _ {A R : Type 0} where
   -- the second list begins with the first

@@ -12,7 +12,7 @@ use Rattle.seat_lock.specs.declared.view.Rank.{Rank}
 use Rattle.seat_lock.specs.declared.view.Rank.TheVariants.{First, Other, Spent}
 use Rattle.seat_lock.specs.declared.view.Phase.{Phase}
 use Rattle.seat_lock.specs.declared.view.Phase.TheVariants.{Idle, Waiting, Serving}
-use Rattle.seat_lock.specs.History.{one_if, count, IsPrefix, calls_by, Continues, IsLeft}
+use Rattle.seat_lock.specs.History.{indicator, count, IsPrefix, calls_by, Continues, IsLeft}
 use Rattle.seat_lock.specs.Seats.{split_of, first_seat, split_more, new_seat, joined_with, call_of, IsWhole}
 
 -- as many turns as a word counts until it goes round
@@ -141,7 +141,7 @@ module _ {T D A R M : Type 0} (plain : T → D) (mark : T → M) (answers : D �
     pub given_is : given ≡ sum_by split_by s.views + 1
     pub few : given ≤ 65536
     -- each number that was given is with one seat, and no other number made a call
-    pub numbers : (x : ℕ) → sum_by (has_number x) s.views ≡ one_if (nat_lt x given)
+    pub numbers : (x : ℕ) → sum_by (has_number x) s.views ≡ indicator (nat_lt x given)
     pub made : All (λ e. e.by < given) log
 
 module _ {T A R : Type 0} where

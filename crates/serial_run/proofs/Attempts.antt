@@ -17,9 +17,9 @@ use Rattle.task_steps.specs.Choosing.{IsAsked}
 use Rattle.task_steps.specs.Homes.{IsTaskOf}
 use Rattle.task_core.specs.opened.OfOne.{states, tasks_at, run_state, AreOfOne}
 use Rattle.run_machine.specs.Opened.{no_task}
-use Rattle.task_core.specs.Plains.{objects_of, stage_of, Holds, Tells, Picks}
-use Rattle.task_core.specs.PlainSteps.{scene_of, state_of, HasRound, TakesStep, IsStill}
-use Rattle.task_steps.specs.Routed.{setup}
+use Rattle.task_core.specs.Plains.{objects_of, stage_of, Holds, PlainServes, Picks}
+use Rattle.task_core.specs.PlainSteps.{scene_of_objects, state_of_objects, HasRound, TakesStep, IsStill}
+use Rattle.task_steps.specs.Routed.{routing_setup}
 use Rattle.run_machine.specs.Runs.{State, Steps}
 use Rattle.run_machine.specs.Scene.{Scene}
 use Rattle.task_steps.specs.Stage.{Stage, Owes}
@@ -52,7 +52,7 @@ module _ (tasks : List TaskOf) (place : ℕ) (lt : place < length tasks) (next :
         | inr ne ↦ get_or-set_other (states tasks) place q next.state no_task ne ∙ sym (upd_other (tasks_at tasks) place next.state q ne)
       ]
 
-  pub state_goes_on : (new : Plain) → run_state new (set tasks place next) ≡ state_of new (upd (tasks_at tasks) place next.state)
+  pub state_goes_on : (new : Plain) → run_state new (set tasks place next) ≡ state_of_objects new (upd (tasks_at tasks) place next.state)
   state_goes_on new =
       let made : (ℕ → TaskState) → State = λ task. record { objects = objects_of new; task = task } in
       ap made (λ i q. task_goes_on q i)
@@ -140,22 +140,22 @@ module _ (plain : Plain) (tasks : List TaskOf) (stream after : Lcg) where
 -- a step of the task at a place
 module _ (old new : Plain) (tasks : List TaskOf) (place : ℕ) (lt : place < length tasks) (task next : TaskOf)
     (is : tasks_at tasks place ≡ task.state) (routing : task.routing ≡ (stage_of old).routing)
-    (one : AreOfOne old tasks) (home : IsTaskOf (stage_of old) task.state) (well : GoesWell (scene_of old (length tasks)) (run_state old tasks)) where
+    (one : AreOfOne old tasks) (home : IsTaskOf (stage_of old) task.state) (well : GoesWell (scene_of_objects old (length tasks)) (run_state old tasks)) where
   abbrev stack : Stack
   stack = (stage_of old).routing.stack
 
   abbrev scene : Scene
-  scene = scene_of old (length tasks)
+  scene = scene_of_objects old (length tasks)
 
   -- its turn, in terms of the tasks
-  takes : (step : Step) → Turns Tells (Owes (stage_of old)) (setup task.routing) task.state old next.state new step
+  takes : (step : Step) → Turns PlainServes (Owes (stage_of old)) (routing_setup task.routing) task.state old next.state new step
       → TakesStep old (tasks_at tasks) place next.state new step
   takes step turns =
-      subst (λ t. Turns Tells (Owes (stage_of old)) (setup (stage_of old).routing) t old next.state new step) (sym is)
-      (subst (λ r. Turns Tells (Owes (stage_of old)) (setup r) task.state old next.state new step) routing turns)
+      subst (λ t. Turns PlainServes (Owes (stage_of old)) (routing_setup (stage_of old).routing) t old next.state new step) (sym is)
+      (subst (λ r. Turns PlainServes (Owes (stage_of old)) (routing_setup r) task.state old next.state new step) routing turns)
 
-  round_there : HasRound (objects_of old) (request (setup (stage_of old).routing) (tasks_at tasks place))
-  round_there = has_round (setup (stage_of old).routing) (objects_of old) (tasks_at tasks place) (λ round later duties e. well.ahead place round later duties e)
+  round_there : HasRound (objects_of old) (request (routing_setup (stage_of old).routing) (tasks_at tasks place))
+  round_there = has_round (routing_setup (stage_of old).routing) (objects_of old) (tasks_at tasks place) (λ round later duties e. well.ahead place round later duties e)
 
   module _ {V : Type 0} (happens : V → Event → V → Type 0) (stream after : Lcg) (before now : V) (answer : Bool) where
     stepped : (event : Event) → TakesStep old (tasks_at tasks) place next.state new (Stepped event)
@@ -166,7 +166,7 @@ module _ (old new : Plain) (tasks : List TaskOf) (place : ℕ) (lt : place < len
           event,
           subst (λ state. Steps scene (run_state old tasks) place event state) (sym (state_goes_on tasks place lt next new)) steps,
           picks old tasks stream after (tasks_at tasks place) event
-              (λ none. none_completed (setup (stage_of old).routing) (tasks_at tasks place) steps.reply event.what none steps.told) chosen,
+              (λ none. none_completed (routing_setup (stage_of old).routing) (tasks_at tasks place) steps.reply event.what none steps.told) chosen,
           happened,
           tasks_name_the_stack (stage_of old) (tasks_at tasks place) steps.reply event one.holds.stack_is (subst (IsTaskOf (stage_of old)) (sym is) home) steps.by
               steps.told,
@@ -203,7 +203,7 @@ module _ (old new : Plain) (tasks : List TaskOf) (place : ℕ) (lt : place < len
         by_cases (Broken breach) turns chosen hands =
             absurd (unbroken old new (tasks_at tasks) (length tasks) place next.state lt well.unrefused round_there breach turns)
 
-    pub tried : (step : Step) → Turns Tells (Owes (stage_of old)) (setup task.routing) task.state old next.state new step
+    pub tried : (step : Step) → Turns PlainServes (Owes (stage_of old)) (routing_setup task.routing) task.state old next.state new step
         → ChosenBy task.state Chooses (Picks old) stream step after → Hands happens step before answer now
         → Tried happens stack scene place (run_state old tasks) stream before answer (run_state new (set tasks place next)) after now
     tried step turns chosen hands =
@@ -212,7 +212,7 @@ module _ (old new : Plain) (tasks : List TaskOf) (place : ℕ) (lt : place < len
 -- objects and tasks stay those of one scenario
 pub kept_one : (old new : Plain) (tasks : List TaskOf) (place : ℕ) → place < length tasks → (other next : TaskOf) (step : Step) → AreOfOne old tasks
     → Holds new × (stage_of new ≡ stage_of old) → next.routing ≡ (get_or tasks place other).routing
-    → Turns Tells (Owes (stage_of old)) (setup (get_or tasks place other).routing) (get_or tasks place other).state old next.state new step
+    → Turns PlainServes (Owes (stage_of old)) (routing_setup (get_or tasks place other).routing) (get_or tasks place other).state old next.state new step
     → AreOfOne new (set tasks place next)
 kept_one old new tasks place lt other next step one kept same turns = record {
   holds = kept.0;
@@ -229,6 +229,6 @@ kept_one old new tasks place lt other next step one kept same turns = record {
 
     home : IsTaskOf (stage_of old) next.state
     home =
-        turns_home Tells (stage_of old) one.holds.stack_is (get_or tasks place other).state old next.state new step
+        turns_home PlainServes (stage_of old) one.holds.stack_is (get_or tasks place other).state old next.state new step
         (home_at old tasks place lt other one)
-        (subst (λ r. Turns Tells (Owes (stage_of old)) (setup r) (get_or tasks place other).state old next.state new step) routing turns)
+        (subst (λ r. Turns PlainServes (Owes (stage_of old)) (routing_setup r) (get_or tasks place other).state old next.state new step) routing turns)

@@ -14,13 +14,13 @@ use Rattle.task_steps.specs.declared.step.Step.TheVariants.{Ended, Waiting, Brok
 use Rattle.run_machine.specs.Events.{id_of, resize_of}
 use Rattle.run_machine.specs.Lines.{Doing, Rests, Drives, Copies, Breaks}
 use Rattle.run_machine.specs.Objects.{Objects, Serves}
-use Rattle.task_core.specs.Plains.{objects_of, stage_of, Tells}
-use Rattle.task_core.specs.PlainSteps.{HasRound, TakesStep, scene_of, state_of}
+use Rattle.task_core.specs.Plains.{objects_of, stage_of, PlainServes}
+use Rattle.task_core.specs.PlainSteps.{HasRound, TakesStep, scene_of_objects, state_of_objects}
 use Rattle.run_machine.specs.Requests.{Request, Reply}
 use Rattle.run_machine.specs.Requests as requests
 use Rattle.run_machine.specs.Runs.{IsLet}
 use Rattle.run_machine.specs.Scene.{Setup}
-use Rattle.task_steps.specs.Routed.{setup}
+use Rattle.task_steps.specs.Routed.{routing_setup}
 use Rattle.task_steps.specs.Stage.{Stage, Owes}
 use Rattle.run_machine.specs.Tasks.{TaskState, Writer, Rescuer, Completer, Keeper, Empty, Brings, Carries, Fails, Keeps, Stops, request, look_of, lets}
 use Rattle.task_steps.specs.Turns.{step_by, step_of, resting_step, idle_step, breach_of, doing_breach, Acts, ActsIf, TurnsBy, Asks}
@@ -124,7 +124,7 @@ whole (Keeper (Stops breach)) fine = absurd (true≢false fine)
 
 -- a step that is told as a breach
 module _ (old new : Plain) (tasks : ℕ → TaskState) (count place : ℕ) (next : TaskState) (here : place < count)
-    (well : GoesUnrefused (scene_of old count) (state_of old tasks)) (there : HasRound (objects_of old) (request (setup (stage_of old).routing) (tasks place)))
+    (well : GoesUnrefused (scene_of_objects old count) (state_of_objects old tasks)) (there : HasRound (objects_of old) (request (routing_setup (stage_of old).routing) (tasks place)))
     (breach : Breach) where
   abbrev stage : Stage
   stage = stage_of old
@@ -133,26 +133,26 @@ module _ (old new : Plain) (tasks : ℕ → TaskState) (count place : ℕ) (next
   task = tasks place
 
   abbrev asked : Request
-  asked = request (setup stage.routing) task
+  asked = request (routing_setup stage.routing) task
 
   asks_unbroken : (between : Plain) → objects_of between ≡ objects_of old → IsLet stage.ledger (objects_of old) task (look_of task)
-      → Acts Tells (Owes stage) (setup stage.routing) task between next new (Broken breach) → ⊥
+      → Acts PlainServes (Owes stage) (routing_setup stage.routing) task between next new (Broken breach) → ⊥
   asks_unbroken between same lets is =
-      elim (acts Tells (Owes stage) (setup stage.routing) asked task between next new (Broken breach) is) [
+      elim (acts PlainServes (Owes stage) (routing_setup stage.routing) asked task between next new (Broken breach) is) [
         | inl rests ↦ no_end (rests.1.2 ∙ ap resting_step (whole task (well.tasks place)))
         | inr asks ↦ by_reply asks
       ]
     where
       fair : IsFair (objects_of old) asked
-      fair = fair_task (setup stage.routing) (objects_of old) task (λ pool min later duties e. well.resizes place pool min later duties e lets (pool_number pool))
+      fair = fair_task (routing_setup stage.routing) (objects_of old) task (λ pool min later duties e. well.resizes place pool min later duties e lets (pool_number pool))
 
-      by_reply : Asks Tells (Owes stage) (setup stage.routing) asked task between next new (Broken breach) → ⊥
+      by_reply : Asks PlainServes (Owes stage) (routing_setup stage.routing) asked task between next new (Broken breach) → ⊥
       by_reply asks =
-          elim (followed Tells (setup stage.routing) (id_of task) asked asks.middle new (Broken breach) asks.reply asks.follows) [
+          elim (followed PlainServes (routing_setup stage.routing) (id_of task) asked asks.middle new (Broken breach) asks.reply asks.follows) [
             | inl told ↦
                 let serves = served old new tasks count place next between asks.middle same asks.reply
                 (told_serves between asks.middle asked asks.reply (subst (λ o. HasRound o asked) (sym same) there) asks.replied) asks.owed in
-                found_breaks (setup stage.routing) (id_of task) (objects_of old) (objects_of asks.middle) stage.ledger breach asked asks.reply fair serves
+                found_breaks (routing_setup stage.routing) (id_of task) (objects_of old) (objects_of asks.middle) stage.ledger breach asked asks.reply fair serves
                 (well.answers place here asks.reply (objects_of asks.middle) serves) told.1
             | inr nothing ↦ never_idle nothing.1.0 breach nothing.1.2
           ]
@@ -163,11 +163,11 @@ module _ (old new : Plain) (tasks : ℕ → TaskState) (count place : ℕ) (next
   pub unbroken : TakesStep old tasks place next new (Broken breach) → ⊥
   unbroken is = by_look (look_of task) refl is
     where
-      by_look : (o : Option Request) → look_of task ≡ o → TurnsBy o Tells (Owes stage) (setup stage.routing) task old next new (Broken breach) → ⊥
+      by_look : (o : Option Request) → look_of task ≡ o → TurnsBy o PlainServes (Owes stage) (routing_setup stage.routing) task old next new (Broken breach) → ⊥
       by_look None e is = asks_unbroken old refl (subst (IsLet stage.ledger (objects_of old) task) (sym e) tt) is
       by_look (Some look) e (seen, between, saw, is) = by_let (lets task seen) refl is
         where
-          by_let : (b : Bool) → lets task seen ≡ b → ActsIf b Tells (Owes stage) (setup stage.routing) task between next new (Broken breach) → ⊥
+          by_let : (b : Bool) → lets task seen ≡ b → ActsIf b PlainServes (Owes stage) (routing_setup stage.routing) task between next new (Broken breach) → ⊥
           by_let true q is =
               asks_unbroken between (has_seen old new tasks count place next look e seen between saw).0 (lets_ask old new tasks count place next look e seen between saw q) is
           by_let false q is = no_breach (sym is.2)

@@ -19,7 +19,7 @@ use Rattle.run_machine.specs.Opened.{at}
 use Rattle.task_core.specs.Plains.{disk_number, no_disk, objects_of, stage_of, Holds}
 use Rattle.run_machine.specs.Scene.{keeps_data}
 use Rattle.task_steps.specs.Stage.{has_disk}
-use Rattle.task_core.specs.Tables.{has_number, look_up}
+use Rattle.task_core.specs.Tables.{is_entry_of, look_up}
 
 -- whether a device is a disk
 abbrev pub is_disk_kind : Kind → Bool
@@ -89,11 +89,11 @@ module _ {E : Type 0} (key : E → ℕ) (none : ℕ → E) (is : ℕ → Bool) w
 
   found_first : (entry : E) (entries : List E) (n : ℕ) → key entry ≡ n → at_number (entry ∷ entries) n ≡ entry
   found_first entry entries n e =
-      ap (λ b. option_map_or (λ (entry : E). entry) (if b then Some entry else find (has_number key n) entries) (none n)) (eq-eqb (key entry) n e)
+      ap (λ b. option_map_or (λ (entry : E). entry) (if b then Some entry else find (is_entry_of key n) entries) (none n)) (eq-eqb (key entry) n e)
 
   found_later : (entry : E) (entries : List E) (n : ℕ) → key entry ≢ n → at_number (entry ∷ entries) n ≡ at_number entries n
   found_later entry entries n apart =
-      ap (λ b. option_map_or (λ (entry : E). entry) (if b then Some entry else find (has_number key n) entries) (none n)) (ne_eqb (key entry) n apart)
+      ap (λ b. option_map_or (λ (entry : E). entry) (if b then Some entry else find (is_entry_of key n) entries) (none n)) (ne_eqb (key entry) n apart)
 
   all_later : (entry : E) (entries : List E) (count n : ℕ) → key entry < n
       → map (at_number (entry ∷ entries)) (filter is (range_with_len n count)) ≡ map (at_number entries) (filter is (range_with_len n count))

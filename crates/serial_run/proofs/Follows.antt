@@ -4,7 +4,7 @@ use Rattle.rand_pcg.specs.Lcg.{Lcg}
 use Rattle.run_machine.specs.declared.event.Event.{Event}
 use Rattle.run_machine.specs.Runs.{State}
 use Rattle.run_machine.specs.Scene.{Scene}
-use Rattle.serial_run.specs.Schedule.{IsTurn, Follows}
+use Rattle.serial_run.specs.Schedule.{IsTurn, FollowsSchedule}
 use Rattle.serial_run.specs.Serial.{HandsOn}
 use Rattle.serial_run.specs.Laws.{TurnsAreARun}
 
@@ -15,7 +15,7 @@ turns_are_a_run scene old stream (event ∷ events) new after (next, between, tu
 
 -- one more turn
 pub one_more : (scene : Scene) (old : State) (stream : Lcg) (events : List Event) (middle : State) (between : Lcg) (event : Event) (new : State) (after : Lcg)
-    → Follows scene old stream events middle between → IsTurn scene middle between event new after → Follows scene old stream (events ++ event ∷ []) new after
+    → FollowsSchedule scene old stream events middle between → IsTurn scene middle between event new after → FollowsSchedule scene old stream (events ++ event ∷ []) new after
 one_more scene old stream [] middle between event new after (same, still) turn =
     let first : IsTurn scene old stream event new after = subst (λ s. IsTurn scene s stream event new after) same (subst (λ g. IsTurn scene middle g event new after) still turn) in
     (new, after, first, (refl, refl))

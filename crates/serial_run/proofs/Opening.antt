@@ -17,12 +17,12 @@ use Rattle.task_core.specs.opened.OfOne.{tasks_at, run_state, scenario_in, IsOpe
 use Rattle.run_machine.specs.Objects.{Objects}
 use Rattle.run_machine.specs.Opened.{Scenario, most_writers, no_task, objects, scene, setup as setup_in, start, tasks}
 use Rattle.task_core.specs.Plains.{stage_of}
-use Rattle.task_core.specs.PlainSteps.{scene_of}
+use Rattle.task_core.specs.PlainSteps.{scene_of_objects}
 use Rattle.run_machine.specs.Runs.{State}
 use Rattle.run_machine.specs.Scene.{Scene, Setup, is_disk, keeps_data}
 use Rattle.task_steps.specs.TaskViews.{TaskOf}
 use Rattle.run_machine.specs.Tasks.{TaskState}
-use Rattle.block_core.specs.Scenarios.{IsScenario, HasReserves, AreInOrder}
+use Rattle.block_core.specs.Scenarios.{IsScenario, EveryPoolKeepsSome, AreInOrder}
 use Rattle.block_core.proofs.start.PostsAtStart.{start_crew}
 use Rattle.serial_run.proofs.Disks.{is_disk_kind, by_kind}
 
@@ -42,7 +42,7 @@ module _ (o : Opened) (is : IsOpened o) where
       let with_tasks : List TaskState → State = λ list. record { objects = objects s; task = λ place. slice_index_or list place no_task } in
       ap with_objects is.objects ∙ ap with_tasks is.tasks
 
-  pub scene_is : scene_of o.objects (length o.tasks.items) ≡ scene s ledger
+  pub scene_is : scene_of_objects o.objects (length o.tasks.items) ≡ scene s ledger
   scene_is =
       let with_setup : Setup → Scene = λ setup. record {
         setup = setup;
@@ -96,7 +96,7 @@ first_is_disk s good some = by_devices s.stack.devices.items refl
         ∙ ap keeps_data (tree_is s.stack good 0 device found) ∙ by_kind 0 device.kind (map (λ (m : DevId). tree s.stack m.0) device.members.items) ∙ alone
 
 -- so where there is a device there is a task
-pub has_task : (s : Scenario) (ledger : ℕ → LedgerId) → IsScenario s → HasReserves s → AreInOrder s.rounds → 1 ≤ length s.stack.devices.items → 1 ≤ length (tasks s)
+pub has_task : (s : Scenario) (ledger : ℕ → LedgerId) → IsScenario s → EveryPoolKeepsSome s → AreInOrder s.rounds → 1 ≤ length s.stack.devices.items → 1 ≤ length (tasks s)
 has_task s ledger good reserves ordered some =
     let manned = (start_crew s good ledger reserves ordered).disks 0 (first_is_disk s good.stack some) in
     let there = manned.1 in

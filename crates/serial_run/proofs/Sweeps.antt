@@ -13,8 +13,8 @@ use Rattle.run_machine.specs.Events.{is_free}
 use Rattle.task_core.specs.opened.OfOne.{run_state, AreOfOne}
 use Rattle.run_machine.specs.Opened.{most_writers}
 use Rattle.task_core.specs.Plains.{stage_of}
-use Rattle.task_core.specs.PlainSteps.{is_ordinary, scene_of, IsPassedOver}
-use Rattle.task_steps.specs.Routed.{setup}
+use Rattle.task_core.specs.PlainSteps.{is_ordinary, scene_of_objects, IsPassedOver}
+use Rattle.task_steps.specs.Routed.{routing_setup}
 use Rattle.run_machine.specs.Runs.{State, HasFree}
 use Rattle.run_machine.specs.Scene.{Scene}
 use Rattle.task_steps.specs.Stage.{Stage}
@@ -87,13 +87,13 @@ pub record IsSweep {V : Type 0} (old now : Plain) (first tasks : List TaskOf) (w
   pub place : spot ≡ (w + passed) % length first
   pub words : after ≡ stream
   pub events : seen ≡ before
-  pub others : (k : ℕ) → k < passed → IsPassedOver (scene_of old (length first)) (run_state old first) ((w + k) % length first)
+  pub others : (k : ℕ) → k < passed → IsPassedOver (scene_of_objects old (length first)) (run_state old first) ((w + k) % length first)
 
 -- the scene stays
-scene_stays : (old now : Plain) (count first : ℕ) → stage_of now ≡ stage_of old → count ≡ first → scene_of now count ≡ scene_of old first
+scene_stays : (old now : Plain) (count first : ℕ) → stage_of now ≡ stage_of old → count ≡ first → scene_of_objects now count ≡ scene_of_objects old first
 scene_stays old now count first stage same =
     let by_stage : Stage → ℕ → Scene = λ stage count. record {
-      setup = setup stage.routing;
+      setup = routing_setup stage.routing;
       tasks = count;
       books = most_writers;
       writes = stage.writes;
@@ -105,7 +105,7 @@ module _ {V : Type 0} (happens : V → Event → V → Type 0) (old : Plain) (fi
     (spot passed : ℕ) (words : Lcg) (seen : V) (sweep : IsSweep old now first tasks w spot passed stream words before seen) where
   -- a task more that is passed over
   pub passes_on : (new : Plain) (more : List TaskOf) (next_spot : ℕ) (after : Lcg) (next : V) (answer : Bool)
-      → Tried happens (stage_of now).routing.stack (scene_of now (length tasks)) spot (run_state now tasks) words seen answer (run_state new more) after next → answer ≡ false
+      → Tried happens (stage_of now).routing.stack (scene_of_objects now (length tasks)) spot (run_state now tasks) words seen answer (run_state new more) after next → answer ≡ false
       → AreOfOne new more → stage_of new ≡ stage_of now → length more ≡ length tasks → next_spot ≡ (spot + 1) % length first
       → IsSweep old new first more w next_spot (passed + 1) stream after before next
   passes_on new more next_spot after next answer tried none one stage count following = record {
@@ -119,15 +119,15 @@ module _ {V : Type 0} (happens : V → Event → V → Type 0) (old : Plain) (fi
     others = λ k lt. elim (before_or k passed lt) [ inl less ↦ sweep.others k less | inr same ↦ here k same ];
   }
     where
-      stays : Tried happens (stage_of now).routing.stack (scene_of now (length tasks)) spot (run_state now tasks) words seen false (run_state new more) after next
-      stays = subst (λ b. Tried happens (stage_of now).routing.stack (scene_of now (length tasks)) spot (run_state now tasks) words seen b (run_state new more) after next) none tried
+      stays : Tried happens (stage_of now).routing.stack (scene_of_objects now (length tasks)) spot (run_state now tasks) words seen false (run_state new more) after next
+      stays = subst (λ b. Tried happens (stage_of now).routing.stack (scene_of_objects now (length tasks)) spot (run_state now tasks) words seen b (run_state new more) after next) none tried
 
       before_or : (k p : ℕ) → k < p + 1 → (k < p) ⊎ (k ≡ p)
       before_or k p lt = grind (arith, lt)
 
-      here : (k : ℕ) → k ≡ passed → IsPassedOver (scene_of old (length first)) (run_state old first) ((w + k) % length first)
+      here : (k : ℕ) → k ≡ passed → IsPassedOver (scene_of_objects old (length first)) (run_state old first) ((w + k) % length first)
       here k same =
           let at : spot ≡ (w + k) % length first = sweep.place ∙ ap (λ p. (w + p) % length first) (sym same) in
-          subst (IsPassedOver (scene_of old (length first)) (run_state old first)) at
+          subst (IsPassedOver (scene_of_objects old (length first)) (run_state old first)) at
           (subst (λ scene. IsPassedOver scene (run_state old first) spot) (scene_stays old now (length tasks) (length first) sweep.stage sweep.count)
-          (subst (λ state. IsPassedOver (scene_of now (length tasks)) state spot) sweep.same stays.3))
+          (subst (λ state. IsPassedOver (scene_of_objects now (length tasks)) state spot) sweep.same stays.3))

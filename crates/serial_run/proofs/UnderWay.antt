@@ -13,8 +13,8 @@ use Rattle.run_machine.specs.Named.{IsEventOf, Fits}
 use Rattle.task_core.specs.opened.OfOne.{run_state, AreOfOne, IsOpened, scenario_in}
 use Rattle.run_machine.specs.Opened.{Scenario, scene, start}
 use Rattle.task_core.specs.Plains.{objects_of, stage_of}
-use Rattle.task_core.specs.PlainSteps.{scene_of}
-use Rattle.task_steps.specs.Routed.{setup}
+use Rattle.task_core.specs.PlainSteps.{scene_of_objects}
+use Rattle.task_steps.specs.Routed.{routing_setup}
 use Rattle.run_machine.specs.Runs.{IsRun, HasFree, unfinished}
 use Rattle.run_machine.specs.Scene.{Scene}
 use Rattle.task_steps.specs.Stage.{Stage}
@@ -28,7 +28,7 @@ use Rattle.block_core.proofs.stuck.RunsEnd.{runs_end_with_their_writes, started_
 use Rattle.block_core.proofs.stuck.NeverStuck.{no_allowed_state_is_stuck}
 use Rattle.block_core.proofs.unrefused.Unbroken.{no_task_breaks}
 use Rattle.block_core.proofs.claim.Runnable.{accepted_texts_are_runnable}
-use Rattle.serial_run.specs.Schedule.{Follows, IsTurn}
+use Rattle.serial_run.specs.Schedule.{FollowsSchedule, IsTurn}
 use Rattle.serial_run.specs.Serial.{HandsOn, IsSerialRun}
 use Rattle.serial_run.specs.Turning.{GoesWell, Turned}
 use Rattle.serial_run.proofs.Follows.{turns_are_a_run, one_more, handed_too}
@@ -38,7 +38,7 @@ use Rattle.serial_run.proofs.Opening.{begins_at, scene_is, has_task, count_is}
 pub record IsUnderWay {V : Type 0} (happens : V → Event → V → Type 0) (o : Opened) (stream : Lcg) (before : V) (objects : Plain) (tasks : List TaskOf)
     (between : Lcg) (now : V) (steps : ℕ) : Type 0 where
   pub events : List Event
-  pub follows : Follows (scene (scenario_in o) (stage_of o.objects).ledger) (start (scenario_in o)) stream events (run_state objects tasks) between
+  pub follows : FollowsSchedule (scene (scenario_in o) (stage_of o.objects).ledger) (start (scenario_in o)) stream events (run_state objects tasks) between
   pub handed : HandsOn happens before events now
   pub named : All (IsEventOf (scenario_in o).stack) events
   pub fits : All Fits events
@@ -83,10 +83,10 @@ module _ {V : Type 0} (happens : V → Event → V → Type 0) (o : Opened) (ope
     run : IsRun (scene s ledger) (start s) way.events (run_state objects tasks)
     run = turns_are_a_run (scene s ledger) (start s) stream way.events (run_state objects tasks) between way.follows
 
-    scene_now : scene_of objects (length tasks) ≡ scene s ledger
+    scene_now : scene_of_objects objects (length tasks) ≡ scene s ledger
     scene_now =
         let by_stage : Stage → ℕ → Scene = λ stage count. record {
-          setup = setup stage.routing;
+          setup = routing_setup stage.routing;
           tasks = count;
           books = most_writers;
           writes = stage.writes;
@@ -98,7 +98,7 @@ module _ {V : Type 0} (happens : V → Event → V → Type 0) (o : Opened) (ope
     stack_now = ap (λ (stage : Stage). stage.routing.stack) way.stage ∙ opened.stack
 
     -- no object refuses, and while a write is unfinished there is a free event
-    pub well : GoesWell (scene_of objects (length tasks)) (run_state objects tasks)
+    pub well : GoesWell (scene_of_objects objects (length tasks)) (run_state objects tasks)
     well =
         subst (λ scene. GoesWell scene (run_state objects tasks)) (sym scene_now)
         (record {
@@ -106,7 +106,7 @@ module _ {V : Type 0} (happens : V → Event → V → Type 0) (o : Opened) (ope
           ahead = started_rounds_are_there s ledger way.events (run_state objects tasks) runnable.scenario runnable.reserves runnable.ordered naming run;
         })
 
-    pub free : 1 ≤ unfinished (run_state objects tasks) → HasFree (scene_of objects (length tasks)) (run_state objects tasks)
+    pub free : 1 ≤ unfinished (run_state objects tasks) → HasFree (scene_of_objects objects (length tasks)) (run_state objects tasks)
     free some =
         subst (λ scene. HasFree scene (run_state objects tasks)) (sym scene_now)
         (no_allowed_state_is_stuck s ledger way.events (run_state objects tasks) runnable.scenario runnable.allowed opened.rescuers runnable.reserves runnable.ordered naming run some)
@@ -117,7 +117,7 @@ module _ {V : Type 0} (happens : V → Event → V → Type 0) (o : Opened) (ope
 
     -- one turn more
     pub turns : (new : Plain) (more : List TaskOf) (after : Lcg) (next : V)
-        → Turned happens (stage_of objects).routing.stack (scene_of objects (length tasks)) (run_state objects tasks) between now (run_state new more) after next → AreOfOne new more
+        → Turned happens (stage_of objects).routing.stack (scene_of_objects objects (length tasks)) (run_state objects tasks) between now (run_state new more) after next → AreOfOne new more
         → stage_of new ≡ stage_of objects → length more ≡ length tasks → UnderWay new more after next (steps + 1)
     turns new more after next (event, turn, happened, named, fits) one stage count = record {
       events = way.events ++ event ∷ [];

@@ -4,9 +4,9 @@ use Rattle.rand_pcg.specs.Lcg.{Lcg}
 use Rattle.run_machine.specs.declared.event.Event.{Event}
 use Rattle.run_machine.specs.Runs.{State, IsRun}
 use Rattle.run_machine.specs.Scene.{Scene}
-use Rattle.serial_run.specs.Schedule.{Follows}
+use Rattle.serial_run.specs.Schedule.{FollowsSchedule}
 
 -- whatever the stream, and from whatever state
 abbrev pub TurnsAreARun : Type 0
 TurnsAreARun = (scene : Scene) (old : State) (stream : Lcg) (events : List Event) (new : State) (after : Lcg)
-    → Follows scene old stream events new after → IsRun scene old events new
+    → FollowsSchedule scene old stream events new after → IsRun scene old events new

@@ -26,7 +26,7 @@ pub record IsTurn (scene : Scene) (state : State) (stream : Lcg) (event : Event)
   pub picks : PicksByWord state event.what (behind stream) after
 
 -- these events come turn by turn, from this state and stream to that one
-abbrev pub Follows : Scene → State → Lcg → List Event → State → Lcg → Type 0
-Follows scene old stream [] new after = (new ≡ old) × (after ≡ stream)
-Follows scene old stream (event ∷ events) new after =
-    (next : State) × (between : Lcg) × IsTurn scene old stream event next between × Follows scene next between events new after
+abbrev pub FollowsSchedule : Scene → State → Lcg → List Event → State → Lcg → Type 0
+FollowsSchedule scene old stream [] new after = (new ≡ old) × (after ≡ stream)
+FollowsSchedule scene old stream (event ∷ events) new after =
+    (next : State) × (between : Lcg) × IsTurn scene old stream event next between × FollowsSchedule scene next between events new after

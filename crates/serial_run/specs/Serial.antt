@@ -10,7 +10,7 @@ use Rattle.task_core.specs.opened.OfOne.{scenario_in}
 use Rattle.run_machine.specs.Opened.{at, scene, start}
 use Rattle.task_core.specs.Plains.{stage_of}
 use Rattle.run_machine.specs.Runs.{State, HasEnded}
-use Rattle.serial_run.specs.Schedule.{Follows}
+use Rattle.serial_run.specs.Schedule.{FollowsSchedule}
 
 -- these events were handed on, one after the other, to what they are handed to
 abbrev pub HandsOn : {V : Type 0} → (V → Event → V → Type 0) → V → List Event → V → Type 0
@@ -23,7 +23,7 @@ pub record IsSerialRun {V : Type 0} (happens : V → Event → V → Type 0) (op
     : Type 0 where
   pub events : List Event
   pub state : State
-  pub follows : Follows (scene (scenario_in opened) (stage_of opened.objects).ledger) (start (scenario_in opened)) stream events state after
+  pub follows : FollowsSchedule (scene (scenario_in opened) (stage_of opened.objects).ledger) (start (scenario_in opened)) stream events state after
   pub handed : HandsOn happens before events now
   pub named : All (IsEventOf (scenario_in opened).stack) events
   pub fits : All Fits events

@@ -1,11 +1,11 @@
 //! What a run leaves.
 ghost use Rattle.std.specs.Prelude.{◌≡◌, ◌+◌, ◌<◌, ◌≤◌, ◌++◌, [], ◌∷◌, IsTrue, length, vec_capacity};
 ghost use Rattle.stack_base.specs.PoolId.{pool_number};
-ghost use Rattle.task_core.specs.Leaving.{HasRoom, IsLeft};
+ghost use Rattle.task_core.specs.Leaving.{IsReservedForRun, IsLeft};
 ghost use Rattle.task_core.specs.opened.OfOne.{AreOfOne};
 ghost use Rattle.task_core.specs.Plains.{objects_of, stage_of, Holds};
 ghost use Rattle.run_machine.specs.Scene.{tree_at};
-ghost use Rattle.task_steps.specs.Routed.{setup};
+ghost use Rattle.task_steps.specs.Routed.{routing_setup};
 ghost use Rattle.task_steps.specs.Stage.{is_pool};
 ghost use Rattle.serial_run.specs.Pools.{facts_in, pools_by, falling_pools_from};
 
@@ -29,8 +29,8 @@ fn add_of(objects: &Plain, routes: &Routes, dev: DevId, pools: &mut Vec<(PoolId,
     requires holds { Holds objects.now }
     requires routing { routes.now ≡ (stage_of objects.now).routing }
     requires device { dev.0 < length routes.now.stack.devices.items }
-    requires room { length pools.old.items + length (pools_by dev (tree_at (setup routes.now) dev)) ≤ vec_capacity pools.old }
-    ensures added { pools.new.items ≡ pools.old.items ++ facts_in (objects_of objects.now) (pools_by dev (tree_at (setup routes.now) dev)) }
+    requires room { length pools.old.items + length (pools_by dev (tree_at (routing_setup routes.now) dev)) ≤ vec_capacity pools.old }
+    ensures added { pools.new.items ≡ pools.old.items ++ facts_in (objects_of objects.now) (pools_by dev (tree_at (routing_setup routes.now) dev)) }
     ensures room { vec_capacity pools.old ≤ vec_capacity pools.new }
 {
     match routes.manner(dev) {
@@ -72,7 +72,7 @@ fn add_all(objects: &Plain, tasks: &[Task], pools: &mut Vec<(PoolId, Facts)>)
 pub(crate) fn leave(objects: Plain, tasks: &[Task], room: Ended, steps: u64) -> Ended
     requires one { AreOfOne objects tasks.now }
     requires some { 1 ≤ length (stage_of objects).routing.stack.devices.items → 1 ≤ length tasks.now }
-    requires room { HasRoom (stage_of objects).routing.stack (stage_of objects).writes room }
+    requires room { IsReservedForRun (stage_of objects).routing.stack (stage_of objects).writes room }
     ensures { IsLeft (stage_of objects).routing.stack (objects_of objects) steps result }
 {
     let mut pools = room.pools;

@@ -4,7 +4,7 @@ use Rattle.std.specs.Prelude.{filter}
 use Rattle.std.specs.List.{list_any}
 use Rattle.std.proofs.lemmas.Bool.{lt-ltb}
 use Rattle.seat_lock.specs.declared.view.Entry.{Entry}
-use Rattle.seat_lock.specs.History.{count, one_if, calls_by}
+use Rattle.seat_lock.specs.History.{count, indicator, calls_by}
 use Rattle.seat_lock.proofs.Histories.{count_one}
 use Rattle.shared_objects.specs.Names.{Apart, once}
 
@@ -45,7 +45,7 @@ module _ {A R : Type 0} (Q : Entry A R → Type 0) (n : ℕ) where
           let one = head_of (λ c. (0 < c.by) × (c.by ≤ n)) call calls by in
           let some = one.0 in let few = one.1 in
           let back : call.by - 1 + 1 ≡ call.by = omega (arith, some) in
-          let mine : 0 < count call.by ((call.by - 1 + 1) ∷ []) = subst (λ k. 0 < count call.by (k ∷ [])) (sym back) (subst (λ m. 0 < m) (sym (count_one call.by call.by ∙ ap one_if (same call.by))) (omega arith)) in
+          let mine : 0 < count call.by ((call.by - 1 + 1) ∷ []) = subst (λ k. 0 < count call.by (k ∷ [])) (sym back) (subst (λ m. 0 < m) (sym (count_one call.by call.by ∙ ap indicator (same call.by))) (omega arith)) in
           picked_first Q (λ (c : Entry A R). nat_lt 0 (count c.by ((call.by - 1 + 1) ∷ []))) call calls (lt-ltb 0 (count call.by ((call.by - 1 + 1) ∷ [])) mine)
           (each (call.by - 1) (omega (arith, some, few)))
         where

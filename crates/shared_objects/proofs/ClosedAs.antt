@@ -13,7 +13,7 @@ use Rattle.run_machine.specs.Laws.{Object, OfPool, OfRescuer, OfDisk, OfBook, Of
 use Rattle.run_machine.specs.Requests.{Request}
 use Rattle.mempool_core.specs.Pool.{LedgerPool}
 use Rattle.task_core.specs.declared.plain.Plain.{Plain}
-use Rattle.task_core.specs.Plains.{bios_at, book_number, by_kind, disk_number, is_of_set, list_number, no_book, no_disk, no_pool, records_at, records_number, set_number, tally_of}
+use Rattle.task_core.specs.Plains.{bios_at, book_number, by_kind, disk_number, is_bios_number, list_number, no_book, no_disk, no_pool, records_at, records_number, set_number, tally_of}
 use Rattle.object_things.specs.Histories.{Call}
 use Rattle.object_things.specs.Stamps.{Told, ThingState}
 use Rattle.object_things.specs.Pools.{PoolAnswers}
@@ -22,8 +22,8 @@ use Rattle.object_things.specs.Disks.{DiskAnswers}
 use Rattle.object_things.specs.Books.{BookAnswers}
 use Rattle.object_things.specs.Tallies.{TallyAnswers}
 use Rattle.task_core.specs.Tables.{look_up}
-use Rattle.shared_objects.specs.Calls.{calls_at, calls_to, is_same}
-use Rattle.shared_objects.specs.Closed.{history_in, left_in, names_in, names_of, state_of}
+use Rattle.shared_objects.specs.Calls.{calls_at, calls_to, is_same_object}
+use Rattle.shared_objects.specs.Closed.{history_in, object_left_in, names_in, names_of, state_of_held}
 use Rattle.shared_objects.specs.Closes.{ClosesAs, Returned}
 use Rattle.shared_objects.specs.Holding.{AreSeatsOf, SeatsHold, by_pool, calls_in, desk_of, dev_key, set_key, slip_key, writer_key}
 use Rattle.shared_objects.specs.Kinds.{answers_at, no_list, opened_at, unasked}
@@ -68,10 +68,10 @@ mapped_at f (a ∷ xs) (suc k) x y lt = mapped_at f xs k x y (omega (arith, lt))
 module _ {O : Type 0} (mark : Held O → MarkState) (answers : ThingState O → Request → Told → ThingState O → Type 0) (common : CommonState) (object : O) (lock : LockId (Held O))
     (first : SeatState (Held O) Request Told) (thing : Held O) (told : SeatState (Held O) Request Told) (seats : List (Known (Held O) Request Told))
     (round : lock.key.value ≡ guarded common object) (shut : IsShutOf mark answers lock first thing told) (taken : HasTaken (length seats) seats first.known) where
-  one_led : Leads answers (unasked object) told.known.seen (state_of thing)
+  one_led : Leads answers (unasked object) told.known.seen (state_of_held thing)
   one_led =
-      subst (λ history. Leads answers (unasked object) history (state_of thing)) (sym (ap (λ (s : SeatState (Held O) Request Told). s.known.seen) shut.told_is))
-      (subst (λ start. Leads answers start first.known.seen (state_of thing)) (ap state_of round) shut.left.0)
+      subst (λ history. Leads answers (unasked object) history (state_of_held thing)) (sym (ap (λ (s : SeatState (Held O) Request Told). s.known.seen) shut.told_is))
+      (subst (λ start. Leads answers start first.known.seen (state_of_held thing)) (ap state_of_held round) shut.left.0)
 
   one_of_these : IsOfThese seats told.known.seen
   one_of_these =
@@ -152,22 +152,22 @@ module _ (opened : Plain) (locks : Locks) (firsts : TaskSeats) (closed : Closed)
   seen_records = look_up (λ entry. slip_key entry.0) (λ entry. entry.1.told.value.known.seen) (λ n. []) closed.records.items
 
   abbrev left_bios : ℕ → ThingState LedgerPool
-  left_bios = look_up (λ entry. set_key entry.0) (λ entry. state_of entry.1.thing) (λ n. unasked (no_pool opened.stage.value.stack opened.vecs.ledger n)) closed.bios.items
+  left_bios = look_up (λ entry. set_key entry.0) (λ entry. state_of_held entry.1.thing) (λ n. unasked (no_pool opened.stage.value.stack opened.vecs.ledger n)) closed.bios.items
 
   abbrev left_records : ℕ → ThingState LedgerPool
-  left_records = look_up (λ entry. slip_key entry.0) (λ entry. state_of entry.1.thing) (λ n. unasked (no_pool opened.stage.value.stack opened.vecs.ledger n)) closed.records.items
+  left_records = look_up (λ entry. slip_key entry.0) (λ entry. state_of_held entry.1.thing) (λ n. unasked (no_pool opened.stage.value.stack opened.vecs.ledger n)) closed.records.items
 
   pools_led : (n : ℕ) (is_vecs of_set : Bool)
       → Leads PoolAnswers (unasked (if is_vecs then opened.vecs else if of_set then bios_at opened n else records_at opened n))
       (if is_vecs then closed.vecs.told.value.known.seen else if of_set then seen_bios n else seen_records n)
-      (if is_vecs then state_of closed.vecs.thing else if of_set then left_bios n else left_records n)
+      (if is_vecs then state_of_held closed.vecs.thing else if of_set then left_bios n else left_records n)
   pools_led n true of_set =
       one_led pool_mark PoolAnswers locks.common.value opened.vecs locks.vecs firsts.vecs closed.vecs.thing closed.vecs.told.value (map (λ (seats : TaskSeats). seats.vecs.known) all) of.vecs shut.vecs vecs_taken
   pools_led n false true = thing_led bios_left (no_pool opened.stage.value.stack opened.vecs.ledger) n
   pools_led n false false = thing_led records_left (no_pool opened.stage.value.stack opened.vecs.ledger) n
 
-  pub things_led : (name : Object) → Leads (answers_at name) (unasked (opened_at opened name)) (history_in closed name) (left_in closed opened name)
-  things_led (OfPool n) = pools_led n (n == 64) (is_of_set n)
+  pub things_led : (name : Object) → Leads (answers_at name) (unasked (opened_at opened name)) (history_in closed name) (object_left_in closed opened name)
+  things_led (OfPool n) = pools_led n (n == 64) (is_bios_number n)
   things_led (OfRescuer dev) = thing_led lists_left no_list dev
   things_led (OfDisk dev) = thing_led disks_left (no_disk opened.stage.value.stack) dev
   things_led (OfBook writer) = thing_led books_left no_book writer
@@ -185,7 +185,7 @@ module _ (opened : Plain) (locks : Locks) (firsts : TaskSeats) (closed : Closed)
 
   pub numbers_of : (name : Object) → All IsOfTask (history_in closed name)
   numbers_of (OfPool n) =
-      pool_by (All IsOfTask) closed.vecs.told.value.known.seen (seen_bios n) (seen_records n) (n == 64) (is_of_set n)
+      pool_by (All IsOfTask) closed.vecs.told.value.known.seen (seen_bios n) (seen_records n) (n == 64) (is_bios_number n)
       (by_rows _ all closed.vecs.told.value.known.seen
       (one_of_these pool_mark PoolAnswers locks.common.value opened.vecs locks.vecs firsts.vecs closed.vecs.thing closed.vecs.told.value (map (λ (seats : TaskSeats). seats.vecs.known) all) of.vecs shut.vecs vecs_taken).all)
       (by_rows _ all _ (numbers_by_number bios_left n)) (by_rows _ all _ (numbers_by_number records_left n))
@@ -246,7 +246,7 @@ module _ (opened : Plain) (locks : Locks) (firsts : TaskSeats) (closed : Closed)
       pool_calls n false false = kind_calls (λ seats. seats.records.items) records_left hold.records n
 
       pub calls_here : (name : Object) → calls_by ((k + 1) ∷ []) (history_in closed name) ≡ calls_at (desk_of mine).calls name
-      calls_here (OfPool n) = pool_calls n (n == 64) (is_of_set n)
+      calls_here (OfPool n) = pool_calls n (n == 64) (is_bios_number n)
       calls_here (OfRescuer dev) = kind_calls (λ seats. seats.lists.items) lists_left hold.lists dev
       calls_here (OfDisk dev) = kind_calls (λ seats. seats.disks.items) disks_left hold.disks dev
       calls_here (OfBook writer) = kind_calls (λ seats. seats.books.items) books_left hold.books writer
@@ -277,9 +277,9 @@ module _ (setup : Setup) (opened : Plain) (locks : Locks) (firsts : TaskSeats) (
 
   named_so : (name : Object) (calls : List Call) → All (λ (call : Call). object_of call.asked ≡ name) (calls_to name calls)
   named_so name [] = λ k d lt. absurd (omega (arith, lt))
-  named_so name (call ∷ calls) = by_case (is_same name (object_of call.asked)) refl (named_so name calls)
+  named_so name (call ∷ calls) = by_case (is_same_object name (object_of call.asked)) refl (named_so name calls)
     where
-      by_case : (b : Bool) → is_same name (object_of call.asked) ≡ b → All (λ (c : Call). object_of c.asked ≡ name) (calls_to name calls)
+      by_case : (b : Bool) → is_same_object name (object_of call.asked) ≡ b → All (λ (c : Call). object_of c.asked ≡ name) (calls_to name calls)
           → All (λ (c : Call). object_of c.asked ≡ name) (calls_to name (call ∷ calls))
       by_case true e rest = rw (e) (all_more (λ (c : Call). object_of c.asked ≡ name) call (calls_to name calls) (sym (same_is name (object_of call.asked) e)) rest)
       by_case false e rest = rw (e) rest
@@ -300,11 +300,11 @@ module _ (setup : Setup) (opened : Plain) (locks : Locks) (firsts : TaskSeats) (
       let parts = front (λ (seats : TaskSeats) (task : Returned). task.desk ≡ desk_of seats) x y xs ys are in
       ap₂ (λ (a b : List Ticket). a ++ b) (ap (λ (d : DeskState). drawn_by d.pass) (sym parts.0)) (drawn_of xs ys parts.1)
 
-  pub closes_as : ClosesAs setup opened (names_in closed) (history_in closed) (left_in closed opened) returned pass
+  pub closes_as : ClosesAs setup opened (names_in closed) (history_in closed) (object_left_in closed opened) returned pass
   closes_as =
       let first : PassHasTaken (length all) all pass = subst (HasTakenPasses (length all) all) passes taken.passes in record {
-        apart = once_apart is_same same_self same_is (names_of closed);
-        others = λ name none. others_in closed name (not_once is_same same_self same_is name (names_of closed) none);
+        apart = once_apart is_same_object same_self same_is (names_of closed);
+        others = λ name none. others_in closed name (not_once is_same_object same_self same_is name (names_of closed) none);
         things = things_led opened locks firsts closed all of shut taken;
         named = named_in;
         numbers = by_returned;

@@ -9,7 +9,7 @@ use Rattle.run_machine.specs.Laws.{OfRescuer, OfDisk, OfBook, OfTally, object_of
 use Rattle.run_machine.specs.Maps.{upd}
 use Rattle.run_machine.specs.Opened.{at}
 use Rattle.run_machine.specs.Requests.{Request}
-use Rattle.task_steps.specs.Stage.{Fits, Owes, has_book, has_disk, has_rescuer}
+use Rattle.task_steps.specs.Stage.{RequestFits, Owes, has_book, has_disk, has_rescuer}
 use Rattle.object_things.specs.declared.book.BookThing.{BookThing}
 use Rattle.object_things.specs.declared.book.BookAsk.{BookAsk}
 use Rattle.object_things.specs.declared.book.BookSaid.{BookSaid}
@@ -51,7 +51,7 @@ module _ (locks : Locks) (seats : TaskSeats) (holds : DeskHolds locks seats) whe
     pub book_seated : AreSeatedAt rows seats.books.items place
     book_seated = seated_at book_locked book_seats n place is there
 
-    pub book_fits : Fits (stage_at locks) (book_asked ask) → BookAskAlone ask → (lock : ℕ × LockId BookThing) → lock ≡ slice_index_or rows place lock
+    pub book_fits : RequestFits (stage_at locks) (book_asked ask) → BookAskAlone ask → (lock : ℕ × LockId BookThing) → lock ≡ slice_index_or rows place lock
         → FitsWith (BookFits (book_mark lock.1.key.value)) seats.pass ask
     book_fits fits alone =
         row_fits book_locked book_seats n place is there BookFits seats.pass ask holds.passed (λ pass clock. (clock, named, fits, alone))
@@ -110,7 +110,7 @@ module _ (locks : Locks) (seats : TaskSeats) (holds : DeskHolds locks seats) whe
     pub disk_seated : AreSeatedAt rows seats.disks.items place
     disk_seated = seated_at disk_locked disk_seats n place is there
 
-    pub disk_fits : Fits (stage_at locks) (disk_asked ask) → DiskAskAlone ask → (lock : DevId × LockId DiskThing) → lock ≡ slice_index_or rows place lock
+    pub disk_fits : RequestFits (stage_at locks) (disk_asked ask) → DiskAskAlone ask → (lock : DevId × LockId DiskThing) → lock ≡ slice_index_or rows place lock
         → FitsWith (DiskFits (disk_mark lock.1.key.value)) seats.pass ask
     disk_fits fits alone =
         row_fits disk_locked disk_seats n place is there DiskFits seats.pass ask holds.passed (λ pass clock. (clock, named, fits, alone))
@@ -164,7 +164,7 @@ module _ (locks : Locks) (seats : TaskSeats) (holds : DeskHolds locks seats) whe
     pub list_seated : AreSeatedAt rows seats.lists.items place
     list_seated = seated_at list_locked list_seats n place is there
 
-    pub list_fits : Fits (stage_at locks) (list_asked ask) → (lock : DevId × LockId ListThing) → lock ≡ slice_index_or rows place lock
+    pub list_fits : RequestFits (stage_at locks) (list_asked ask) → (lock : DevId × LockId ListThing) → lock ≡ slice_index_or rows place lock
         → FitsWith (ListFits (list_mark lock.1.key.value)) seats.pass ask
     list_fits fits =
         row_fits list_locked list_seats n place is there ListFits seats.pass ask holds.passed (λ pass clock. (clock, named, fits))
@@ -213,7 +213,7 @@ module _ (locks : Locks) (seats : TaskSeats) (holds : DeskHolds locks seats) whe
 
   -- the tally
   module _ (ask : TallyAsk) (named : object_of (tally_asked ask) ≡ OfTally) where
-    pub tally_fits : Fits (stage_at locks) (tally_asked ask) → FitsWith (TallyFits (tally_mark locks.tally.key.value)) seats.pass ask
+    pub tally_fits : RequestFits (stage_at locks) (tally_asked ask) → FitsWith (TallyFits (tally_mark locks.tally.key.value)) seats.pass ask
     tally_fits fits =
         subst (λ (m : MarkState). FitsWith (TallyFits m) seats.pass ask) (sym holds.locked.tally)
         (fits_with (TallyFits (mark_as locks.common.value OfTally)) locks.common.value.clock seats.pass ask holds.passed (λ pass clock. (clock, named, fits)))

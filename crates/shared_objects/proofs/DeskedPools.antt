@@ -21,7 +21,7 @@ use Rattle.object_things.specs.declared.pool.PoolSaid.{PoolSaid}
 use Rattle.object_things.specs.declared.stamp.Asking.{Asking}
 use Rattle.object_things.specs.Histories.{Call}
 use Rattle.object_things.specs.Stamps.{MarkState, Told, stage_in}
-use Rattle.object_things.specs.Pools.{PoolAskFits, PoolFits, PoolOwes, PoolSays, number_of, pool_asked, pool_mark, pool_replied, pool_told}
+use Rattle.object_things.specs.Pools.{PoolAskFits, PoolFits, PoolOwes, PoolSays, object_pool_number, pool_asked, pool_mark, pool_replied, pool_told}
 use Rattle.shared_objects.specs.declared.locks.Locks.{Locks}
 use Rattle.shared_objects.specs.declared.seats.TaskSeats.{TaskSeats}
 use Rattle.shared_objects.specs.Calling.{AreSeatedAt, FitsWith, HasAsked, HasAskedAt}
@@ -92,7 +92,7 @@ module _ (locks : Locks) (seats : TaskSeats) (holds : DeskHolds locks seats) whe
       pub bios_says : PoolSays IsClearBody ((stage_at locks).ledger n) ask said
       bios_says =
           row_owed bios_locked bios_seats n place is there pool_asked pool_replied (PoolOwes {P = (BioBody Pad)} IsClearBody) made
-          (λ m s. PoolSays IsClearBody ((stage_in m.common).ledger (number_of m.name)) ask s) (λ m pass replied owed. owed.says)
+          (λ m s. PoolSays IsClearBody ((stage_in m.common).ledger (object_pool_number m.name)) ask s) (λ m pass replied owed. owed.says)
 
   -- pools of records
   module _ (rows : List (DevId × LockId (PoolThing Slip))) (rows_are : rows ≡ locks.records.items) (n place : ℕ) (is : IsTrue (is_slips (stage_at locks) n)) (there : place ≡ slice_index_or locks.index.records n 0) (ask : (PoolAsk Slip))
@@ -153,7 +153,7 @@ module _ (locks : Locks) (seats : TaskSeats) (holds : DeskHolds locks seats) whe
       pub slips_says : PoolSays IsClearSlip ((stage_at locks).ledger n) ask said
       slips_says =
           row_owed slips_locked slips_seats n place is there pool_asked pool_replied (PoolOwes {P = Slip} IsClearSlip) made
-          (λ m s. PoolSays IsClearSlip ((stage_in m.common).ledger (number_of m.name)) ask s) (λ m pass replied owed. owed.says)
+          (λ m s. PoolSays IsClearSlip ((stage_in m.common).ledger (object_pool_number m.name)) ask s) (λ m pass replied owed. owed.says)
 
   -- the pool of vectors
   module _ (ask : (PoolAsk Vector)) (named : object_of (pool_asked ask) ≡ OfPool 64) where
@@ -193,5 +193,5 @@ module _ (locks : Locks) (seats : TaskSeats) (holds : DeskHolds locks seats) whe
 
       pub vecs_says : PoolSays IsClearVector ((stage_at locks).ledger 64) ask said
       vecs_says =
-          subst (λ (m : MarkState). PoolSays IsClearVector ((stage_in m.common).ledger (number_of m.name)) ask said) holds.locked.vecs
-          (owed_of pool_asked pool_replied made (λ s. PoolSays IsClearVector ((stage_in (pool_mark locks.vecs.key.value).common).ledger (number_of (pool_mark locks.vecs.key.value).name)) ask s) (λ owed. owed.says))
+          subst (λ (m : MarkState). PoolSays IsClearVector ((stage_in m.common).ledger (object_pool_number m.name)) ask said) holds.locked.vecs
+          (owed_of pool_asked pool_replied made (λ s. PoolSays IsClearVector ((stage_in (pool_mark locks.vecs.key.value).common).ledger (object_pool_number (pool_mark locks.vecs.key.value).name)) ask s) (λ owed. owed.says))

@@ -5,25 +5,25 @@ use Rattle.std.specs.Prelude.{◌-◌, ◌^◌, min}
 use Rattle.std.proofs.lemmas.List.{get_or-map, length-map}
 use Rattle.std.proofs.lemmas.List.Elements.{All-map}
 use Rattle.run_machine.specs.Scene.{Setup}
-use Rattle.task_steps.specs.Routed.{setup}
+use Rattle.task_steps.specs.Routed.{routing_setup}
 use Rattle.task_steps.specs.TaskViews.{TaskOf}
-use Rattle.task_core.specs.Leaving.{HasRoom}
+use Rattle.task_core.specs.Leaving.{IsReservedForRun}
 use Rattle.task_core.specs.Plains.{book_number, disk_number, list_number, records_number, set_number, stage_of}
 use Rattle.task_core.specs.declared.opening.Opened.{Opened}
 use Rattle.task_core.specs.declared.plain.Plain.{Plain}
 use Rattle.task_core.specs.opened.OfOne.{IsOpened, scenario_in, states}
-use Rattle.shared_objects.specs.Closed.{history_in, left_in, names_in}
+use Rattle.shared_objects.specs.Closed.{history_in, object_left_in, names_in}
 use Rattle.shared_objects.specs.Closes.{ClosesAs, Returned}
 use Rattle.shared_objects.specs.Desks.{DeskState}
 use Rattle.shared_objects.specs.Holding.{SeatsHold, desk_of, dev_key, set_key, slip_key, stage_at, writer_key}
 use Rattle.shared_objects.specs.Joining.{AreHere, ArePutAway, CanEnd, IsHereOf}
-use Rattle.shared_objects.specs.Left.{AreInOrder, HasClosed, IsReturned}
+use Rattle.shared_objects.specs.Left.{AreInOpenedOrder, HasClosed, IsReturned}
 use Rattle.shared_objects.specs.Logs.{HasStopped, IsLogged, events_in}
 use Rattle.shared_objects.specs.Noting.{AreNoted, HaveTickets, notes_of}
 use Rattle.shared_objects.specs.Passes.{found_by}
 use Rattle.shared_objects.specs.Rans.{RanHolds, RanKey, RanState, ran_key}
 use Rattle.shared_objects.specs.Rows.{Abreast}
-use Rattle.shared_objects.specs.Shared.{HaveStopped, IsBackStopped, IsOwnIfHere, SharedHolds, key_at}
+use Rattle.shared_objects.specs.Shared.{HaveStopped, IsBackStopped, IsOwnIfHere, SharedHolds, ran_key_at}
 use Rattle.shared_objects.specs.Shutting.{HasShut}
 use Rattle.shared_objects.specs.Taking.{AreTaken, HasTakenPasses, PassHasTaken, TakenHold}
 use Rattle.shared_objects.specs.Joins.{HasTaken}
@@ -57,7 +57,7 @@ are_here shared holds over place slot lt =
     let many = holds.all in let first = some_of shared.told.value.tasks.items place (omega (arith, lt, many)) in
     here (get_or shared.told.value.tasks.items place first) (get_or shared.tasks.items place slot) (over place slot lt) (holds.own place first slot lt)
   where
-    here : (first : TaskOf) (found : Option RanState) → IsBackStopped found → IsOwnIfHere (key_at shared.locks place first) found → IsHereOf shared.locks place found
+    here : (first : TaskOf) (found : Option RanState) → IsBackStopped found → IsOwnIfHere (ran_key_at shared.locks place first) found → IsHereOf shared.locks place found
     here first None back own = absurd back
     here first (Some ran) back own = (ap (λ (k : RanKey). k.home) own, ap (λ (k : RanKey). k.number) own)
 
@@ -90,7 +90,7 @@ module _ (locks : Locks) (slots : List (Option RanState)) (firsts : TaskSeats) (
 -- A task that was put away and has stopped, and what it is returned as.
 record IsReady (set : Setup) (ran : RanState) : Type 0 where
   pub hold : RanHolds ran
-  pub setup_is : setup ran.first.routing ≡ set
+  pub setup_is : routing_setup ran.first.routing ≡ set
   pub over : ran.stopped ≡ true
 
 record ReturnsAs (set : Setup) (ran : RanState) (task : Returned) : Type 0 where
@@ -131,7 +131,7 @@ module _ (shared : Shared) (firsts : TaskSeats) (closed : Closed) (holds : Share
   opened = shared.told.value.objects
 
   abbrev set : Setup
-  set = setup (stage_of opened).routing
+  set = routing_setup (stage_of opened).routing
 
   abbrev seats_in : RanState → TaskSeats
   seats_in ran = ran.seats
@@ -148,13 +148,13 @@ module _ (shared : Shared) (firsts : TaskSeats) (closed : Closed) (holds : Share
   ready : All (IsReady set) away.rans
   ready k ran lt = let m = many.0 in record {
     hold = away.hold k ran lt;
-    setup_is = ap setup ((away.hold k ran lt).routing ∙ ap (λ (home : Locks). (stage_at home).routing) (away.homes k ran lt) ∙ ap (λ (p : Plain). (stage_of p).routing) holds.round.same);
+    setup_is = ap routing_setup ((away.hold k ran lt).routing ∙ ap (λ (home : Locks). (stage_at home).routing) (away.homes k ran lt) ∙ ap (λ (p : Plain). (stage_of p).routing) holds.round.same);
     over = subst IsBackStopped (slot_is k ran lt) (over k (Some ran) (omega (arith, lt, m)));
   }
 
-  key_is : (k : ℕ) (ran : RanState) (first : TaskOf) → k < length away.rans → ran_key (get_or away.rans k ran) ≡ key_at shared.locks k (get_or shared.told.value.tasks.items k first)
+  key_is : (k : ℕ) (ran : RanState) (first : TaskOf) → k < length away.rans → ran_key (get_or away.rans k ran) ≡ ran_key_at shared.locks k (get_or shared.told.value.tasks.items k first)
   key_is k ran first lt = let m = many.0 in
-      subst (IsOwnIfHere (key_at shared.locks k (get_or shared.told.value.tasks.items k first))) (slot_is k ran lt) (holds.own k first (Some ran) (omega (arith, lt, m)))
+      subst (IsOwnIfHere (ran_key_at shared.locks k (get_or shared.told.value.tasks.items k first))) (slot_is k ran lt) (holds.own k first (Some ran) (omega (arith, lt, m)))
 
   abbrev returned : List Returned
   returned = (returned_of set away.rans ready).0
@@ -180,7 +180,7 @@ module _ (shared : Shared) (firsts : TaskSeats) (closed : Closed) (holds : Share
         (are.each k ran task in_rans).desk ∙ ap desk_of (sym (get_or-map seats_in away.rans k ran seats in_rans));
   }
 
-  closes : ClosesAs set opened (names_in closed) (history_in closed) (left_in closed opened) returned closed.pass.value
+  closes : ClosesAs set opened (names_in closed) (history_in closed) (object_left_in closed opened) returned closed.pass.value
   closes = closes_as set opened shared.locks firsts closed all returned closed.pass.value holds.round shut taken
       (All-map (SeatsHold shared.locks) seats_in away.rans
       (λ k ran lt. subst (λ (home : Locks). SeatsHold home (get_or away.rans k ran).seats) (away.homes k ran lt) (away.hold k ran lt).desk.seated))
@@ -228,7 +228,7 @@ module _ (shared : Shared) (firsts : TaskSeats) (closed : Closed) (holds : Share
       (subst (λ (seats : TaskSeats). found_by seats.pass ≤ closed.pass.value.known) (get_or-map seats_in away.rans k ran ran.seats in_rans)
       (first_pass.found k ran.seats (omega (arith, in_rans, n))))
 
-  order : AreInOrder opened closed
+  order : AreInOpenedOrder opened closed
   order = record {
     bios = maps_same set_number (λ entry. set_key entry.0) opened.bios.items closed.bios.items
         (weaker_two _ _ (λ e z is. is.0) opened.bios.items closed.bios.items (pairs (bios_left opened shared.locks firsts closed all holds.round shut taken)));
@@ -246,12 +246,12 @@ module _ (shared : Shared) (firsts : TaskSeats) (closed : Closed) (holds : Share
   has_closed told room trace = let back = sym told in record {
     opened = subst IsOpened back holds.opened;
     returned = returned;
-    closes = subst (λ (o : Opened). ClosesAs (setup (stage_of o.objects).routing) o.objects (names_in closed) (history_in closed) (left_in closed o.objects) returned closed.pass.value) back closes;
+    closes = subst (λ (o : Opened). ClosesAs (routing_setup (stage_of o.objects).routing) o.objects (names_in closed) (history_in closed) (object_left_in closed o.objects) returned closed.pass.value) back closes;
     firsts = subst (λ (o : Opened). map (λ (task : Returned). task.first) returned ≡ states o.tasks.items) back firsts_are;
-    tasks = subst (λ (o : Opened). Abreast (IsReturned (setup (stage_of o.objects).routing)) closed.tasks.items returned) back tasks_are;
+    tasks = subst (λ (o : Opened). Abreast (IsReturned (routing_setup (stage_of o.objects).routing)) closed.tasks.items returned) back tasks_are;
     trace = listed trace;
     found = found;
-    order = subst (λ (o : Opened). AreInOrder o.objects closed) back order;
-    room = subst (λ (o : Opened). HasRoom (scenario_in o).stack (length (scenario_in o).writes) closed.room) back
-        (subst (HasRoom (scenario_in shared.told.value).stack (length (scenario_in shared.told.value).writes)) (sym room) holds.room.ended);
+    order = subst (λ (o : Opened). AreInOpenedOrder o.objects closed) back order;
+    room = subst (λ (o : Opened). IsReservedForRun (scenario_in o).stack (length (scenario_in o).writes) closed.room) back
+        (subst (IsReservedForRun (scenario_in shared.told.value).stack (length (scenario_in shared.told.value).writes)) (sym room) holds.room.ended);
   }

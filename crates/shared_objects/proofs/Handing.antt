@@ -5,7 +5,7 @@ use Rattle.std.proofs.lemmas.List.{get_or-set_same, get_or-set_other, length-set
 use Rattle.task_core.specs.opened.OfOne.{scenario_in}
 use Rattle.task_steps.specs.TaskViews.{TaskOf}
 use Rattle.shared_objects.specs.Rans.{RanState, most_tasks}
-use Rattle.shared_objects.specs.Shared.{HandsOut, HasRoomFor, IsOwnIfHere, IsUntaken, SameShared, SharedHolds, key_at}
+use Rattle.shared_objects.specs.Shared.{HandsOut, HasRoomFor, IsOwnIfHere, IsUntaken, SameShared, SharedHolds, ran_key_at}
 use Rattle.shared_objects.specs.Taking.{TakenHold}
 use Rattle.shared_objects.specs.declared.shared.Shared.{Shared}
 use Rattle.shared_objects.proofs.Numbers.{apart_by, same_by}
@@ -14,7 +14,7 @@ use Rattle.shared_objects.proofs.Numbers.{apart_by, same_by}
 module _ (old : Shared) (holds : SharedHolds old) (new : Shared) (same : record old { tasks = new.tasks; next = new.next } ≡ new)
     (place : ℕ) (slot : Option RanState) (set : new.tasks.items ≡ slice_set old.tasks.items place slot)
     (before : place < new.next) (more : old.next ≤ new.next) (within : new.next ≤ length old.tasks.items)
-    (owns : (first : TaskOf) → IsOwnIfHere (key_at old.locks place (slice_index_or old.told.value.tasks.items place first)) slot) where
+    (owns : (first : TaskOf) → IsOwnIfHere (ran_key_at old.locks place (slice_index_or old.told.value.tasks.items place first)) slot) where
   many : length new.tasks.items ≡ length old.tasks.items
   many = ap length set ∙ length-set old.tasks.items place slot
 
@@ -25,12 +25,12 @@ module _ (old : Shared) (holds : SharedHolds old) (new : Shared) (same : record 
   elsewhere at other apart = ap (λ slots. slice_index_or slots at other) set ∙ get_or-set_other old.tasks.items place at slot other apart
 
   own_each : (at : ℕ) (first : TaskOf) (other : Option RanState) (b : Bool) → (at == place) ≡ b → at < length new.tasks.items
-      → IsOwnIfHere (key_at old.locks at (slice_index_or old.told.value.tasks.items at first)) (slice_index_or new.tasks.items at other)
+      → IsOwnIfHere (ran_key_at old.locks at (slice_index_or old.told.value.tasks.items at first)) (slice_index_or new.tasks.items at other)
   own_each at first other true e lt =
-      subst (λ k. IsOwnIfHere (key_at old.locks k (slice_index_or old.told.value.tasks.items k first)) (slice_index_or new.tasks.items k other)) (sym (same_by at place e))
-      (subst (IsOwnIfHere (key_at old.locks place (slice_index_or old.told.value.tasks.items place first))) (sym (here other)) (owns first))
+      subst (λ k. IsOwnIfHere (ran_key_at old.locks k (slice_index_or old.told.value.tasks.items k first)) (slice_index_or new.tasks.items k other)) (sym (same_by at place e))
+      (subst (IsOwnIfHere (ran_key_at old.locks place (slice_index_or old.told.value.tasks.items place first))) (sym (here other)) (owns first))
   own_each at first other false e lt =
-      subst (IsOwnIfHere (key_at old.locks at (slice_index_or old.told.value.tasks.items at first))) (sym (elsewhere at other (apart_by at place e)))
+      subst (IsOwnIfHere (ran_key_at old.locks at (slice_index_or old.told.value.tasks.items at first))) (sym (elsewhere at other (apart_by at place e)))
       (holds.own at first other (subst (λ n. at < n) many lt))
 
   untaken_each : (at : ℕ) (other : Option RanState) → new.next ≤ at → at < length new.tasks.items → IsUntaken (slice_index_or new.tasks.items at other)
@@ -60,7 +60,7 @@ pub hands_out : (old : Shared) → SharedHolds old → (new : Shared) (found : O
 hands_out old holds new None lt is next set same = tt
 hands_out old holds new (Some ran) lt is next set same = record {
   some = lt;
-  key = λ first. subst (IsOwnIfHere (key_at old.locks old.next (slice_index_or old.told.value.tasks.items old.next first))) is (holds.own old.next first (Some ran) lt);
+  key = λ first. subst (IsOwnIfHere (ran_key_at old.locks old.next (slice_index_or old.told.value.tasks.items old.next first))) is (holds.own old.next first (Some ran) lt);
   is_new = subst IsUntaken is (holds.untaken old.next (Some ran) (omega arith) lt);
   next = next;
   tasks = set;

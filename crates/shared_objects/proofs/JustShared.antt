@@ -14,7 +14,7 @@ use Rattle.shared_objects.specs.Holding.{IsPassOf}
 use Rattle.shared_objects.specs.Opening.{AreFirst, AreTasksAt, IsFirstAt, IsRoomWith, IsTaskAt, IsTaskFor, first_pass_of}
 use Rattle.shared_objects.specs.Rans.{RanState}
 use Rattle.shared_objects.specs.Rows.{Abreast, IsAt}
-use Rattle.shared_objects.specs.Shared.{FirstsHold, HasRoomFor, IsOwnIfHere, IsUntaken, SharedHolds, key_at}
+use Rattle.shared_objects.specs.Shared.{FirstsHold, HasRoomFor, IsOwnIfHere, IsUntaken, SharedHolds, ran_key_at}
 use Rattle.shared_objects.specs.Sharing.{AreOfOpened}
 use Rattle.shared_objects.specs.Taking.{AreTaken, HasTakenPasses, TakenHold}
 use Rattle.shared_objects.specs.declared.locks.Locks.{Locks}
@@ -73,7 +73,7 @@ tasks_for o opened locks round = λ k task lt.
     let one : TaskOf = get_or o.tasks.items k task in
     subst (λ (p : Plain). (one.routing ≡ (stage_of p).routing) × IsTaskOf (stage_of p) one.state) (sym round.same) (opened.one.routing k task lt, opened.one.home k task lt)
 
-own_of : (locks : Locks) (place : ℕ) (task : TaskOf) (slot : Option RanState) → IsTaskAt locks place task slot → IsOwnIfHere (key_at locks place task) slot
+own_of : (locks : Locks) (place : ℕ) (task : TaskOf) (slot : Option RanState) → IsTaskAt locks place task slot → IsOwnIfHere (ran_key_at locks place task) slot
 own_of locks place task None at = tt
 own_of locks place task (Some ran) at = at.1
 
@@ -93,7 +93,7 @@ module _ (o : Opened) (opened : IsOpened o) (s : Shared) (told : s.told.value �
     all = tasks.many ∙ ap (λ (p : Opened). length p.tasks.items) (sym told);
     few = omega (arith, many, few);
     own = λ place first slot lt.
-        subst (λ (p : Opened). IsOwnIfHere (key_at s.locks place (get_or p.tasks.items place first)) (get_or s.tasks.items place slot)) (sym told)
+        subst (λ (p : Opened). IsOwnIfHere (ran_key_at s.locks place (get_or p.tasks.items place first)) (get_or s.tasks.items place slot)) (sym told)
         (own_of s.locks place (get_or o.tasks.items place first) (get_or s.tasks.items place slot) (tasks.each place first slot (omega (arith, lt, many))));
     next = omega (arith, next);
     untaken = λ place slot from lt. let first = some_of o.tasks.items place (omega (arith, lt, many)) in

@@ -16,7 +16,7 @@ use Rattle.run_machine.specs.Tasks.{TaskState, request, look_of, lets, answered}
 use Rattle.task_steps.specs.Turns.{breach_of}
 use Rattle.object_things.specs.Histories.{Call}
 use Rattle.object_things.specs.Stamps.{is_spent}
-use Rattle.shared_objects.specs.Calls.{is_same, calls_to, struck}
+use Rattle.shared_objects.specs.Calls.{is_same_object, calls_to, struck}
 use Rattle.shared_objects.specs.Desks.{DeskState}
 use Rattle.shared_objects.specs.Logs.{is_event, is_stop, is_glance, events_in, tickets_in, Looked, LogLeads, IsLogged}
 use Rattle.shared_objects.specs.Led.{CallsLead, task_after, BrokeOff, IsLed, LogsLead}
@@ -63,9 +63,9 @@ stop_kind false true is e = refl
 stop_kind false false is e = absurd (cc is)
 
 abbrev pub AsksSome : Call → Type 0
-AsksSome call = is_same OfNone (object_of call.asked) ≡ false
+AsksSome call = is_same_object OfNone (object_of call.asked) ≡ false
 
-asks_by : (call : Call) (log : List Call) (b : Bool) → is_same OfNone (object_of call.asked) ≡ b → [] ≡ calls_to OfNone (call ∷ log)
+asks_by : (call : Call) (log : List Call) (b : Bool) → is_same_object OfNone (object_of call.asked) ≡ b → [] ≡ calls_to OfNone (call ∷ log)
     → AsksSome call × ([] ≡ calls_to OfNone log)
 asks_by call log true is none = absurd (cc (none ∙ ap (λ (e : Bool). cond e (call ∷ calls_to OfNone log) (calls_to OfNone log)) is))
 asks_by call log false is none = (is, none ∙ ap (λ (e : Bool). cond e (call ∷ calls_to OfNone log) (calls_to OfNone log)) is)
@@ -73,7 +73,7 @@ asks_by call log false is none = (is, none ∙ ap (λ (e : Bool). cond e (call �
 pub asks_some : (log : List Call) → [] ≡ calls_to OfNone log → All AsksSome log
 asks_some [] none = All-nil AsksSome
 asks_some (call ∷ log) none =
-    let first = asks_by call log (is_same OfNone (object_of call.asked)) refl none in
+    let first = asks_by call log (is_same_object OfNone (object_of call.asked)) refl none in
     All-cons AsksSome call log first.0 (asks_some log first.1)
 
 pub event_first : (call : Call) (calls : List Call) → is_event call.asked call.told.reply ≡ true → events_in (call ∷ calls) ≡ call ∷ events_in calls
@@ -120,7 +120,7 @@ none_behind (first ∷ mine) rest call is = absurd (cc is)
 
 -- a call that the task asked for is of some object
 pub apart_of : (setup : Setup) (task : TaskState) (call : Call) → AsksSome call → call.asked ≡ struck (request setup task) → request setup task ≡ Rest → ⊥
-apart_of setup task call some asks rests = absurd (cc (sym (ap (λ a. is_same OfNone (object_of a)) (asks ∙ ap struck rests)) ∙ some))
+apart_of setup task call some asks rests = absurd (cc (sym (ap (λ a. is_same_object OfNone (object_of a)) (asks ∙ ap struck rests)) ∙ some))
 
 pub rest_glances : (setup : Setup) (before calls : List Call) (task last : TaskState) → request setup task ≡ Rest → All AsksSome calls → LogLeads setup before task calls last
     → Glances calls × (last ≡ task)

@@ -14,7 +14,7 @@ use Rattle.run_machine.specs.Opened.{at}
 use Rattle.task_core.specs.declared.plain.index.ObjectIndex.{ObjectIndex}
 use Rattle.task_core.specs.declared.plain.Plain.{Plain}
 use Rattle.task_core.specs.Plains.{book_number, disk_number, list_number, records_number, set_number, stage_of}
-use Rattle.task_core.specs.Tables.{has_number, AreAt}
+use Rattle.task_core.specs.Tables.{is_entry_of, AreAt}
 use Rattle.task_steps.specs.Stage.{has_book, has_disk, has_rescuer, is_bios, is_slips}
 use Rattle.object_things.specs.Books.{book_mark}
 use Rattle.object_things.specs.Disks.{disk_mark}
@@ -26,7 +26,7 @@ use Rattle.shared_objects.specs.Guards.{guarded}
 use Rattle.shared_objects.specs.Holding.{AreLocked, IsNamed, LocksHold, dev_key, set_key, slip_key, writer_key}
 use Rattle.shared_objects.specs.Opening.{CanShare}
 use Rattle.shared_objects.specs.Rows.{Abreast}
-use Rattle.shared_objects.specs.Sharing.{AreOfOpened, AreRound, keyed}
+use Rattle.shared_objects.specs.Sharing.{AreOfOpened, AreRound, disks_by_device}
 use Rattle.shared_objects.specs.declared.locks.Locks.{Locks}
 use Rattle.shared_objects.proofs.RowSeats.{same_position}
 use Rattle.shared_objects.proofs.Shares.{of_made, some_of, weaker_two}
@@ -37,7 +37,7 @@ placed_by : {E L : Type 0} (ekey : E → ℕ) (lkey : L → ℕ) (used : ℕ →
 placed_by ekey lkey used table entries locks are there = λ n is. record {
   there = subst (λ k. slice_index_or table n 0 < k) (sym are.lens) (there n is).there;
   first = (there n is).first
-      ∙ sym (same_position (has_number ekey n) (has_number lkey n) entries locks are.lens (λ k e l lt. ap (λ x. x == n) (are.each k e l lt)));
+      ∙ sym (same_position (is_entry_of ekey n) (is_entry_of lkey n) entries locks are.lens (λ k e l lt. ap (λ x. x == n) (are.each k e l lt)));
 }
 
 module _ {K O : Type 0} (key : K → ℕ) (mark : Held O → MarkState) (name : ℕ → Object) (number : O → ℕ) (common : CommonState)
@@ -86,7 +86,7 @@ module _ (locks : Locks) (can : CanShare locks.common.value.opened) (round : Are
     lists = row_locked dev_key list_mark OfRescuer (λ (r : Rescue). r.dev.0) common (λ o. refl) plain.lists.items locks.lists.items round.lists
         (λ dev. has_rescuer (stage_of plain) (at dev)) locks.index.lists
         (tables (λ i. AreAt list_number (λ dev. has_rescuer (stage_of plain) (at dev)) i.lists plain.lists.items) can.holds.seated.lists) (λ k d lt. (can.lists k d lt).1);
-    disks = are_locked dev_key disk_mark OfDisk (λ (disk : DiskState). disk.dev.0) common (λ o. refl) (keyed plain.disks.items) locks.disks.items round.disks
+    disks = are_locked dev_key disk_mark OfDisk (λ (disk : DiskState). disk.dev.0) common (λ o. refl) (disks_by_device plain.disks.items) locks.disks.items round.disks
         disk_number (λ dev. has_disk (stage_of plain) (at dev)) locks.index.disks plain.disks.items
         (weaker_two _ (λ (disk : DiskState) (lock : DevId × LockId (Held DiskState)). dev_key lock.0 ≡ disk_number disk) (λ disk lock is. ap dev_key is.0) plain.disks.items locks.disks.items
         (of_made (λ (disk : DiskState). (disk.dev, disk)) _ plain.disks.items locks.disks.items round.disks))

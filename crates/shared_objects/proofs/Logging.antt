@@ -14,8 +14,8 @@ use Rattle.run_machine.specs.Laws.{Object, OfPool, OfRescuer, OfDisk, OfBook, Of
 use Rattle.run_machine.specs.Scene.{Setup}
 use Rattle.run_machine.specs.Tasks.{TaskState, request, look_of, lets, answered}
 use Rattle.object_things.specs.Stamps.{is_spent, PassBy, IsOver}
-use Rattle.object_things.specs.Histories.{Call, TicketsRise, IsNext, or_last}
-use Rattle.shared_objects.specs.Calls.{CallsAt, with_call, is_same, calls_at, calls_to, struck}
+use Rattle.object_things.specs.Histories.{Call, TicketsRise, IsNextTicket, or_last}
+use Rattle.shared_objects.specs.Calls.{CallsAt, with_call, is_same_object, calls_at, calls_to, struck}
 use Rattle.shared_objects.specs.Desks.{DeskState, HasCalled, PassOn}
 use Rattle.shared_objects.specs.Logs.{is_glance, tickets_in, Looked, LogLeads, IsMet, IsSeenIn, FoundNone, KnowsLast, WentThrough, HasPass, IsMade, IsLogged}
 
@@ -35,7 +35,7 @@ upd_more f n m call = more_by f n m call (m == n) refl
 
 -- where a call is made, its object has it last, and no other object has it
 at_call : (calls : CallsAt) (target name : Object) (call : Call) → (target ≡ OfNone → ⊥)
-    → calls_at (with_call calls target call) name ≡ calls_at calls name ++ here (is_same name target) call
+    → calls_at (with_call calls target call) name ≡ calls_at calls name ++ here (is_same_object name target) call
 at_call calls OfNone name call apart = absurd (apart refl)
 at_call calls (OfPool n) (OfPool m) call apart = upd_more calls.pool n m call
 at_call calls (OfRescuer n) (OfRescuer m) call apart = upd_more calls.rescue n m call
@@ -47,8 +47,8 @@ at_call calls target name call apart = sym (append-nil (calls_at calls name))
 calls_more : (calls : CallsAt) (log : List Call) (call : Call) → (object_of call.asked ≡ OfNone → ⊥) → ((name : Object) → calls_at calls name ≡ calls_to name log)
     → (name : Object) → calls_at (with_call calls (object_of call.asked) call) name ≡ calls_to name (log ++ call ∷ [])
 calls_more calls log call apart same name =
-    at_call calls (object_of call.asked) name call apart ∙ ap (λ l. l ++ here (is_same name (object_of call.asked)) call) (same name)
-    ∙ sym (filter-append (λ (c : Call). is_same name (object_of c.asked)) log (call ∷ []))
+    at_call calls (object_of call.asked) name call apart ∙ ap (λ l. l ++ here (is_same_object name (object_of call.asked)) call) (same name)
+    ∙ sym (filter-append (λ (c : Call). is_same_object name (object_of c.asked)) log (call ∷ []))
 
 -- calls that lead on behind others
 pub leads_more : (setup : Setup) (before xs ys : List Call) (task mid last : TaskState) → LogLeads setup before task xs mid → LogLeads setup (before ++ xs) mid ys last
@@ -61,10 +61,10 @@ leads_more setup before (x ∷ xs) ys task mid last l m =
       | inr asks ↦ inr (asks.0, asks.1, asks.2, leads_more setup (before ++ x ∷ []) xs ys (answered setup task x.told.reply) mid last asks.3 rest)
     ]
 
-rises_more : (last end : ℕ) (xs : List Call) (call : Call) → TicketsRise last xs end → IsNext end call.told.ticket
+rises_more : (last end : ℕ) (xs : List Call) (call : Call) → TicketsRise last xs end → IsNextTicket end call.told.ticket
     → TicketsRise last (xs ++ call ∷ []) (or_last end call.told.ticket)
 rises_more last end [] call r next =
-    (subst (λ n. IsNext n call.told.ticket) (sym r) next, ap (λ n. or_last n call.told.ticket) r)
+    (subst (λ n. IsNextTicket n call.told.ticket) (sym r) next, ap (λ n. or_last n call.told.ticket) r)
 rises_more last end (x ∷ xs) call r next = (r.0, rises_more (or_last last x.told.ticket) end xs call r.1 next)
 
 met_later : (m n : ℕ) (log : List Call) → m ≤ n → All (IsMet m) log → All (IsMet n) log
@@ -162,7 +162,7 @@ meets pass end log call t s was = let low = was.above in record {
 
 pass_by : (pass after : PassState) (end : ℕ) (log : List Call) (call : Call) (spent : Bool) (ticket : Option ℕ) → is_spent call.told.reply ≡ spent → call.told.ticket ≡ ticket
     → PassBy pass call.told.note spent call.told.drew ticket after → WentThrough pass end log
-    → IsNext end ticket × WentThrough after (or_last end ticket) (log ++ call ∷ [])
+    → IsNextTicket end ticket × WentThrough after (or_last end ticket) (log ++ call ∷ [])
 pass_by pass after end log call spent (Some n) s t by was =
     let above = by.0 in let low = was.above in
     (omega (arith, above, low), subst (λ p. WentThrough p n (log ++ call ∷ [])) (sym by.2) (draws pass end n log call t by.0 by.1 was))
@@ -175,7 +175,7 @@ pass_by pass after end log call false None s t by was =
     (tt, subst (λ p. WentThrough p end (log ++ call ∷ [])) (sym by) (meets pass end log call t s was))
 
 pass_on : (pass after : Option PassState) (end : ℕ) (log : List Call) (call : Call) → PassOn pass call.told.note (is_spent call.told.reply) call.told.drew call.told.ticket after
-    → HasPass pass end log → IsNext end call.told.ticket × HasPass after (or_last end call.told.ticket) (log ++ call ∷ [])
+    → HasPass pass end log → IsNextTicket end call.told.ticket × HasPass after (or_last end call.told.ticket) (log ++ call ∷ [])
 pass_on None after end log call by was = absurd was
 pass_on (Some pass) None end log call by was = absurd by
 pass_on (Some pass) (Some after) end log call by was = pass_by pass after end log call (is_spent call.told.reply) call.told.ticket refl refl by was

@@ -2,12 +2,12 @@
 use Rattle.std.proofs.Common.{◌≡◌, ◌==◌, ℕ, true, arith, refl, ap}
 use Rattle.std.proofs.lemmas.Bool.Decides.{nat_tests}
 use Rattle.run_machine.specs.Laws.{Object, OfPool, OfRescuer, OfDisk, OfBook, OfTally, OfNone}
-use Rattle.shared_objects.specs.Calls.{is_same}
+use Rattle.shared_objects.specs.Calls.{is_same_object}
 
 self : (n : ℕ) → (n == n) ≡ true
 self n = grind (arith, nat_tests)
 
-pub same_self : (name : Object) → is_same name name ≡ true
+pub same_self : (name : Object) → is_same_object name name ≡ true
 same_self (OfPool n) = self n
 same_self (OfRescuer n) = self n
 same_self (OfDisk n) = self n
@@ -18,7 +18,7 @@ same_self OfNone = refl
 equal : (a b : ℕ) → (a == b) ≡ true → a ≡ b
 equal a b e = grind (arith, nat_tests)
 
-pub same_is : (a b : Object) → is_same a b ≡ true → a ≡ b
+pub same_is : (a b : Object) → is_same_object a b ≡ true → a ≡ b
 same_is (OfPool a) (OfPool b) e = ap OfPool (equal a b e)
 same_is (OfRescuer a) (OfRescuer b) e = ap OfRescuer (equal a b e)
 same_is (OfDisk a) (OfDisk b) e = ap OfDisk (equal a b e)

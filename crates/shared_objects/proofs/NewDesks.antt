@@ -6,7 +6,7 @@ use Rattle.seat_lock.specs.Seats.{LockId, SeatState, own}
 use Rattle.run_machine.specs.Laws.{Object, OfPool, OfRescuer, OfDisk, OfBook, OfTally, OfNone}
 use Rattle.run_machine.specs.Requests.{Request}
 use Rattle.task_steps.specs.TaskViews.{TaskOf}
-use Rattle.task_core.specs.Plains.{is_of_set}
+use Rattle.task_core.specs.Plains.{is_bios_number}
 use Rattle.task_core.specs.Tables.{look_up}
 use Rattle.object_things.specs.Histories.{Call}
 use Rattle.object_things.specs.Stamps.{Told}
@@ -31,7 +31,7 @@ module _ {K T : Type 0} (n : ℕ) (locks : List (K × LockId T)) (seats : List (
       (λ k d lt. let l = are.lens in let lock = some_of locks k (omega (arith, lt, l)) in (are.each k lock d (omega (arith, lt, l))).1.1)
 
 none_by_pool : (vecs : List Call) (bios records : ℕ → List Call) (number : ℕ) → vecs ≡ [] → bios number ≡ [] → records number ≡ [] → by_pool vecs bios records number ≡ []
-none_by_pool vecs bios records number v b r = by_case (number == 64) (is_of_set number)
+none_by_pool vecs bios records number v b r = by_case (number == 64) (is_bios_number number)
   where
     by_case : (x y : Bool) → cond x vecs (cond y (bios number) (records number)) ≡ []
     by_case true y = v

@@ -5,7 +5,7 @@ use Rattle.std.proofs.lemmas.Bool.Decides.{nat_tests}
 use Rattle.run_machine.specs.Maps.{upd}
 use Rattle.task_steps.specs.Stage.{is_bios, is_slips}
 use Rattle.task_core.specs.declared.plain.Plain.{Plain}
-use Rattle.task_core.specs.Plains.{Holds, is_of_set, stage_of}
+use Rattle.task_core.specs.Plains.{Holds, is_bios_number, stage_of}
 use Rattle.shared_objects.specs.Holding.{by_pool}
 
 pub same_by : (a b : ℕ) → (a == b) ≡ true → a ≡ b
@@ -18,27 +18,27 @@ not_64 : (m n : ℕ) → m ≡ n → n ≢ 64 → (m == 64) ≡ false
 not_64 m n e apart = grind (arith, nat_tests)
 
 module _ {X : Type 0} (vecs : X) (bios records : ℕ → X) (n : ℕ) (x : X) where
-  bios_at : n ≢ 64 → is_of_set n ≡ true → (m : ℕ) (b : Bool) → (m == n) ≡ b → by_pool vecs (upd bios n x) records m ≡ upd (by_pool vecs bios records) n x m
+  bios_at : n ≢ 64 → is_bios_number n ≡ true → (m : ℕ) (b : Bool) → (m == n) ≡ b → by_pool vecs (upd bios n x) records m ≡ upd (by_pool vecs bios records) n x m
   unfolding upd
   bios_at apart kind m true q =
       let other : (m == 64) ≡ false = not_64 m n (same_by m n q) apart in
-      let of_set : is_of_set m ≡ true = ap is_of_set (same_by m n q) ∙ kind in
+      let of_set : is_bios_number m ≡ true = ap is_bios_number (same_by m n q) ∙ kind in
       rw (q, other, of_set) refl
   bios_at apart kind m false q = rw (q) refl
 
-  pub bios_change : n ≢ 64 → is_of_set n ≡ true → by_pool vecs (upd bios n x) records ≡ upd (by_pool vecs bios records) n x
+  pub bios_change : n ≢ 64 → is_bios_number n ≡ true → by_pool vecs (upd bios n x) records ≡ upd (by_pool vecs bios records) n x
   bios_change apart kind = λ k m. bios_at apart kind m (m == n) refl k
 
-  records_at : n ≢ 64 → is_of_set n ≡ false → (m : ℕ) (b : Bool) → (m == n) ≡ b
+  records_at : n ≢ 64 → is_bios_number n ≡ false → (m : ℕ) (b : Bool) → (m == n) ≡ b
       → by_pool vecs bios (upd records n x) m ≡ upd (by_pool vecs bios records) n x m
   unfolding upd
   records_at apart kind m true q =
       let other : (m == 64) ≡ false = not_64 m n (same_by m n q) apart in
-      let of_set : is_of_set m ≡ false = ap is_of_set (same_by m n q) ∙ kind in
+      let of_set : is_bios_number m ≡ false = ap is_bios_number (same_by m n q) ∙ kind in
       rw (q, other, of_set) refl
   records_at apart kind m false q = rw (q) refl
 
-  pub records_change : n ≢ 64 → is_of_set n ≡ false → by_pool vecs bios (upd records n x) ≡ upd (by_pool vecs bios records) n x
+  pub records_change : n ≢ 64 → is_bios_number n ≡ false → by_pool vecs bios (upd records n x) ≡ upd (by_pool vecs bios records) n x
   records_change apart kind = λ k m. records_at apart kind m (m == n) refl k
 
 module _ {X : Type 0} (vecs : X) (bios records : ℕ → X) (x : X) where
@@ -51,10 +51,10 @@ module _ {X : Type 0} (vecs : X) (bios records : ℕ → X) (x : X) where
   vecs_change = λ k m. vecs_at m (m == 64) refl k
 
 -- what a pool of the number has
-pub stands_for_bios : {X : Type 0} (vecs : X) (bios records : ℕ → X) (n : ℕ) → n ≢ 64 → is_of_set n ≡ true → by_pool vecs bios records n ≡ bios n
+pub stands_for_bios : {X : Type 0} (vecs : X) (bios records : ℕ → X) (n : ℕ) → n ≢ 64 → is_bios_number n ≡ true → by_pool vecs bios records n ≡ bios n
 stands_for_bios vecs bios records n apart kind = let other : (n == 64) ≡ false = not_64 n n refl apart in rw (other, kind) refl
 
-pub stands_for_records : {X : Type 0} (vecs : X) (bios records : ℕ → X) (n : ℕ) → n ≢ 64 → is_of_set n ≡ false → by_pool vecs bios records n ≡ records n
+pub stands_for_records : {X : Type 0} (vecs : X) (bios records : ℕ → X) (n : ℕ) → n ≢ 64 → is_bios_number n ≡ false → by_pool vecs bios records n ≡ records n
 stands_for_records vecs bios records n apart kind = let other : (n == 64) ≡ false = not_64 n n refl apart in rw (other, kind) refl
 
 -- the numbers of pools by their kinds, where there are 32 devices at most
@@ -64,7 +64,7 @@ bios_not_64 plain n holds is e =
     let at_64 : IsTrue (is_bios (stage_of plain) 64) = subst (λ k. IsTrue (is_bios (stage_of plain) k)) e is in
     absurd (grind (at_64, few, arith, nat_tests))
 
-pub bios_of_set : (plain : Plain) (n : ℕ) → IsTrue (is_bios (stage_of plain) n) → is_of_set n ≡ true
+pub bios_of_set : (plain : Plain) (n : ℕ) → IsTrue (is_bios (stage_of plain) n) → is_bios_number n ≡ true
 bios_of_set plain n is = by_cases (n == 65) (n % 2 == 0) _ is
   where
     by_cases : (a b c : Bool) → (a || b && c) ≡ true → (a || b) ≡ true
@@ -91,7 +91,7 @@ slips_not_65 plain n holds is e =
     let at_65 : IsTrue (is_slips (stage_of plain) 65) = subst (λ k. IsTrue (is_slips (stage_of plain) k)) e is in
     absurd (grind (at_65, few, arith, nat_tests))
 
-pub slips_of_set : (plain : Plain) (n : ℕ) → Holds plain → IsTrue (is_slips (stage_of plain) n) → is_of_set n ≡ false
+pub slips_of_set : (plain : Plain) (n : ℕ) → Holds plain → IsTrue (is_slips (stage_of plain) n) → is_bios_number n ≡ false
 slips_of_set plain n holds is = neither n (slips_odd plain n is) (slips_not_65 plain n holds is)
   where
     neither : (n : ℕ) → n % 2 ≡ 1 → n ≢ 65 → (n == 65 || n % 2 == 0) ≡ false

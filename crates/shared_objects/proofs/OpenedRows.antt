@@ -17,8 +17,8 @@ use Rattle.task_core.specs.opened.NewTasks.{reserves_in}
 use Rattle.task_core.specs.opened.OfOne.{IsOpened}
 use Rattle.task_core.specs.opened.Openings.{itself, set_index, slip_index, uses_book, uses_disk, uses_list, uses_set, uses_slips, IsNewBook, IsNewDisk, IsNewList, IsNewRecords, IsNewSet}
 use Rattle.task_core.specs.ObjectsOf.{IsBookOf, IsDiskOf}
-use Rattle.task_core.specs.Plains.{bios_at, book_number, disk_number, is_of_set, list_number, no_book, no_disk, no_pool, objects_of, pool_at, records_at, records_number, set_number, stage_of}
-use Rattle.task_core.specs.Tables.{has_number, look_up}
+use Rattle.task_core.specs.Plains.{bios_at, book_number, disk_number, is_bios_number, list_number, no_book, no_disk, no_pool, objects_of, pool_at, records_at, records_number, set_number, stage_of}
+use Rattle.task_core.specs.Tables.{is_entry_of, look_up}
 use Rattle.task_core.proofs.PoolLemmas.{stands_for_bios, stands_for_records}
 use Rattle.task_steps.specs.Stage.{AreServed}
 use Rattle.object_things.specs.Pools.{IsPoolOf}
@@ -47,7 +47,7 @@ module _ {E : Type 0} (key : E → ℕ) (number : ℕ → ℕ) (is_used : ℕ �
     pub below : index < first + count
     pub used : is_used index ≡ true
     pub keyed : key entry ≡ number index
-    pub found : find (has_number key (number index)) entries ≡ Some entry
+    pub found : find (is_entry_of key (number index)) entries ≡ Some entry
 
   stands : (count first : ℕ) (entries : List E) → map key entries ≡ map number (filter is_used (range_with_len first count)) → All (Stands first count entries) entries
   stands zero first [] e = λ k d lt. absurd (omega (arith, lt))
@@ -79,7 +79,7 @@ module _ {E : Type 0} (key : E → ℕ) (number : ℕ → ℕ) (is_used : ℕ �
       pub below : index < bound
       pub keyed : key entry ≡ number index
       pub made : IsMade index entry
-      pub found : find (has_number key (number index)) entries ≡ Some entry
+      pub found : find (is_entry_of key (number index)) entries ≡ Some entry
 
     pub each_entry : AreMade key number is_used IsMade bound entries table → All IsEntry entries
     each_entry all = λ k d lt.
@@ -98,7 +98,7 @@ module _ {E : Type 0} (key : E → ℕ) (number : ℕ → ℕ) (is_used : ℕ �
         same a b e = cc
 
 -- what is found is what is looked up
-looked_up : {E X : Type 0} (key : E → ℕ) (value : E → X) (none : ℕ → X) (entries : List E) (n : ℕ) (entry : E) → find (has_number key n) entries ≡ Some entry
+looked_up : {E X : Type 0} (key : E → ℕ) (value : E → X) (none : ℕ → X) (entries : List E) (n : ℕ) (entry : E) → find (is_entry_of key n) entries ≡ Some entry
     → look_up key value none entries n ≡ value entry
 looked_up key value none entries n entry found = ap (λ o. option_map_or value o (none n)) found
 
@@ -116,14 +116,14 @@ by_slips : (i n : ℕ) → i < n → slip_index i ≢ slip_index n
 by_slips i n lt e = absurd (omega (arith, lt, e))
 
 -- a number of a set is not that of the vectors, nor that of records
-set_kind : (count index : ℕ) → count ≤ 32 → index < suc count → (set_index index ≢ 64) × (is_of_set (set_index index) ≡ true)
+set_kind : (count index : ℕ) → count ≤ 32 → index < suc count → (set_index index ≢ 64) × (is_bios_number (set_index index) ≡ true)
 set_kind count zero few lt = (λ e. absurd (omega (arith, e)), refl)
 set_kind count (suc dev) few lt = (λ e. absurd (omega (arith, e, few, lt)), even dev)
   where
     even : (dev : ℕ) → (2 * dev == 65 || 2 * dev % 2 == 0) ≡ true
     even dev = let none : 2 * dev % 2 ≡ 0 = omega arith in grind (none, arith, nat_tests)
 
-slip_kind : (count dev : ℕ) → count ≤ 32 → dev < count → (slip_index dev ≢ 64) × (is_of_set (slip_index dev) ≡ false)
+slip_kind : (count dev : ℕ) → count ≤ 32 → dev < count → (slip_index dev ≢ 64) × (is_bios_number (slip_index dev) ≡ false)
 slip_kind count dev few lt = (λ e. absurd (omega (arith, e)), odd (2 * dev + 1) (omega arith) (λ e. absurd (omega (arith, e, few, lt))))
   where
     odd : (n : ℕ) → n % 2 ≡ 1 → n ≢ 65 → (n == 65 || n % 2 == 0) ≡ false

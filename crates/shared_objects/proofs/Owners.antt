@@ -4,7 +4,7 @@ use Rattle.std.specs.Prelude.{All, Contains, slice_get}
 use Rattle.std.proofs.lemmas.Bool.{eq-eqb, lt-ltb}
 use Rattle.std.proofs.lemmas.List.Elements.{All-filter, All-contains, All-contains_itself, Contains-append_right, filter-append}
 use Rattle.std.proofs.lemmas.Option.{slice_get_cases, slice_get_within, get_or_from_slice_get}
-use Rattle.seat_lock.specs.History.{one_if, count, Leads}
+use Rattle.seat_lock.specs.History.{indicator, count, Leads}
 use Rattle.seat_lock.proofs.Histories.{count_one, each_in_place}
 use Rattle.tick_clock.specs.Tickets.{PassState}
 use Rattle.run_machine.specs.Laws.{Object, object_of}
@@ -12,7 +12,7 @@ use Rattle.run_machine.specs.Scene.{Setup}
 use Rattle.task_core.specs.declared.plain.Plain.{Plain}
 use Rattle.object_things.specs.Histories.{Call}
 use Rattle.object_things.specs.Stamps.{ThingState}
-use Rattle.shared_objects.specs.Calls.{is_same}
+use Rattle.shared_objects.specs.Calls.{is_same_object}
 use Rattle.shared_objects.specs.Closes.{Returned, ClosesAs}
 use Rattle.shared_objects.specs.Kinds.{ThingAt, answers_at, opened_at, unasked}
 use Rattle.shared_objects.specs.Logs.{HasStopped, IsLogged}
@@ -47,7 +47,7 @@ at_all P xs i x all is = All-contains P xs x all (i, slice_get_within xs i x is,
 -- the seat of the task at a place made this call
 pub is_mine : (place by : ℕ) → by ≡ place + 1 → nat_lt 0 (count by ((place + 1) ∷ [])) ≡ true
 is_mine place by is =
-    lt-ltb 0 (count by ((place + 1) ∷ [])) (subst (λ n. 0 < n) (sym (count_one by (place + 1) ∙ ap one_if (eq-eqb (place + 1) by (sym is)))) (omega arith))
+    lt-ltb 0 (count by ((place + 1) ∷ [])) (subst (λ n. 0 < n) (sym (count_one by (place + 1) ∙ ap indicator (eq-eqb (place + 1) by (sym is)))) (omega arith))
 
 module _ (set : Setup) (plain : Plain) (names : List Object) (history : Object → List Call) (left : (name : Object) → ThingState (ThingAt name)) (tasks : List Returned)
     (pass : PassState) (c : ClosesAs set plain names history left tasks pass) where
@@ -75,7 +75,7 @@ module _ (set : Setup) (plain : Plain) (names : List Object) (history : Object �
         task = task;
         at = at;
         by = by_is;
-        there = of_filter (λ (x : Call). is_same name (object_of x.asked)) task.log call
+        there = of_filter (λ (x : Call). is_same_object name (object_of x.asked)) task.log call
             (subst (λ l. Contains l call) (c.calls name (call.by - 1) task at)
             (filter_there (λ (x : Call). nat_lt 0 (count x.by (((call.by - 1) + 1) ∷ []))) (history name) call there (is_mine (call.by - 1) call.by by_is)));
       }
@@ -89,7 +89,7 @@ module _ (set : Setup) (plain : Plain) (names : List Object) (history : Object �
   kept place task at call there =
       of_filter (λ (x : Call). nat_lt 0 (count x.by ((place + 1) ∷ []))) (history (object_of call.asked)) call
       (subst (λ l. Contains l call) (sym (c.calls (object_of call.asked) place task at))
-      (filter_there (λ (x : Call). is_same (object_of call.asked) (object_of x.asked)) task.log call there (same_self (object_of call.asked))))
+      (filter_there (λ (x : Call). is_same_object (object_of call.asked) (object_of x.asked)) task.log call there (same_self (object_of call.asked))))
 
   -- a call in its place
   pub record IsInPlace (name : Object) (call : Call) : Type 0 where

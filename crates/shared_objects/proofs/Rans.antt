@@ -5,7 +5,7 @@ use Rattle.tick_clock.specs.Tickets.{PassState}
 use Rattle.run_machine.specs.Requests.{Request, Reply, Rest, Complete}
 use Rattle.task_steps.specs.declared.step.Step.{Step}
 use Rattle.task_steps.specs.Homes.{IsTaskOf}
-use Rattle.task_steps.specs.Routed.{Routing, setup}
+use Rattle.task_steps.specs.Routed.{Routing, routing_setup}
 use Rattle.task_steps.specs.Stage.{Owes}
 use Rattle.task_steps.specs.TaskViews.{TaskOf}
 use Rattle.task_steps.specs.Turns.{Turns}
@@ -91,9 +91,9 @@ stepped_to ran task seats step noted =
     record { task = task; seats = seats; first = ran.first; home = ran.home; events = events_after step ran.events; stopped = stopped_after step ran.stopped; noted = noted }
 
 module _ (ran : RanState) (holds : RanHolds ran) (task : TaskOf) (seats : TaskSeats) (step : Step)
-    (turns : Turns DeskServes (Owes (stage_at ran.home)) (setup ran.task.routing) ran.task.state (desk_of ran.seats) task.state (desk_of seats) step) where
+    (turns : Turns DeskServes (Owes (stage_at ran.home)) (routing_setup ran.task.routing) ran.task.state (desk_of ran.seats) task.state (desk_of seats) step) where
   keeps : KeepsSeats (desk_of ran.seats) (desk_of seats)
-  keeps = turns_keep DeskServes KeepsSeats keeps_none keeps_both serves_keep (Owes (stage_at ran.home)) (setup ran.task.routing) ran.task.state task.state
+  keeps = turns_keep DeskServes KeepsSeats keeps_none keeps_both serves_keep (Owes (stage_at ran.home)) (routing_setup ran.task.routing) ran.task.state task.state
       (desk_of ran.seats) (desk_of seats) step turns
 
   pub number_stays : seats.number ≡ ran.seats.number
@@ -109,7 +109,7 @@ module _ (ran : RanState) (holds : RanHolds ran) (task : TaskOf) (seats : TaskSe
         desk = desk;
         routing = holds.routing;
         task = turns_home DeskServes stage holds.desk.locked.opened.stack_is ran.task.state (desk_of ran.seats) task.state (desk_of seats) step holds.task
-            (subst (λ (r : Routing). Turns DeskServes (Owes stage) (setup r) ran.task.state (desk_of ran.seats) task.state (desk_of seats) step) routed turns);
+            (subst (λ (r : Routing). Turns DeskServes (Owes stage) (routing_setup r) ran.task.state (desk_of ran.seats) task.state (desk_of seats) step) routed turns);
         pass = keeps.pass holds.pass;
         listed = stays_listed step (seen_by seats.pass) ran.noted noted goes ∙ holds.listed;
         ran = steps_keep_ran stage ran.first ran.task task (desk_of ran.seats) (desk_of seats) step ran.events ran.stopped ran.noted noted holds.ran turns same goes;
@@ -118,12 +118,12 @@ module _ (ran : RanState) (holds : RanHolds ran) (task : TaskOf) (seats : TaskSe
 -- The same of what a desk tells, that was made of these locks and gives back these seats.
 module _ (ran : RanState) (holds : RanHolds ran) (task : TaskOf) (step : Step) (locks left : Locks) (before after seats : TaskSeats)
     (at_home : locks ≡ ran.home) (with_seats : before ≡ ran.seats) (back : seats ≡ after) (stays : left ≡ locks)
-    (turns : Turns DeskServes (Owes (stage_at locks)) (setup ran.task.routing) ran.task.state (desk_of before) task.state (desk_of after) step) where
-  turns_home_with : Turns DeskServes (Owes (stage_at ran.home)) (setup ran.task.routing) ran.task.state (desk_of ran.seats) task.state (desk_of seats) step
+    (turns : Turns DeskServes (Owes (stage_at locks)) (routing_setup ran.task.routing) ran.task.state (desk_of before) task.state (desk_of after) step) where
+  turns_home_with : Turns DeskServes (Owes (stage_at ran.home)) (routing_setup ran.task.routing) ran.task.state (desk_of ran.seats) task.state (desk_of seats) step
   turns_home_with =
-      subst (λ s. Turns DeskServes (Owes (stage_at ran.home)) (setup ran.task.routing) ran.task.state (desk_of ran.seats) task.state (desk_of s) step) (sym back)
-      (subst (λ s. Turns DeskServes (Owes (stage_at ran.home)) (setup ran.task.routing) ran.task.state (desk_of s) task.state (desk_of after) step) with_seats
-      (subst (λ l. Turns DeskServes (Owes (stage_at l)) (setup ran.task.routing) ran.task.state (desk_of before) task.state (desk_of after) step) at_home turns))
+      subst (λ s. Turns DeskServes (Owes (stage_at ran.home)) (routing_setup ran.task.routing) ran.task.state (desk_of ran.seats) task.state (desk_of s) step) (sym back)
+      (subst (λ s. Turns DeskServes (Owes (stage_at ran.home)) (routing_setup ran.task.routing) ran.task.state (desk_of s) task.state (desk_of after) step) with_seats
+      (subst (λ l. Turns DeskServes (Owes (stage_at l)) (routing_setup ran.task.routing) ran.task.state (desk_of before) task.state (desk_of after) step) at_home turns))
 
   pub desk_keeps_number : seats.number ≡ ran.seats.number
   desk_keeps_number = number_stays ran holds task seats step turns_home_with

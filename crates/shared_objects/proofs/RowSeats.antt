@@ -9,7 +9,7 @@ use Rattle.seat_lock.specs.Seats.{LockId, SeatState, own}
 use Rattle.run_machine.specs.Laws.{Object}
 use Rattle.run_machine.specs.Maps.{upd}
 use Rattle.run_machine.specs.Requests.{Request}
-use Rattle.task_core.specs.Tables.{has_number, IsAt}
+use Rattle.task_core.specs.Tables.{is_entry_of, IsAt}
 use Rattle.task_core.proofs.TableLemmas.{key_is, looked, changed}
 use Rattle.object_things.specs.Histories.{Call}
 use Rattle.object_things.specs.Stamps.{CommonState, MarkState, Told}
@@ -64,7 +64,7 @@ module _ {K T : Type 0} {key : K → ℕ} {mark : T → MarkState} {name : ℕ �
   seats_placed = record {
     there = subst (λ k. slice_index_or table n 0 < k) (sym seated.lens) (locked.placed n is).there;
     first = (locked.placed n is).first
-        ∙ sym (same_position (has_number lock_key n) (has_number seat_key n) locks seats seated.lens (λ k lock seat lt. ap (λ x. key x == n) (seated.each k lock seat lt).0));
+        ∙ sym (same_position (is_entry_of lock_key n) (is_entry_of seat_key n) locks seats seated.lens (λ k lock seat lt. ap (λ x. key x == n) (seated.each k lock seat lt).0));
   }
 
   module _ (lock : K × LockId T) (lock_is : lock ≡ get_or locks i lock) (seat : K × SeatState T Request Told) (seat_is : seat ≡ get_or seats i seat) where

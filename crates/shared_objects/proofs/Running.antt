@@ -10,7 +10,7 @@ use Rattle.task_steps.specs.declared.step.Step.TheVariants.{Stepped, Blocked, Wa
 use Rattle.run_machine.specs.Requests.{Request, Reply, Rest}
 use Rattle.run_machine.specs.Scene.{Setup}
 use Rattle.run_machine.specs.Tasks.{TaskState, request, look_of, lets}
-use Rattle.task_steps.specs.Routed.{Routing, setup}
+use Rattle.task_steps.specs.Routed.{Routing, routing_setup}
 use Rattle.task_steps.specs.Stage.{Stage, Owes}
 use Rattle.task_steps.specs.TaskViews.{TaskOf}
 use Rattle.task_steps.specs.Turns.{Turns, TurnsBy, ActsIf, AsksFor}
@@ -82,18 +82,18 @@ module _ (owes : Request → Reply → Type 0) (setup : Setup) where
 
 pub steps_keep_ran : StepsKeepRan
 steps_keep_ran stage first task next old new step events stopped noted after is turns same goes =
-    let t : Turns DeskServes (Owes stage) (setup first.routing) task.state old next.state new step =
-    subst (λ r. Turns DeskServes (Owes stage) (setup r) task.state old next.state new step) is.routing turns in
-    let g = steps_are_logged stage (setup first.routing) first.state task.state next.state is.log old new step is.logged t in
+    let t : Turns DeskServes (Owes stage) (routing_setup first.routing) task.state old next.state new step =
+    subst (λ r. Turns DeskServes (Owes stage) (routing_setup r) task.state old next.state new step) is.routing turns in
+    let g = steps_are_logged stage (routing_setup first.routing) first.state task.state next.state is.log old new step is.logged t in
     record {
       log = is.log ++ g.0;
       logged = g.1;
       routing = same ∙ is.routing;
-      counted = counts (setup first.routing) task.state next.state (seen_by new.pass) is.log g.0 step events g.2 is.counted;
-      stops = stops (Owes stage) (setup first.routing) task.state next.state is.log g.0 old new step stopped g.2
-          (λ was. still (Owes stage) (setup first.routing) task.state next.state is.log g.0 old new step t (is.stops was));
-      notes = λ have. stays_noted step (seen_by new.pass) (notes_of (setup first.routing) first.state is.log) (notes_of (setup first.routing) first.state (is.log ++ g.0)) noted after
-          (log_notes (setup first.routing) first.state task.state next.state is.log g.0 old new step is.logged g.1 g.2 have) (is.notes (earlier_tickets is.log g.0 have)) goes;
+      counted = counts (routing_setup first.routing) task.state next.state (seen_by new.pass) is.log g.0 step events g.2 is.counted;
+      stops = stops (Owes stage) (routing_setup first.routing) task.state next.state is.log g.0 old new step stopped g.2
+          (λ was. still (Owes stage) (routing_setup first.routing) task.state next.state is.log g.0 old new step t (is.stops was));
+      notes = λ have. stays_noted step (seen_by new.pass) (notes_of (routing_setup first.routing) first.state is.log) (notes_of (routing_setup first.routing) first.state (is.log ++ g.0)) noted after
+          (log_notes (routing_setup first.routing) first.state task.state next.state is.log g.0 old new step is.logged g.1 g.2 have) (is.notes (earlier_tickets is.log g.0 have)) goes;
     }
 
 unused_goes : (pass : Option PassState) → IsUnused pass → HasPass pass 0 []

@@ -7,11 +7,11 @@ use Rattle.std.proofs.lemmas.List.Sums.{sum_by-cons}
 use Rattle.std.proofs.Math.Decide.{ℕ_discrete, dec_le}
 use Rattle.std.proofs.Math.Logic.{dite}
 use Rattle.seat_lock.specs.declared.view.Entry.{Entry}
-use Rattle.seat_lock.specs.History.{one_if, count, calls_by, Continues}
+use Rattle.seat_lock.specs.History.{indicator, count, calls_by, Continues}
 use Rattle.seat_lock.proofs.Histories.{count_one}
 
-pub count_cons : (x y : ℕ) (ns : List ℕ) → count x (y ∷ ns) ≡ one_if (eqb y x) + count x ns
-count_cons x y ns = sum_by-cons (λ (z : ℕ). one_if (eqb z x)) y ns
+pub count_cons : (x y : ℕ) (ns : List ℕ) → count x (y ∷ ns) ≡ indicator (eqb y x) + count x ns
+count_cons x y ns = sum_by-cons (λ (z : ℕ). indicator (eqb z x)) y ns
 
 -- one number more
 pub range_more : (a n m : ℕ) → m ≡ a + n → range_with_len a n ++ m ∷ [] ≡ range_with_len a (suc n)
@@ -21,13 +21,13 @@ range_more a (suc n) m e = ap (λ l. a ∷ l) (range_more (a + 1) n m (omega (ar
 pub in_range : (a n x : ℕ) → a ≤ x → x < a + n → 0 < count x (range_with_len a n)
 in_range a zero x le lt = absurd (omega (arith, le, lt))
 in_range a (suc n) x le lt = dite (ℕ_discrete a x)
-    (λ same. let here = ap one_if (eq-eqb a x same) in let c = count_cons x a (range_with_len (a + 1) n) in omega (arith, here, c))
+    (λ same. let here = ap indicator (eq-eqb a x same) in let c = count_cons x a (range_with_len (a + 1) n) in omega (arith, here, c))
     (λ apart. let rest = in_range (a + 1) n x (omega (arith, le, apart)) (omega (arith, lt)) in let c = count_cons x a (range_with_len (a + 1) n) in omega (arith, rest, c))
 
 pub past_range : (a n x : ℕ) → a + n ≤ x → count x (range_with_len a n) ≡ 0
 past_range a zero x le = refl
 past_range a (suc n) x le =
-    let here = ap one_if (ne_eqb a x (λ same. absurd (omega (arith, same, le)))) in
+    let here = ap indicator (ne_eqb a x (λ same. absurd (omega (arith, same, le)))) in
     let rest = past_range (a + 1) n x (omega (arith, le)) in let c = count_cons x a (range_with_len (a + 1) n) in omega (arith, here, rest, c)
 
 pub below_end : (n x : ℕ) → 0 < count x (range_with_len 0 n) → x < n
@@ -90,7 +90,7 @@ module _ {A R : Type 0} where
       let implies : (e : Entry A R) → one e ≡ true → many e ≡ true = λ e h. is_in e h in
       sym (filter_part one many implies later) ∙ ap (filter one) continues.1 ∙ filter_part one many implies earlier
     where
-      by_case : (by : ℕ) (b : Bool) → eqb number by ≡ b → 0 < one_if b → 0 < count by numbers
+      by_case : (by : ℕ) (b : Bool) → eqb number by ≡ b → 0 < indicator b → 0 < count by numbers
       by_case by true e h = let same : number ≡ by = search (e, arith) in subst (λ n. 0 < count n numbers) same in_it
       by_case by false e h = absurd (omega arith)
 

@@ -7,7 +7,7 @@ use Rattle.seat_lock.specs.declared.view.Entry.{Entry}
 use Rattle.seat_lock.specs.declared.view.Known.{Known}
 use Rattle.seat_lock.specs.History.{calls_by}
 use Rattle.seat_lock.specs.Seats.{SeatState, own}
-use Rattle.task_core.specs.Tables.{has_number}
+use Rattle.task_core.specs.Tables.{is_entry_of}
 use Rattle.shared_objects.specs.Joins.{HasTaken, IsOfThese}
 use Rattle.shared_objects.specs.Rows.{Abreast}
 use Rattle.shared_objects.specs.Taking.{AreTaken}
@@ -21,7 +21,7 @@ module _ {E Z : Type 0} (ekey : E → ℕ) (zkey : Z → ℕ) (P : E → Z → T
   IsFoundBoth (Some e) (Some z) = P e z
   IsFoundBoth e z = ⊥
 
-  pub found_both : (es : List E) (zs : List Z) → Abreast (λ e z. (zkey z ≡ ekey e) × P e z) es zs → IsFoundBoth (find (has_number ekey n) es) (find (has_number zkey n) zs)
+  pub found_both : (es : List E) (zs : List Z) → Abreast (λ e z. (zkey z ≡ ekey e) × P e z) es zs → IsFoundBoth (find (is_entry_of ekey n) es) (find (is_entry_of zkey n) zs)
   found_both [] [] are = tt
   found_both [] (z ∷ zs) are = absurd (none_left (λ e z. (zkey z ≡ ekey e) × P e z) z zs are)
   found_both (e ∷ es) [] are = absurd (none_right (λ e z. (zkey z ≡ ekey e) × P e z) e es are)
@@ -29,8 +29,8 @@ module _ {E Z : Type 0} (ekey : E → ℕ) (zkey : Z → ℕ) (P : E → Z → T
       let parts = front (λ e z. (zkey z ≡ ekey e) × P e z) e z es zs are in
       by_case (ekey e == n) refl (ap (λ k. k == n) parts.0.0) parts.0.1 (found_both es zs parts.1)
     where
-      by_case : (b : Bool) → (ekey e == n) ≡ b → (zkey z == n) ≡ (ekey e == n) → P e z → IsFoundBoth (find (has_number ekey n) es) (find (has_number zkey n) zs)
-          → IsFoundBoth (find (has_number ekey n) (e ∷ es)) (find (has_number zkey n) (z ∷ zs))
+      by_case : (b : Bool) → (ekey e == n) ≡ b → (zkey z == n) ≡ (ekey e == n) → P e z → IsFoundBoth (find (is_entry_of ekey n) es) (find (is_entry_of zkey n) zs)
+          → IsFoundBoth (find (is_entry_of ekey n) (e ∷ es)) (find (is_entry_of zkey n) (z ∷ zs))
       by_case true q same here rest = rw (q, same ∙ q) here
       by_case false q same here rest = rw (q, same ∙ q) rest
 

@@ -1,7 +1,7 @@
 -- Seats that are split off from first ones.
 use Rattle.std.proofs.Common.{◌≡◌, ◌+◌, ◌<◌, ◌==◌, cond, ℕ, Bool, true, false, List, [], ◌∷◌, All, length, get_or, Option, Some, None, arith, refl, sym, ap, subst, ◌∙◌}
 use Rattle.atomic_table.specs.Seated.{TableId}
-use Rattle.tick_clock.specs.Tickets.{PassState, fresh_pass, one_more}
+use Rattle.tick_clock.specs.Tickets.{PassState, fresh_pass, one_more_pass}
 use Rattle.seat_lock.specs.declared.view.Known.{Known}
 use Rattle.seat_lock.specs.declared.view.Rank.TheVariants.{First}
 use Rattle.seat_lock.specs.Seats.{LockId, SeatState, IsOf, is_first, new_seat, own, split_more, split_of}
@@ -68,8 +68,8 @@ module _ (clock : TableId) (n : ℕ) (held : Option PassState) (first : PassStat
       same : (a b : PassState) → Some a ≡ Some b → a ≡ b
       same a b e = cc
 
-  pub pass_more : (new : PassState) → new ≡ record first { rank = one_more first.rank } → Some new ≡ Some (first_pass_of clock (n + 1))
-  pass_more new e = ap Some (e ∙ ap (λ (p : PassState). record p { rank = one_more p.rank }) first_is)
+  pub pass_more : (new : PassState) → new ≡ record first { rank = one_more_pass first.rank } → Some new ≡ Some (first_pass_of clock (n + 1))
+  pass_more new e = ap Some (e ∙ ap (λ (p : PassState). record p { rank = one_more_pass p.rank }) first_is)
 
   pub pass_fresh : (result : PassState) → result ≡ fresh_pass first → Some result ≡ Some (fresh_pass (first_pass_of clock n))
   pass_fresh result e = ap Some (e ∙ ap fresh_pass first_is)

@@ -32,7 +32,7 @@ use Rattle.task_steps.specs.Views.{TookClear, took_bio, took_vec, took_slip, vec
 use Rattle.task_core.specs.ObjectsOf.{AreNumbered}
 use Rattle.task_core.proofs.Keeping.{is_taken, mirror_is_slips, set_is_bios}
 use Rattle.task_core.proofs.own.PlainTakes.{clear_bio_is, clear_vector_is, clear_slip_is}
-use Rattle.object_things.specs.Pools.{TookFrom, WaitsAt, had_of, take_of, took}
+use Rattle.object_things.specs.Pools.{TookFrom, WaitsAt, had_of, take_request, took}
 use Rattle.shared_objects.specs.Desks.{DeskState, HasCalled}
 use Rattle.shared_objects.specs.declared.locks.Locks.{Locks}
 use Rattle.shared_objects.specs.declared.seats.TaskSeats.{TaskSeats}
@@ -49,7 +49,7 @@ slip_is : (ledger : LedgerId) (el : Element Slip) → IsHandedOut IsClearSlip le
 slip_is ledger el out = ap clear_slip out.share ∙ sym (clear_slip_is ledger el out)
 
 -- what is asked of a pool asks the object of its number
-pub take_named : (pool : PoolId) (waits : Bool) → object_of (take_of pool waits) ≡ OfPool (pool_number pool)
+pub take_named : (pool : PoolId) (waits : Bool) → object_of (take_request pool waits) ≡ OfPool (pool_number pool)
 take_named FsBios waits = refl
 take_named FsVecs waits = refl
 take_named (Bios dev) waits = refl
@@ -59,7 +59,7 @@ pub bios_waits : (set : SetId) (waits : Bool) → WaitsAt (bios_of set) waits
 bios_waits Fs waits = tt
 bios_waits (Of dev) waits = tt
 
-take_bio_of : (set : SetId) (waits : Bool) → take_of (bios_of set) waits ≡ TakeBio set waits
+take_bio_of : (set : SetId) (waits : Bool) → take_request (bios_of set) waits ≡ TakeBio set waits
 take_bio_of Fs waits = refl
 take_bio_of (Of dev) waits = refl
 
@@ -88,22 +88,22 @@ slip_took ledger dev (Err back) out = refl
 -- A take that was told by its pool, which tells its own name, is one of the objects.
 module _ (old new : DeskState) (pool from : PoolId) (same : from ≡ pool) where
   pub bio_served : (set : SetId) (waits : Bool) (ledger : LedgerId) (result : Result (Taken (BioBody Pad)) Unmade) → pool ≡ bios_of set
-      → TookFrom IsClearBody ledger result → HasCalled old (take_of pool waits) (took from result) new → HasCalled old (TakeBio set waits) (took_bio result) new
+      → TookFrom IsClearBody ledger result → HasCalled old (take_request pool waits) (took from result) new → HasCalled old (TakeBio set waits) (took_bio result) new
   bio_served set waits ledger result e out called =
-      subst (λ (asked : Request). HasCalled old asked (took_bio result) new) (ap (λ p. take_of p waits) e ∙ take_bio_of set waits)
-      (subst (λ (reply : Reply). HasCalled old (take_of pool waits) reply new) (ap (λ p. took p result) (same ∙ e) ∙ bio_took ledger set result out) called)
+      subst (λ (asked : Request). HasCalled old asked (took_bio result) new) (ap (λ p. take_request p waits) e ∙ take_bio_of set waits)
+      (subst (λ (reply : Reply). HasCalled old (take_request pool waits) reply new) (ap (λ p. took p result) (same ∙ e) ∙ bio_took ledger set result out) called)
 
   pub vec_served : (ledger : LedgerId) (result : Result (Taken Vector) Unmade) → pool ≡ FsVecs
-      → TookFrom IsClearVector ledger result → HasCalled old (take_of pool true) (took from result) new → HasCalled old TakeVec (took_vec result) new
+      → TookFrom IsClearVector ledger result → HasCalled old (take_request pool true) (took from result) new → HasCalled old TakeVec (took_vec result) new
   vec_served ledger result e out called =
-      subst (λ (asked : Request). HasCalled old asked (took_vec result) new) (ap (λ p. take_of p true) e)
-      (subst (λ (reply : Reply). HasCalled old (take_of pool true) reply new) (ap (λ p. took p result) (same ∙ e) ∙ vec_took ledger result out) called)
+      subst (λ (asked : Request). HasCalled old asked (took_vec result) new) (ap (λ p. take_request p true) e)
+      (subst (λ (reply : Reply). HasCalled old (take_request pool true) reply new) (ap (λ p. took p result) (same ∙ e) ∙ vec_took ledger result out) called)
 
   pub slip_served : (dev : DevId) (ledger : LedgerId) (result : Result (Taken Slip) Unmade) → pool ≡ Records dev
-      → TookFrom IsClearSlip ledger result → HasCalled old (take_of pool true) (took from result) new → HasCalled old (TakeSlip dev) (took_slip result) new
+      → TookFrom IsClearSlip ledger result → HasCalled old (take_request pool true) (took from result) new → HasCalled old (TakeSlip dev) (took_slip result) new
   slip_served dev ledger result e out called =
-      subst (λ (asked : Request). HasCalled old asked (took_slip result) new) (ap (λ p. take_of p true) e)
-      (subst (λ (reply : Reply). HasCalled old (take_of pool true) reply new) (ap (λ p. took p result) (same ∙ e) ∙ slip_took ledger dev result out) called)
+      subst (λ (asked : Request). HasCalled old asked (took_slip result) new) (ap (λ p. take_request p true) e)
+      (subst (λ (reply : Reply). HasCalled old (take_request pool true) reply new) (ap (λ p. took p result) (same ∙ e) ∙ slip_took ledger dev result out) called)
 
 -- what is taken is of the pool that was named
 module _ (stage : Stage) (numbered : AreNumbered stage) where

@@ -21,7 +21,7 @@ use Rattle.shared_objects.specs.Led.{BrokeOff, IsLed}
 use Rattle.shared_objects.specs.Left.{HasClosed}
 use Rattle.shared_objects.specs.Logs.{FoundNone, is_event, is_glance, is_refused, is_stop}
 use Rattle.shared_objects.specs.Passes.{found_by, numbers_of}
-use Rattle.shared_objects.specs.Tickets.{AreOfHistories, ClosesShowTickets, HasDrawn, IsBehind, IsEvent, IsRefused, ShowsItsTickets}
+use Rattle.shared_objects.specs.Tickets.{AreOfHistories, ClosesShowTickets, DrewTicket, IsBehind, IsEvent, IsRefusedCall, ShowsItsTickets}
 use Rattle.shared_objects.specs.declared.closed.Closed.{Closed}
 use Rattle.shared_objects.proofs.Drawn.{drawn_of, drew_of, flat_all, in_row, last_drawn, map_from, map_there, ticket_from}
 use Rattle.shared_objects.proofs.Leading.{kinds, logs_lead}
@@ -66,7 +66,7 @@ same_stops set first now log led call other there here stop halt = by_stops led.
 module _ (set : Setup) (plain : Plain) (names : List Object) (history : Object → List Call) (left : (name : Object) → ThingState (ThingAt name)) (tasks : List Returned)
     (pass : PassState) (c : ClosesAs set plain names history left tasks pass) (found : All (λ (task : Returned). found_by task.desk.pass ≤ pass.known) tasks) where
   -- a call that drew a ticket is an event, or was refused
-  told_or_refused : (name : Object) (call : Call) (n : ℕ) → Contains (history name) call → call.told.ticket ≡ Some n → IsEvent call ⊎ IsRefused call
+  told_or_refused : (name : Object) (call : Call) (n : ℕ) → Contains (history name) call → call.told.ticket ≡ Some n → IsEvent call ⊎ IsRefusedCall call
   told_or_refused name call n there is = by_event (is_event call.asked call.told.reply) refl
     where
       p : IsInPlace set plain names history left tasks pass c name call
@@ -75,12 +75,12 @@ module _ (set : Setup) (plain : Plain) (names : List Object) (history : Object �
       step : StepOf (serves_at name) (looks_at name) p.here call.asked call.told.reply (Some n) p.next
       step = subst (λ t. StepOf (serves_at name) (looks_at name) p.here call.asked call.told.reply t p.next) is p.answers.step
 
-      by_event : (b : Bool) → is_event call.asked call.told.reply ≡ b → IsEvent call ⊎ IsRefused call
+      by_event : (b : Bool) → is_event call.asked call.told.reply ≡ b → IsEvent call ⊎ IsRefusedCall call
       by_event true e = inl e
       by_event false e = inr (served_refused name p.here.object p.next.object call.asked call.told.reply step.0 e)
 
   abbrev Stands : Ticket → Type 0
-  Stands ticket = (call : Call) × HasDrawn history ticket.number call × (IsEvent call ⊎ IsRefused call)
+  Stands ticket = (call : Call) × DrewTicket history ticket.number call × (IsEvent call ⊎ IsRefusedCall call)
 
   -- the ticket of a call of a task stands in the history of the object that was asked
   of_task : (place : ℕ) (task : Returned) → slice_get tasks place ≡ Some task → (ticket : Ticket) → Contains (drawn_of task) ticket → Stands ticket
@@ -112,7 +112,7 @@ module _ (set : Setup) (plain : Plain) (names : List Object) (history : Object �
       by_two (inl is) = inl is
       by_two (inr (other, inside, is)) = let o = by_number other inside in inr (o.0, o.1, is ∙ ap (λ n. n + 1) (sym o.2))
 
-  one_refused : (one other : ℕ) (call later : Call) → HasDrawn history one call → IsRefused call → HasDrawn history other later → IsRefused later → call.by ≡ later.by → one ≡ other
+  one_refused : (one other : ℕ) (call later : Call) → DrewTicket history one call → IsRefusedCall call → DrewTicket history other later → IsRefusedCall later → call.by ≡ later.by → one ≡ other
   one_refused one other call later drew refused drew_later refused_later same =
       ap (or_last 0) (sym drew.2 ∙ ap (λ (x : Call). x.told.ticket) is ∙ drew_later.2)
     where

@@ -15,18 +15,18 @@ struck (GiveSlip slip) = GiveSlip (clear_slip slip.share)
 struck (NextRound round) = NextRound 0
 struck request = request
 
-abbrev pub is_same : Object → Object → Bool
-is_same (OfPool a) (OfPool b) = a == b
-is_same (OfRescuer a) (OfRescuer b) = a == b
-is_same (OfDisk a) (OfDisk b) = a == b
-is_same (OfBook a) (OfBook b) = a == b
-is_same OfTally OfTally = true
-is_same OfNone OfNone = true
-is_same a b = false
+abbrev pub is_same_object : Object → Object → Bool
+is_same_object (OfPool a) (OfPool b) = a == b
+is_same_object (OfRescuer a) (OfRescuer b) = a == b
+is_same_object (OfDisk a) (OfDisk b) = a == b
+is_same_object (OfBook a) (OfBook b) = a == b
+is_same_object OfTally OfTally = true
+is_same_object OfNone OfNone = true
+is_same_object a b = false
 
 -- those of a list of calls that ask the object of this name
 abbrev pub calls_to : Object → List Call → List Call
-calls_to name calls = filter (λ (call : Call). is_same name (object_of call.asked)) calls
+calls_to name calls = filter (λ (call : Call). is_same_object name (object_of call.asked)) calls
 
 -- the calls of a task at each object
 pub record CallsAt : Type 0 where

@@ -9,14 +9,14 @@ use Rattle.task_core.specs.Plains.{no_book, no_disk, no_pool}
 use Rattle.task_core.specs.Tables.{look_up}
 use Rattle.object_things.specs.Histories.{Call}
 use Rattle.object_things.specs.Stamps.{Held, ThingState, thing_state}
-use Rattle.shared_objects.specs.Calls.{is_same}
+use Rattle.shared_objects.specs.Calls.{is_same_object}
 use Rattle.shared_objects.specs.Holding.{by_pool, dev_key, set_key, slip_key, writer_key}
 use Rattle.shared_objects.specs.Names.{once}
 use Rattle.shared_objects.specs.Kinds.{ThingAt, no_list, unasked}
 use Rattle.shared_objects.specs.declared.closed.Closed.{Closed}
 
-abbrev pub state_of : {O : Type 0} → Held O → ThingState O
-state_of held = thing_state held.object held.stamp
+abbrev pub state_of_held : {O : Type 0} → Held O → ThingState O
+state_of_held held = thing_state held.object held.stamp
 
 -- the objects that were shared
 abbrev pub names_of : Closed → List Object
@@ -30,7 +30,7 @@ names_of closed =
 
 -- each once
 abbrev pub names_in : Closed → List Object
-names_in closed = once is_same (names_of closed)
+names_in closed = once is_same_object (names_of closed)
 
 -- what the first seat of each lock had seen at the end: its whole history
 abbrev pub history_in : Closed → Object → List Call
@@ -44,16 +44,16 @@ history_in closed OfTally = closed.tally.told.value.known.seen
 history_in closed OfNone = []
 
 -- what is left of each object; one that was not shared is as it was opened
-abbrev pub left_in : Closed → Plain → (name : Object) → ThingState (ThingAt name)
-left_in closed opened (OfPool number) =
-    by_pool (state_of closed.vecs.thing)
-    (look_up (λ entry. set_key entry.0) (λ entry. state_of entry.1.thing) (λ n. unasked (no_pool opened.stage.value.stack opened.vecs.ledger n)) closed.bios.items)
-    (look_up (λ entry. slip_key entry.0) (λ entry. state_of entry.1.thing) (λ n. unasked (no_pool opened.stage.value.stack opened.vecs.ledger n)) closed.records.items) number
-left_in closed opened (OfRescuer dev) =
-    look_up (λ entry. dev_key entry.0) (λ entry. state_of entry.1.thing) (λ n. unasked (no_list n)) closed.lists.items dev
-left_in closed opened (OfDisk dev) =
-    look_up (λ shut. shut.thing.object.dev.0) (λ shut. state_of shut.thing) (λ n. unasked (no_disk opened.stage.value.stack n)) closed.disks.items dev
-left_in closed opened (OfBook writer) =
-    look_up (λ entry. writer_key entry.0) (λ entry. state_of entry.1.thing) (λ n. unasked (no_book n)) closed.books.items writer
-left_in closed opened OfTally = state_of closed.tally.thing
-left_in closed opened OfNone = unasked tt
+abbrev pub object_left_in : Closed → Plain → (name : Object) → ThingState (ThingAt name)
+object_left_in closed opened (OfPool number) =
+    by_pool (state_of_held closed.vecs.thing)
+    (look_up (λ entry. set_key entry.0) (λ entry. state_of_held entry.1.thing) (λ n. unasked (no_pool opened.stage.value.stack opened.vecs.ledger n)) closed.bios.items)
+    (look_up (λ entry. slip_key entry.0) (λ entry. state_of_held entry.1.thing) (λ n. unasked (no_pool opened.stage.value.stack opened.vecs.ledger n)) closed.records.items) number
+object_left_in closed opened (OfRescuer dev) =
+    look_up (λ entry. dev_key entry.0) (λ entry. state_of_held entry.1.thing) (λ n. unasked (no_list n)) closed.lists.items dev
+object_left_in closed opened (OfDisk dev) =
+    look_up (λ shut. shut.thing.object.dev.0) (λ shut. state_of_held shut.thing) (λ n. unasked (no_disk opened.stage.value.stack n)) closed.disks.items dev
+object_left_in closed opened (OfBook writer) =
+    look_up (λ entry. writer_key entry.0) (λ entry. state_of_held entry.1.thing) (λ n. unasked (no_book n)) closed.books.items writer
+object_left_in closed opened OfTally = state_of_held closed.tally.thing
+object_left_in closed opened OfNone = unasked tt

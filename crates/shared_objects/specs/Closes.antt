@@ -9,7 +9,7 @@ use Rattle.run_machine.specs.Tasks.{TaskState}
 use Rattle.task_core.specs.declared.plain.Plain.{Plain}
 use Rattle.object_things.specs.Histories.{Call}
 use Rattle.object_things.specs.Stamps.{ThingState}
-use Rattle.shared_objects.specs.Calls.{calls_to, is_same}
+use Rattle.shared_objects.specs.Calls.{calls_to, is_same_object}
 use Rattle.shared_objects.specs.Desks.{DeskState}
 use Rattle.shared_objects.specs.Names.{Apart}
 use Rattle.shared_objects.specs.Kinds.{ThingAt, answers_at, opened_at, unasked}
@@ -27,8 +27,8 @@ pub record Returned : Type 0 where
 -- first pass of the clock, into which every other was joined.
 pub record ClosesAs (setup : Setup) (opened : Plain) (names : List Object) (history : Object → List Call) (left : (name : Object) → ThingState (ThingAt name))
     (tasks : List Returned) (pass : PassState) : Type 0 where
-  pub apart : Apart is_same names
-  pub others : (name : Object) → list_any (is_same name) names ≡ false → history name ≡ []
+  pub apart : Apart is_same_object names
+  pub others : (name : Object) → list_any (is_same_object name) names ≡ false → history name ≡ []
   -- each object is what its whole history leaves of it, and was asked what is for it
   pub things : (name : Object) → Leads (answers_at name) (unasked (opened_at opened name)) (history name) (left name)
   pub named : (name : Object) → All (λ (call : Call). object_of call.asked ≡ name) (history name)

@@ -3,7 +3,7 @@ use Rattle.std.specs.Prelude.{◌≡◌, List, All, length, Some}
 use Rattle.tick_clock.specs.Tickets.{PassState}
 use Rattle.run_machine.specs.Scene.{Setup}
 use Rattle.task_core.specs.declared.plain.Plain.{Plain}
-use Rattle.shared_objects.specs.Closed.{history_in, left_in, names_in}
+use Rattle.shared_objects.specs.Closed.{history_in, object_left_in, names_in}
 use Rattle.shared_objects.specs.Closes.{ClosesAs, Returned}
 use Rattle.shared_objects.specs.Holding.{SeatsHold, desk_of}
 use Rattle.shared_objects.specs.Logs.{HasStopped, IsLogged}
@@ -22,4 +22,4 @@ LocksCloseAs = (setup : Setup) (opened : Plain) (locks : Locks) (firsts : TaskSe
     → AreOfOpened opened locks → HasShut locks firsts closed → TakenHold (length all) locks all firsts → All (SeatsHold locks) all
     → Abreast (λ (seats : TaskSeats) (task : Returned). task.desk ≡ desk_of seats) all returned
     → All (λ (task : Returned). IsLogged setup task.first task.log task.task task.desk × HasStopped setup task.log task.task) returned → firsts.pass ≡ Some pass
-    → ClosesAs setup opened (names_in closed) (history_in closed) (left_in closed opened) returned pass
+    → ClosesAs setup opened (names_in closed) (history_in closed) (object_left_in closed opened) returned pass

@@ -17,7 +17,7 @@ use Rattle.run_machine.specs.Opened.{at}
 use Rattle.run_machine.specs.Requests.{Request}
 use Rattle.task_steps.specs.Stage.{Stage, has_book, has_rescuer, has_disk, is_bios, is_slips}
 use Rattle.task_core.specs.Tables.{look_up, AreAt}
-use Rattle.task_core.specs.Plains.{Holds, is_of_set}
+use Rattle.task_core.specs.Plains.{Holds, is_bios_number}
 use Rattle.object_things.specs.Stamps.{CommonState, MarkState, Told, stage_in}
 use Rattle.object_things.specs.Histories.{Call}
 use Rattle.object_things.specs.Books.{book_mark}
@@ -106,7 +106,7 @@ calls_in {K = K} {T = T} key seats = look_up (λ (e : K × SeatState T Request T
 
 -- what pools have by their numbers, from what those of each kind have
 abbrev pub by_pool : {X : Type 0} → X → (ℕ → X) → (ℕ → X) → ℕ → X
-by_pool vecs bios records number = if number == 64 then vecs else if is_of_set number then bios number else records number
+by_pool vecs bios records number = if number == 64 then vecs else if is_bios_number number then bios number else records number
 
 -- the calls that a task has made, as its seats know them
 abbrev pub calls_of : TaskSeats → CallsAt

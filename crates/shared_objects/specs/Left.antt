@@ -2,12 +2,12 @@
 use Rattle.std.specs.Prelude.{◌≡◌, ◌-◌, ◌^◌, ◌≤◌, ℕ, List, All, length, map, min}
 use Rattle.std.specs.Option.{is_some}
 use Rattle.run_machine.specs.Scene.{Setup}
-use Rattle.task_steps.specs.Routed.{setup}
+use Rattle.task_steps.specs.Routed.{routing_setup}
 use Rattle.task_core.specs.declared.plain.Plain.{Plain}
-use Rattle.task_core.specs.Leaving.{HasRoom}
+use Rattle.task_core.specs.Leaving.{IsReservedForRun}
 use Rattle.task_core.specs.opened.OfOne.{IsOpened, scenario_in, states}
 use Rattle.task_core.specs.Plains.{book_number, disk_number, list_number, records_number, set_number, stage_of}
-use Rattle.shared_objects.specs.Closed.{history_in, left_in, names_in}
+use Rattle.shared_objects.specs.Closed.{history_in, object_left_in, names_in}
 use Rattle.shared_objects.specs.Closes.{ClosesAs, Returned}
 use Rattle.shared_objects.specs.Holding.{desk_of, dev_key, set_key, slip_key, writer_key}
 use Rattle.shared_objects.specs.Logs.{events_in}
@@ -18,7 +18,7 @@ use Rattle.shared_objects.specs.declared.closed.Closed.{Closed}
 use Rattle.shared_objects.specs.declared.closed.ClosedTask.{ClosedTask}
 
 -- what is left of the locks of each kind stands in the order of the objects as they were opened
-pub record AreInOrder (opened : Plain) (closed : Closed) : Type 0 where
+pub record AreInOpenedOrder (opened : Plain) (closed : Closed) : Type 0 where
   pub bios : map (λ entry. set_key entry.0) closed.bios.items ≡ map set_number opened.bios.items
   pub records : map (λ entry. slip_key entry.0) closed.records.items ≡ map records_number opened.records.items
   pub lists : map (λ entry. dev_key entry.0) closed.lists.items ≡ map list_number opened.lists.items
@@ -38,13 +38,13 @@ pub record IsReturned (setup : Setup) (closed : ClosedTask) (returned : Returned
 pub record HasClosed (closed : Closed) : Type 0 where
   pub opened : IsOpened closed.told.value
   pub returned : List Returned
-  pub closes : ClosesAs (setup (stage_of closed.told.value.objects).routing) closed.told.value.objects (names_in closed) (history_in closed)
-      (left_in closed closed.told.value.objects) returned closed.pass.value
+  pub closes : ClosesAs (routing_setup (stage_of closed.told.value.objects).routing) closed.told.value.objects (names_in closed) (history_in closed)
+      (object_left_in closed closed.told.value.objects) returned closed.pass.value
   pub firsts : map (λ (task : Returned). task.first) returned ≡ states closed.told.value.tasks.items
-  pub tasks : Abreast (IsReturned (setup (stage_of closed.told.value.objects).routing)) closed.tasks.items returned
+  pub tasks : Abreast (IsReturned (routing_setup (stage_of closed.told.value.objects).routing)) closed.tasks.items returned
   -- each task noted its events exactly where there is a trace
   pub trace : All (λ (task : ClosedTask). is_some task.noted ≡ closed.trace) closed.tasks.items
   -- the first pass has found what those of the tasks have
   pub found : All (λ (task : Returned). found_by task.desk.pass ≤ closed.pass.value.known) returned
-  pub order : AreInOrder closed.told.value.objects closed
-  pub room : HasRoom (scenario_in closed.told.value).stack (length (scenario_in closed.told.value).writes) closed.room
+  pub order : AreInOpenedOrder closed.told.value.objects closed
+  pub room : IsReservedForRun (scenario_in closed.told.value).stack (length (scenario_in closed.told.value).writes) closed.room

@@ -13,7 +13,7 @@ use Rattle.task_steps.specs.Stage.{Stage, AreServed}
 use Rattle.task_steps.specs.TaskViews.{TaskOf}
 use Rattle.task_core.specs.declared.ended.Ended.{Ended}
 use Rattle.task_core.specs.declared.plain.Plain.{Plain}
-use Rattle.task_core.specs.Leaving.{HasRoom}
+use Rattle.task_core.specs.Leaving.{IsReservedForRun}
 use Rattle.task_core.specs.ObjectsOf.{IsBookOf, IsDiskOf}
 use Rattle.task_core.specs.Plains.{Holds, stage_of}
 use Rattle.object_things.specs.Pools.{IsPoolOf}
@@ -22,7 +22,7 @@ use Rattle.shared_objects.specs.Guards.{guarded}
 use Rattle.shared_objects.specs.Holding.{IsSeatOf, dev_key, set_key, slip_key, stage_at}
 use Rattle.shared_objects.specs.Rans.{IsNewRan, RanState, ran_key}
 use Rattle.shared_objects.specs.Rows.{Abreast, IsFirstOf}
-use Rattle.shared_objects.specs.Shared.{HasRoomFor, key_at}
+use Rattle.shared_objects.specs.Shared.{HasRoomFor, ran_key_at}
 use Rattle.shared_objects.specs.declared.closed.Room.{Room}
 use Rattle.shared_objects.specs.declared.locks.Locks.{Locks}
 use Rattle.shared_objects.specs.declared.seats.TaskSeats.{TaskSeats}
@@ -88,7 +88,7 @@ pub record AreNew (task : ℕ) (locks : Locks) (seats : TaskSeats) : Type 0 wher
 -- a task with its seats stands here, as it was opened
 abbrev pub IsTaskAt : Locks → ℕ → TaskOf → Option RanState → Type 0
 IsTaskAt locks place task None = ⊥
-IsTaskAt locks place task (Some ran) = IsNewRan ran × (ran_key ran ≡ key_at locks place task)
+IsTaskAt locks place task (Some ran) = IsNewRan ran × (ran_key ran ≡ ran_key_at locks place task)
 
 -- so it is with each task, in their order
 pub record AreTasksAt (locks : Locks) (tasks : List TaskOf) (slots : List (Option RanState)) : Type 0 where
@@ -102,4 +102,4 @@ IsTaskFor locks task = (task.routing ≡ (stage_at locks).routing) × IsTaskOf (
 
 -- with the room that its run wants, it is room for what is left of these locks and of so many tasks
 abbrev pub IsRoomWith : Locks → ℕ → Ended → Room → Type 0
-IsRoomWith locks tasks ended room = (s : Scenario) → HasRoom s.stack (length s.writes) ended → HasRoomFor locks tasks s room
+IsRoomWith locks tasks ended room = (s : Scenario) → IsReservedForRun s.stack (length s.writes) ended → HasRoomFor locks tasks s room

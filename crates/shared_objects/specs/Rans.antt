@@ -7,7 +7,7 @@ use Rattle.run_machine.specs.Laws.{Object}
 use Rattle.task_steps.specs.declared.step.Step.{Step}
 use Rattle.task_steps.specs.declared.step.Step.TheVariants.{Stepped, Ended, Broken}
 use Rattle.task_steps.specs.Homes.{IsTaskOf}
-use Rattle.task_steps.specs.Routed.{setup}
+use Rattle.task_steps.specs.Routed.{routing_setup}
 use Rattle.task_steps.specs.Stage.{Stage, Owes}
 use Rattle.task_steps.specs.TaskViews.{TaskOf}
 use Rattle.task_steps.specs.Turns.{Turns}
@@ -25,11 +25,11 @@ use Rattle.shared_objects.specs.declared.seats.TaskSeats.{TaskSeats}
 -- step of it answered so. What it noted is all its events, or those before one for which there was no memory.
 pub record IsRan (first task : TaskOf) (desk : DeskState) (events : ℕ) (stopped : Bool) (noted : Option Noted) : Type 0 where
   pub log : List Call
-  pub logged : IsLogged (setup first.routing) first.state log task.state desk
+  pub logged : IsLogged (routing_setup first.routing) first.state log task.state desk
   pub routing : task.routing ≡ first.routing
   pub counted : events ≡ min (length (events_in log)) (2 ^ 64 - 1)
-  pub stops : stopped ≡ true → HasStopped (setup first.routing) log task.state
-  pub notes : HaveTickets log → AreNoted (notes_of (setup first.routing) first.state log) noted
+  pub stops : stopped ≡ true → HasStopped (routing_setup first.routing) log task.state
+  pub notes : HaveTickets log → AreNoted (notes_of (routing_setup first.routing) first.state log) noted
 
 -- how many events there are behind a step, and whether the task has stopped
 abbrev pub events_after : Step → ℕ → ℕ
@@ -44,7 +44,7 @@ stopped_after step stopped = stopped
 -- each step of the task at its desk keeps it
 abbrev pub StepsKeepRan : Type 0
 StepsKeepRan = (stage : Stage) (first task next : TaskOf) (old new : DeskState) (step : Step) (events : ℕ) (stopped : Bool) (noted after : Option Noted)
-    → IsRan first task old events stopped noted → Turns DeskServes (Owes stage) (setup task.routing) task.state old next.state new step
+    → IsRan first task old events stopped noted → Turns DeskServes (Owes stage) (routing_setup task.routing) task.state old next.state new step
     → next.routing ≡ task.routing → NotesStep step (seen_by new.pass) noted after
     → IsRan first next new (events_after step events) (stopped_after step stopped) after
 
@@ -109,7 +109,7 @@ pub record IsNewRan (ran : RanState) : Type 0 where
   pub blank : IsBlank ran.noted
 
 -- whether a step tells that the task has stopped
-abbrev pub is_over : Step → Bool
-is_over Ended = true
-is_over (Broken breach) = true
-is_over step = false
+abbrev pub has_stopped : Step → Bool
+has_stopped Ended = true
+has_stopped (Broken breach) = true
+has_stopped step = false

@@ -3,7 +3,7 @@ use Rattle.std.specs.Prelude.{◌≡◌, ◌<◌, ◌≤◌, ◌+◌, ℕ, Bool,
 use Rattle.seat_lock.specs.Seats.{IsOf}
 use Rattle.run_machine.specs.Opened.{Scenario}
 use Rattle.task_steps.specs.TaskViews.{TaskOf}
-use Rattle.task_core.specs.Leaving.{HasRoom}
+use Rattle.task_core.specs.Leaving.{IsReservedForRun}
 use Rattle.task_core.specs.opened.OfOne.{IsOpened, scenario_in}
 use Rattle.shared_objects.specs.Holding.{IsPassOf, LocksHold}
 use Rattle.shared_objects.specs.Rans.{IsNewRan, RanKey, RanState, most_tasks, ran_key}
@@ -34,7 +34,7 @@ pub record HasRoomFor (locks : Locks) (count : ℕ) (s : Scenario) (room : Room)
   pub disks : (room.disks.items ≡ []) × (length locks.disks.items ≤ vec_capacity room.disks)
   pub books : (room.books.items ≡ []) × (length locks.books.items ≤ vec_capacity room.books)
   pub tasks : (room.tasks.items ≡ []) × (count ≤ vec_capacity room.tasks)
-  pub ended : HasRoom s.stack (length s.writes) room.ended
+  pub ended : IsReservedForRun s.stack (length s.writes) room.ended
 
 -- a task is out, or it is here and its own
 abbrev pub IsOwnIfHere : RanKey → Option RanState → Type 0
@@ -52,8 +52,8 @@ IsBackStopped None = ⊥
 IsBackStopped (Some ran) = ran.stopped ≡ true
 
 -- what stays of the task at a place, which was opened as this one
-abbrev pub key_at : Locks → ℕ → TaskOf → RanKey
-key_at locks place first = record { first = first; home = locks; number = place }
+abbrev pub ran_key_at : Locks → ℕ → TaskOf → RanKey
+ran_key_at locks place first = record { first = first; home = locks; number = place }
 
 -- What holds of them between calls.
 pub record SharedHolds (shared : Shared) : Type 0 where
@@ -66,7 +66,7 @@ pub record SharedHolds (shared : Shared) : Type 0 where
   pub all : length shared.tasks.items ≡ length shared.told.value.tasks.items
   pub few : length shared.tasks.items ≤ most_tasks
   pub own : (place : ℕ) (first : TaskOf) (slot : Option RanState) → place < length shared.tasks.items
-      → IsOwnIfHere (key_at shared.locks place (slice_index_or shared.told.value.tasks.items place first)) (slice_index_or shared.tasks.items place slot)
+      → IsOwnIfHere (ran_key_at shared.locks place (slice_index_or shared.told.value.tasks.items place first)) (slice_index_or shared.tasks.items place slot)
   -- those from this one on were not handed out
   pub next : shared.next ≤ length shared.tasks.items
   pub untaken : (place : ℕ) (slot : Option RanState) → shared.next ≤ place → place < length shared.tasks.items → IsUntaken (slice_index_or shared.tasks.items place slot)
@@ -81,7 +81,7 @@ pub record SameShared (old new : Shared) : Type 0 where
 -- the next task is handed out
 pub record HandsOut (old : Shared) (ran : RanState) (new : Shared) : Type 0 where
   pub some : old.next < length old.tasks.items
-  pub key : (first : TaskOf) → ran_key ran ≡ key_at old.locks old.next (slice_index_or old.told.value.tasks.items old.next first)
+  pub key : (first : TaskOf) → ran_key ran ≡ ran_key_at old.locks old.next (slice_index_or old.told.value.tasks.items old.next first)
   pub is_new : IsNewRan ran
   pub next : new.next ≡ old.next + 1
   pub tasks : new.tasks.items ≡ slice_set old.tasks.items old.next None
@@ -90,7 +90,7 @@ pub record HandsOut (old : Shared) (ran : RanState) (new : Shared) : Type 0 wher
 -- the task of this key was handed out and did not come back
 pub record IsOut (shared : Shared) (key : RanKey) : Type 0 where
   pub taken : key.number < shared.next
-  pub own : (first : TaskOf) → key ≡ key_at shared.locks key.number (slice_index_or shared.told.value.tasks.items key.number first)
+  pub own : (first : TaskOf) → key ≡ ran_key_at shared.locks key.number (slice_index_or shared.told.value.tasks.items key.number first)
   pub vacant : (slot : Option RanState) → slice_index_or shared.tasks.items key.number slot ≡ None
 
 -- a task came back

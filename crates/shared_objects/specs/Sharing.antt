@@ -14,8 +14,8 @@ abbrev pub AreRound : {K O T : Type 0} → (O → T) → List (K × O) → List 
 AreRound guard objects locks = Abreast (λ entry lock. (lock.0 ≡ entry.0) × (lock.1.key.value ≡ guard entry.1)) objects locks
 
 -- disks, each with its device
-abbrev pub keyed : List DiskState → List (DevId × DiskState)
-keyed disks = map (λ disk. (disk.dev, disk)) disks
+abbrev pub disks_by_device : List DiskState → List (DevId × DiskState)
+disks_by_device disks = map (λ disk. (disk.dev, disk)) disks
 
 -- the locks are round these objects, of which nothing was asked
 pub record AreOfOpened (opened : Plain) (locks : Locks) : Type 0 where
@@ -25,6 +25,6 @@ pub record AreOfOpened (opened : Plain) (locks : Locks) : Type 0 where
   pub vecs : locks.vecs.key.value ≡ guarded locks.common.value opened.vecs
   pub records : AreRound (guarded locks.common.value) opened.records.items locks.records.items
   pub lists : AreRound (guarded locks.common.value) opened.lists.items locks.lists.items
-  pub disks : AreRound (guarded locks.common.value) (keyed opened.disks.items) locks.disks.items
+  pub disks : AreRound (guarded locks.common.value) (disks_by_device opened.disks.items) locks.disks.items
   pub books : AreRound (guarded locks.common.value) opened.books.items locks.books.items
   pub tally : locks.tally.key.value ≡ guarded locks.common.value (tally_of opened.tally)

@@ -19,14 +19,14 @@ abbrev pub IsBehind : List Ticket → Ticket → Type 0
 IsBehind tickets ticket = (ticket.number ≡ 1) ⊎ ((other : Ticket) × Contains tickets other × (ticket.number ≡ other.number + 1))
 
 -- a call in the history of some object drew the ticket of this number
-abbrev pub HasDrawn : (Object → List Call) → ℕ → Call → Type 0
-HasDrawn history number call = (name : Object) × Contains (history name) call × (call.told.ticket ≡ Some number)
+abbrev pub DrewTicket : (Object → List Call) → ℕ → Call → Type 0
+DrewTicket history number call = (name : Object) × Contains (history name) call × (call.told.ticket ≡ Some number)
 
 abbrev pub IsEvent : Call → Type 0
 IsEvent call = is_event call.asked call.told.reply ≡ true
 
-abbrev pub IsRefused : Call → Type 0
-IsRefused call = is_refused call.asked call.told.reply ≡ true
+abbrev pub IsRefusedCall : Call → Type 0
+IsRefusedCall call = is_refused call.asked call.told.reply ≡ true
 
 -- The tickets that were drawn of a clock, and the histories of the objects that draw of it.
 pub record AreOfHistories (history : Object → List Call) (tickets : List Ticket) : Type 0 where
@@ -34,9 +34,9 @@ pub record AreOfHistories (history : Object → List Call) (tickets : List Ticke
   pub apart : AreApart tickets
   pub row : All (IsBehind tickets) tickets
   -- each is that of an event in the histories, or of a call that was refused
-  pub drawn : All (λ (ticket : Ticket). (call : Call) × HasDrawn history ticket.number call × (IsEvent call ⊎ IsRefused call)) tickets
+  pub drawn : All (λ (ticket : Ticket). (call : Call) × DrewTicket history ticket.number call × (IsEvent call ⊎ IsRefusedCall call)) tickets
   -- of which each task has one at most
-  pub few : (one other : ℕ) (call later : Call) → HasDrawn history one call → IsRefused call → HasDrawn history other later → IsRefused later → call.by ≡ later.by → one ≡ other
+  pub few : (one other : ℕ) (call later : Call) → DrewTicket history one call → IsRefusedCall call → DrewTicket history other later → IsRefusedCall later → call.by ≡ later.by → one ≡ other
   -- where a draw found none, the last one is among them
   pub last : (name : Object) (call : Call) → Contains (history name) call → FoundNone call → (ticket : Ticket) × Contains tickets ticket × (ticket.number ≡ 2 ^ 64 - 1)
 

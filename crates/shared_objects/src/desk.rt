@@ -2,7 +2,7 @@
 ghost use Rattle.std.specs.Prelude.{◌≡◌, IsTrue};
 ghost use Rattle.bio_records.specs.Clear.{IsClearBody};
 ghost use Rattle.run_machine.specs.Laws.{OfPool, OfRescuer, OfDisk, OfBook, OfTally, object_of};
-ghost use Rattle.task_steps.specs.Stage.{Fits, Owes, has_book, has_disk, has_rescuer, is_bios, is_slips};
+ghost use Rattle.task_steps.specs.Stage.{RequestFits, Owes, has_book, has_disk, has_rescuer, is_bios, is_slips};
 ghost use Rattle.object_things.specs.Books.{BookAskAlone, BookSays, book_asked, book_replied};
 ghost use Rattle.object_things.specs.Disks.{DiskAskAlone, DiskSays, disk_asked, disk_replied};
 ghost use Rattle.object_things.specs.Lists.{ListSays, list_asked, list_replied};
@@ -126,7 +126,7 @@ impl<'a, R: Wait> Desk<'a, R> {
         requires holds { DeskHolds self.old.locks.now self.old.seats }
         requires rescuer { IsTrue (has_rescuer (stage_at self.old.locks.now) dev) }
         requires named { object_of (list_asked ask) ≡ OfRescuer dev.0 }
-        requires fits { Fits (stage_at self.old.locks.now) (list_asked ask) }
+        requires fits { RequestFits (stage_at self.old.locks.now) (list_asked ask) }
         ensures calls { HasCalled (desk_of self.old.seats) (list_asked ask) (list_replied result) (desk_of self.new.seats) }
         ensures owed { Owes (stage_at self.old.locks.now) (list_asked ask) (list_replied result) }
         ensures says { ListSays ask result }
@@ -151,7 +151,7 @@ impl<'a, R: Wait> Desk<'a, R> {
         requires holds { DeskHolds self.old.locks.now self.old.seats }
         requires disk { IsTrue (has_disk (stage_at self.old.locks.now) disk) }
         requires named { object_of (disk_asked ask) ≡ OfDisk disk.0 }
-        requires fits { Fits (stage_at self.old.locks.now) (disk_asked ask) }
+        requires fits { RequestFits (stage_at self.old.locks.now) (disk_asked ask) }
         requires alone { DiskAskAlone ask }
         ensures calls { HasCalled (desk_of self.old.seats) (disk_asked ask) (disk_replied result) (desk_of self.new.seats) }
         ensures says { DiskSays (stage_at self.old.locks.now) ask result }
@@ -176,7 +176,7 @@ impl<'a, R: Wait> Desk<'a, R> {
         requires holds { DeskHolds self.old.locks.now self.old.seats }
         requires book { IsTrue (has_book (stage_at self.old.locks.now) writer) }
         requires named { object_of (book_asked ask) ≡ OfBook writer }
-        requires fits { Fits (stage_at self.old.locks.now) (book_asked ask) }
+        requires fits { RequestFits (stage_at self.old.locks.now) (book_asked ask) }
         requires alone { BookAskAlone ask }
         ensures calls { HasCalled (desk_of self.old.seats) (book_asked ask) (book_replied result) (desk_of self.new.seats) }
         ensures owed { Owes (stage_at self.old.locks.now) (book_asked ask) (book_replied result) }
@@ -201,7 +201,7 @@ impl<'a, R: Wait> Desk<'a, R> {
     fn ask_tally(&mut self, ask: TallyAsk) -> TallySaid
         requires holds { DeskHolds self.old.locks.now self.old.seats }
         requires named { object_of (tally_asked ask) ≡ OfTally }
-        requires fits { Fits (stage_at self.old.locks.now) (tally_asked ask) }
+        requires fits { RequestFits (stage_at self.old.locks.now) (tally_asked ask) }
         ensures calls { HasCalled (desk_of self.old.seats) (tally_asked ask) (tally_replied result) (desk_of self.new.seats) }
         ensures owed { Owes (stage_at self.old.locks.now) (tally_asked ask) (tally_replied result) }
         ensures says { TallySays ask result }

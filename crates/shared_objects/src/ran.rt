@@ -67,7 +67,7 @@ impl Ran {
     ghost use Rattle.std.specs.Prelude.{false};
     ghost use Rattle.run_machine.specs.Events.{id_of};
     ghost use Rattle.task_steps.specs.Homes.{IsTaskOf};
-    ghost use Rattle.task_steps.specs.Routed.{setup};
+    ghost use Rattle.task_steps.specs.Routed.{routing_setup};
     ghost use Rattle.task_steps.specs.Stage.{Owes};
     ghost use Rattle.task_steps.specs.TaskViews.{ChosenBy};
     ghost use Rattle.task_steps.specs.Turns.{Turns};
@@ -105,7 +105,7 @@ impl Ran {
     /// Steps the task once, at a desk of the locks that its seats are of. Where that is wanted, it notes its event, with the ticket.
     pub fn step<R: Wait, C: Chooser>(self, rt: &R, locks: &Locks, chooser: &mut C) -> (Ran, Step)
         requires home { self.home ≡ locks.now }
-        ensures turns { Turns DeskServes (Owes (stage_at locks.now)) (setup self.task.routing) self.task.state (desk_of self.seats) result.0.task.state (desk_of result.0.seats) result.1 }
+        ensures turns { Turns DeskServes (Owes (stage_at locks.now)) (routing_setup self.task.routing) self.task.state (desk_of self.seats) result.0.task.state (desk_of result.0.seats) result.1 }
         ensures chosen { ChosenBy self.task.state C.chooses DeskPicks chooser.old result.1 chooser.new }
         ensures key { ran_key result.0 ≡ ran_key self }
         ensures events { result.0.events ≡ events_after result.1 self.events }

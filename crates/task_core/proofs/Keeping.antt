@@ -30,11 +30,11 @@ use Rattle.run_machine.specs.declared.event.Got.TheVariants.{Ordinary, Spare}
 use Rattle.run_machine.specs.declared.event.Got.TheVariants as got
 use Rattle.run_machine.specs.Maps.{upd}
 use Rattle.run_machine.specs.Scene.{has_set}
-use Rattle.task_steps.specs.Routed.{setup}
+use Rattle.task_steps.specs.Routed.{routing_setup}
 use Rattle.run_machine.specs.Requests.{Request, Reply, TakeBio, TakeVec, TakeSlip, GiveBio, GiveVec, GiveSlip, Punt, Pop, Push, Complete, Link, Drop, Done, Resize, NextRound, LookRound, LookLeft, HadBio, HadVec, HadSlip, Missed, Did, Popped, Completed, LinkedTo, DroppedTo, OutIs, Present, LeftOver, Nothing}
 use Rattle.run_machine.specs.Objects.{TallyState, Objects, Has, Serves, done_one}
 use Rattle.run_machine.specs.Opened.{at}
-use Rattle.task_steps.specs.Stage.{Stage, has_mirror, is_set, is_bios, is_vecs, is_slips, IsTaken, IsServed, AreServed, Fits, Owes}
+use Rattle.task_steps.specs.Stage.{Stage, has_mirror, is_set, is_bios, is_vecs, is_slips, IsTaken, IsServed, AreServed, RequestFits, Owes}
 use Rattle.task_core.specs.ObjectsOf.{IsDiskOf, IsBookOf, IsTallyOf, AreObjectsOf, AreNumbered}
 use Rattle.run_machine.proofs.Frames.{upd_same, upd_other}
 pub use Rattle.task_core.proofs.StageBooks.{node_is, links_is, drops_is}
@@ -68,7 +68,7 @@ pub set_is_bios : (stage : Stage) (of : SetId) → IsTrue (is_set stage of) → 
 set_is_bios stage Fs is = refl
 set_is_bios stage (Of dev) is =
     let even = even_of dev.0 in
-    let right : ((2 * dev.0) % 2 == 0 && has_set (setup stage.routing) ((2 * dev.0) / 2)) ≡ true = rw (even.0, even.1) is in
+    let right : ((2 * dev.0) % 2 == 0 && has_set (routing_setup stage.routing) ((2 * dev.0) / 2)) ≡ true = rw (even.0, even.1) is in
     rw (right) (or_true (2 * dev.0 == 65))
 
 pub mirror_is_slips : (stage : Stage) (dev : DevId) → IsTrue (has_mirror stage dev) → IsTrue (is_slips stage (pool_number (Records dev)))
@@ -188,7 +188,7 @@ module _ (stage : Stage) where
   had_is old new number Spare all has = moved_is old new _ all has.1
   had_is old new number got.Missed all has = absurd has
 
-  pub objects_stay : (old new : Objects) (request : Request) (reply : Reply) → Fits stage request → AreObjectsOf stage old
+  pub objects_stay : (old new : Objects) (request : Request) (reply : Reply) → RequestFits stage request → AreObjectsOf stage old
       → Serves stage.ledger old request reply new → AreObjectsOf stage new
   objects_stay old new (TakeBio set waits) (HadBio from bio) fits all serves = had_is old new _ from all serves.0
   objects_stay old new (TakeBio set waits) (Missed used) fits all serves = moved_is old new _ all serves.1
@@ -231,7 +231,7 @@ module _ (stage : Stage) where
   objects_stay old new (Resize pool min) (OutIs out) fits all serves = resized_is old new _ (out == 0) all serves.1
   objects_stay old new request reply fits all serves = absurd serves
 
-  pub objects_owe : (old new : Objects) (request : Request) (reply : Reply) → AreNumbered stage → Fits stage request → AreObjectsOf stage old
+  pub objects_owe : (old new : Objects) (request : Request) (reply : Reply) → AreNumbered stage → RequestFits stage request → AreObjectsOf stage old
       → Serves stage.ledger old request reply new → Owes stage request reply
   objects_owe old new (TakeBio set waits) (HadBio from bio) numbered fits all serves =
       is_taken is_bios _ bio.share numbered (set_is_bios stage set fits) (ap (λ (b : Item Pad). b.share) serves.1)

@@ -8,7 +8,7 @@ use Rattle.mempool_core.specs.Pool as pool
 use Rattle.task_core.specs.declared.plain.Plain.{Plain}
 use Rattle.run_machine.specs.Maps.{upd}
 use Rattle.run_machine.specs.Objects.{PoolMoves}
-use Rattle.task_core.specs.Plains.{is_of_set, by_kind, pool_at, objects_of, stage_of}
+use Rattle.task_core.specs.Plains.{is_bios_number, by_kind, pool_at, objects_of, stage_of}
 
 same_by : (a b : ℕ) → (a == b) ≡ true → a ≡ b
 same_by a b e = grind (arith, nat_tests)
@@ -17,36 +17,36 @@ not_64 : (m n : ℕ) → m ≡ n → n ≢ 64 → (m == 64) ≡ false
 not_64 m n e apart = grind (arith, nat_tests)
 
 -- a number stands for a pool of bios or of records
-pub stands_for_bios : (vecs : LedgerPool) (bios records : ℕ → LedgerPool) (n : ℕ) → n ≢ 64 → is_of_set n ≡ true → by_kind vecs bios records n ≡ bios n
+pub stands_for_bios : (vecs : LedgerPool) (bios records : ℕ → LedgerPool) (n : ℕ) → n ≢ 64 → is_bios_number n ≡ true → by_kind vecs bios records n ≡ bios n
 stands_for_bios vecs bios records n apart kind = let other : (n == 64) ≡ false = not_64 n n refl apart in rw (other, kind) refl
 
-pub stands_for_records : (vecs : LedgerPool) (bios records : ℕ → LedgerPool) (n : ℕ) → n ≢ 64 → is_of_set n ≡ false
+pub stands_for_records : (vecs : LedgerPool) (bios records : ℕ → LedgerPool) (n : ℕ) → n ≢ 64 → is_bios_number n ≡ false
     → by_kind vecs bios records n ≡ records n
 stands_for_records vecs bios records n apart kind = let other : (n == 64) ≡ false = not_64 n n refl apart in rw (other, kind) refl
 
 -- one pool among those of each kind
 module _ (vecs : LedgerPool) (bios records : ℕ → LedgerPool) (n : ℕ) (x : LedgerPool) where
-  bios_at : n ≢ 64 → is_of_set n ≡ true → (m : ℕ) (b : Bool) → (m == n) ≡ b → by_kind vecs (upd bios n x) records m ≡ upd (by_kind vecs bios records) n x m
+  bios_at : n ≢ 64 → is_bios_number n ≡ true → (m : ℕ) (b : Bool) → (m == n) ≡ b → by_kind vecs (upd bios n x) records m ≡ upd (by_kind vecs bios records) n x m
   unfolding upd
   bios_at apart kind m true q =
       let other : (m == 64) ≡ false = not_64 m n (same_by m n q) apart in
-      let of_set : is_of_set m ≡ true = ap is_of_set (same_by m n q) ∙ kind in
+      let of_set : is_bios_number m ≡ true = ap is_bios_number (same_by m n q) ∙ kind in
       rw (q, other, of_set) refl
   bios_at apart kind m false q = rw (q) refl
 
-  pub bios_change : n ≢ 64 → is_of_set n ≡ true → by_kind vecs (upd bios n x) records ≡ upd (by_kind vecs bios records) n x
+  pub bios_change : n ≢ 64 → is_bios_number n ≡ true → by_kind vecs (upd bios n x) records ≡ upd (by_kind vecs bios records) n x
   bios_change apart kind = λ k m. bios_at apart kind m (m == n) refl k
 
-  records_at : n ≢ 64 → is_of_set n ≡ false → (m : ℕ) (b : Bool) → (m == n) ≡ b
+  records_at : n ≢ 64 → is_bios_number n ≡ false → (m : ℕ) (b : Bool) → (m == n) ≡ b
       → by_kind vecs bios (upd records n x) m ≡ upd (by_kind vecs bios records) n x m
   unfolding upd
   records_at apart kind m true q =
       let other : (m == 64) ≡ false = not_64 m n (same_by m n q) apart in
-      let of_set : is_of_set m ≡ false = ap is_of_set (same_by m n q) ∙ kind in
+      let of_set : is_bios_number m ≡ false = ap is_bios_number (same_by m n q) ∙ kind in
       rw (q, other, of_set) refl
   records_at apart kind m false q = rw (q) refl
 
-  pub records_change : n ≢ 64 → is_of_set n ≡ false → by_kind vecs bios (upd records n x) ≡ upd (by_kind vecs bios records) n x
+  pub records_change : n ≢ 64 → is_bios_number n ≡ false → by_kind vecs bios (upd records n x) ≡ upd (by_kind vecs bios records) n x
   records_change apart kind = λ k m. records_at apart kind m (m == n) refl k
 
   vecs_at : (m : ℕ) (b : Bool) → (m == 64) ≡ b → by_kind x bios records m ≡ upd (by_kind vecs bios records) 64 x m

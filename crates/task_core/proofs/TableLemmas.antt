@@ -8,7 +8,7 @@ use Rattle.std.proofs.lemmas.List.Sums.{passes_at_first}
 use Rattle.std.proofs.lemmas.Option.{slice_get-get_or}
 use Rattle.std.proofs.lemmas.Bool.Decides.{nat_tests}
 use Rattle.run_machine.specs.Maps.{upd}
-use Rattle.task_core.specs.Tables.{has_number, look_up, IsAt, AreAt}
+use Rattle.task_core.specs.Tables.{is_entry_of, look_up, IsAt, AreAt}
 use Rattle.run_machine.proofs.Frames.{upd_same, upd_other}
 
 same_by : (a b : ℕ) → (a == b) ≡ true → a ≡ b
@@ -25,7 +25,7 @@ not_other a b c e q = grind (arith, nat_tests)
 
 module _ {E : Type 0} (key : E → ℕ) (table : List ℕ) (entries : List E) (n i : ℕ) (at : IsAt key table entries n) (place : i ≡ slice_index_or table n 0)
     (entry : E) (is : entry ≡ get_or entries i entry) where
-  placed : i ≡ position_or_len (has_number key n) entries
+  placed : i ≡ position_or_len (is_entry_of key n) entries
   placed = place ∙ at.first
 
   inside : i < length entries
@@ -34,13 +34,13 @@ module _ {E : Type 0} (key : E → ℕ) (table : List ℕ) (entries : List E) (n
   -- the entry there is of the number
   pub key_is : key entry ≡ n
   key_is =
-      let first : (key (get_or entries (position_or_len (has_number key n) entries) entry) == n) ≡ true =
-      passes_at_first (has_number key n) entries entry (subst (λ k. k < length entries) placed inside) in
+      let first : (key (get_or entries (position_or_len (is_entry_of key n) entries) entry) == n) ≡ true =
+      passes_at_first (is_entry_of key n) entries entry (subst (λ k. k < length entries) placed inside) in
       same_by (key entry) n (ap (λ e. key e == n) (is ∙ ap (λ k. get_or entries k entry) placed) ∙ first)
 
-  found : find (has_number key n) entries ≡ Some entry
+  found : find (is_entry_of key n) entries ≡ Some entry
   found =
-      find_at (has_number key n) entries ∙ ap (slice_get entries) (sym placed) ∙ slice_get-get_or entries i entry inside ∙ ap (λ e. Some e) (sym is)
+      find_at (is_entry_of key n) entries ∙ ap (slice_get entries) (sym placed) ∙ slice_get-get_or entries i entry inside ∙ ap (λ e. Some e) (sym is)
 
   pub looked : {X : Type 0} (value : E → X) (none : ℕ → X) → look_up key value none entries n ≡ value entry
   looked value none = ap (λ o. option_map_or value o (none n)) found
@@ -50,15 +50,15 @@ module _ {E : Type 0} (key : E → ℕ) (table : List ℕ) (entries : List E) (n
         → look_up key value none (set entries i new) m ≡ upd (look_up key value none entries) n (value new) m
     changed_at value none m true q =
         let same : m ≡ n = same_by m n q in
-        let here : find (has_number key n) (set entries i new) ≡ Some new =
-        find-set (has_number key n) entries i new placed inside (is_itself (key new) n (keyed ∙ key_is)) in
+        let here : find (is_entry_of key n) (set entries i new) ≡ Some new =
+        find-set (is_entry_of key n) entries i new placed inside (is_itself (key new) n (keyed ∙ key_is)) in
         ap (look_up key value none (set entries i new)) same
         ∙ ap (λ o. option_map_or value o (none n)) here
         ∙ sym (ap (upd (look_up key value none entries) n (value new)) same ∙ upd_same (look_up key value none entries) n (value new))
     changed_at value none m false q =
         let old : (key (get_or entries i entry) == m) ≡ false = ap (λ e. key e == m) (sym is) ∙ not_other (key entry) n m key_is q in
-        let past : find (has_number key m) (set entries i new) ≡ find (has_number key m) entries =
-        find_past (has_number key m) entries i new entry old (not_other (key new) n m (keyed ∙ key_is) q) in
+        let past : find (is_entry_of key m) (set entries i new) ≡ find (is_entry_of key m) entries =
+        find_past (is_entry_of key m) entries i new entry old (not_other (key new) n m (keyed ∙ key_is) q) in
         ap (λ o. option_map_or value o (none m)) past
         ∙ sym (upd_other (look_up key value none entries) n (value new) m (apart_by m n q))
 
@@ -73,7 +73,7 @@ module _ {E : Type 0} (key : E → ℕ) (table : List ℕ) (entries : List E) (n
         let long : length (set entries i new) ≡ length entries = length-set entries i new in
         record {
           there = subst (λ k. slice_index_or table m 0 < k) (sym long) old.there;
-          first = old.first ∙ sym (position_or_len-set (has_number key m) entries i new entry tests);
+          first = old.first ∙ sym (position_or_len-set (is_entry_of key m) entries i new entry tests);
         }
 
     pub numbers_stay : map key (set entries i new) ≡ map key entries

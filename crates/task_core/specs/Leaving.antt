@@ -57,7 +57,7 @@ pub record IsLeft (stack : Stack) (objects : Objects) (count : ℕ) (ended : End
   pub steps : ended.steps ≡ count
 
 -- nothing is left yet, and there is room for what a run of so many writes leaves
-pub record HasRoom (stack : Stack) (writes : ℕ) (room : Ended) : Type 0 where
+pub record IsReservedForRun (stack : Stack) (writes : ℕ) (room : Ended) : Type 0 where
   pub statuses : (room.statuses.items ≡ []) × (writes ≤ vec_capacity room.statuses)
   pub disks : (room.disks.items ≡ []) × (length (disks_of stack) ≤ vec_capacity room.disks)
   pub pools : (room.pools.items ≡ []) × (length (falling_pools stack) ≤ vec_capacity room.pools)

@@ -7,7 +7,7 @@ use Rattle.model_disks.specs.Disks.{DiskState}
 use Rattle.run_machine.specs.Requests.{Request, Reply}
 use Rattle.run_machine.specs.Objects.{TallyState, Objects, Serves}
 use Rattle.run_machine.specs.Opened.{at}
-use Rattle.task_steps.specs.Stage.{Stage, IsServed, AreServed, HoldsHome, Fits, Owes}
+use Rattle.task_steps.specs.Stage.{Stage, IsServed, AreServed, HoldsHome, RequestFits, Owes}
 
 -- a disk of the stack, in which bios wait that can be served and are at it
 pub record IsDiskOf (stage : Stage) (dev : ℕ) (disk : DiskState) : Type 0 where
@@ -46,5 +46,5 @@ AreNumbered stage = (number : ℕ) → (stage.ledger number).no ≡ number
 -- What a call makes of the objects of a stage are objects of this stage, and it hands out what they owe.
 abbrev pub ObjectsStay : Type 0
 ObjectsStay =
-    (stage : Stage) (old new : Objects) (request : Request) (reply : Reply) → AreNumbered stage → Fits stage request → AreObjectsOf stage old
+    (stage : Stage) (old new : Objects) (request : Request) (reply : Reply) → AreNumbered stage → RequestFits stage request → AreObjectsOf stage old
     → Serves stage.ledger old request reply new → AreObjectsOf stage new × Owes stage request reply

@@ -14,18 +14,18 @@ use Rattle.run_machine.specs.Tasks.{TaskState, request}
 use Rattle.run_machine.specs.Objects.{Objects}
 use Rattle.run_machine.specs.Opened.{most_writers}
 use Rattle.run_machine.specs.Runs.{State, Steps}
-use Rattle.task_core.specs.Plains.{objects_of, stage_of, Tells}
-use Rattle.task_steps.specs.Routed.{setup}
+use Rattle.task_core.specs.Plains.{objects_of, stage_of, PlainServes}
+use Rattle.task_steps.specs.Routed.{routing_setup}
 use Rattle.task_steps.specs.Stage.{Owes}
 use Rattle.task_steps.specs.Turns.{Turns}
 
 -- the objects and these tasks, as a state of the machine
-abbrev pub state_of : Plain → (ℕ → TaskState) → State
-state_of plain task = record { objects = objects_of plain; task = task }
+abbrev pub state_of_objects : Plain → (ℕ → TaskState) → State
+state_of_objects plain task = record { objects = objects_of plain; task = task }
 
-abbrev pub scene_of : Plain → ℕ → Scene
-scene_of plain tasks = record {
-  setup = setup (stage_of plain).routing;
+abbrev pub scene_of_objects : Plain → ℕ → Scene
+scene_of_objects plain tasks = record {
+  setup = routing_setup (stage_of plain).routing;
   tasks = tasks;
   books = most_writers;
   writes = (stage_of plain).writes;
@@ -40,7 +40,7 @@ HasRound objects request = Unit {0}
 -- the task at a place makes a step
 abbrev pub TakesStep : Plain → (ℕ → TaskState) → ℕ → TaskState → Plain → Step → Type 0
 TakesStep old tasks place next new step =
-    Turns Tells (Owes (stage_of old)) (setup (stage_of old).routing) (tasks place) old next new step
+    Turns PlainServes (Owes (stage_of old)) (routing_setup (stage_of old).routing) (tasks place) old next new step
 
 -- nothing happened, and the task did not break off
 abbrev pub IsStill : Step → Type 0
@@ -63,8 +63,8 @@ IsPassedOver scene state place = (event : Event) (new : State) → Steps scene s
 -- does not break off, changes neither the task nor an object, and the task had no event there but such as need ordinary memory.
 pub record StepsAreEvents : Type 0 where
   pub stepped : (old new : Plain) (tasks : ℕ → TaskState) (count place : ℕ) (next : TaskState) (event : Event) → place < count
-      → HasRound (objects_of old) (request (setup (stage_of old).routing) (tasks place)) → TakesStep old tasks place next new (Stepped event)
-      → Steps (scene_of old count) (state_of old tasks) place event (state_of new (upd tasks place next))
+      → HasRound (objects_of old) (request (routing_setup (stage_of old).routing) (tasks place)) → TakesStep old tasks place next new (Stepped event)
+      → Steps (scene_of_objects old count) (state_of_objects old tasks) place event (state_of_objects new (upd tasks place next))
   pub still : (old new : Plain) (tasks : ℕ → TaskState) (count place : ℕ) (next : TaskState) (step : Step) → IsStill step
       → TakesStep old tasks place next new step
-      → (objects_of new ≡ objects_of old) × (next ≡ tasks place) × IsPassedOver (scene_of old count) (state_of old tasks) place
+      → (objects_of new ≡ objects_of old) × (next ≡ tasks place) × IsPassedOver (scene_of_objects old count) (state_of_objects old tasks) place

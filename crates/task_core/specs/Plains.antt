@@ -59,12 +59,12 @@ abbrev pub no_book : ℕ → BookState
 no_book writer = record { writer = writer; nodes = [] }
 
 -- the numbers of pools of bios: that of the writers' set is 65, and those of devices are even
-abbrev pub is_of_set : ℕ → Bool
-is_of_set number = number == 65 || number % 2 == 0
+abbrev pub is_bios_number : ℕ → Bool
+is_bios_number number = number == 65 || number % 2 == 0
 
 -- what a number stands for among pools: the vectors' is 64, and those of records are odd
 abbrev pub by_kind : LedgerPool → (ℕ → LedgerPool) → (ℕ → LedgerPool) → ℕ → LedgerPool
-by_kind vecs bios records number = if number == 64 then vecs else if is_of_set number then bios number else records number
+by_kind vecs bios records number = if number == 64 then vecs else if is_bios_number number then bios number else records number
 
 abbrev pub bios_at : Plain → ℕ → LedgerPool
 bios_at plain = look_up set_number (λ entry. entry.1) (no_pool plain.stage.value.stack plain.vecs.ledger) plain.bios.items
@@ -123,8 +123,8 @@ StaysLast old (NextRound round) Did new = (length old.tally.left ≤ old.tally.r
 StaysLast old request reply new = ⊥
 
 -- what they tell of a call
-abbrev pub Tells : Plain → Request → Reply → Plain → Type 0
-Tells old request reply new =
+abbrev pub PlainServes : Plain → Request → Reply → Plain → Type 0
+PlainServes old request reply new =
     Serves (stage_of old).ledger (objects_of old) request reply (objects_of new) ⊎ StaysLast (objects_of old) request reply (objects_of new)
 
 -- the bio at the chosen place is completed, which nobody took meanwhile

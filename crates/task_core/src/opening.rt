@@ -2,12 +2,12 @@
 ghost use Rattle.std.specs.Prelude.{◌≡◌, ◌≤◌, ◌^◌, IfOk, OnOk, length, sum};
 ghost use Rattle.std.specs.List.{range_with_len};
 ghost use Rattle.stack_base.specs.Stack.{HasRescuers, IsStack};
-ghost use Rattle.task_core.specs.Leaving.{HasRoom};
-ghost use Rattle.task_core.specs.opened.NewTasks.{left_in, others_in, reserves_in, rounds_in, tally_in, writers_of, Adds, ArePlaced};
+ghost use Rattle.task_core.specs.Leaving.{IsReservedForRun};
+ghost use Rattle.task_core.specs.opened.NewTasks.{left_in, others_in, reserves_in, rounds_in, tally_in, writers_of, AddsTasks, ArePlaced};
 ghost use Rattle.task_core.specs.opened.OfOne.{scenario_in, IsOpened};
 ghost use Rattle.run_machine.specs.ReadBehind.{IsReadBehind};
 ghost use Rattle.task_core.specs.opened.Openings.{AreOpened};
-ghost use Rattle.task_steps.specs.Routed.{setup};
+ghost use Rattle.task_steps.specs.Routed.{routing_setup};
 ghost use Rattle.run_machine.specs.Scenario.{scenario_of};
 
 pub(crate) mod objects;
@@ -59,7 +59,7 @@ fn reserves_of(alloc: Global, resizes: &[Resize]) -> Result<Vec<(PoolId, u32)>, 
 // Room for what a run of so many writes leaves.
 fn room_of(alloc: Global, stack: &Stack, writes: usize) -> Result<Ended, AllocError>
     requires { IsStack stack.now }
-    ensures { IfOk result (HasRoom stack.now writes) }
+    ensures { IfOk result (IsReservedForRun stack.now writes) }
 {
     let devices = stack.devices.len();
     Ok(Ended {
@@ -78,7 +78,7 @@ fn open_routes(
     kinds: &mut Vec<Kind>,
 ) -> Result<Routes, AllocError>
     requires read { IsReadBehind accepted.now work.now }
-    ensures kinds { OnOk result (Adds kinds.old.items (writers_of work.now.rounds.items work.now.writes.items (range_with_len 0 8)) kinds.new.items) }
+    ensures kinds { OnOk result (AddsTasks kinds.old.items (writers_of work.now.rounds.items work.now.writes.items (range_with_len 0 8)) kinds.new.items) }
     ensures routes { IfOk result (λ routes. (routes.stack ≡ accepted.now.stack) × ArePlaced accepted.now.stack work.now.rounds.items work.now.writes.items 8 routes.places) }
 {
     let mut places = [0; 8];
@@ -99,7 +99,7 @@ fn open_others(
     requires same { routes.now.stack ≡ accepted.now.stack }
     requires left { left.now ≡ left_in work.now.rounds.items }
     requires short { rounds_in work.now.rounds.items ≤ 2 ^ 32 }
-    ensures { OnOk result (Adds kinds.old.items (others_in (setup routes.now) work.now.rounds.items work.now.resizes.items) kinds.new.items) }
+    ensures { OnOk result (AddsTasks kinds.old.items (others_in (routing_setup routes.now) work.now.rounds.items work.now.resizes.items) kinds.new.items) }
 {
     open_rescuers(&accepted.stack, routes, kinds)?;
     open_completers(&accepted.stack, routes, kinds)?;

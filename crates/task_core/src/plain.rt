@@ -57,9 +57,9 @@ fn bios_number(set: SetId) -> u32
 impl Plain {
     ghost use Rattle.std.specs.Prelude.{IsTrue};
     ghost use Rattle.stack_base.specs.declared.ids.PoolId.TheVariants.{FsVecs, Records};
-    ghost use Rattle.task_core.specs.Plains.{objects_of, stage_of, Holds, Tells};
+    ghost use Rattle.task_core.specs.Plains.{objects_of, stage_of, Holds, PlainServes};
     ghost use Rattle.run_machine.specs.Requests.{Resize, OutIs};
-    ghost use Rattle.task_steps.specs.Stage.{has_disk, is_pool, Fits};
+    ghost use Rattle.task_steps.specs.Stage.{has_disk, is_pool, RequestFits};
 
     /// Where each object stands among those of its kind.
     pub fn index(&self) -> ObjectIndex
@@ -71,8 +71,8 @@ impl Plain {
     // Sets the reserve of a set's pool of bios, where nothing of it is out. It answers how much is.
     fn resize_bios(&mut self, set: SetId, min: u32) -> u64
         requires holds { Holds self.old }
-        requires fits { Fits (stage_of self.old) (Resize (bios_of set) min) }
-        ensures serves { Tells self.old (Resize (bios_of set) min) (OutIs result) self.new }
+        requires fits { RequestFits (stage_of self.old) (Resize (bios_of set) min) }
+        ensures serves { PlainServes self.old (Resize (bios_of set) min) (OutIs result) self.new }
         ensures kept { Holds self.new × (stage_of self.new ≡ stage_of self.old) }
     {
         let at = place(&self.index.bios, bios_number(set));
@@ -82,8 +82,8 @@ impl Plain {
     // The same of the pool of vectors.
     fn resize_vecs(&mut self, min: u32) -> u64
         requires holds { Holds self.old }
-        requires fits { Fits (stage_of self.old) (Resize FsVecs min) }
-        ensures serves { Tells self.old (Resize FsVecs min) (OutIs result) self.new }
+        requires fits { RequestFits (stage_of self.old) (Resize FsVecs min) }
+        ensures serves { PlainServes self.old (Resize FsVecs min) (OutIs result) self.new }
         ensures kept { Holds self.new × (stage_of self.new ≡ stage_of self.old) }
     {
         resize_home(&mut self.vecs, min)
@@ -92,8 +92,8 @@ impl Plain {
     // The same of the pool of a mirror's records.
     fn resize_records(&mut self, dev: DevId, min: u32) -> u64
         requires holds { Holds self.old }
-        requires fits { Fits (stage_of self.old) (Resize (Records dev) min) }
-        ensures serves { Tells self.old (Resize (Records dev) min) (OutIs result) self.new }
+        requires fits { RequestFits (stage_of self.old) (Resize (Records dev) min) }
+        ensures serves { PlainServes self.old (Resize (Records dev) min) (OutIs result) self.new }
         ensures kept { Holds self.new × (stage_of self.new ≡ stage_of self.old) }
     {
         let at = place(&self.index.records, PoolId::Records(dev).no());
@@ -179,13 +179,13 @@ impl Plain {
 }
 
 impl Objects for Plain {
-    ghost use Rattle.task_core.specs.Plains.{stage_of, Holds, Tells, Picks};
+    ghost use Rattle.task_core.specs.Plains.{stage_of, Holds, PlainServes, Picks};
 
     ghost stage = { stage_of };
 
     ghost holds = { Holds };
 
-    ghost serves = { Tells };
+    ghost serves = { PlainServes };
 
     ghost picks = { Picks };
 

@@ -15,7 +15,7 @@ use Rattle.bio_records.specs.declared.bio.Pad.{Pad}
 use Rattle.bio_records.specs.Items.{Item}
 use Rattle.run_machine.specs.Lines.{Want, Takes, Punts, Links, Ask, ToPush, ToCut, ToRecord, ToMaster, Doing, Rests, Drives, Copies, Breaks, want_kept, ask_kept, at_hand}
 use Rattle.task_steps.specs.LineViews.{attempt_of}
-use Rattle.task_steps.specs.Answers.{Answers, IsSpent}
+use Rattle.task_steps.specs.Answers.{AnswersSubmission, IsSpent}
 
 none_there : {A : Type 0} (there : A) → ◌≡◌ {A = Option A} None (Some there) → ⊥
 none_there {A = A} there none = true≢false (sym (ap (λ (o : Option A). option_map_or (λ (x : A). true) o false) none))
@@ -41,7 +41,7 @@ module _ {S : Type 0} (serves : S → Request → Reply → S → Type 0) (owes 
   -- where there was no ticket for an attempt, the submission has broken off
   pub attempt_spent : (doing : Doing) (lists : TaskLists) (dev : DevId) (waits : Bool) (old new : S) → attempt_of doing ≡ Some (dev, waits)
       → IsSpent serves owes (TakeBio (Of dev) waits) old new
-      → Answers serves owes setup task doing lists old (record { doing = Breaks breach.Spent (at_hand doing); lists = lists }) new (Broken breach.Spent)
+      → AnswersSubmission serves owes setup task doing lists old (record { doing = Breaks breach.Spent (at_hand doing); lists = lists }) new (Broken breach.Spent)
   attempt_spent (Drives bio (ToCut (Takes waiting))) lists dev waits old new attempts spent =
       let same = same_there (bio.bio.dev, waiting) (dev, waits) attempts in
       record {

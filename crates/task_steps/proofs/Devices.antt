@@ -33,8 +33,8 @@ use Rattle.task_steps.specs.declared.routes.driver.Manner.{Manner}
 use Rattle.task_steps.specs.declared.routes.driver.Manner.TheVariants as manner
 use Rattle.run_machine.specs.Scene.{Setup, number_of}
 use Rattle.run_machine.specs.Lines.{asks_at, cut_at, leg_at, legs_of, goes_on}
-use Rattle.task_steps.specs.Within.{IsWithin, first_cut, is_cut}
-use Rattle.task_steps.specs.Routed.{keeps, copies, sizes_at, IsDriver, MapOf, map_of, IsFirst, HasNoFirst, manner_by, legs_by, IsLegBy, manner_of, asked_by, IsManner, sent, IsCutAt, IsLegAt}
+use Rattle.task_steps.specs.Within.{IsWithinDevice, first_cut, is_cut}
+use Rattle.task_steps.specs.Routed.{keeps, copies_bios, sizes_at, IsDriver, MapOf, map_of, IsFirstCut, HasNoFirst, manner_by, legs_by, IsLegBy, manner_of, asked_by, IsManner, sent, IsCutAt, IsLegAt}
 use Rattle.task_steps.proofs.Landing.{number_of_tree}
 use Rattle.task_steps.proofs.StripeSizes.{piece_of_equal}
 
@@ -44,7 +44,7 @@ keeps_then (Keeps sectors) e = (sectors, refl)
 keeps_then Cuts e = absurd cc
 keeps_then Copies e = absurd cc
 
-copies_then : (shape : Shape) → copies shape ≡ true → shape ≡ Copies
+copies_then : (shape : Shape) → copies_bios shape ≡ true → shape ≡ Copies
 copies_then (Keeps sectors) e = absurd cc
 copies_then Cuts e = absurd cc
 copies_then Copies e = refl
@@ -118,14 +118,14 @@ module _ (stack : Stack) (good : IsStack stack) (number : ℕ) (device : Device)
   pub disk_manner : keeps (shape_of device.kind) ≡ true → manner.Keeps ≡ manner_of (tree stack number)
   disk_manner is = let k = keeps_then (shape_of device.kind) is in ap manner_of (sym (keeps_is stack good number device found k.0 k.1))
 
-  pub mirror_manner : copies (shape_of device.kind) ≡ true → manner.Copies ≡ manner_of (tree stack number)
+  pub mirror_manner : copies_bios (shape_of device.kind) ≡ true → manner.Copies ≡ manner_of (tree stack number)
   mirror_manner is = ap manner_of (sym (copies_is stack good number device found (copies_then (shape_of device.kind) is)))
 
   pub map_manner : shape_of device.kind ≡ Cuts → manner.Cuts ≡ manner_of (tree stack number)
   map_manner is = ap manner_of (sym (cuts_is stack good number device found is))
 
   -- how many legs it has
-  pub mirror_legs : copies (shape_of device.kind) ≡ true → legs_of (tree stack number) ≡ length device.members.items
+  pub mirror_legs : copies_bios (shape_of device.kind) ≡ true → legs_of (tree stack number) ≡ length device.members.items
   mirror_legs is =
       ap legs_of (copies_is stack good number device found (copies_then (shape_of device.kind) is))
       ∙ length-map device.members.items (λ (m : DevId). size (tree stack m.0))
@@ -155,17 +155,17 @@ module _ (stack : Stack) (good : IsStack stack) (number : ℕ) (device : Device)
 
 -- what has legs is a mirror
 pub legs_copy : (stack : Stack) → IsStack stack → (number : ℕ) (device : Device) → slice_get stack.devices.items number ≡ Some device
-    → 0 < legs_of (tree stack number) → copies (shape_of device.kind) ≡ true
+    → 0 < legs_of (tree stack number) → copies_bios (shape_of device.kind) ≡ true
 legs_copy stack good number device found some = by_shape (shape_of device.kind) refl
   where
-    by_shape : (shape : Shape) → shape_of device.kind ≡ shape → copies shape ≡ true
+    by_shape : (shape : Shape) → shape_of device.kind ≡ shape → copies_bios shape ≡ true
     by_shape (Keeps sectors) e = absurd (omega (arith, ap legs_of (keeps_is stack good number device found sectors e)))
     by_shape Cuts e = absurd (omega (arith, map_legs stack good number device found e))
     by_shape Copies e = refl
 
 -- a leg is within its member, as its bio is within the mirror
 pub leg_is : (stack : Stack) → IsStack stack → (bio : Bio) (device : Device) → slice_get stack.devices.items bio.dev.0 ≡ Some device
-    → copies (shape_of device.kind) ≡ true → IsWithin stack bio → (leg node : ℕ) (m : DevId) → slice_get device.members.items leg ≡ Some m
+    → copies_bios (shape_of device.kind) ≡ true → IsWithinDevice stack bio → (leg node : ℕ) (m : DevId) → slice_get device.members.items leg ≡ Some m
     → IsLegAt stack bio leg node (clone_of bio m leg (Of bio.dev) node)
 leg_is stack good bio device found is within leg node m at_leg =
     let number = bio.dev.0 in
@@ -189,7 +189,7 @@ leg_is stack good bio device found is within leg node m at_leg =
     }
 
 pub driver_leg : (stack : Stack) → IsStack stack → (bio : Bio) (device : Device) → slice_get stack.devices.items bio.dev.0 ≡ Some device
-    → (d : Driver) → IsDriver stack device d → IsWithin stack bio → (leg node : ℕ) (made : Bio × Pad) → IsLegBy d bio leg node made
+    → (d : Driver) → IsDriver stack device d → IsWithinDevice stack bio → (leg node : ℕ) (made : Bio × Pad) → IsLegBy d bio leg node made
     → IsLegAt stack bio leg node made
 driver_leg stack good bio device found driver.Disk is within leg node made by = absurd by
 driver_leg stack good bio device found (driver.Linear sizes) is within leg node made by = absurd by
@@ -207,7 +207,7 @@ driver_leg stack good bio device found (driver.Mirror mirror) is within leg node
         subst P (sym by) (leg_is stack good bio device found is.0 within leg node m (subst (λ (items : List DevId). slice_get items leg ≡ Some m) is.1 e))
 
 -- a bio has each leg of its mirror
-pub leg_there : (stack : Stack) → IsStack stack → (bio : Bio) → IsWithin stack bio → (leg node : ℕ) → leg < legs_of (tree stack bio.dev.0)
+pub leg_there : (stack : Stack) → IsStack stack → (bio : Bio) → IsWithinDevice stack bio → (leg node : ℕ) → leg < legs_of (tree stack bio.dev.0)
     → (made : Bio × Pad) × IsLegAt stack bio leg node made
 leg_there stack good bio within leg node lt =
     elim (slice_get_cases stack.devices.items bio.dev.0).1 [
@@ -236,7 +236,7 @@ not_same : (a b : ℕ) → not (a == b) ≡ true → a ≢ b
 not_same a b n e = absurd (search (n, e, arith))
 
 -- the first piece of a bio that is cut
-pub cut_is : (setup : Setup) (stack : Stack) → IsStack stack → (bio : Bio) → IsWithin stack bio → (cut : Cut) → IsFirst stack bio cut
+pub cut_is : (setup : Setup) (stack : Stack) → IsStack stack → (bio : Bio) → IsWithinDevice stack bio → (cut : Cut) → IsFirstCut stack bio cut
     → is_cut (tree stack bio.dev.0) bio.range ≡ true → IsCutAt setup stack bio cut
 cut_is setup stack good bio within cut is more =
     let other : cut.sectors ≢ bio.range.len =

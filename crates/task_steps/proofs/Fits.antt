@@ -19,14 +19,14 @@ use Rattle.run_machine.specs.Scene.{Setup, setup_of, keeps_data, is_mirror}
 use Rattle.run_machine.specs.Kept.{Kept}
 use Rattle.run_machine.specs.Lines.{Takes, Punts, Links, ToPush, ToCut, ToRecord, ToMaster, Doing, Rests, Drives, Copies, Breaks, Line, landed, asks_at, settled, goes_on, cut_at, legs_of, leg_at, copies, line_request, after_chain, after_master, after_leg, at_hand, punts_of, spent, line_answered}
 use Rattle.run_machine.specs.Requests.{Reply, HadBio, HadSlip, Missed, Did, LinkedTo, Spent}
-use Rattle.task_steps.specs.Within.{IsWithin, IsItemWithin, AreWithin, ListsAreWithin, is_handed_on, is_cut, DoingFits, LineFits, AskedFits, LinesStayWithin}
+use Rattle.task_steps.specs.Within.{IsWithinDevice, IsItemWithin, AreWithin, ListsAreWithin, is_handed_on, is_cut, DoingFits, LineFits, AskedFits, LinesStayWithin}
 use Rattle.task_steps.specs.Routed.{sent, IsLanded, IsCutAt}
 use Rattle.task_steps.proofs.Landing.{first_at, lands_within}
 use Rattle.task_steps.proofs.Devices.{cut_is, cut_not_none, leg_there}
 use Rattle.task_steps.proofs.Waiting.{all_ordered, all_submitted, all_punted, all_not_punted}
 
 -- the driver of a device is asked for what it does with a bio that it does not hand on
-pub asks_fit : (stack : Stack) (setup : Setup) (lists : TaskLists) (item : Item Pad) → IsWithin stack item.bio
+pub asks_fit : (stack : Stack) (setup : Setup) (lists : TaskLists) (item : Item Pad) → IsWithinDevice stack item.bio
     → (t : Tree) → t ≡ tree stack item.bio.dev.0 → is_handed_on t item.bio.range ≡ false → DoingFits stack (asks_at setup lists item t)
 asks_fit stack setup lists item within (Leaf number sectors) e stays = (within, ap keeps_data (sym e))
 asks_fit stack setup lists item within (Mirrored number sizes members) e stays = (within, ap is_mirror (sym e))
@@ -38,7 +38,7 @@ module _ (stack : Stack) (good : IsStack stack) (places : ℕ → ℕ) where
   pub settled_fits : (items : List (Item Pad)) → AreWithin stack items → LineFits stack (settled (setup_of stack places) items)
   settled_fits [] all = record { doing = tt; lists = (All-nil (IsItemWithin stack), All-nil (IsItemWithin stack)) }
   settled_fits (item ∷ waiting) all =
-      let first : IsWithin stack item.bio = All-head (IsItemWithin stack) item waiting all in
+      let first : IsWithinDevice stack item.bio = All-head (IsItemWithin stack) item waiting all in
       let at : Bio = landed (tree stack item.bio.dev.0) item.bio in
       let is : IsLanded stack item.bio at = lands_within stack good item.bio first in
       record {
@@ -63,7 +63,7 @@ module _ (stack : Stack) (good : IsStack stack) (places : ℕ → ℕ) where
       (all_submitted P lists all child (record { device = w.device; some = w.some; within = w.within }))
       (split_rest item cut.sectors) (record { device = r.device; some = r.some; within = r.within })
 
-  pub cut_fits : (lists : TaskLists) (item hand : Item Pad) (node : ℕ) → ListsAreWithin stack lists → IsWithin stack item.bio
+  pub cut_fits : (lists : TaskLists) (item hand : Item Pad) (node : ℕ) → ListsAreWithin stack lists → IsWithinDevice stack item.bio
       → is_cut (tree stack item.bio.dev.0) item.bio.range ≡ true
       → LineFits stack (cut_at (setup_of stack places) lists item hand node (tree stack item.bio.dev.0))
   cut_fits lists item hand node all within more =
@@ -77,7 +77,7 @@ module _ (stack : Stack) (good : IsStack stack) (places : ℕ → ℕ) where
       ]
 
   -- a leg is submitted, and the next is made
-  pub leg_within : (bio : Bio) (hand : Item Pad) (leg node : ℕ) → IsWithin stack bio → leg < legs_of (tree stack bio.dev.0)
+  pub leg_within : (bio : Bio) (hand : Item Pad) (leg node : ℕ) → IsWithinDevice stack bio → leg < legs_of (tree stack bio.dev.0)
       → IsItemWithin stack (leg_at bio hand leg node (tree stack bio.dev.0))
   leg_within bio hand leg node within lt =
       let made = leg_there stack good bio within leg node lt in
@@ -85,7 +85,7 @@ module _ (stack : Stack) (good : IsStack stack) (places : ℕ → ℕ) where
       let P : Item Pad → Type 0 = IsItemWithin stack in
       subst P (sym (made.1.made_is hand)) (record { device = w.device; some = w.some; within = w.within })
 
-  pub copies_fit : (lists : TaskLists) (bio : Bio) (master leg : ℕ) → ListsAreWithin stack lists → IsWithin stack bio
+  pub copies_fit : (lists : TaskLists) (bio : Bio) (master leg : ℕ) → ListsAreWithin stack lists → IsWithinDevice stack bio
       → leg ≤ legs_of (tree stack bio.dev.0) → LineFits stack (copies (setup_of stack places) lists bio master leg)
   copies_fit lists bio master leg all within le = by_test (leg == legs_of (tree stack bio.dev.0)) refl
     where
@@ -98,20 +98,20 @@ module _ (stack : Stack) (good : IsStack stack) (places : ℕ → ℕ) where
           rw e (record { doing = (within, omega (arith, le, other)); lists = all })
 
   -- a node was made, or was not
-  pub chain_fits : (lists : TaskLists) (item hand : Item Pad) (answer : Linked) → ListsAreWithin stack lists → IsWithin stack item.bio
+  pub chain_fits : (lists : TaskLists) (item hand : Item Pad) (answer : Linked) → ListsAreWithin stack lists → IsWithinDevice stack item.bio
       → is_cut (tree stack item.bio.dev.0) item.bio.range ≡ true → LineFits stack (after_chain (setup_of stack places) lists item hand answer)
   chain_fits lists item hand (Made node) all within more = cut_fits lists item hand node all within more
   chain_fits lists item hand (NoRoom back) all within more = record { doing = tt; lists = all }
   chain_fits lists item hand (Stray back) all within more = record { doing = tt; lists = all }
 
-  pub master_fits : (lists : TaskLists) (bio : Bio) (answer : Linked) → ListsAreWithin stack lists → IsWithin stack bio
+  pub master_fits : (lists : TaskLists) (bio : Bio) (answer : Linked) → ListsAreWithin stack lists → IsWithinDevice stack bio
       → LineFits stack (after_master (setup_of stack places) lists bio answer)
   master_fits lists bio (Made node) all within = copies_fit lists bio node 0 all within (omega arith)
   master_fits lists bio (NoRoom back) all within = record { doing = tt; lists = all }
   master_fits lists bio (Stray back) all within = record { doing = tt; lists = all }
 
   pub leg_fits : (lists : TaskLists) (bio : Bio) (master leg : ℕ) (hand : Item Pad) (answer : Linked) → ListsAreWithin stack lists
-      → IsWithin stack bio → leg < legs_of (tree stack bio.dev.0)
+      → IsWithinDevice stack bio → leg < legs_of (tree stack bio.dev.0)
       → LineFits stack (after_leg (setup_of stack places) lists bio master leg hand answer)
   leg_fits lists bio master leg hand (Made node) all within lt =
       let made : Item Pad = leg_at bio hand leg node (tree stack bio.dev.0) in

@@ -23,8 +23,8 @@ use Rattle.bio_records.specs.declared.bio.Bio.{Bio}
 use Rattle.task_steps.specs.declared.routes.Cut.{Cut}
 use Rattle.run_machine.specs.Scene.{number_of}
 use Rattle.run_machine.specs.Lines.{first_length, mapped, landed}
-use Rattle.task_steps.specs.Within.{IsWithin, first_cut, is_handed_on}
-use Rattle.task_steps.specs.Routed.{sizes_at, handed, IsFirst, HasNoFirst, IsBelow, Stays, IsLanded}
+use Rattle.task_steps.specs.Within.{IsWithinDevice, first_cut, is_handed_on}
+use Rattle.task_steps.specs.Routed.{sizes_at, handed, IsFirstCut, HasNoFirst, IsBelow, Stays, IsLanded}
 
 number_of_shape : (shape : Shape) (number : ℕ) (kind : Kind) (members : List Tree) → number_of (over_shape shape number kind members) ≡ number
 unfolding over_shape
@@ -67,14 +67,14 @@ module _ (stack : Stack) (good : IsStack stack) (bio : Bio) (device : Device) (f
       by_shape Cuts e = absurd (other e)
       by_shape Copies e = ap (λ t. first_cut t bio.range) (copies_is stack good bio.dev.0 device found e)
 
-  module _ (cuts : shape_of device.kind ≡ Cuts) (within : IsWithin stack bio) (piece : Piece)
+  module _ (cuts : shape_of device.kind ≡ Cuts) (within : IsWithinDevice stack bio) (piece : Piece)
       (is : IsPiece device.kind (sizes_at stack device) bio.range.start bio.range.len piece) where
     pub piece_there : piece.member < length device.members.items
     piece_there = member_there stack good bio.dev.0 device found cuts bio.range.start bio.range.len piece is within.within
 
     -- the piece of a driver is the first one that the definitions have
     pub is_first : (m : DevId) → slice_get device.members.items piece.member ≡ Some m
-        → IsFirst stack bio (record { sectors = piece.len; dev = m; start = piece.at })
+        → IsFirstCut stack bio (record { sectors = piece.len; dev = m; start = piece.at })
     is_first m at_member =
         let number = bio.dev.0 in
         let kind = device.kind in
@@ -109,7 +109,7 @@ module _ (stack : Stack) (good : IsStack stack) (bio : Bio) (device : Device) (f
               ∙ ap (λ n. landed (tree stack m.0) (record bio { dev = record { 0 = n }; range = record bio.range { start = piece.at } })) (number_of_tree stack m.0);
         }
 
-module _ (stack : Stack) (bio : Bio) (within : IsWithin stack bio) (cut : Cut) (is : IsFirst stack bio cut) where
+module _ (stack : Stack) (bio : Bio) (within : IsWithinDevice stack bio) (cut : Cut) (is : IsFirstCut stack bio cut) where
   -- one piece: it comes to where the member's bio comes to
   pub lands_below : bio.range.len ≤ cut.sectors → IsBelow stack bio (handed cut bio)
   lands_below whole =
@@ -132,17 +132,17 @@ pub stays_if_none : (stack : Stack) (bio : Bio) → HasNoFirst stack bio → Sta
 stays_if_none stack bio none = ap (λ o. option_map_or (λ (cut : Cut). cut.sectors == bio.range.len) o false) none
 
 -- a bio has a first piece at its device, or its device does not cut
-pub first_at : (stack : Stack) → IsStack stack → (bio : Bio) → IsWithin stack bio → HasNoFirst stack bio ⊎ ((cut : Cut) × IsFirst stack bio cut)
+pub first_at : (stack : Stack) → IsStack stack → (bio : Bio) → IsWithinDevice stack bio → HasNoFirst stack bio ⊎ ((cut : Cut) × IsFirstCut stack bio cut)
 first_at stack good bio within =
     elim (slice_get_cases stack.devices.items bio.dev.0).1 [
       | inl there ↦ at_device there.0 there.2
       | inr past ↦ absurd (omega (arith, past.0, within.device))
     ]
   where
-    at_device : (device : Device) → slice_get stack.devices.items bio.dev.0 ≡ Some device → HasNoFirst stack bio ⊎ ((cut : Cut) × IsFirst stack bio cut)
+    at_device : (device : Device) → slice_get stack.devices.items bio.dev.0 ≡ Some device → HasNoFirst stack bio ⊎ ((cut : Cut) × IsFirstCut stack bio cut)
     at_device device found = by_shape (shape_of device.kind) refl
       where
-        by_shape : (shape : Shape) → shape_of device.kind ≡ shape → HasNoFirst stack bio ⊎ ((cut : Cut) × IsFirst stack bio cut)
+        by_shape : (shape : Shape) → shape_of device.kind ≡ shape → HasNoFirst stack bio ⊎ ((cut : Cut) × IsFirstCut stack bio cut)
         by_shape (Keeps sectors) e = inl (no_first stack good bio device found (λ c. absurd cc))
         by_shape Copies e = inl (no_first stack good bio device found (λ c. absurd cc))
         by_shape Cuts e =
@@ -163,7 +163,7 @@ first_at stack good bio within =
             )
 
 -- where it stays, it has landed
-pub landed_here : (stack : Stack) (bio : Bio) → IsWithin stack bio → Stays stack bio → IsLanded stack bio (landed (tree stack bio.dev.0) bio)
+pub landed_here : (stack : Stack) (bio : Bio) → IsWithinDevice stack bio → Stays stack bio → IsLanded stack bio (landed (tree stack bio.dev.0) bio)
 landed_here stack bio within stays =
     let same = lands_here (tree stack bio.dev.0) bio stays in
     let P : Bio → Type 0 = IsLanded stack bio in
@@ -175,7 +175,7 @@ pub landed_from : (stack : Stack) (bio next end : Bio) → landed (tree stack bi
 landed_from stack bio next end lands is = record { comes = is.comes ∙ sym lands; within = is.within; stays = is.stays; same = is.same }
 
 -- a bio within the stack comes to one within the stack, which stays where it is
-landed_below : (stack : Stack) → IsStack stack → (bound : ℕ) (bio : Bio) → bio.dev.0 < bound → IsWithin stack bio
+landed_below : (stack : Stack) → IsStack stack → (bound : ℕ) (bio : Bio) → bio.dev.0 < bound → IsWithinDevice stack bio
     → IsLanded stack bio (landed (tree stack bio.dev.0) bio)
 landed_below stack good zero bio low within = absurd (omega arith)
 landed_below stack good (suc bound) bio low within =
@@ -192,5 +192,5 @@ landed_below stack good (suc bound) bio low within =
       ]
     ]
 
-pub lands_within : (stack : Stack) → IsStack stack → (bio : Bio) → IsWithin stack bio → IsLanded stack bio (landed (tree stack bio.dev.0) bio)
+pub lands_within : (stack : Stack) → IsStack stack → (bio : Bio) → IsWithinDevice stack bio → IsLanded stack bio (landed (tree stack bio.dev.0) bio)
 lands_within stack good bio within = landed_below stack good (suc bio.dev.0) bio (omega arith) within

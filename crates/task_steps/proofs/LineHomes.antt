@@ -27,10 +27,10 @@ use Rattle.run_machine.specs.Scene.{is_device, has_set, keeps_data, is_mirror}
 use Rattle.run_machine.specs.Requests.{Reply, HadBio, HadSlip, Missed, Did, LinkedTo, Spent}
 use Rattle.run_machine.specs.Kept.{Kept}
 use Rattle.run_machine.specs.Lines.{Takes, Punts, Links, ToPush, ToCut, ToRecord, ToMaster, Doing, Rests, Drives, Copies, Breaks, first_length, first_waits, is_empty, mapped, landed, asks_at, driven, settled, goes_on, cut_at, legs_of, leg_at, copies, line_request, after_chain, after_master, after_leg, at_hand, punts_of, spent, line_answered}
-use Rattle.task_steps.specs.Routed.{setup, places_at, sent}
-use Rattle.task_steps.specs.Routed.{copies as copies_shape}
-use Rattle.task_steps.specs.Within.{IsWithin, IsItemWithin, ListsAreWithin, is_cut, DoingFits}
-use Rattle.task_steps.specs.Stage.{Stage, has_book, is_bios, IsHome, IsServed, AreServed, Fits, Owes}
+use Rattle.task_steps.specs.Routed.{routing_setup, places_at, sent}
+use Rattle.task_steps.specs.Routed.{copies_bios as copies_shape}
+use Rattle.task_steps.specs.Within.{IsWithinDevice, IsItemWithin, ListsAreWithin, is_cut, DoingFits}
+use Rattle.task_steps.specs.Stage.{Stage, has_book, is_bios, IsHome, IsServed, AreServed, RequestFits, Owes}
 use Rattle.task_steps.specs.Homes.{IsOwned, WantFits, DoingIsHome, IsLineOf, LinesStayHome}
 use Rattle.task_steps.proofs.Waiting.{BothHave, all_ordered, all_submitted, all_punted, all_not_punted}
 use Rattle.task_steps.proofs.Devices.{cut_is, cut_not_none, mirror_legs}
@@ -66,12 +66,12 @@ both_true true true p q = refl
 both_true true false p q = absurd (true≢false (sym q))
 both_true false b p q = absurd (true≢false (sym p))
 
-device_is : (stage : Stage) (bio : Bio) → IsWithin stage.routing.stack bio → is_device (setup stage.routing) bio.dev.0 ≡ true
+device_is : (stage : Stage) (bio : Bio) → IsWithinDevice stage.routing.stack bio → is_device (routing_setup stage.routing) bio.dev.0 ≡ true
 device_is stage bio within = lt-ltb bio.dev.0 (length stage.routing.stack.devices.items) within.device
 
 -- a device that keeps no data itself has a set
-set_is : (stage : Stage) (bio : Bio) → IsWithin stage.routing.stack bio → not (keeps_data (tree stage.routing.stack bio.dev.0)) ≡ true
-    → IsTrue (has_set (setup stage.routing) bio.dev.0)
+set_is : (stage : Stage) (bio : Bio) → IsWithinDevice stage.routing.stack bio → not (keeps_data (tree stage.routing.stack bio.dev.0)) ≡ true
+    → IsTrue (has_set (routing_setup stage.routing) bio.dev.0)
 set_is stage bio within none = both_true _ _ (device_is stage bio within) none
 
 -- a mirror has a leg
@@ -103,15 +103,15 @@ tries_with_rescuer : (rescuer idle : Bool) → (not rescuer || idle) ≡ false �
 tries_with_rescuer true idle e = refl
 tries_with_rescuer false idle e = absurd (true≢false e)
 
-first_fits : (stage : Stage) (bio : Bio) (lists : TaskLists) → IsWithin stage.routing.stack bio
-    → WantFits stage bio.dev (Takes (first_waits (setup stage.routing) bio.dev lists))
-first_fits stage bio lists within = by_test (first_waits (setup stage.routing) bio.dev lists) refl
+first_fits : (stage : Stage) (bio : Bio) (lists : TaskLists) → IsWithinDevice stage.routing.stack bio
+    → WantFits stage bio.dev (Takes (first_waits (routing_setup stage.routing) bio.dev lists))
+first_fits stage bio lists within = by_test (first_waits (routing_setup stage.routing) bio.dev lists) refl
   where
-    by_test : (b : Bool) → first_waits (setup stage.routing) bio.dev lists ≡ b → WantFits stage bio.dev (Takes b)
+    by_test : (b : Bool) → first_waits (routing_setup stage.routing) bio.dev lists ≡ b → WantFits stage bio.dev (Takes b)
     by_test true e = tt
     by_test false e =
         both_true _ _ (device_is stage bio within)
-        (tries_with_rescuer ((setup stage.routing).rescuer bio.dev.0) (is_empty lists.list0 && is_empty lists.list1) e)
+        (tries_with_rescuer ((routing_setup stage.routing).rescuer bio.dev.0) (is_empty lists.list0 && is_empty lists.list1) e)
 
 -- bios that lie within their devices and are owned can be served
 served_all : (stage : Stage) (items : List (Item Pad)) → All (IsItemWithin stage.routing.stack) items → All (IsOwned stage) items → AreServed stage items
@@ -123,7 +123,7 @@ module _ (stage : Stage) (lists : TaskLists) (within : ListsAreWithin stage.rout
 
 -- what a submission asks for
 pub line_asks : (stage : Stage) → IsStack stage.routing.stack → (doing : Doing) (lists : TaskLists) → DoingFits stage.routing.stack doing → DoingIsHome stage doing
-    → ListsAreWithin stage.routing.stack lists → BothHave (IsOwned stage) lists → Fits stage (line_request (setup stage.routing) doing lists)
+    → ListsAreWithin stage.routing.stack lists → BothHave (IsOwned stage) lists → RequestFits stage (line_request (routing_setup stage.routing) doing lists)
 line_asks stage good Rests lists fits home within owned = tt
 line_asks stage good (Breaks breach kept) lists fits home within owned = tt
 line_asks stage good (Drives bio ToPush) lists fits home within owned =
@@ -145,23 +145,23 @@ line_asks stage good (Copies bio master leg (Links hand)) lists fits home within
 module _ (stage : Stage) (good : IsStack stage.routing.stack) where
   -- a bio that is served is owned still where it lands
   driven_home : (lists : TaskLists) (item : Item Pad) → IsItemWithin stage.routing.stack item → IsOwned stage item
-      → DoingIsHome stage (driven (setup stage.routing) lists item)
+      → DoingIsHome stage (driven (routing_setup stage.routing) lists item)
   driven_home lists item within owned =
       let stack = stage.routing.stack in
       let at : Bio = landed (tree stack item.bio.dev.0) item.bio in
-      let inside : IsWithin stack at = (lands_within stack good item.bio within).within in
+      let inside : IsWithinDevice stack at = (lands_within stack good item.bio within).within in
       by_tree (record item { bio = at }) inside
       (record { writer = subst (λ writer. IsTrue (has_book stage writer)) (sym (landed_writer (tree stack item.bio.dev.0) item.bio)) owned.writer; home = owned.home })
       (tree stack at.dev.0)
     where
       by_tree : (item : Item Pad) → IsItemWithin stage.routing.stack item → IsOwned stage item → (t : Tree)
-          → DoingIsHome stage (asks_at (setup stage.routing) lists item t)
+          → DoingIsHome stage (asks_at (routing_setup stage.routing) lists item t)
       by_tree item within owned (Leaf number sectors) = (owned, tt)
       by_tree item within owned (Mirrored number sizes members) = (owned, tt)
       by_tree item within owned (Split number kind sizes members) = (owned, first_fits stage item.bio lists within)
 
   pub settled_home : (items : List (Item Pad)) → All (IsItemWithin stage.routing.stack) items → All (IsOwned stage) items
-      → IsLineOf stage (settled (setup stage.routing) items)
+      → IsLineOf stage (settled (routing_setup stage.routing) items)
   settled_home [] within owned = record {
     fits = settled_fits stage.routing.stack good (places_at stage.routing.places) [] within;
     doing = tt;
@@ -177,21 +177,21 @@ module _ (stage : Stage) (good : IsStack stage.routing.stack) where
   }
 
   goes_on_home : (dev : DevId) (lists : TaskLists) → ListsAreWithin stage.routing.stack lists → BothHave (IsOwned stage) lists
-      → IsLineOf stage (goes_on (setup stage.routing) dev lists)
+      → IsLineOf stage (goes_on (routing_setup stage.routing) dev lists)
   goes_on_home dev lists within owned =
       settled_home (order dev lists) (all_ordered (IsItemWithin stage.routing.stack) lists within dev) (all_ordered (IsOwned stage) lists owned dev)
 
   -- both parts of a bio that is cut are owned
   cut_home : (lists : TaskLists) (item hand : Item Pad) (node : ℕ) → ListsAreWithin stage.routing.stack lists → BothHave (IsOwned stage) lists
-      → IsWithin stage.routing.stack item.bio → is_cut (tree stage.routing.stack item.bio.dev.0) item.bio.range ≡ true → IsOwned stage item
+      → IsWithinDevice stage.routing.stack item.bio → is_cut (tree stage.routing.stack item.bio.dev.0) item.bio.range ≡ true → IsOwned stage item
       → IsHome stage is_bios hand.share
-      → IsLineOf stage (cut_at (setup stage.routing) lists item hand node (tree stage.routing.stack item.bio.dev.0))
+      → IsLineOf stage (cut_at (routing_setup stage.routing) lists item hand node (tree stage.routing.stack item.bio.dev.0))
   cut_home lists item hand node within owned inside more own home =
       let stack = stage.routing.stack in
       elim (first_at stack good item.bio inside) [
         | inl none ↦ absurd (cut_not_none stack item.bio none more)
         | inr first ↦
-            let is = cut_is (setup stage.routing) stack good item.bio inside first.0 first.1 more in
+            let is = cut_is (routing_setup stage.routing) stack good item.bio inside first.0 first.1 more in
             let child : Item Pad = sent first.0 (split_front item hand first.0.sectors (Of item.bio.dev) node) in
             let rest : Item Pad = split_rest item first.0.sectors in
             subst (IsLineOf stage) (sym (is.made lists item hand node refl refl))
@@ -203,11 +203,11 @@ module _ (stage : Stage) (good : IsStack stage.routing.stack) where
       ]
 
   copies_home : (lists : TaskLists) (bio : Bio) (master leg : ℕ) → ListsAreWithin stage.routing.stack lists → BothHave (IsOwned stage) lists
-      → IsWithin stage.routing.stack bio → IsTrue (has_book stage bio.writer) → leg ≤ legs_of (tree stage.routing.stack bio.dev.0)
-      → IsLineOf stage (copies (setup stage.routing) lists bio master leg)
+      → IsWithinDevice stage.routing.stack bio → IsTrue (has_book stage bio.writer) → leg ≤ legs_of (tree stage.routing.stack bio.dev.0)
+      → IsLineOf stage (copies (routing_setup stage.routing) lists bio master leg)
   copies_home lists bio master leg within owned inside writer le = by_test (leg == legs_of (tree stage.routing.stack bio.dev.0)) refl
     where
-      by_test : (b : Bool) → (leg == legs_of (tree stage.routing.stack bio.dev.0)) ≡ b → IsLineOf stage (copies (setup stage.routing) lists bio master leg)
+      by_test : (b : Bool) → (leg == legs_of (tree stage.routing.stack bio.dev.0)) ≡ b → IsLineOf stage (copies (routing_setup stage.routing) lists bio master leg)
       by_test true e = rw e (goes_on_home bio.dev lists within owned)
       by_test false e =
           let other : leg ≢ legs_of (tree stage.routing.stack bio.dev.0) = λ same. absurd (search (e, same, arith)) in
@@ -219,9 +219,9 @@ module _ (stage : Stage) (good : IsStack stage.routing.stack) where
           })
 
   leg_home : (lists : TaskLists) (bio : Bio) (master leg node : ℕ) (hand : Item Pad) → ListsAreWithin stage.routing.stack lists
-      → BothHave (IsOwned stage) lists → IsWithin stage.routing.stack bio → leg < legs_of (tree stage.routing.stack bio.dev.0)
+      → BothHave (IsOwned stage) lists → IsWithinDevice stage.routing.stack bio → leg < legs_of (tree stage.routing.stack bio.dev.0)
       → IsTrue (has_book stage bio.writer) → IsHome stage is_bios hand.share
-      → IsLineOf stage (copies (setup stage.routing) (submitted (leg_at bio hand leg node (tree stage.routing.stack bio.dev.0)) lists) bio master (leg + 1))
+      → IsLineOf stage (copies (routing_setup stage.routing) (submitted (leg_at bio hand leg node (tree stage.routing.stack bio.dev.0)) lists) bio master (leg + 1))
   leg_home lists bio master leg node hand within owned inside lt writer home =
       let made : Item Pad = leg_at bio hand leg node (tree stage.routing.stack bio.dev.0) in
       copies_home (submitted made lists) bio master (leg + 1)
@@ -241,22 +241,22 @@ module _ (stage : Stage) (good : IsStack stage.routing.stack) where
       record { fits = record { doing = fits; lists = within }; doing = home; list0 = owned.0; list1 = owned.1 }
 
   chain_home : (lists : TaskLists) (item hand : Item Pad) (answer : Linked) → ListsAreWithin stage.routing.stack lists → BothHave (IsOwned stage) lists
-      → IsWithin stage.routing.stack item.bio → is_cut (tree stage.routing.stack item.bio.dev.0) item.bio.range ≡ true → IsOwned stage item
-      → IsHome stage is_bios hand.share → IsLineOf stage (after_chain (setup stage.routing) lists item hand answer)
+      → IsWithinDevice stage.routing.stack item.bio → is_cut (tree stage.routing.stack item.bio.dev.0) item.bio.range ≡ true → IsOwned stage item
+      → IsHome stage is_bios hand.share → IsLineOf stage (after_chain (routing_setup stage.routing) lists item hand answer)
   chain_home lists item hand (Made node) within owned inside more own home = cut_home lists item hand node within owned inside more own home
   chain_home lists item hand (NoRoom back) within owned inside more own home = stays _ lists tt tt within owned
   chain_home lists item hand (Stray back) within owned inside more own home = stays _ lists tt tt within owned
 
   master_home : (lists : TaskLists) (bio : Bio) (answer : Linked) → ListsAreWithin stage.routing.stack lists → BothHave (IsOwned stage) lists
-      → IsWithin stage.routing.stack bio → IsTrue (has_book stage bio.writer) → IsLineOf stage (after_master (setup stage.routing) lists bio answer)
+      → IsWithinDevice stage.routing.stack bio → IsTrue (has_book stage bio.writer) → IsLineOf stage (after_master (routing_setup stage.routing) lists bio answer)
   master_home lists bio (Made node) within owned inside writer = copies_home lists bio node 0 within owned inside writer (omega arith)
   master_home lists bio (NoRoom back) within owned inside writer = stays _ lists tt tt within owned
   master_home lists bio (Stray back) within owned inside writer = stays _ lists tt tt within owned
 
   copied_home : (lists : TaskLists) (bio : Bio) (master leg : ℕ) (hand : Item Pad) (answer : Linked) → ListsAreWithin stage.routing.stack lists
-      → BothHave (IsOwned stage) lists → IsWithin stage.routing.stack bio → leg < legs_of (tree stage.routing.stack bio.dev.0)
+      → BothHave (IsOwned stage) lists → IsWithinDevice stage.routing.stack bio → leg < legs_of (tree stage.routing.stack bio.dev.0)
       → IsTrue (has_book stage bio.writer) → IsHome stage is_bios hand.share
-      → IsLineOf stage (after_leg (setup stage.routing) lists bio master leg hand answer)
+      → IsLineOf stage (after_leg (routing_setup stage.routing) lists bio master leg hand answer)
   copied_home lists bio master leg hand (Made node) within owned inside lt writer home =
       leg_home lists bio master leg node hand within owned inside lt writer home
   copied_home lists bio master leg hand (NoRoom back) within owned inside lt writer home = stays _ lists tt tt within owned
@@ -271,8 +271,8 @@ module _ (stage : Stage) (good : IsStack stage.routing.stack) where
 
   -- whatever is replied
   pub line_home : (doing : Doing) (lists : TaskLists) (reply : Reply) → DoingFits stage.routing.stack doing → DoingIsHome stage doing
-      → ListsAreWithin stage.routing.stack lists → BothHave (IsOwned stage) lists → Owes stage (line_request (setup stage.routing) doing lists) reply
-      → IsLineOf stage (line_answered (setup stage.routing) doing lists reply)
+      → ListsAreWithin stage.routing.stack lists → BothHave (IsOwned stage) lists → Owes stage (line_request (routing_setup stage.routing) doing lists) reply
+      → IsLineOf stage (line_answered (routing_setup stage.routing) doing lists reply)
   line_home doing lists Spent fits home within owned owes = spent_home (at_hand doing) lists (punts_of doing) within owned
   line_home (Drives bio ToPush) lists Did fits home within owned owes = goes_on_home bio.bio.dev lists within owned
   line_home (Drives bio (ToCut (Takes waits))) lists (HadBio got hand) fits home within owned owes =

@@ -28,8 +28,8 @@ use Rattle.run_machine.specs.Events.{id_of, take_of, miss_of, resize_of, pool_of
 use Rattle.run_machine.specs.Named.{is_disk, is_mirror, has_set, is_any, HasDevice, HasPool, HasTask, HasWhat}
 use Rattle.task_steps.specs.Homes.{IsTaskOf}
 use Rattle.task_steps.specs.Named.{TasksNameTheStack}
-use Rattle.task_steps.specs.Routed.{setup}
-use Rattle.task_steps.specs.Stage.{Stage, has_disk, has_mirror, is_set, is_pool, is_bios, is_vecs, is_slips, Fits}
+use Rattle.task_steps.specs.Routed.{routing_setup}
+use Rattle.task_steps.specs.Stage.{Stage, has_disk, has_mirror, is_set, is_pool, is_bios, is_vecs, is_slips, RequestFits}
 use Rattle.task_steps.proofs.TaskHomes.{tasks_stay_home}
 
 is_left : (a b : Bool) → (a && b) ≡ true → a ≡ true
@@ -62,7 +62,7 @@ module _ (stage : Stage) (good : IsStack stage.routing.stack) where
       let t = cuts_is stage.routing.stack good dev device found (ap shape_of e) in (ap keeps_data t, ap copies_at t)
   by_kind dev device found (Mirror records) e = let t = copies_is stage.routing.stack good dev device found (ap shape_of e) in (ap keeps_data t, ap copies_at t)
 
-  there : (dev : ℕ) → IsTrue (is_device (setup stage.routing) dev) → IsThere dev
+  there : (dev : ℕ) → IsTrue (is_device (routing_setup stage.routing) dev) → IsThere dev
   there dev is = elim ((slice_get_cases stage.routing.stack.devices.items dev).1) [
     | inl x ↦ let kinds = by_kind dev x.0 x.2 x.0.kind refl in record { device = x.0; found = x.2; keeps = kinds.0; copies = kinds.1 }
     | inr past ↦ absurd (let h = past.0 in let lt = below dev (length stage.routing.stack.devices.items) is in omega (arith, h, lt))
@@ -72,21 +72,21 @@ module _ (stage : Stage) (good : IsStack stage.routing.stack) where
       → HasDevice suits stage.routing.stack dev
   suited suits dev device found is = ap (λ o. option_map_or (λ (d : Device). suits d.kind) o false) found ∙ is
 
-  any_device : (dev : DevId) → IsTrue (is_device (setup stage.routing) dev.0) → HasDevice is_any stage.routing.stack dev
+  any_device : (dev : DevId) → IsTrue (is_device (routing_setup stage.routing) dev.0) → HasDevice is_any stage.routing.stack dev
   any_device dev is = let at = there dev.0 is in suited is_any dev at.device at.found refl
 
   disk_device : (dev : DevId) → IsTrue (has_disk stage dev) → HasDevice is_disk stage.routing.stack dev
   disk_device dev is =
-      let at = there dev.0 (is_left _ _ is) in suited is_disk dev at.device at.found (sym at.keeps ∙ is_right (is_device (setup stage.routing) dev.0) _ is)
+      let at = there dev.0 (is_left _ _ is) in suited is_disk dev at.device at.found (sym at.keeps ∙ is_right (is_device (routing_setup stage.routing) dev.0) _ is)
 
-  set_device : (dev : DevId) → IsTrue (has_set_of (setup stage.routing) dev.0) → HasDevice has_set stage.routing.stack dev
+  set_device : (dev : DevId) → IsTrue (has_set_of (routing_setup stage.routing) dev.0) → HasDevice has_set stage.routing.stack dev
   set_device dev is =
       let at = there dev.0 (is_left _ _ is) in
-      suited has_set dev at.device at.found (ap not (sym at.keeps) ∙ is_right (is_device (setup stage.routing) dev.0) _ is)
+      suited has_set dev at.device at.found (ap not (sym at.keeps) ∙ is_right (is_device (routing_setup stage.routing) dev.0) _ is)
 
   mirror_device : (dev : DevId) → IsTrue (has_mirror stage dev) → HasDevice is_mirror stage.routing.stack dev
   mirror_device dev is =
-      let at = there dev.0 (is_left _ _ is) in suited is_mirror dev at.device at.found (sym at.copies ∙ is_right (is_device (setup stage.routing) dev.0) _ is)
+      let at = there dev.0 (is_left _ _ is) in suited is_mirror dev at.device at.found (sym at.copies ∙ is_right (is_device (routing_setup stage.routing) dev.0) _ is)
 
   -- pools
   set_pool : (set : SetId) → IsTrue (is_set stage set) → HasPool stage.routing.stack (bios_of set)
@@ -103,16 +103,16 @@ module _ (stage : Stage) (good : IsStack stage.routing.stack) where
   bios_pool number is = by_test (number == 65) refl (number == 64) refl (number % 2 == 0) refl is
     where
       by_test : (a : Bool) → (number == 65) ≡ a → (b : Bool) → (number == 64) ≡ b → (c : Bool) → (number % 2 == 0) ≡ c
-          → IsTrue (number == 65 || (number % 2 == 0 && has_set_of (setup stage.routing) (number / 2)))
+          → IsTrue (number == 65 || (number % 2 == 0 && has_set_of (routing_setup stage.routing) (number / 2)))
           → HasPool stage.routing.stack (pool_of number)
       by_test true p b q c r is = rw (p) tt
       by_test false p true q c r is = rw (p, q) tt
       by_test false p false q true r is =
-          rw (p, q, r) (set_device (record { 0 = number / 2 }) (subst (λ b. IsTrue (b && has_set_of (setup stage.routing) (number / 2))) r
-          (subst (λ b. IsTrue (b || (number % 2 == 0 && has_set_of (setup stage.routing) (number / 2)))) p is)))
+          rw (p, q, r) (set_device (record { 0 = number / 2 }) (subst (λ b. IsTrue (b && has_set_of (routing_setup stage.routing) (number / 2))) r
+          (subst (λ b. IsTrue (b || (number % 2 == 0 && has_set_of (routing_setup stage.routing) (number / 2)))) p is)))
       by_test false p false q false r is =
-          absurd (true≢false (sym (subst (λ b. IsTrue (b && has_set_of (setup stage.routing) (number / 2))) r
-          (subst (λ b. IsTrue (b || (number % 2 == 0 && has_set_of (setup stage.routing) (number / 2)))) p is))))
+          absurd (true≢false (sym (subst (λ b. IsTrue (b && has_set_of (routing_setup stage.routing) (number / 2))) r
+          (subst (λ b. IsTrue (b || (number % 2 == 0 && has_set_of (routing_setup stage.routing) (number / 2)))) p is))))
 
   vecs_pool : (number : ℕ) → IsTrue (is_vecs stage number) → HasPool stage.routing.stack (pool_of number)
   vecs_pool number is =
@@ -163,7 +163,7 @@ module _ (stage : Stage) (good : IsStack stage.routing.stack) where
   resized true pool min has = names_some _ has
   resized false pool min has = names_none
 
-  names : (asked : Request) (reply : Reply) → Fits stage asked → Names (what_of asked reply)
+  names : (asked : Request) (reply : Reply) → RequestFits stage asked → Names (what_of asked reply)
   names (requests.TakeBio set waits) (requests.HadBio got bio) fits = takes waits (bios_of set) got (set_pool set fits)
   names (requests.TakeBio set waits) (requests.Missed used) fits = misses waits used (bios_of set) (set_pool set fits)
   names requests.TakeVec (requests.HadVec got vector) fits = names_some _ tt
@@ -198,5 +198,5 @@ module _ (stage : Stage) (good : IsStack stage.routing.stack) where
 pub tasks_name_the_stack : TasksNameTheStack
 tasks_name_the_stack stage task reply event good home by told = record {
   task = subst (HasTask stage.routing.stack) (sym by) (names_task stage good task home);
-  what = names stage good (request (setup stage.routing) task) reply (tasks_stay_home.asks stage task good home) event.what told;
+  what = names stage good (request (routing_setup stage.routing) task) reply (tasks_stay_home.asks stage task good home) event.what told;
 }

@@ -10,12 +10,12 @@ use Rattle.bio_split.specs.Split.{split_front, split_rest}
 use Rattle.bio_lists.specs.Submission.{submitted}
 use Rattle.task_steps.specs.declared.routes.Cut.{Cut}
 use Rattle.run_machine.specs.Scene.{Setup}
-use Rattle.task_steps.specs.Within.{IsWithin, IsItemWithin, ListsAreWithin}
+use Rattle.task_steps.specs.Within.{IsWithinDevice, IsItemWithin, ListsAreWithin}
 use Rattle.task_steps.specs.Routed.{sent, IsCutAt}
 use Rattle.task_steps.proofs.Waiting.{BothHave, all_submitted}
 
 -- one more that is within
-pub one_within : (stack : Stack) (item : Item Pad) (lists after : TaskLists) → IsWithin stack item.bio → ListsAreWithin stack lists
+pub one_within : (stack : Stack) (item : Item Pad) (lists after : TaskLists) → IsWithinDevice stack item.bio → ListsAreWithin stack lists
     → after ≡ submitted item lists → ListsAreWithin stack after
 one_within stack item lists after own all e =
     let P : Item Pad → Type 0 = IsItemWithin stack in

@@ -8,8 +8,8 @@ use Rattle.stack_base.specs.declared.stack.Stack.{Stack}
 use Rattle.stack_base.proofs.Unfolded.{size-tree}
 use Rattle.bio_records.specs.declared.bio.Bio.{Bio}
 use Rattle.task_steps.specs.declared.routes.Route.{Route}
-use Rattle.task_steps.specs.Within.{IsWithin}
-use Rattle.task_steps.specs.Routed.{IsRouted, IsRouteOf, MapOf, map_of, MapHas, IsFirstPiece, IsFirst, HasNoFirst}
+use Rattle.task_steps.specs.Within.{IsWithinDevice}
+use Rattle.task_steps.specs.Routed.{IsRouted, IsRouteOf, MapOf, map_of, MapHas, IsFirstPiece, IsFirstCut, HasNoFirst}
 use Rattle.task_steps.proofs.Landing.{no_first, piece_there, is_first}
 use Rattle.task_steps.proofs.Devices.{goes_by, other_shape}
 
@@ -27,7 +27,7 @@ route_at stack routes are number d lt =
       | inr past ↦ absurd (omega (arith, past.0))
     ]
 
-module _ (stack : Stack) (bio : Bio) (route : Route) (of : IsRouteOf stack bio.dev.0 route) (within : IsWithin stack bio) where
+module _ (stack : Stack) (bio : Bio) (route : Route) (of : IsRouteOf stack bio.dev.0 route) (within : IsWithinDevice stack bio) where
   -- a run within the device is within what its driver goes by
   pub map_has : MapHas (map_of route.driver) (bio.range.start + bio.range.len)
   map_has = by_map (map_of route.driver) refl
@@ -61,11 +61,11 @@ module _ (stack : Stack) (bio : Bio) (route : Route) (of : IsRouteOf stack bio.d
             )
 
     pub first_some : (d : DevId)
-        → IsFirst stack bio (record { sectors = piece.len; dev = slice_index_or route.members.items piece.member d; start = piece.at })
+        → IsFirstCut stack bio (record { sectors = piece.len; dev = slice_index_or route.members.items piece.member d; start = piece.at })
     first_some d = by_map (map_of route.driver) refl is
       where
         by_map : (m : Option MapOf) → map_of route.driver ≡ m → IsFirstPiece m bio.range.start bio.range.len (Some piece)
-            → IsFirst stack bio (record { sectors = piece.len; dev = slice_index_or route.members.items piece.member d; start = piece.at })
+            → IsFirstCut stack bio (record { sectors = piece.len; dev = slice_index_or route.members.items piece.member d; start = piece.at })
         by_map None e is = absurd is
         by_map (Some m) e is =
             let by = goes_by stack of.device route.driver m of.is.driver e in

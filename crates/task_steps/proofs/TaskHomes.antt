@@ -16,20 +16,20 @@ use Rattle.run_machine.specs.Kept.{Kept}
 use Rattle.run_machine.specs.Requests.{Reply, HadBio, HadVec, Popped, Completed, LinkedTo, DroppedTo, OutIs, Did, Spent}
 use Rattle.run_machine.specs.Lines.{Doing, Rests, Breaks, Line, settled, line_request, line_answered}
 use Rattle.run_machine.specs.Tasks.{Todo, Taken, NoBio, HasBio, HasBoth, besides, Carried, Empty, Brings, Carries, Fails, Duty, Resizes, Starts, Keeping, Keeps, Stops, TaskState, Writer, Rescuer, Completer, Keeper, needs_vector, filled, filled_short, with_bio, write_request, writer_request, rescuer_request, closed_request, carried_request, keeper_request, duty_request, request, begins, write_answered, writer_answered, rescuer_answered, given, after_drop, parent_or, carried_answered, after_resize, keeper_answered, answered}
-use Rattle.task_steps.specs.Routed.{setup}
+use Rattle.task_steps.specs.Routed.{routing_setup}
 use Rattle.task_steps.specs.Within.{IsItemWithin}
-use Rattle.task_steps.specs.Stage.{Stage, has_book, is_vecs, IsHome, IsBioHome, IsVecHome, IsSlipHome, TopFits, DropFits, Fits, Owes, has_rescuer, has_disk}
+use Rattle.task_steps.specs.Stage.{Stage, has_book, is_vecs, IsHome, IsBioHome, IsVecHome, IsSlipHome, TopFits, DropFits, RequestFits, Owes, has_rescuer, has_disk}
 use Rattle.task_steps.specs.Homes.{IsOwned, IsLineOf, TodoFits, TakenIsHome, CarriedFits, DutyFits, KeepingFits, IsTaskOf, TasksStayHome}
 use Rattle.task_steps.proofs.LineHomes.{settled_home, line_asks, line_home}
 
 -- what a writer asks for outside of a submission
 with_bio_asks : (stage : Stage) (writer : ℕ) (needs : Bool) (todo : Todo) → IsTrue (has_book stage writer) → TodoFits stage todo
-    → Fits stage (with_bio writer needs todo)
+    → RequestFits stage (with_bio writer needs todo)
 with_bio_asks stage writer true todo book fits = tt
 with_bio_asks stage writer false todo book fits = (book, (fits.number, tt))
 
 write_asks : (stage : Stage) (writer : ℕ) (todos : List Todo) (taken : Taken) → IsTrue (has_book stage writer) → All (TodoFits stage) todos
-    → TakenIsHome stage taken → Fits stage (write_request writer todos taken)
+    → TakenIsHome stage taken → RequestFits stage (write_request writer todos taken)
 write_asks stage writer [] taken book all home = tt
 write_asks stage writer (todo ∷ later) NoBio book all home = refl
 write_asks stage writer (todo ∷ later) (HasBio bio) book all home =
@@ -39,19 +39,19 @@ write_asks stage writer (todo ∷ later) (HasBoth bio vector) book all home =
 
 writer_asks : (stage : Stage) → IsStack stage.routing.stack → (writer : ℕ) (todos : List Todo) (taken : Taken) (doing : Doing) (line : Line)
     → IsTrue (has_book stage writer) → All (TodoFits stage) todos → TakenIsHome stage taken
-    → Fits stage (line_request (setup stage.routing) doing line.lists)
-    → Fits stage (writer_request (setup stage.routing) writer todos taken doing line)
+    → RequestFits stage (line_request (routing_setup stage.routing) doing line.lists)
+    → RequestFits stage (writer_request (routing_setup stage.routing) writer todos taken doing line)
 writer_asks stage good writer todos taken Rests line book all home asks = write_asks stage writer todos taken book all home
 writer_asks stage good writer todos taken doing line book all home asks = asks
 
 rescuer_asks : (stage : Stage) (dev : DevId) (doing : Doing) (line : Line) → IsTrue (has_rescuer stage dev)
-    → Fits stage (line_request (setup stage.routing) doing line.lists) → Fits stage (rescuer_request (setup stage.routing) dev doing line)
+    → RequestFits stage (line_request (routing_setup stage.routing) doing line.lists) → RequestFits stage (rescuer_request (routing_setup stage.routing) dev doing line)
 rescuer_asks stage dev Rests line rescuer asks = rescuer
 rescuer_asks stage dev doing line rescuer asks = asks
 
 closed_asks : (stage : Stage) (writer : ℕ) (closed : Closed) (vector : Option VectorItem) (bio : Option (Item Pad)) (slip : Option SlipItem)
     (parent : Option ℕ) → IsTrue (has_book stage writer) → IsVecHome stage vector → IsBioHome stage bio → IsSlipHome stage slip
-    → TopFits stage closed.write parent → Fits stage (closed_request writer closed vector bio slip parent)
+    → TopFits stage closed.write parent → RequestFits stage (closed_request writer closed vector bio slip parent)
 closed_asks stage writer closed (Some vector) bio slip parent book v b s top = v
 closed_asks stage writer closed None (Some bio) slip parent book v b s top = b
 closed_asks stage writer closed None None (Some slip) parent book v b s top = s
@@ -59,23 +59,23 @@ closed_asks stage writer closed None None None (Some parent) book v b s top = (b
 closed_asks stage writer closed None None None None book v b s top = top
 
 carried_asks : (stage : Stage) (disk : DevId) (carried : Carried) → IsTrue (has_disk stage disk) → CarriedFits stage carried
-    → Fits stage (carried_request disk carried)
+    → RequestFits stage (carried_request disk carried)
 carried_asks stage disk Empty there fits = there
 carried_asks stage disk (Brings bio status) there fits = (fits.writer, fits.home)
 carried_asks stage disk (Carries writer closed) there fits =
     closed_asks stage writer closed closed.held.vector closed.held.bio closed.held.slip closed.parent fits.0 fits.1.held.vector fits.1.held.bio fits.1.held.slip fits.1.top
 carried_asks stage disk (Fails breach kept) there fits = tt
 
-duty_asks : (stage : Stage) (duty : Duty) → DutyFits stage duty → Fits stage (duty_request duty)
+duty_asks : (stage : Stage) (duty : Duty) → DutyFits stage duty → RequestFits stage (duty_request duty)
 duty_asks stage (Resizes pool min later) fits = fits
 duty_asks stage (Starts round later) fits = tt
 
-keeper_asks : (stage : Stage) (keeping : Keeping) → KeepingFits stage keeping → Fits stage (keeper_request keeping)
+keeper_asks : (stage : Stage) (keeping : Keeping) → KeepingFits stage keeping → RequestFits stage (keeper_request keeping)
 keeper_asks stage (Keeps []) fits = tt
 keeper_asks stage (Keeps (duty ∷ duties)) fits = duty_asks stage duty (All-head (DutyFits stage) duty duties fits)
 keeper_asks stage (Stops breach) fits = tt
 
-task_asks : (stage : Stage) (task : TaskState) → IsStack stage.routing.stack → IsTaskOf stage task → Fits stage (request (setup stage.routing) task)
+task_asks : (stage : Stage) (task : TaskState) → IsStack stage.routing.stack → IsTaskOf stage task → RequestFits stage (request (routing_setup stage.routing) task)
 task_asks stage (Writer number todo taken line) good is =
     let l = is.3 in
     writer_asks stage good number todo taken line.doing line is.0 is.1 is.2
@@ -91,7 +91,7 @@ module _ (stage : Stage) (good : IsStack stage.routing.stack) where
   broken : (line : Line) (breach : Breach) (kept : List Kept) → IsLineOf stage line → IsLineOf stage (record line { doing = Breaks breach kept })
   broken line breach kept is = record { fits = record { doing = tt; lists = is.fits.lists }; doing = tt; list0 = is.list0; list1 = is.list1 }
 
-  one : (item : Item Pad) → IsItemWithin stage.routing.stack item → IsOwned stage item → IsLineOf stage (settled (setup stage.routing) (item ∷ []))
+  one : (item : Item Pad) → IsItemWithin stage.routing.stack item → IsOwned stage item → IsLineOf stage (settled (routing_setup stage.routing) (item ∷ []))
   one item within owned =
       settled_home stage good (item ∷ [])
       (All-cons (IsItemWithin stage.routing.stack) item [] within (All-nil (IsItemWithin stage.routing.stack)))
@@ -106,7 +106,7 @@ module _ (stage : Stage) (good : IsStack stage.routing.stack) where
   begins_home : (writer : ℕ) (later : List Todo) (bio : ℕ → Item Pad) (taken : Taken) (todo : Todo) (line : Line) (answer : Linked)
       → IsTrue (has_book stage writer) → All (TodoFits stage) (todo ∷ later) → TakenIsHome stage taken → IsLineOf stage line
       → ((node : ℕ) → IsItemWithin stage.routing.stack (bio node) × IsOwned stage (bio node))
-      → IsTaskOf stage (begins (setup stage.routing) writer later bio taken todo line answer)
+      → IsTaskOf stage (begins (routing_setup stage.routing) writer later bio taken todo line answer)
   begins_home writer later bio taken todo line (Made node) book all home is bios =
       (book, All-tail (TodoFits stage) todo later all, tt, one (bio node) (bios node).0 (bios node).1)
   begins_home writer later bio taken todo line (NoRoom back) book all home is bios = (book, all, besides_home taken home, broken line _ _ is)
@@ -114,7 +114,7 @@ module _ (stage : Stage) (good : IsStack stage.routing.stack) where
 
   write_home : (writer : ℕ) (todos : List Todo) (taken : Taken) (line : Line) (reply : Reply) → IsTrue (has_book stage writer)
       → All (TodoFits stage) todos → TakenIsHome stage taken → IsLineOf stage line → Owes stage (write_request writer todos taken) reply
-      → IsTaskOf stage (write_answered (setup stage.routing) writer todos taken line reply)
+      → IsTaskOf stage (write_answered (routing_setup stage.routing) writer todos taken line reply)
   write_home writer todos taken line Spent book all home is owes = (book, all, besides_home taken home, broken line breach.Spent _ is)
   write_home writer (todo ∷ later) NoBio line (HadBio got bio) book all home is owes = (book, all, owes.home, is)
   write_home writer (todo ∷ later) (HasBio bio) line (HadVec got vector) book all home is owes =
@@ -135,18 +135,18 @@ module _ (stage : Stage) (good : IsStack stage.routing.stack) where
 
   writer_home : (writer : ℕ) (todos : List Todo) (taken : Taken) (doing : Doing) (line : Line) (reply : Reply) → IsTrue (has_book stage writer)
       → All (TodoFits stage) todos → TakenIsHome stage taken → IsLineOf stage line
-      → (Owes stage (line_request (setup stage.routing) doing line.lists) reply
-      → IsLineOf stage (line_answered (setup stage.routing) doing line.lists reply))
-      → Owes stage (writer_request (setup stage.routing) writer todos taken doing line) reply
-      → IsTaskOf stage (writer_answered (setup stage.routing) writer todos taken doing line reply)
+      → (Owes stage (line_request (routing_setup stage.routing) doing line.lists) reply
+      → IsLineOf stage (line_answered (routing_setup stage.routing) doing line.lists reply))
+      → Owes stage (writer_request (routing_setup stage.routing) writer todos taken doing line) reply
+      → IsTaskOf stage (writer_answered (routing_setup stage.routing) writer todos taken doing line reply)
   writer_home writer todos taken Rests line reply book all home is on owes = write_home writer todos taken line reply book all home is owes
   writer_home writer todos taken doing line reply book all home is on owes = (book, all, home, on owes)
 
   rescuer_home : (dev : DevId) (doing : Doing) (line : Line) (reply : Reply) → IsTrue (has_rescuer stage dev) → IsLineOf stage line
-      → (Owes stage (line_request (setup stage.routing) doing line.lists) reply
-      → IsLineOf stage (line_answered (setup stage.routing) doing line.lists reply))
-      → Owes stage (rescuer_request (setup stage.routing) dev doing line) reply
-      → IsTaskOf stage (rescuer_answered (setup stage.routing) dev doing line reply)
+      → (Owes stage (line_request (routing_setup stage.routing) doing line.lists) reply
+      → IsLineOf stage (line_answered (routing_setup stage.routing) doing line.lists reply))
+      → Owes stage (rescuer_request (routing_setup stage.routing) dev doing line) reply
+      → IsTaskOf stage (rescuer_answered (routing_setup stage.routing) dev doing line reply)
   rescuer_home dev Rests line (Popped bio) rescuer is on owes =
       (rescuer, one bio owes.within (record { writer = owes.writer; home = owes.home }))
   rescuer_home dev Rests line Spent rescuer is on owes = (rescuer, broken line breach.Spent [] is)
@@ -199,8 +199,8 @@ module _ (stage : Stage) (good : IsStack stage.routing.stack) where
   keeper_home (Keeps (duty ∷ duties)) Spent fits = tt
   keeper_home keeping _ fits = fits
 
-  task_home : (task : TaskState) (reply : Reply) → IsTaskOf stage task → Owes stage (request (setup stage.routing) task) reply
-      → IsTaskOf stage (answered (setup stage.routing) task reply)
+  task_home : (task : TaskState) (reply : Reply) → IsTaskOf stage task → Owes stage (request (routing_setup stage.routing) task) reply
+      → IsTaskOf stage (answered (routing_setup stage.routing) task reply)
   task_home (Writer number todo taken line) reply is owes =
       let l = is.3 in
       writer_home number todo taken line.doing line reply is.0 is.1 is.2 l

@@ -14,7 +14,7 @@ use Rattle.run_machine.specs.Scene.{setup_of}
 use Rattle.run_machine.specs.Lines.{Doing, Rests, Line}
 use Rattle.run_machine.specs.Tasks.{Todo, Taken, NoBio, HasBio, HasBoth, Carried, Empty, Brings, Carries, Fails, Duty, Resizes, Starts, Keeping, Keeps, Stops, TaskState, Writer, Rescuer, Completer, Keeper, needs_vector, filled, filled_short, with_bio, write_request, writer_request, rescuer_request, closed_request, carried_request, keeper_request, duty_request, request, begins, write_answered, writer_answered, rescuer_answered, answered}
 use Rattle.run_machine.specs.Requests.{Reply, HadBio, HadVec, Popped, LinkedTo, Spent}
-use Rattle.task_steps.specs.Within.{IsWithin, IsItemWithin, LineFits, DoingFits, TaskFits, AskedFits, ReplyFits, TasksStayWithin}
+use Rattle.task_steps.specs.Within.{IsWithinDevice, IsItemWithin, LineFits, DoingFits, TaskFits, AskedFits, ReplyFits, TasksStayWithin}
 use Rattle.task_steps.proofs.Fits.{settled_fits, line_fits, line_asks}
 
 -- the writes of a task
@@ -24,7 +24,7 @@ IsTodo stack todo = IsWrite stack todo.write
 module _ (stack : Stack) (good : IsStack stack) (places : ℕ → ℕ) where
   -- a write begins
   pub begins_fits : (writer : ℕ) (later : List Todo) (bio : ℕ → Item Pad) (taken : Taken) (todo : Todo) (line : Line) (answer : Linked)
-      → ((node : ℕ) → IsWithin stack (bio node).bio) → All (IsTodo stack) (todo ∷ later) → LineFits stack line
+      → ((node : ℕ) → IsWithinDevice stack (bio node).bio) → All (IsTodo stack) (todo ∷ later) → LineFits stack line
       → TaskFits stack (begins (setup_of stack places) writer later bio taken todo line answer)
   begins_fits writer later bio taken todo line (Made node) within all fits = (
     All-tail (IsTodo stack) todo later all,

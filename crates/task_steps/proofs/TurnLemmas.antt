@@ -16,7 +16,7 @@ use Rattle.run_machine.specs.Lines.{Takes, Punts, Links, ToPush, ToCut, ToRecord
 use Rattle.run_machine.specs.Tasks.{Todo, Taken, NoBio, HasBio, HasBoth, TaskState, Writer, Rescuer, needs_vector, with_bio, write_request, writer_request, writer_look, lets, rescuer_request, writer_answered, rescuer_answered, request}
 use Rattle.task_steps.specs.Turns.{step_of, Follows, Asks, AsksFor, Acts, ActsIf, TurnsBy, Turns, doing_breach, resting_step}
 use Rattle.task_steps.specs.LineViews.{is_asking, is_over}
-use Rattle.task_steps.specs.Answers.{finds, Answers}
+use Rattle.task_steps.specs.Answers.{finds, AnswersSubmission}
 use Rattle.task_steps.specs.WriterViews.{WriteAnswers, is_taken, tried}
 use Rattle.task_steps.specs.RescuerViews.{PopAnswers}
 
@@ -119,7 +119,7 @@ module _ {S : Type 0} (serves : S → Request → Reply → S → Type 0) (owes 
 
   -- a step of its submission is a writer's
   pub line_turns_writer : (number : ℕ) (todo : List Todo) (taken : Taken) (line next : Line) (old new : S) (step : Step) → is_asking line.doing ≡ true
-      → Answers serves owes setup (id.Writer number) line.doing line.lists old next new step
+      → AnswersSubmission serves owes setup (id.Writer number) line.doing line.lists old next new step
       → Turns serves owes setup (Writer number todo taken line) old (Writer number todo taken next) new step
   line_turns_writer number todo taken line next old new step asking answers =
       let asked = line_request setup line.doing line.lists in
@@ -261,7 +261,7 @@ module _ {S : Type 0} (serves : S → Request → Reply → S → Type 0) (owes 
   rescuer_goes_on dev (Copies bio master leg want) line reply over = refl
 
   pub line_turns_rescuer : (dev : DevId) (line next : Line) (old new : S) (step : Step) → is_asking line.doing ≡ true
-      → Answers serves owes setup (id.Rescuer dev) line.doing line.lists old next new step
+      → AnswersSubmission serves owes setup (id.Rescuer dev) line.doing line.lists old next new step
       → Turns serves owes setup (Rescuer dev line) old (Rescuer dev next) new step
   line_turns_rescuer dev line next old new step asking answers =
       let asked = line_request setup line.doing line.lists in

@@ -6,7 +6,7 @@ use Rattle.run_machine.specs.Scene.{Setup}
 use Rattle.run_machine.specs.Requests.{Request, Reply}
 use Rattle.run_machine.specs.Requests as requests
 use Rattle.run_machine.specs.Tasks.{TaskState, request, look_of, lets}
-use Rattle.task_steps.specs.Routed.{setup}
+use Rattle.task_steps.specs.Routed.{routing_setup}
 use Rattle.task_steps.specs.Stage.{Stage, Owes}
 use Rattle.task_steps.specs.Homes.{IsTaskOf}
 use Rattle.task_steps.specs.Turns.{resting_step, breach_of, Asks, AsksFor, Acts, ActsIf, TurnsBy, Turns}
@@ -41,21 +41,21 @@ module _ {S : Type 0} (serves : S → Request → Reply → S → Type 0) (owes 
 -- a task of a scenario stays one, whatever step it makes
 module _ {S : Type 0} (serves : S → Request → Reply → S → Type 0) (stage : Stage) (good : IsStack stage.routing.stack) where
   acts_home : (task : TaskState) (old : S) (next : TaskState) (new : S) (step : Step) → IsTaskOf stage task
-      → Acts serves (Owes stage) (setup stage.routing) task old next new step → IsTaskOf stage next
+      → Acts serves (Owes stage) (routing_setup stage.routing) task old next new step → IsTaskOf stage next
   acts_home task old next new step home is =
-      elim (acts serves (Owes stage) (setup stage.routing) (request (setup stage.routing) task) task old next new step is) [
+      elim (acts serves (Owes stage) (routing_setup stage.routing) (request (routing_setup stage.routing) task) task old next new step is) [
         | inl rests ↦ subst (IsTaskOf stage) (sym rests.1.0) home
         | inr asks ↦ subst (IsTaskOf stage) (sym asks.goes_on) (tasks_stay_home.goes_on stage task asks.reply good home asks.owed)
       ]
 
   pub turns_home : (task : TaskState) (old : S) (next : TaskState) (new : S) (step : Step) → IsTaskOf stage task
-      → Turns serves (Owes stage) (setup stage.routing) task old next new step → IsTaskOf stage next
+      → Turns serves (Owes stage) (routing_setup stage.routing) task old next new step → IsTaskOf stage next
   turns_home task old next new step home is = by_look (look_of task) is
     where
-      by_let : (b : Bool) (between : S) → ActsIf b serves (Owes stage) (setup stage.routing) task between next new step → IsTaskOf stage next
+      by_let : (b : Bool) (between : S) → ActsIf b serves (Owes stage) (routing_setup stage.routing) task between next new step → IsTaskOf stage next
       by_let true between is = acts_home task between next new step home is
       by_let false between is = subst (IsTaskOf stage) (sym is.0) home
 
-      by_look : (o : Option Request) → TurnsBy o serves (Owes stage) (setup stage.routing) task old next new step → IsTaskOf stage next
+      by_look : (o : Option Request) → TurnsBy o serves (Owes stage) (routing_setup stage.routing) task old next new step → IsTaskOf stage next
       by_look None is = acts_home task old next new step home is
       by_look (Some look) is = by_let (lets task is.0) is.1 is.3

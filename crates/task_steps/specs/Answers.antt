@@ -21,11 +21,11 @@ use Rattle.task_steps.specs.declared.step.Step.TheVariants.{Stepped}
 use Rattle.run_machine.specs.Scene.{Setup, tree_at}
 use Rattle.run_machine.specs.Requests.{Request, Reply, Opening, TakeBio, Punt, Link, HadBio, Missed, Did, LinkedTo, Nothing, Spent}
 use Rattle.run_machine.specs.Lines.{Want, Links, Ask, Doing, Drives, Line, asks_at, punted, not_punted, line_request, after_miss, line_answered}
-use Rattle.task_steps.specs.Turns.{named, step_of}
+use Rattle.task_steps.specs.Turns.{named_node, step_of}
 use Rattle.run_machine.specs.Kept.{Kept, KeptBio, holding_kept, opening_kept}
-use Rattle.task_steps.specs.LineViews.{line_of, want_of, unmade_kept, back_kept}
-use Rattle.task_steps.specs.Routed.{Routing, setup}
-use Rattle.task_steps.specs.Stage.{Fits, Owes}
+use Rattle.task_steps.specs.LineViews.{submission_of, want_of, unmade_kept, back_kept}
+use Rattle.task_steps.specs.Routed.{Routing, routing_setup}
+use Rattle.task_steps.specs.Stage.{RequestFits, Owes}
 
 -- a reply that is no look which found nothing
 abbrev pub finds : Reply → Bool
@@ -33,7 +33,7 @@ finds Nothing = false
 finds reply = true
 
 -- The objects were asked for what the submission asks for, it goes on with their reply, for which they owe what they do, and the step tells it.
-pub record Answers {S : Type 0} (serves : S → Request → Reply → S → Type 0) (owes : Request → Reply → Type 0) (setup : Setup) (task : TaskId)
+pub record AnswersSubmission {S : Type 0} (serves : S → Request → Reply → S → Type 0) (owes : Request → Reply → Type 0) (setup : Setup) (task : TaskId)
     (doing : Doing) (lists : TaskLists) (old : S) (next : Line) (new : S) (step : Step) : Type 0 where
   pub reply : Reply
   pub replied : serves old (line_request setup doing lists) reply new
@@ -44,27 +44,27 @@ pub record Answers {S : Type 0} (serves : S → Request → Reply → S → Type
 
 -- objects that hold together, and may be asked this
 abbrev pub Ready : {S : Type 0} → Ghosts S → S → Request → Type 0
-Ready words objects request = words.holds objects × Fits (words.stage objects) request
+Ready words objects request = words.holds objects × RequestFits (words.stage objects) request
 
 -- the same of what a submission asks for
 abbrev pub LineReady : {S : Type 0} → Ghosts S → S → Routing → Doing → TaskLists → Type 0
-LineReady words objects routing doing lists = Ready words objects (line_request (setup routing) doing lists)
+LineReady words objects routing doing lists = Ready words objects (line_request (routing_setup routing) doing lists)
 
 -- what the driver of a device asks for first, whatever bio it has
 abbrev pub AsksFirst : Routing → TaskLists → DevId → Ask → Type 0
 AsksFirst routing lists dev ask =
-    (item : Item Pad) → item.bio.dev ≡ dev → asks_at (setup routing) lists item (tree_at (setup routing) dev) ≡ Drives item ask
+    (item : Item Pad) → item.bio.dev ≡ dev → asks_at (routing_setup routing) lists item (tree_at (routing_setup routing) dev) ≡ Drives item ask
 
 -- a step of a submission over these objects, which hold together behind it too
 pub record LineDoes {S : Type 0} (words : Ghosts S) (routing : Routing) (task : TaskId) (line : Line) (old : S) (next : Line) (new : S) (step : Step) : Type 0 where
-  pub answers : Answers words.serves (Owes (words.stage old)) (setup routing) task line.doing line.lists old next new step
+  pub answers : AnswersSubmission words.serves (Owes (words.stage old)) (routing_setup routing) task line.doing line.lists old next new step
   pub held : words.holds new
   pub same : words.stage new ≡ words.stage old
 
 -- the same of what was done and of the lists behind it
 abbrev pub Does : {S : Type 0} → Ghosts S → Routing → TaskId → Doing → TaskLists → S → RealDoing × Step → TaskLists → S → Type 0
 Does words routing task doing lists old done after new =
-    LineDoes words routing task (record { doing = doing; lists = lists }) old (line_of done.0 after) new done.1
+    LineDoes words routing task (record { doing = doing; lists = lists }) old (submission_of done.0 after) new done.1
 
 -- what is wanted behind an attempt at a bio: what was had is linked, and a miss is followed by what follows it
 abbrev pub WantsOn : Bool → Reply → Want → Type 0
@@ -102,7 +102,7 @@ PuntedAll words task dev lists old after new (Err back) =
 abbrev pub refusal : Setup → ℕ → Opening → Reply → Option Breach
 refusal setup writer opening Spent = Some breach.Spent
 refusal setup writer opening (LinkedTo (NoRoom back)) = Some (breach.NoRoom writer (setup.places writer))
-refusal setup writer opening (LinkedTo (Stray back)) = Some (breach.Stray writer (named opening))
+refusal setup writer opening (LinkedTo (Stray back)) = Some (breach.Stray writer (named_node opening))
 refusal setup writer opening reply = None
 
 -- what comes back of what was handed over for a node that was not opened
@@ -124,4 +124,4 @@ abbrev pub NodeOpened : {S : Type 0} → Ghosts S → Routing → ℕ → Openin
 NodeOpened words routing writer opening old new (Ok node) =
     words.serves old (Link writer opening) (LinkedTo (Made node)) new × Owes (words.stage old) (Link writer opening) (LinkedTo (Made node))
 NodeOpened words routing writer opening old new (Err refused) =
-    IsRefused words.serves (Owes (words.stage old)) (setup routing) writer opening old refused.0 refused.1 new
+    IsRefused words.serves (Owes (words.stage old)) (routing_setup routing) writer opening old refused.0 refused.1 new

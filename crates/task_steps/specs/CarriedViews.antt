@@ -52,8 +52,8 @@ with_vector vector rest =
     let closed = closed_node_of rest in
     record closed { held = record closed.held { vector = Some (vec_item vector) } }
 
-abbrev pub with_bio : Element (BioBody Pad) → ClosedNode → Closed
-with_bio bio rest =
+abbrev pub with_bio_held : Element (BioBody Pad) → ClosedNode → Closed
+with_bio_held bio rest =
     let closed = closed_node_of rest in
     record closed { held = record closed.held { bio = Some (item_of bio) } }
 

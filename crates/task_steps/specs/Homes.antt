@@ -9,8 +9,8 @@ use Rattle.bio_records.specs.Items.{Item}
 use Rattle.run_machine.specs.Requests.{Reply}
 use Rattle.run_machine.specs.Lines.{Want, Takes, Punts, Links, Ask, ToPush, ToCut, ToRecord, ToMaster, Doing, Rests, Drives, Copies, Breaks, Line, line_request, line_answered}
 use Rattle.run_machine.specs.Tasks.{Todo, Taken, NoBio, HasBio, HasBoth, Carried, Empty, Brings, Carries, Fails, Duty, Resizes, Starts, Keeping, Keeps, Stops, TaskState, Writer, Rescuer, Completer, Keeper, request, answered}
-use Rattle.task_steps.specs.Routed.{setup}
-use Rattle.task_steps.specs.Stage.{Stage, has_book, has_rescuer, has_disk, is_pool, is_bios, is_vecs, is_slips, IsHome, ClosedFits, Fits, Owes}
+use Rattle.task_steps.specs.Routed.{routing_setup}
+use Rattle.task_steps.specs.Stage.{Stage, has_book, has_rescuer, has_disk, is_pool, is_bios, is_vecs, is_slips, IsHome, ClosedFits, RequestFits, Owes}
 use Rattle.task_steps.specs.Within.{LineFits}
 
 -- a bio of a writer with a book, in an element at home
@@ -79,13 +79,13 @@ IsTaskOf stage (Keeper keeping) = KeepingFits stage keeping
 
 -- What such a submission asks for fits the objects, and with what they owe for it, it stays one.
 pub record LinesStayHome : Type 0 where
-  pub asks : (stage : Stage) (line : Line) → IsStack stage.routing.stack → IsLineOf stage line → Fits stage (line_request (setup stage.routing) line.doing line.lists)
+  pub asks : (stage : Stage) (line : Line) → IsStack stage.routing.stack → IsLineOf stage line → RequestFits stage (line_request (routing_setup stage.routing) line.doing line.lists)
   pub goes_on : (stage : Stage) (line : Line) (reply : Reply) → IsStack stage.routing.stack → IsLineOf stage line
-      → Owes stage (line_request (setup stage.routing) line.doing line.lists) reply
-      → IsLineOf stage (line_answered (setup stage.routing) line.doing line.lists reply)
+      → Owes stage (line_request (routing_setup stage.routing) line.doing line.lists) reply
+      → IsLineOf stage (line_answered (routing_setup stage.routing) line.doing line.lists reply)
 
 -- So it is with tasks.
 pub record TasksStayHome : Type 0 where
-  pub asks : (stage : Stage) (task : TaskState) → IsStack stage.routing.stack → IsTaskOf stage task → Fits stage (request (setup stage.routing) task)
+  pub asks : (stage : Stage) (task : TaskState) → IsStack stage.routing.stack → IsTaskOf stage task → RequestFits stage (request (routing_setup stage.routing) task)
   pub goes_on : (stage : Stage) (task : TaskState) (reply : Reply) → IsStack stage.routing.stack → IsTaskOf stage task
-      → Owes stage (request (setup stage.routing) task) reply → IsTaskOf stage (answered (setup stage.routing) task reply)
+      → Owes stage (request (routing_setup stage.routing) task) reply → IsTaskOf stage (answered (routing_setup stage.routing) task reply)

@@ -65,8 +65,8 @@ wanting (Drives bio ask) want = Drives bio (ToCut want)
 wanting (Copies bio master leg was) want = Copies bio master leg want
 wanting doing want = doing
 
-abbrev pub line_of : RealDoing → TaskLists → Line
-line_of doing lists = record { doing = doing_of doing; lists = lists }
+abbrev pub submission_of : RealDoing → TaskLists → Line
+submission_of doing lists = record { doing = doing_of doing; lists = lists }
 
 -- no element that is at hand is in a list
 abbrev pub IsWantAlone : RealWant → Type 0
@@ -105,8 +105,8 @@ is_over (Copies bio master leg want) = false
 is_over (Breaks breach kept) = false
 
 -- whether it has broken off
-abbrev pub is_broken : Doing → Bool
-is_broken Rests = false
-is_broken (Drives bio ask) = false
-is_broken (Copies bio master leg want) = false
-is_broken (Breaks breach kept) = true
+abbrev pub has_broken_off : Doing → Bool
+has_broken_off Rests = false
+has_broken_off (Drives bio ask) = false
+has_broken_off (Copies bio master leg want) = false
+has_broken_off (Breaks breach kept) = true

@@ -7,10 +7,10 @@ use Rattle.run_machine.specs.Tasks.{TaskState, request}
 use Rattle.run_machine.specs.Events.{id_of, what_of}
 use Rattle.run_machine.specs.Named.{IsEventOf}
 use Rattle.task_steps.specs.Homes.{IsTaskOf}
-use Rattle.task_steps.specs.Routed.{setup}
+use Rattle.task_steps.specs.Routed.{routing_setup}
 use Rattle.task_steps.specs.Stage.{Stage}
 
 -- whatever is told of a task of a stack names what the stack has
 abbrev pub TasksNameTheStack : Type 0
 TasksNameTheStack = (stage : Stage) (task : TaskState) (reply : Reply) (event : Event) → IsStack stage.routing.stack → IsTaskOf stage task
-    → event.task ≡ id_of task → what_of (request (setup stage.routing) task) reply ≡ Some event.what → IsEventOf stage.routing.stack event
+    → event.task ≡ id_of task → what_of (request (routing_setup stage.routing) task) reply ≡ Some event.what → IsEventOf stage.routing.stack event

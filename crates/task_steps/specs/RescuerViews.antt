@@ -9,7 +9,7 @@ use Rattle.run_machine.specs.Requests.{Request, Reply, Pop}
 use Rattle.run_machine.specs.Lines.{Rests, Line}
 use Rattle.run_machine.specs.Tasks.{TaskState, Rescuer, rescuer_answered}
 use Rattle.task_steps.specs.Turns.{Follows}
-use Rattle.task_steps.specs.Routed.{Routing, setup}
+use Rattle.task_steps.specs.Routed.{Routing, routing_setup}
 use Rattle.task_steps.specs.Stage.{Owes}
 
 -- the rescuer of a device's set: the device, and its submission
@@ -33,4 +33,4 @@ pub record PopAnswers {S : Type 0} (serves : S → Request → Reply → S → T
 -- the same of a rescuer over these objects
 abbrev pub RescuerPops : {S : Type 0} → Ghosts S → Routing → RescuerState → S → RescuerState → S → Step → Type 0
 RescuerPops words routing before old after new step =
-    PopAnswers words.serves (Owes (words.stage old)) (setup routing) before.dev before.line old after.line new step
+    PopAnswers words.serves (Owes (words.stage old)) (routing_setup routing) before.dev before.line old after.line new step

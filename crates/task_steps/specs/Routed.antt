@@ -26,7 +26,7 @@ use Rattle.task_steps.specs.declared.routes.driver.Manner.TheVariants as manner
 use Rattle.task_steps.specs.declared.routes.Route.{Route}
 use Rattle.run_machine.specs.Scene.{Setup, setup_of}
 use Rattle.run_machine.specs.Lines.{Doing, Drives, ToPush, ToCut, ToRecord, Takes, first_waits, landed, asks_at, cut_at, leg_at, goes_on}
-use Rattle.task_steps.specs.Within.{IsWithin, first_cut, is_handed_on}
+use Rattle.task_steps.specs.Within.{IsWithinDevice, first_cut, is_handed_on}
 
 -- a stack, and how many places the book of each writer has
 pub record Routing : Type 0 where
@@ -37,18 +37,18 @@ abbrev pub places_at : List ℕ → ℕ → ℕ
 places_at places writer = slice_index_or places writer 0
 
 -- what tasks know of it
-abbrev pub setup : Routing → Setup
-setup r = setup_of r.stack (places_at r.places)
+abbrev pub routing_setup : Routing → Setup
+routing_setup r = setup_of r.stack (places_at r.places)
 
 abbrev pub keeps : Shape → Bool
 keeps (Keeps sectors) = true
 keeps Cuts = false
 keeps Copies = false
 
-abbrev pub copies : Shape → Bool
-copies (Keeps sectors) = false
-copies Cuts = false
-copies Copies = true
+abbrev pub copies_bios : Shape → Bool
+copies_bios (Keeps sectors) = false
+copies_bios Cuts = false
+copies_bios Copies = true
 
 -- the sizes of the members of a device
 abbrev pub sizes_at : Stack → Device → List ℕ
@@ -63,7 +63,7 @@ IsDriver stack device (driver.Stripe stripe) =
 IsDriver stack device (driver.Zoned zoned) = (device.kind ≡ kind.Zoned zoned.chunk) × (zoned.sizes ≡ sizes_at stack device)
 IsDriver stack device (driver.Limit limit) = (device.kind ≡ kind.Limit limit.longest limit.chunk) × (limit.sectors ∷ [] ≡ sizes_at stack device)
 IsDriver stack device (driver.Mirror mirror) =
-    (copies (shape_of device.kind) ≡ true) × (mirror.members ≡ device.members.items) × (mirror.size ≡ smallest (sizes_at stack device))
+    (copies_bios (shape_of device.kind) ≡ true) × (mirror.members ≡ device.members.items) × (mirror.size ≡ smallest (sizes_at stack device))
 
 -- what is kept of a device
 pub record IsRoute (stack : Stack) (device : Device) (route : Route) : Type 0 where
@@ -143,17 +143,17 @@ abbrev pub handed : Cut → Bio → Bio
 handed cut bio = record bio { dev = cut.dev; range = record bio.range { start = cut.start } }
 
 -- and the bio of the first piece alone
-abbrev pub first_bio : Cut → Bio → Bio
-first_bio cut bio = record bio { dev = cut.dev; range = record { start = cut.start; len = cut.sectors } }
+abbrev pub bio_of_first_piece : Cut → Bio → Bio
+bio_of_first_piece cut bio = record bio { dev = cut.dev; range = record { start = cut.start; len = cut.sectors } }
 
 -- the first piece of a bio at its device: it has a sector, lies within a device of a smaller number, and if it is the whole bio, this comes
 -- to where it comes from there
-pub record IsFirst (stack : Stack) (bio : Bio) (cut : Cut) : Type 0 where
+pub record IsFirstCut (stack : Stack) (bio : Bio) (cut : Cut) : Type 0 where
   pub first : first_cut (tree stack bio.dev.0) bio.range ≡ Some cut
   pub some : 1 ≤ cut.sectors
   pub most : cut.sectors ≤ bio.range.len
   pub below : cut.dev.0 < bio.dev.0
-  pub within : IsWithin stack (first_bio cut bio)
+  pub within : IsWithinDevice stack (bio_of_first_piece cut bio)
   pub lands : cut.sectors ≡ bio.range.len → landed (tree stack bio.dev.0) bio ≡ landed (tree stack cut.dev.0) (handed cut bio)
 
 -- the device is not one that cuts
@@ -165,7 +165,7 @@ pub record IsBelow (stack : Stack) (bio next : Bio) : Type 0 where
   pub next_is : IsSomeAnd (first_cut (tree stack bio.dev.0) bio.range) (λ cut. next ≡ handed cut bio)
   pub lands : landed (tree stack bio.dev.0) bio ≡ landed (tree stack next.dev.0) next
   pub below : next.dev.0 < bio.dev.0
-  pub within : IsWithin stack next
+  pub within : IsWithinDevice stack next
 
 -- the device does not hand the bio on
 abbrev pub Stays : Stack → Bio → Type 0
@@ -174,7 +174,7 @@ Stays stack bio = is_handed_on (tree stack bio.dev.0) bio.range ≡ false
 -- where a bio comes to
 pub record IsLanded (stack : Stack) (start bio : Bio) : Type 0 where
   pub comes : bio ≡ landed (tree stack start.dev.0) start
-  pub within : IsWithin stack bio
+  pub within : IsWithinDevice stack bio
   pub stays : Stays stack bio
   pub same : landed (tree stack bio.dev.0) bio ≡ bio
 
@@ -202,8 +202,8 @@ pub record IsCutAt (setup : Setup) (stack : Stack) (bio : Bio) (cut : Cut) : Typ
   pub first : first_cut (tree stack bio.dev.0) bio.range ≡ Some cut
   pub some : 1 ≤ cut.sectors
   pub fewer : cut.sectors < bio.range.len
-  pub within : IsWithin stack (first_bio cut bio)
-  pub rest : IsWithin stack (record bio { range = record { start = bio.range.start + cut.sectors; len = bio.range.len - cut.sectors } })
+  pub within : IsWithinDevice stack (bio_of_first_piece cut bio)
+  pub rest : IsWithinDevice stack (record bio { range = record { start = bio.range.start + cut.sectors; len = bio.range.len - cut.sectors } })
   pub small : bio.range.start + bio.range.len ≤ 2 ^ 64 - 1
   -- how the submission goes on
   pub made : (lists : TaskLists) (item hand : Item Pad) (node : ℕ) → item.bio.dev ≡ bio.dev → item.bio.range ≡ bio.range
@@ -213,4 +213,4 @@ pub record IsCutAt (setup : Setup) (stack : Stack) (bio : Bio) (cut : Cut) : Typ
 -- a leg of a bio: what it becomes in the element that it gets, and it is within the member
 pub record IsLegAt (stack : Stack) (bio : Bio) (leg node : ℕ) (made : Bio × Pad) : Type 0 where
   pub made_is : (hand : Item Pad) → leg_at bio hand leg node (tree stack bio.dev.0) ≡ record hand { bio = made.0; pad = made.1 }
-  pub within : IsWithin stack made.0
+  pub within : IsWithinDevice stack made.0

@@ -16,8 +16,8 @@ use Rattle.bio_books.specs.Drops as end
 use Rattle.bio_books.specs.Links.{Linked, Made, NoRoom, Stray}
 use Rattle.run_machine.specs.Scene.{is_device, is_disk, has_set, is_mirror}
 use Rattle.run_machine.specs.Requests.{Request, Reply, Opening, Write, Chain, Master, Leg, TakeBio, TakeVec, TakeSlip, GiveBio, GiveVec, GiveSlip, Punt, Pop, Push, Complete, Link, Drop, Done, Resize, NextRound, LookRound, LookLeft, HadBio, HadVec, HadSlip, Missed, Did, Popped, Completed, LinkedTo, DroppedTo, OutIs, Present, LeftOver, Nothing, Spent}
-use Rattle.task_steps.specs.Within.{IsWithin}
-use Rattle.task_steps.specs.Routed.{Routing, places_at, setup}
+use Rattle.task_steps.specs.Within.{IsWithinDevice}
+use Rattle.task_steps.specs.Routed.{Routing, places_at, routing_setup}
 
 -- a stack with the places of each writer's book, how many writes there are, the ledger of each pool and the most that its reserve may be, by
 -- the pool's number
@@ -32,28 +32,28 @@ abbrev pub has_book : Stage → ℕ → Bool
 has_book stage writer = nat_lt 0 (places_at stage.routing.places writer)
 
 abbrev pub has_rescuer : Stage → DevId → Bool
-has_rescuer stage dev = is_device (setup stage.routing) dev.0 && (setup stage.routing).rescuer dev.0
+has_rescuer stage dev = is_device (routing_setup stage.routing) dev.0 && (routing_setup stage.routing).rescuer dev.0
 
 abbrev pub has_disk : Stage → DevId → Bool
-has_disk stage dev = is_disk (setup stage.routing) dev.0
+has_disk stage dev = is_disk (routing_setup stage.routing) dev.0
 
 abbrev pub has_mirror : Stage → DevId → Bool
-has_mirror stage dev = is_device (setup stage.routing) dev.0 && is_mirror ((setup stage.routing).tree dev.0)
+has_mirror stage dev = is_device (routing_setup stage.routing) dev.0 && is_mirror ((routing_setup stage.routing).tree dev.0)
 
 -- the writers have a set, and so has each device but a disk
 abbrev pub is_set : Stage → SetId → Bool
 is_set stage Fs = true
-is_set stage (Of dev) = has_set (setup stage.routing) dev.0
+is_set stage (Of dev) = has_set (routing_setup stage.routing) dev.0
 
 abbrev pub is_pool : Stage → PoolId → Bool
 is_pool stage FsBios = true
 is_pool stage FsVecs = true
-is_pool stage (Bios dev) = has_set (setup stage.routing) dev.0
+is_pool stage (Bios dev) = has_set (routing_setup stage.routing) dev.0
 is_pool stage (Records dev) = has_mirror stage dev
 
 -- the numbers of the pools of bios, of vectors and of records
 abbrev pub is_bios : Stage → ℕ → Bool
-is_bios stage number = number == 65 || number % 2 == 0 && has_set (setup stage.routing) (number / 2)
+is_bios stage number = number == 65 || number % 2 == 0 && has_set (routing_setup stage.routing) (number / 2)
 
 abbrev pub is_vecs : Stage → ℕ → Bool
 is_vecs stage number = number == 64
@@ -91,7 +91,7 @@ pub record HoldsHome (stage : Stage) (held : Holding) : Type 0 where
 
 -- A bio that can be served: it lies within a device of the stack and is of a writer with a book, and its element is at home.
 pub record IsServed (stage : Stage) (item : Item Pad) : Type 0 where
-  pub within : IsWithin stage.routing.stack item.bio
+  pub within : IsWithinDevice stage.routing.stack item.bio
   pub writer : IsTrue (has_book stage item.bio.writer)
   pub home : IsHome stage is_bios item.share
 
@@ -106,21 +106,21 @@ OpeningFits stage (Master parent part slip legs) = (1 ≤ legs) × IsHome stage 
 OpeningFits stage (Leg master) = Unit {0}
 
 -- What these objects may be asked for: it names what there is of them, and what it hands over is at home in them.
-abbrev pub Fits : Stage → Request → Type 0
-Fits stage (TakeBio set waits) = IsTrue (is_set stage set)
-Fits stage (TakeSlip dev) = IsTrue (has_mirror stage dev)
-Fits stage (GiveBio bio) = IsHome stage is_bios bio.share
-Fits stage (GiveVec vector) = IsHome stage is_vecs vector.share
-Fits stage (GiveSlip slip) = IsHome stage is_slips slip.share
-Fits stage (Punt dev moved) = IsTrue (has_rescuer stage dev) × AreServed stage moved
-Fits stage (Pop dev) = IsTrue (has_rescuer stage dev)
-Fits stage (Push bio) = IsServed stage bio × IsTrue (has_disk stage bio.bio.dev)
-Fits stage (Complete disk) = IsTrue (has_disk stage disk)
-Fits stage (Link writer opening) = IsTrue (has_book stage writer) × OpeningFits stage opening
-Fits stage (Drop writer node status part) = IsTrue (has_book stage writer) × IsBioHome stage part
-Fits stage (Done write status) = write < stage.writes
-Fits stage (Resize pool min) = IsTrue (is_pool stage pool) × (1 ≤ min) × (min ≤ stage.most (pool_number pool))
-Fits stage request = Unit {0}
+abbrev pub RequestFits : Stage → Request → Type 0
+RequestFits stage (TakeBio set waits) = IsTrue (is_set stage set)
+RequestFits stage (TakeSlip dev) = IsTrue (has_mirror stage dev)
+RequestFits stage (GiveBio bio) = IsHome stage is_bios bio.share
+RequestFits stage (GiveVec vector) = IsHome stage is_vecs vector.share
+RequestFits stage (GiveSlip slip) = IsHome stage is_slips slip.share
+RequestFits stage (Punt dev moved) = IsTrue (has_rescuer stage dev) × AreServed stage moved
+RequestFits stage (Pop dev) = IsTrue (has_rescuer stage dev)
+RequestFits stage (Push bio) = IsServed stage bio × IsTrue (has_disk stage bio.bio.dev)
+RequestFits stage (Complete disk) = IsTrue (has_disk stage disk)
+RequestFits stage (Link writer opening) = IsTrue (has_book stage writer) × OpeningFits stage opening
+RequestFits stage (Drop writer node status part) = IsTrue (has_book stage writer) × IsBioHome stage part
+RequestFits stage (Done write status) = write < stage.writes
+RequestFits stage (Resize pool min) = IsTrue (is_pool stage pool) × (1 ≤ min) × (min ≤ stage.most (pool_number pool))
+RequestFits stage request = Unit {0}
 
 abbrev pub LinkFits : Stage → Linked → Type 0
 LinkFits stage (Made node) = Unit {0}

@@ -14,7 +14,7 @@ use Rattle.run_machine.specs.Scene.{Setup}
 use Rattle.run_machine.specs.Tasks.{TaskState, Carried, Completer, Duty, Keeper, Keeps}
 use Rattle.task_steps.specs.Homes.{IsTaskOf}
 use Rattle.task_steps.specs.KeeperViews.{keeping_of}
-use Rattle.task_steps.specs.Routed.{Routing, setup}
+use Rattle.task_steps.specs.Routed.{Routing, routing_setup}
 use Rattle.task_steps.specs.Stage.{Owes}
 use Rattle.task_steps.specs.Turns.{Acts, Asks, Turns, step_of}
 
@@ -32,7 +32,7 @@ TaskTurns words setup task old next new step = Turns words.serves (Owes (words.s
 
 -- a step of a task over these objects, which hold together behind it too
 pub record TaskDoes {S : Type 0} (words : Ghosts S) (routing : Routing) (task : TaskState) (old : S) (next : TaskState) (new : S) (step : Step) : Type 0 where
-  pub turns : TaskTurns words (setup routing) task old next new step
+  pub turns : TaskTurns words (routing_setup routing) task old next new step
   pub held : words.holds new
   pub same : words.stage new ≡ words.stage old
 
@@ -48,11 +48,11 @@ TellsDrop disk writer node status ended step =
 -- the keeper has asked this for its next duty, whatever there is behind it, and goes on with the reply
 abbrev pub KeeperAsks : {S : Type 0} → Ghosts S → Request → Duty → S → Option Breach × Step → S → Type 0
 KeeperAsks words asked duty old done new =
-    (duties : List Duty) → Asks words.serves (Owes (words.stage old)) (setup (words.stage old).routing) asked (Keeper (Keeps (duty ∷ duties))) old
+    (duties : List Duty) → Asks words.serves (Owes (words.stage old)) (routing_setup (words.stage old).routing) asked (Keeper (Keeps (duty ∷ duties))) old
     (Keeper (keeping_of done.0 duties)) new done.1
 
 -- it has asked what this duty is
 abbrev pub KeeperActs : {S : Type 0} → Ghosts S → Duty → S → Option Breach × Step → S → Type 0
 KeeperActs words duty old done new =
-    (duties : List Duty) → Acts words.serves (Owes (words.stage old)) (setup (words.stage old).routing) (Keeper (Keeps (duty ∷ duties))) old
+    (duties : List Duty) → Acts words.serves (Owes (words.stage old)) (routing_setup (words.stage old).routing) (Keeper (Keeps (duty ∷ duties))) old
     (Keeper (keeping_of done.0 duties)) new done.1

@@ -20,11 +20,11 @@ use Rattle.run_machine.specs.Tasks.{TaskState, Writer, Rescuer, Completer, Keepe
 use Rattle.run_machine.specs.Events.{id_of, what_of}
 
 -- the node that an opening names, if it names one
-abbrev pub named : Opening → ℕ
-named (Write write vector) = 0
-named (Chain parent) = parent
-named (Master parent part slip legs) = parent
-named (Leg master) = master
+abbrev pub named_node : Opening → ℕ
+named_node (Write write vector) = 0
+named_node (Chain parent) = parent
+named_node (Master parent part slip legs) = parent
+named_node (Leg master) = master
 
 -- what a step comes to that is no event: it waits at the pool that missed, or its object has refused, or had no ticket
 abbrev pub silent_step : Setup → Request → Reply → Step
@@ -33,7 +33,7 @@ silent_step setup (TakeBio set waits) (Missed used) = Blocked (bios_of set)
 silent_step setup TakeVec (Missed used) = Blocked FsVecs
 silent_step setup (TakeSlip dev) (Missed used) = Blocked (Records dev)
 silent_step setup (Link writer opening) (LinkedTo (NoRoom back)) = Broken (breach.NoRoom writer (setup.places writer))
-silent_step setup (Link writer opening) (LinkedTo (Stray back)) = Broken (breach.Stray writer (named opening))
+silent_step setup (Link writer opening) (LinkedTo (Stray back)) = Broken (breach.Stray writer (named_node opening))
 silent_step setup (Drop writer node status part) (DroppedTo (end.Stray back)) = Broken (breach.Stray writer node)
 silent_step setup (Resize pool min) (OutIs out) = Broken (breach.Out pool out)
 silent_step setup request reply = Waiting

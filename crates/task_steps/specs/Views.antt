@@ -66,19 +66,19 @@ abbrev pub did : Result (Unit {0}) Unmade → Reply
 did (Ok done) = Did
 did (Err back) = Spent
 
-abbrev pub popped : Result (Option (Element (BioBody Pad))) Unmade → Reply
-popped (Ok None) = Nothing
-popped (Ok (Some element)) = Popped (item_of element)
-popped (Err back) = Spent
+abbrev pub popped_reply : Result (Option (Element (BioBody Pad))) Unmade → Reply
+popped_reply (Ok None) = Nothing
+popped_reply (Ok (Some element)) = Popped (item_of element)
+popped_reply (Err back) = Spent
 
 abbrev pub PoppedAlone : Result (Option (Element (BioBody Pad))) Unmade → Type 0
 PoppedAlone (Ok part) = IsAlonePart part
 PoppedAlone (Err back) = Unit {0}
 
-abbrev pub completed : Result (Option (ℕ × DoneBio)) Unmade → Reply
-completed (Ok None) = Nothing
-completed (Ok (Some done)) = Completed done.0 (item_of done.1.el) done.1.status
-completed (Err back) = Spent
+abbrev pub completed_reply : Result (Option (ℕ × DoneBio)) Unmade → Reply
+completed_reply (Ok None) = Nothing
+completed_reply (Ok (Some done)) = Completed done.0 (item_of done.1.el) done.1.status
+completed_reply (Err back) = Spent
 
 abbrev pub CompletedAlone : Result (Option (ℕ × DoneBio)) Unmade → Type 0
 CompletedAlone (Ok None) = Unit {0}
@@ -91,17 +91,17 @@ Choice chooses picks old (Completed index bio status) new = IsAsked chooses pick
 Choice chooses picks old Nothing new = (new ≡ old) ⊎ IsAsked chooses picks old None new
 Choice chooses picks old reply new = Unit {0}
 
-abbrev pub linked : Result Link Unmade → Reply
-linked (Ok answer) = LinkedTo (linked_of answer)
-linked (Err back) = Spent
+abbrev pub linked_reply : Result Link Unmade → Reply
+linked_reply (Ok answer) = LinkedTo (linked_of answer)
+linked_reply (Err back) = Spent
 
 abbrev pub LinkedAlone : Result Link Unmade → Type 0
 LinkedAlone (Ok answer) = IsLinkAlone answer
 LinkedAlone (Err back) = Unit {0}
 
-abbrev pub dropped : Result Dropped Unmade → Reply
-dropped (Ok answer) = DroppedTo (ended_of answer)
-dropped (Err back) = Spent
+abbrev pub dropped_reply : Result Dropped Unmade → Reply
+dropped_reply (Ok answer) = DroppedTo (ended_of answer)
+dropped_reply (Err back) = Spent
 
 abbrev pub DroppedAlone : Result Dropped Unmade → Type 0
 DroppedAlone (Ok answer) = IsDroppedAlone answer
@@ -112,6 +112,6 @@ abbrev pub unmade_part : Option (Element (BioBody Pad)) → Unmade
 unmade_part None = unmade.Nothing
 unmade_part (Some element) = unmade.Bio element
 
-abbrev pub resized : Result ℕ Unmade → Reply
-resized (Ok out) = OutIs out
-resized (Err back) = Spent
+abbrev pub resized_reply : Result ℕ Unmade → Reply
+resized_reply (Ok out) = OutIs out
+resized_reply (Err back) = Spent

@@ -18,13 +18,13 @@ use Rattle.run_machine.specs.Lines.{Ask, ToPush, ToCut, ToRecord, ToMaster, Doin
 use Rattle.run_machine.specs.Tasks.{Todo, TaskState, Writer, Rescuer, Completer, Keeper, request, answered}
 
 -- a bio with a sector, that ends within its device, which is one of the stack
-pub record IsWithin (stack : Stack) (bio : Bio) : Type 0 where
+pub record IsWithinDevice (stack : Stack) (bio : Bio) : Type 0 where
   pub device : bio.dev.0 < length stack.devices.items
   pub some : 1 ≤ bio.range.len
   pub within : bio.range.start + bio.range.len ≤ size (tree stack bio.dev.0)
 
 abbrev pub IsItemWithin : Stack → Item Pad → Type 0
-IsItemWithin stack item = IsWithin stack item.bio
+IsItemWithin stack item = IsWithinDevice stack item.bio
 
 abbrev pub AreWithin : Stack → List (Item Pad) → Type 0
 AreWithin stack items = All (IsItemWithin stack) items
@@ -59,8 +59,8 @@ AskFits t range (ToMaster slip) = is_mirror t ≡ true
 abbrev pub DoingFits : Stack → Doing → Type 0
 DoingFits stack Rests = Unit {0}
 DoingFits stack (Breaks breach kept) = Unit {0}
-DoingFits stack (Drives item ask) = IsWithin stack item.bio × AskFits (tree stack item.bio.dev.0) item.bio.range ask
-DoingFits stack (Copies bio master leg want) = IsWithin stack bio × (leg < legs_of (tree stack bio.dev.0))
+DoingFits stack (Drives item ask) = IsWithinDevice stack item.bio × AskFits (tree stack item.bio.dev.0) item.bio.range ask
+DoingFits stack (Copies bio master leg want) = IsWithinDevice stack bio × (leg < legs_of (tree stack bio.dev.0))
 
 -- a submission whose bios are all within their devices
 pub record LineFits (stack : Stack) (line : Line) : Type 0 where
@@ -80,7 +80,7 @@ AskedFits stack (Punt dev moved) = AreWithin stack moved
 AskedFits stack request = Unit {0}
 
 abbrev pub ReplyFits : Stack → Reply → Type 0
-ReplyFits stack (Popped bio) = IsWithin stack bio.bio
+ReplyFits stack (Popped bio) = IsWithinDevice stack bio.bio
 ReplyFits stack reply = Unit {0}
 
 -- A submission of such bios stays one, whatever is replied: no element that is taken has a run of its own. What it punts is within too.

@@ -21,7 +21,7 @@ use Rattle.run_machine.specs.Kept.{opening_kept}
 use Rattle.run_machine.specs.Lines.{Breaks, Line, refused}
 use Rattle.run_machine.specs.Tasks.{Todo, Taken, NoBio, HasBio, HasBoth, TaskState, Writer, filled_vector, write_answered, write_request}
 use Rattle.task_steps.specs.Turns.{step_of}
-use Rattle.task_steps.specs.Routed.{Routing, setup}
+use Rattle.task_steps.specs.Routed.{Routing, routing_setup}
 use Rattle.task_steps.specs.Stage.{Owes}
 use Rattle.task_steps.specs.Views.{vec_item}
 use Rattle.task_steps.specs.Answers.{finds}
@@ -102,7 +102,7 @@ WriteOpened words routing number opening line old after new (Ok node) =
     words.serves old (Link number opening) (LinkedTo (Made node)) new × Owes (words.stage old) (Link number opening) (LinkedTo (Made node))
     × (after ≡ line)
 WriteOpened words routing number opening line old after new (Err step) =
-    IsRefusedWrite words.serves (Owes (words.stage old)) (setup routing) number opening line old after new step
+    IsRefusedWrite words.serves (Owes (words.stage old)) (routing_setup routing) number opening line old after new step
 
 -- a writer without a bio has tried to take that of its next write, whatever write that is
 abbrev pub TriesBio : {S : Type 0} → Ghosts S → ℕ → S → Attempt × Step → S → Type 0
@@ -121,17 +121,17 @@ TriesVector words number bio line old done after new =
 -- one has asked for the node of its next write, for which it has this bio, and this vector if it needs one
 abbrev pub LinksWrite : {S : Type 0} → Ghosts S → Routing → ℕ → Todo → Item Pad → Option VectorItem → Line → S → Next × Step → Line → S → Type 0
 LinksWrite words routing number todo bio None line old done after new =
-    (later : List Todo) → WriteAnswers words.serves (Owes (words.stage old)) (setup routing) number (Link number (Write todo.number None))
+    (later : List Todo) → WriteAnswers words.serves (Owes (words.stage old)) (routing_setup routing) number (Link number (Write todo.number None))
     (todo ∷ later) (HasBio bio) line old (next_of done.0 number todo later after) new done.1
 LinksWrite words routing number todo bio (Some vector) line old done after new =
-    (later : List Todo) → WriteAnswers words.serves (Owes (words.stage old)) (setup routing) number
+    (later : List Todo) → WriteAnswers words.serves (Owes (words.stage old)) (routing_setup routing) number
     (Link number (Write todo.number (Some (filled_vector todo vector)))) (todo ∷ later) (HasBoth bio vector) line old
     (next_of done.0 number todo later after) new done.1
 
 -- one has asked for what its next write needs, for which it has taken this
 abbrev pub WriteGoesOn : {S : Type 0} → Ghosts S → Routing → ℕ → Todo → Taken → Line → S → Next × Step → Line → S → Type 0
 WriteGoesOn words routing number todo taken line old done after new =
-    (later : List Todo) → WriteAnswers words.serves (Owes (words.stage old)) (setup routing) number (write_request number (todo ∷ later) taken)
+    (later : List Todo) → WriteAnswers words.serves (Owes (words.stage old)) (routing_setup routing) number (write_request number (todo ∷ later) taken)
     (todo ∷ later) taken line old (next_of done.0 number todo later after) new done.1
 
 -- whether it has taken a bio

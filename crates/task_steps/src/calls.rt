@@ -5,10 +5,10 @@ ghost use Rattle.task_steps.specs.declared.step.Step.TheVariants.{Blocked};
 ghost use Rattle.run_machine.specs.Requests.{TakeBio, Punt, Link as LinkOf};
 ghost use Rattle.run_machine.specs.Lines.{punted, after_miss};
 ghost use Rattle.run_machine.specs.Events.{take_of, miss_of};
-ghost use Rattle.task_steps.specs.Stage.{Fits, Owes};
+ghost use Rattle.task_steps.specs.Stage.{RequestFits, Owes};
 ghost use Rattle.task_steps.specs.Views.{opening_of, IsAskAlone};
-ghost use Rattle.task_steps.specs.Routed.{setup};
-ghost use Rattle.task_steps.specs.Turns.{named, step_by, idle_step};
+ghost use Rattle.task_steps.specs.Routed.{routing_setup};
+ghost use Rattle.task_steps.specs.Turns.{named_node, step_by, idle_step};
 ghost use Rattle.task_steps.specs.LineViews.{want_of, IsWantAlone, IsAttemptAlone};
 ghost use Rattle.task_steps.specs.Answers.{Attempted, PuntedAll, NodeOpened, Ready};
 
@@ -127,7 +127,7 @@ pub(crate) fn punt_all<O: Objects>(
 
 // The node that is named where one is opened, if one is.
 fn named(ask: &Ask) -> u32
-    ensures { result ≡ named (opening_of ask.now) }
+    ensures { result ≡ named_node (opening_of ask.now) }
 {
     match ask {
         Ask::Write { .. } => 0,

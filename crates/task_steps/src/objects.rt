@@ -6,8 +6,8 @@ ghost use Rattle.bio_books.specs.Views.{bio_of, slip_item, IsAlonePart};
 ghost use Rattle.task_steps.specs.declared.objects.Unmade.TheVariants as unmade;
 ghost use Rattle.run_machine.specs.Requests.{Request, Reply, TakeBio, TakeVec, TakeSlip, GiveBio, GiveVec, GiveSlip, Punt, Pop, Push, Complete, Link as LinkOf, Drop as DropOf, Done as DoneOf, Resize, NextRound, LookRound, LookLeft, Present, LeftOver};
 ghost use Rattle.stack_base.specs.declared.ids.DevId.{DevId as DevId'};
-ghost use Rattle.task_steps.specs.Stage.{Stage, Fits, Owes};
-ghost use Rattle.task_steps.specs.Views.{vec_item, opening_of, took_bio, took_vec, took_slip, did, popped, completed, linked, dropped, resized, IsAskAlone, TookClear, PoppedAlone, Choice, unmade_part, CompletedAlone, LinkedAlone, DroppedAlone};
+ghost use Rattle.task_steps.specs.Stage.{Stage, RequestFits, Owes};
+ghost use Rattle.task_steps.specs.Views.{vec_item, opening_of, took_bio, took_vec, took_slip, did, popped_reply, completed_reply, linked_reply, dropped_reply, resized_reply, IsAskAlone, TookClear, PoppedAlone, Choice, unmade_part, CompletedAlone, LinkedAlone, DroppedAlone};
 
 use bio_books::{Dropped, Link};
 use bio_records::{BioBody, BioElement, BioList, Pad, Slip, SlipElement, VecElement, Vector};
@@ -96,7 +96,7 @@ pub trait Objects {
     /// Takes a bio of a set. An attempt that does not wait is told also where it misses.
     fn take_bio(&mut self, set: SetId, waits: bool) -> Result<Taken<BioBody<Pad>>, Unmade>
         requires holds { holds self.old }
-        requires fits { Fits (stage self.old) (TakeBio set waits) }
+        requires fits { RequestFits (stage self.old) (TakeBio set waits) }
         ensures serves { serves self.old (TakeBio set waits) (took_bio result) self.new }
         ensures owed { Owes (stage self.old) (TakeBio set waits) (took_bio result) }
         ensures clear { TookClear IsClearBody result }
@@ -114,7 +114,7 @@ pub trait Objects {
     /// Takes a record of a mirror, and waits.
     fn take_slip(&mut self, dev: DevId) -> Result<Taken<Slip>, Unmade>
         requires holds { holds self.old }
-        requires fits { Fits (stage self.old) (TakeSlip dev) }
+        requires fits { RequestFits (stage self.old) (TakeSlip dev) }
         ensures serves { serves self.old (TakeSlip dev) (took_slip result) self.new }
         ensures owed { Owes (stage self.old) (TakeSlip dev) (took_slip result) }
         ensures back { IfErr result (λ back. back ≡ unmade.Nothing) }
@@ -124,7 +124,7 @@ pub trait Objects {
     fn give_bio(&mut self, el: BioElement) -> Result<(), Unmade>
         requires holds { holds self.old }
         requires alone { IsAlone el }
-        requires fits { Fits (stage self.old) (GiveBio (item_of el)) }
+        requires fits { RequestFits (stage self.old) (GiveBio (item_of el)) }
         ensures serves { serves self.old (GiveBio (item_of el)) (did result) self.new }
         ensures back { IfErr result (λ back. back ≡ unmade.Bio el) }
         ensures kept { holds self.new × (stage self.new ≡ stage self.old) };
@@ -132,7 +132,7 @@ pub trait Objects {
     /// Gives a vector back to its pool.
     fn give_vec(&mut self, el: VecElement) -> Result<(), Unmade>
         requires holds { holds self.old }
-        requires fits { Fits (stage self.old) (GiveVec (vec_item el)) }
+        requires fits { RequestFits (stage self.old) (GiveVec (vec_item el)) }
         ensures serves { serves self.old (GiveVec (vec_item el)) (did result) self.new }
         ensures back { IfErr result (λ back. back ≡ unmade.Vec el) }
         ensures kept { holds self.new × (stage self.new ≡ stage self.old) };
@@ -140,7 +140,7 @@ pub trait Objects {
     /// Gives a record back to its pool.
     fn give_slip(&mut self, el: SlipElement) -> Result<(), Unmade>
         requires holds { holds self.old }
-        requires fits { Fits (stage self.old) (GiveSlip (slip_item el)) }
+        requires fits { RequestFits (stage self.old) (GiveSlip (slip_item el)) }
         ensures serves { serves self.old (GiveSlip (slip_item el)) (did result) self.new }
         ensures back { IfErr result (λ back. back ≡ unmade.Slip el) }
         ensures kept { holds self.new × (stage self.new ≡ stage self.old) };
@@ -148,7 +148,7 @@ pub trait Objects {
     /// Puts bios at the end of the list of a device's rescuer.
     fn punt(&mut self, dev: DevId, moved: BioList) -> Result<(), Unmade>
         requires holds { holds self.old }
-        requires fits { Fits (stage self.old) (Punt dev moved) }
+        requires fits { RequestFits (stage self.old) (Punt dev moved) }
         ensures serves { serves self.old (Punt dev moved) (did result) self.new }
         ensures back { IfErr result (λ back. back ≡ unmade.List moved) }
         ensures kept { holds self.new × (stage self.new ≡ stage self.old) };
@@ -156,9 +156,9 @@ pub trait Objects {
     /// Takes the first bio off the list of a device's rescuer, if there is one.
     fn pop(&mut self, dev: DevId) -> Result<Option<BioElement>, Unmade>
         requires holds { holds self.old }
-        requires fits { Fits (stage self.old) (Pop dev) }
-        ensures serves { serves self.old (Pop dev) (popped result) self.new }
-        ensures owed { Owes (stage self.old) (Pop dev) (popped result) }
+        requires fits { RequestFits (stage self.old) (Pop dev) }
+        ensures serves { serves self.old (Pop dev) (popped_reply result) self.new }
+        ensures owed { Owes (stage self.old) (Pop dev) (popped_reply result) }
         ensures alone { PoppedAlone result }
         ensures back { IfErr result (λ back. back ≡ unmade.Nothing) }
         ensures kept { holds self.new × (stage self.new ≡ stage self.old) };
@@ -167,7 +167,7 @@ pub trait Objects {
     fn push(&mut self, el: BioElement) -> Result<(), Unmade>
         requires holds { holds self.old }
         requires alone { IsAlone el }
-        requires fits { Fits (stage self.old) (Push (item_of el)) }
+        requires fits { RequestFits (stage self.old) (Push (item_of el)) }
         ensures serves { serves self.old (Push (item_of el)) (did result) self.new }
         ensures back { IfErr result (λ back. back ≡ unmade.Bio el) }
         ensures kept { holds self.new × (stage self.new ≡ stage self.old) };
@@ -180,10 +180,10 @@ pub trait Objects {
         chooser: &mut C,
     ) -> Result<Option<(u64, Done)>, Unmade>
         requires holds { holds self.old }
-        requires fits { Fits (stage self.old) (Complete disk) }
-        ensures serves { serves self.old (Complete disk) (completed result) self.new }
-        ensures owed { Owes (stage self.old) (Complete disk) (completed result) }
-        ensures chosen { Choice C.chooses (picks self.old disk) chooser.old (completed result) chooser.new }
+        requires fits { RequestFits (stage self.old) (Complete disk) }
+        ensures serves { serves self.old (Complete disk) (completed_reply result) self.new }
+        ensures owed { Owes (stage self.old) (Complete disk) (completed_reply result) }
+        ensures chosen { Choice C.chooses (picks self.old disk) chooser.old (completed_reply result) chooser.new }
         ensures alone { CompletedAlone result }
         ensures back { IfErr result (λ back. back ≡ unmade.Nothing) }
         ensures kept { holds self.new × (stage self.new ≡ stage self.old) };
@@ -192,9 +192,9 @@ pub trait Objects {
     fn link(&mut self, writer: u32, ask: Ask) -> Result<Link, Unmade>
         requires holds { holds self.old }
         requires alone { IsAskAlone ask }
-        requires fits { Fits (stage self.old) (LinkOf writer (opening_of ask)) }
-        ensures serves { serves self.old (LinkOf writer (opening_of ask)) (linked result) self.new }
-        ensures owed { Owes (stage self.old) (LinkOf writer (opening_of ask)) (linked result) }
+        requires fits { RequestFits (stage self.old) (LinkOf writer (opening_of ask)) }
+        ensures serves { serves self.old (LinkOf writer (opening_of ask)) (linked_reply result) self.new }
+        ensures owed { Owes (stage self.old) (LinkOf writer (opening_of ask)) (linked_reply result) }
         ensures alone { LinkedAlone result }
         ensures back { IfErr result (λ back. back ≡ unmade.Ask ask) }
         ensures kept { holds self.new × (stage self.new ≡ stage self.old) };
@@ -209,9 +209,9 @@ pub trait Objects {
     ) -> Result<Dropped, Unmade>
         requires holds { holds self.old }
         requires alone { IsAlonePart part }
-        requires fits { Fits (stage self.old) (DropOf writer node status (bio_of part)) }
-        ensures serves { serves self.old (DropOf writer node status (bio_of part)) (dropped result) self.new }
-        ensures owed { Owes (stage self.old) (DropOf writer node status (bio_of part)) (dropped result) }
+        requires fits { RequestFits (stage self.old) (DropOf writer node status (bio_of part)) }
+        ensures serves { serves self.old (DropOf writer node status (bio_of part)) (dropped_reply result) self.new }
+        ensures owed { Owes (stage self.old) (DropOf writer node status (bio_of part)) (dropped_reply result) }
         ensures alone { DroppedAlone result }
         ensures back { IfErr result (λ back. back ≡ unmade_part part) }
         ensures kept { holds self.new × (stage self.new ≡ stage self.old) };
@@ -219,7 +219,7 @@ pub trait Objects {
     /// A write of the present round is done, with this status.
     fn done(&mut self, write: u32, status: Status) -> Result<(), Unmade>
         requires holds { holds self.old }
-        requires fits { Fits (stage self.old) (DoneOf write status) }
+        requires fits { RequestFits (stage self.old) (DoneOf write status) }
         ensures serves { serves self.old (DoneOf write status) (did result) self.new }
         ensures back { IfErr result (λ back. back ≡ unmade.Nothing) }
         ensures kept { holds self.new × (stage self.new ≡ stage self.old) };
@@ -227,8 +227,8 @@ pub trait Objects {
     /// Sets the reserve of a pool, where nothing of it is out. It answers how much is.
     fn resize(&mut self, pool: PoolId, min: u32) -> Result<u64, Unmade>
         requires holds { holds self.old }
-        requires fits { Fits (stage self.old) (Resize pool min) }
-        ensures serves { serves self.old (Resize pool min) (resized result) self.new }
+        requires fits { RequestFits (stage self.old) (Resize pool min) }
+        ensures serves { serves self.old (Resize pool min) (resized_reply result) self.new }
         ensures back { IfErr result (λ back. back ≡ unmade.Nothing) }
         ensures kept { holds self.new × (stage self.new ≡ stage self.old) };
 

@@ -2,8 +2,8 @@
 ghost use Rattle.std.specs.Prelude.{◌≡◌, true};
 ghost use Rattle.run_machine.specs.Requests.{Pop};
 ghost use Rattle.run_machine.specs.Lines.{Rests, rests};
-ghost use Rattle.task_steps.specs.Routed.{setup};
-ghost use Rattle.task_steps.specs.Stage.{Fits, Owes};
+ghost use Rattle.task_steps.specs.Routed.{routing_setup};
+ghost use Rattle.task_steps.specs.Stage.{RequestFits, Owes};
 ghost use Rattle.task_steps.specs.Homes.{IsTaskOf};
 ghost use Rattle.task_steps.specs.Turns.{Turns};
 ghost use Rattle.task_steps.specs.RescuerViews.{rescuer_task, PopAnswers, RescuerPops};

@@ -4,8 +4,8 @@ ghost use Rattle.stack_base.specs.declared.stack.Device.{Device as Devices};
 ghost use Rattle.stack_base.specs.Stack.{IsStack};
 ghost use Rattle.run_machine.specs.Scene.{tree_at};
 ghost use Rattle.run_machine.specs.Lines.{first_waits, legs_of};
-ghost use Rattle.task_steps.specs.Within.{IsWithin, is_cut};
-ghost use Rattle.task_steps.specs.Routed.{setup, IsRoute, IsRouteOf, IsManner, IsFirst, HasNoFirst, IsBelow, Stays, IsLanded, IsCutAt, IsLegAt, Routing};
+ghost use Rattle.task_steps.specs.Within.{IsWithinDevice, is_cut};
+ghost use Rattle.task_steps.specs.Routed.{routing_setup, IsRoute, IsRouteOf, IsManner, IsFirstCut, HasNoFirst, IsBelow, Stays, IsLanded, IsCutAt, IsLegAt, Routing};
 
 pub(crate) mod driver;
 
@@ -100,7 +100,7 @@ impl Routes {
 
     /// How many devices there are.
     pub fn count(&self) -> u32
-        ensures { result ≡ (setup self.now).count }
+        ensures { result ≡ (routing_setup self.now).count }
     {
         self.routes.len() as u32
     }
@@ -116,14 +116,14 @@ impl Routes {
     /// Whether the device's set has a rescuer.
     pub fn rescuer(&self, dev: DevId) -> bool
         requires { dev.0 < length self.now.stack.devices.items }
-        ensures { result ≡ (setup self.now).rescuer dev.0 }
+        ensures { result ≡ (routing_setup self.now).rescuer dev.0 }
     {
         self.route(dev).rescuer
     }
 
     /// How many places the writer's book has: none, where there is no such writer.
     pub fn places(&self, writer: u32) -> u32
-        ensures { result ≡ (setup self.now).places writer }
+        ensures { result ≡ (routing_setup self.now).places writer }
     {
         self.places.get(writer as usize).copied().unwrap_or(0)
     }
@@ -131,15 +131,15 @@ impl Routes {
     /// Whether the first attempt at a bio of the device's set waits, where the task has these lists (`bio_alloc_bioset`, `block/bio.c`).
     pub fn first_waits(&self, dev: DevId, lists: &TaskLists) -> bool
         requires { dev.0 < length self.now.stack.devices.items }
-        ensures { result ≡ first_waits (setup self.now) dev lists.now }
+        ensures { result ≡ first_waits (routing_setup self.now) dev lists.now }
     {
         !self.rescuer(dev) || !lists.busy()
     }
 
     // The first piece of a bio, where its device is one that cuts.
     fn first(&self, bio: &Bio) -> Option<Cut>
-        requires { IsWithin self.now.stack bio.now }
-        ensures { MatchOption result (HasNoFirst self.now.stack bio.now) (IsFirst self.now.stack bio.now) }
+        requires { IsWithinDevice self.now.stack bio.now }
+        ensures { MatchOption result (HasNoFirst self.now.stack bio.now) (IsFirstCut self.now.stack bio.now) }
     {
         let route = self.route(bio.dev);
         let piece = route.driver.piece(bio.range.start, bio.range.len)?;
@@ -152,7 +152,7 @@ impl Routes {
 
     // The bio as the member gets it, where it is one piece.
     fn below(&self, bio: &Bio) -> Option<Bio>
-        requires { IsWithin self.now.stack bio.now }
+        requires { IsWithinDevice self.now.stack bio.now }
         ensures { MatchOption result (Stays self.now.stack bio.now) (IsBelow self.now.stack bio.now) }
     {
         let cut = self.first(bio)?;
@@ -172,7 +172,7 @@ impl Routes {
     /// Where a bio comes to: it is handed on as it is, from device to device, as long as it is one piece (`bio_set_dev` and `bi_sector`,
     /// `drivers/md/raid0.c`).
     pub fn land(&self, start: Bio) -> Bio
-        requires { IsWithin self.now.stack start }
+        requires { IsWithinDevice self.now.stack start }
         ensures { IsLanded self.now.stack start result }
     {
         let mut bio = start;
@@ -185,16 +185,16 @@ impl Routes {
     /// What the device does with a bio that it does not hand on as it is.
     pub fn manner(&self, dev: DevId) -> Manner
         requires { dev.0 < length self.now.stack.devices.items }
-        ensures { IsManner (setup self.now) dev (tree_at (setup self.now) dev) result }
+        ensures { IsManner (routing_setup self.now) dev (tree_at (routing_setup self.now) dev) result }
     {
         self.route(dev).driver.manner()
     }
 
     /// The first piece of a bio that its device cuts: how long it is, and where it goes (`bio_split`, `block/bio.c`, as drivers call it).
     pub fn cut(&self, bio: &Bio) -> Cut
-        requires within { IsWithin self.now.stack bio.now }
-        requires cut { is_cut (tree_at (setup self.now) bio.now.dev) bio.now.range ≡ true }
-        ensures { IsCutAt (setup self.now) self.now.stack bio.now result }
+        requires within { IsWithinDevice self.now.stack bio.now }
+        requires cut { is_cut (tree_at (routing_setup self.now) bio.now.dev) bio.now.range ≡ true }
+        ensures { IsCutAt (routing_setup self.now) self.now.stack bio.now result }
     {
         self.known();
         self.first(bio).unwrap()
@@ -203,7 +203,7 @@ impl Routes {
     /// How many legs a bio has at the device: as many as it has members, if it is a mirror, and else none.
     pub fn legs(&self, dev: DevId) -> u32
         requires { dev.0 < length self.now.stack.devices.items }
-        ensures { result ≡ legs_of (tree_at (setup self.now) dev) }
+        ensures { result ≡ legs_of (tree_at (routing_setup self.now) dev) }
     {
         self.route(dev).driver.legs()
     }
@@ -211,8 +211,8 @@ impl Routes {
     /// One leg of a bio at a mirror, counted from 0, with the node at this place: what stands in the element that it gets
     /// (`bio_alloc_clone`, `drivers/md/raid1.c`).
     pub fn leg(&self, bio: &Bio, leg: u32, node: u32) -> (Bio, Pad)
-        requires within { IsWithin self.now.stack bio.now }
-        requires leg { leg < legs_of (tree_at (setup self.now) bio.now.dev) }
+        requires within { IsWithinDevice self.now.stack bio.now }
+        requires leg { leg < legs_of (tree_at (routing_setup self.now) bio.now.dev) }
         ensures { IsLegAt self.now.stack bio.now leg node result }
     {
         self.route(bio.dev).driver.leg(bio, leg, node)

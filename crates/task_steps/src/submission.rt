@@ -2,15 +2,15 @@
 ghost use Rattle.std.specs.Prelude.{◌≡◌, ◌<◌, ◌++◌, [], ◌∷◌, true, None};
 ghost use Rattle.bio_records.specs.Items.{item_of, IsAlone};
 ghost use Rattle.run_machine.specs.Lines.{Rests, Drives, Breaks as Breaks', ToCut, settled, rests};
-ghost use Rattle.task_steps.specs.Within.{IsWithin};
-ghost use Rattle.task_steps.specs.Routed.{setup};
+ghost use Rattle.task_steps.specs.Within.{IsWithinDevice};
+ghost use Rattle.task_steps.specs.Routed.{routing_setup};
 ghost use Rattle.task_steps.specs.Stage.{Owes};
 ghost use Rattle.task_steps.specs.Homes.{IsLineOf};
 ghost use Rattle.task_steps.specs.Turns.{doing_breach};
-ghost use Rattle.task_steps.specs.LineViews.{unmade_kept, kept_of, doing_of, line_of, IsDoingAlone, is_asking};
+ghost use Rattle.task_steps.specs.LineViews.{unmade_kept, kept_of, doing_of, submission_of, IsDoingAlone, is_asking};
 ghost use Rattle.run_machine.specs.Kept.{bio_kept};
 ghost use Rattle.bio_books.specs.Views.{bio_of};
-ghost use Rattle.task_steps.specs.Answers.{Answers, LineDoes};
+ghost use Rattle.task_steps.specs.Answers.{AnswersSubmission, LineDoes};
 
 pub(crate) mod cut;
 pub(crate) mod dispatch;
@@ -128,11 +128,11 @@ pub struct Line {
 
 impl Model for Line {
     ghost use Rattle.run_machine.specs.Lines.{Line as LineState};
-    ghost use Rattle.task_steps.specs.LineViews.{line_of, IsDoingAlone};
+    ghost use Rattle.task_steps.specs.LineViews.{submission_of, IsDoingAlone};
 
     ghost Value = { LineState };
 
-    ghost view = { λ l. line_of l.doing l.lists };
+    ghost view = { λ l. submission_of l.doing l.lists };
 
     ghost invariant = { λ l. IsDoingAlone l.doing };
 }
@@ -183,9 +183,9 @@ impl Line {
 
     /// The bio is submitted, and none waits.
     pub fn begin(routes: &Routes, bio: BioElement) -> Line
-        requires within { IsWithin routes.now.stack (item_of bio).bio }
+        requires within { IsWithinDevice routes.now.stack (item_of bio).bio }
         requires alone { IsAlone bio }
-        ensures { result ≡ settled (setup routes.now) (item_of bio ∷ []) }
+        ensures { result ≡ settled (routing_setup routes.now) (item_of bio ∷ []) }
     {
         let lists = TaskLists::new();
         let doing = serve(routes, bio, &lists);

@@ -2,7 +2,7 @@
 ghost use Rattle.std.specs.Prelude.{◌≡◌};
 ghost use Rattle.stack_base.specs.Stack.{IsStack};
 ghost use Rattle.run_machine.specs.Tasks.{Completer, Empty, Keeper as Keeping};
-ghost use Rattle.task_steps.specs.Routed.{setup};
+ghost use Rattle.task_steps.specs.Routed.{routing_setup};
 ghost use Rattle.task_steps.specs.Stage.{Owes};
 ghost use Rattle.task_steps.specs.Homes.{IsTaskOf};
 ghost use Rattle.task_steps.specs.Turns.{Turns};
@@ -81,7 +81,7 @@ impl Task {
         requires holds { O.holds objects.old }
         requires routing { self.old.routing ≡ (O.stage objects.old).routing }
         requires task { IsTaskOf (O.stage objects.old) self.old.state }
-        ensures turns { Turns O.serves (Owes (O.stage objects.old)) (setup self.old.routing) self.old.state objects.old self.new.state objects.new result }
+        ensures turns { Turns O.serves (Owes (O.stage objects.old)) (routing_setup self.old.routing) self.old.state objects.old self.new.state objects.new result }
         ensures chosen { ChosenBy self.old.state C.chooses (O.picks objects.old) chooser.old result chooser.new }
         ensures kept { O.holds objects.new × (O.stage objects.new ≡ O.stage objects.old) }
         ensures same { self.new.routing ≡ self.old.routing }

@@ -3,7 +3,7 @@ ghost use Rattle.std.specs.Prelude.{◌≡◌, ◌≢◌, ◌∷◌, [], true, f
 ghost use Rattle.run_machine.specs.Lines.{Rests, rests};
 ghost use Rattle.run_machine.specs.Tasks.{Todo as TodoState, NoBio};
 ghost use Rattle.run_machine.specs.Scene.{Setup};
-ghost use Rattle.task_steps.specs.Routed.{setup};
+ghost use Rattle.task_steps.specs.Routed.{routing_setup};
 ghost use Rattle.task_steps.specs.Stage.{Owes};
 ghost use Rattle.task_steps.specs.Homes.{IsTaskOf};
 ghost use Rattle.task_steps.specs.Turns.{Acts, Turns};
@@ -90,7 +90,7 @@ impl Writer {
         requires rests { self.old.line.doing ≡ Rests }
         requires first { self.old.todo ≡ todo.now ∷ drop 1 self.old.todo }
         requires some { is_taken self.old.taken ≡ true }
-        ensures acts { TaskActs O.Objects (setup routes.now) (writer_task self.old) objects.old (writer_task self.new) objects.new result }
+        ensures acts { TaskActs O.Objects (routing_setup routes.now) (writer_task self.old) objects.old (writer_task self.new) objects.new result }
         ensures kept { O.holds objects.new × (O.stage objects.new ≡ O.stage objects.old) }
     {
         let taken = mem::replace(&mut self.taken, Taken::NoBio);

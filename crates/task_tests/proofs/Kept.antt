@@ -5,8 +5,8 @@ use Rattle.task_core.specs.declared.plain.Plain.{Plain}
 use Rattle.task_steps.specs.declared.step.Step.{Step}
 use Rattle.task_steps.specs.Homes.{IsTaskOf}
 use Rattle.task_core.specs.opened.OfOne.{AreOfOne}
-use Rattle.task_core.specs.Plains.{stage_of, Holds, Tells}
-use Rattle.task_steps.specs.Routed.{setup}
+use Rattle.task_core.specs.Plains.{stage_of, Holds, PlainServes}
+use Rattle.task_steps.specs.Routed.{routing_setup}
 use Rattle.task_steps.specs.Stage.{Stage, Owes}
 use Rattle.task_steps.specs.TaskViews.{TaskOf}
 use Rattle.task_steps.specs.Turns.{Turns}
@@ -25,7 +25,7 @@ module _ (old new : Plain) (tasks : List TaskOf) (place : ℕ) (lt : place < len
   home = of_task (λ (task : TaskOf). IsTaskOf (stage_of old) task.state) one.home
 
   pub stays_of_one : (step : Step) → Holds new × (stage_of new ≡ stage_of old) → next.routing ≡ task.routing
-      → Turns Tells (Owes (stage_of old)) (setup task.routing) task.state old next.state new step → AreOfOne new (set tasks place next)
+      → Turns PlainServes (Owes (stage_of old)) (routing_setup task.routing) task.state old next.state new step → AreOfOne new (set tasks place next)
   stays_of_one step kept same turns = record {
     holds = kept.0;
     routing =
@@ -38,5 +38,5 @@ module _ (old new : Plain) (tasks : List TaskOf) (place : ℕ) (lt : place < len
     where
       next_home : IsTaskOf (stage_of old) next.state
       next_home =
-          turns_home Tells (stage_of old) one.holds.stack_is task.state old next.state new step home
-          (subst (λ r. Turns Tells (Owes (stage_of old)) (setup r) task.state old next.state new step) routing turns)
+          turns_home PlainServes (stage_of old) one.holds.stack_is task.state old next.state new step home
+          (subst (λ r. Turns PlainServes (Owes (stage_of old)) (routing_setup r) task.state old next.state new step) routing turns)

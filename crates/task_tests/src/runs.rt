@@ -1,6 +1,6 @@
 //! Runs that a test makes by hand: it says which task is stepped in each turn, and what its step comes to.
 ghost use Rattle.std.specs.Prelude.{◌≡◌, ◌-◌, min};
-ghost use Rattle.trace_text.specs.Names.{IsNamed};
+ghost use Rattle.trace_text.specs.Names.{DevicesAreNamed};
 ghost use Rattle.task_core.specs.opened.OfOne.{AreOfOne, IsOpened};
 
 use crate::nodes::Nodes;
@@ -114,7 +114,7 @@ impl Running {
 
     // A turn.
     fn turn(&mut self, rt: &impl Abort, stack: &Stack, index: u64, turn: &Turn)
-        requires named { IsNamed stack.now }
+        requires named { DevicesAreNamed stack.now }
         requires one { AreOfOne self.old.objects self.old.tasks.items }
         ensures { AreOfOne self.new.objects self.new.tasks.items }
     {
@@ -128,7 +128,7 @@ impl Running {
 
     // Turns, one after the other.
     fn turns(&mut self, rt: &impl Abort, stack: &Stack, part: &Part)
-        requires named { IsNamed stack.now }
+        requires named { DevicesAreNamed stack.now }
         requires one { AreOfOne self.old.objects self.old.tasks.items }
         ensures { AreOfOne self.new.objects self.new.tasks.items }
     {
@@ -140,7 +140,7 @@ impl Running {
 
     // All turns of a run.
     fn all_turns(&mut self, rt: &impl Abort, stack: &Stack, parts: &[Part])
-        requires named { IsNamed stack.now }
+        requires named { DevicesAreNamed stack.now }
         requires one { AreOfOne self.old.objects self.old.tasks.items }
         ensures { AreOfOne self.new.objects self.new.tasks.items }
     {
@@ -162,7 +162,7 @@ impl Running {
 
 // The event is that of the line.
 fn is_line(rt: &impl Abort, stack: &Stack, nodes: &mut Nodes, event: Event, line: &str)
-    requires { IsNamed stack.now }
+    requires { DevicesAreNamed stack.now }
 {
     let Some(wanted) = read_event(line.as_bytes(), stack) else {
         panic!(rt; "no event: {line}");
@@ -187,7 +187,7 @@ fn is_event(
     wanted: Answer,
     steps: u64,
 ) -> bool
-    requires { IsNamed stack.now }
+    requires { DevicesAreNamed stack.now }
 {
     match (step, wanted) {
         (Some(Step::Stepped(event)), Answer::Event(line)) => {

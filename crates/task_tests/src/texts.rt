@@ -2,7 +2,7 @@
 ghost use Rattle.std.specs.Prelude.{IfOk};
 ghost use Rattle.stack_base.specs.Stack.{HasRescuers};
 ghost use Rattle.run_machine.specs.ReadBehind.{IsReadBehind};
-ghost use Rattle.trace_text.specs.Names.{IsNamed};
+ghost use Rattle.trace_text.specs.Names.{DevicesAreNamed};
 
 use decl_text::{Accepted, ReadFault, read_decl};
 use stack_base::DevId;
@@ -33,7 +33,7 @@ fn read(alloc: Global, text: &[u8]) -> Result<Scene, ReadFault>
 
 /// What a text says that is to be accepted.
 pub fn scene_of(alloc: Global, text: &str) -> Result<Scene, Fail>
-    ensures named { IfOk result (λ scene. IsNamed scene.accepted.stack) }
+    ensures named { IfOk result (λ scene. DevicesAreNamed scene.accepted.stack) }
     ensures read { IfOk result (λ scene. IsReadBehind scene.accepted scene.work) }
     ensures rescuers { IfOk result (λ scene. HasRescuers scene.accepted.stack) }
 {

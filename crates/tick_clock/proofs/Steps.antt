@@ -15,8 +15,8 @@ use Rattle.tick_clock.specs.declared.ticking.Rank.{Rank}
 use Rattle.tick_clock.specs.declared.ticking.Rank.TheVariants.{First, Other, Spent}
 use Rattle.tick_clock.specs.declared.ticking.Ticket.{Ticket}
 use Rattle.tick_clock.specs.declared.ticking.View.{View}
-use Rattle.tick_clock.specs.Tickets.{is_first, one_more, last_of, IsRising}
-use Rattle.tick_clock.specs.Ticking.{is_live, first_in, other_in, split_in, firsts, others, split_by, joined_by, all_drawn, IsTidy, IsTicking, spent_view, split_more, fresh_view, joined_with, after_try, ShowsView, TriesToDraw, Looks}
+use Rattle.tick_clock.specs.Tickets.{is_first_pass, one_more_pass, last_of, IsRising}
+use Rattle.tick_clock.specs.Ticking.{is_live_pass, first_in, other_in, split_in, firsts, others, split_by, joined_by, all_drawn, IsTidy, IsTicking, spent_view, split_more, fresh_view, joined_with, after_try, ShowsView, TriesToDraw, Looks}
 use Rattle.tick_clock.proofs.Rows.{rises, ends_with}
 use Rattle.tick_clock.proofs.Views.{sum_by-put, put_at, parted, put_shared, one_drawn, drawn-last, join_shared, put_tidy, last_tidy, live_tidy, none_split, all_spent}
 
@@ -53,7 +53,7 @@ shows s id v rule e found fits = record {
 moved : (s : State ℕ View) (id n : ℕ) (carried : List (ℕ × ℕ)) (v w : View) (row : List Ticket) (rule : IsTicking s) → get_elem? s.views id ≡ some v
     → IsRising 0 row → n ≡ last_of 0 row → slice_index s.words 0 ≤ n
     → ((rest : List Ticket) → IsPermutation rule.row (v.drawn ++ rest) → IsPermutation row (w.drawn ++ rest))
-    → w.rank ≡ v.rank → w.joined ≡ v.joined → w.known ≡ n → is_live v.rank ≡ true
+    → w.rank ≡ v.rank → w.joined ≡ v.joined → w.known ≡ n → is_live_pass v.rank ≡ true
     → IsTicking (stepped s 0 n id carried w keeps)
 moved s id n carried v w row rule e rising ends above shared rank joined known live =
     let at = λ (f : View → ℕ). sum_by-put f s.views id v w e in
@@ -68,13 +68,13 @@ moved s id n carried v w row rule e rising ends above shared rank joined known l
       rising = rising;
       ends = here ∙ ends;
       shared = put_shared rule.row row s.views id v w e rule.shared shared;
-      tidy = λ i u f. subst (λ k. IsTidy k u) (sym here) (put_tidy n s.views id w below (live_tidy n w (omega (arith, known)) (ap is_live rank ∙ live)) i u f);
+      tidy = λ i u f. subst (λ k. IsTidy k u) (sym here) (put_tidy n s.views id w below (live_tidy n w (omega (arith, known)) (ap is_live_pass rank ∙ live)) i u f);
       one_first = omega (arith, at firsts, rule.one_first, first);
       counted = omega (arith, at split_by, at others, at joined_by, rule.counted, other, split, joined);
     }
 
 -- a look, and a try that finds another word
-finds : (s : State ℕ View) (id : ℕ) (me : Me ℕ View) (rule : IsTicking s) → get_elem? s.views id ≡ some me.0 → is_live me.0.rank ≡ true → slice_index s.words 0 < 18446744073709551616
+finds : (s : State ℕ View) (id : ℕ) (me : Me ℕ View) (rule : IsTicking s) → get_elem? s.views id ≡ some me.0 → is_live_pass me.0.rank ≡ true → slice_index s.words 0 < 18446744073709551616
     → let w : View = record me.0 { known = slice_index s.words 0 } in
     IsTicking (stepped s 0 (slice_index s.words 0) id me.1 w keeps) × (me.0.known ≤ slice_index s.words 0) × ShowsView w
 finds s id me rule e live fits =
@@ -84,12 +84,12 @@ finds s id me rule e live fits =
     let here : slice_index (set s.words 0 n) 0 ≡ n = word_set s.words n rule.width in
     (now, (rule.tidy id me.0 e).0, shows (stepped s 0 n id me.1 w keeps) id w now (put_at s.views id me.0 w e) (sym here) (omega (arith, here, fits)))
 
-pub looks : (slots id : ℕ) (me : Me ℕ View) → is_live me.0.rank ≡ true → Allows IsTicking slots id me 0 (λ n. n) (Looks (step slots 0 0 0 none) me)
+pub looks : (slots id : ℕ) (me : Me ℕ View) → is_live_pass me.0.rank ≡ true → Allows IsTicking slots id me 0 (λ n. n) (Looks (step slots 0 0 0 none) me)
 looks slots id me live s rule _ e fits =
     let found = finds s id me rule e live fits in
     (record me.0 { known = slice_index s.words 0 }, keeps, tt, found.0, (refl, refl, found.1, found.2))
 
-module _ (slots id old new seen : ℕ) (me : Me ℕ View) (live : is_live me.0.rank ≡ true)
+module _ (slots id old new seen : ℕ) (me : Me ℕ View) (live : is_live_pass me.0.rank ≡ true)
     (next : new ≡ max old seen + 1) (fits : new < 18446744073709551616) (s : State ℕ View) (rule : IsTicking s)
     (e : get_elem? s.views id ≡ some me.0) (bound : slice_index s.words 0 < 18446744073709551616) where
   abbrev May : Bool → Type 0
@@ -116,20 +116,20 @@ module _ (slots id old new seen : ℕ) (me : Me ℕ View) (live : is_live me.0.r
       (λ same. subst May (sym (eq-eqb (slice_index s.words 0) old same)) (hits same))
       (λ ne. subst May (sym (ne_eqb (slice_index s.words 0) old ne)) misses)
 
-pub draws : (slots id old new seen : ℕ) (me : Me ℕ View) → is_live me.0.rank ≡ true → new ≡ max old seen + 1 → new < 18446744073709551616
+pub draws : (slots id old new seen : ℕ) (me : Me ℕ View) → is_live_pass me.0.rank ≡ true → new ≡ max old seen + 1 → new < 18446744073709551616
     → Allows IsTicking slots id me 0 (λ n. either (eqb n old) new n) (TriesToDraw (step slots 0 old new (some seen)) me)
 draws slots id old new seen me live next fits s rule _ e bound = tried slots id old new seen me live next fits s rule e bound
 
 false_not : false ≡ true → ⊥
 false_not e = cc
 
-split_tells : (r : Rank) → is_first r ≡ true
-    → (first_in (one_more r) ≡ first_in r) × (other_in (one_more r) ≡ other_in r) × (split_in (one_more r) ≡ split_in r + 1) × (is_live (one_more r) ≡ true)
+split_tells : (r : Rank) → is_first_pass r ≡ true
+    → (first_in (one_more_pass r) ≡ first_in r) × (other_in (one_more_pass r) ≡ other_in r) × (split_in (one_more_pass r) ≡ split_in r + 1) × (is_live_pass (one_more_pass r) ≡ true)
 split_tells (First split) h = (refl, refl, refl, refl)
 split_tells Other h = absurd (false_not h)
 split_tells Spent h = absurd (false_not h)
 
-pub splits : (id : ℕ) (v : View) → is_first v.rank ≡ true → Splits IsTicking id v (split_more v) (fresh_view v)
+pub splits : (id : ℕ) (v : View) → is_first_pass v.rank ≡ true → Splits IsTicking id v (split_more v) (fresh_view v)
 splits id v first s rule e =
     let now : List View = set s.views id (split_more v) in
     let at = λ (f : View → ℕ). sum_by-put f s.views id v (split_more v) e in
@@ -148,12 +148,12 @@ splits id v first s rule e =
       counted = omega (arith, at split_by, at others, at joined_by, last split_by, last others, last joined_by, rule.counted, tells.1, tells.2);
     }
 
-other_tells : (r : Rank) → is_first r ≡ false → is_live r ≡ true → (first_in r ≡ 0) × (other_in r ≡ 1) × (split_in r ≡ 0)
+other_tells : (r : Rank) → is_first_pass r ≡ false → is_live_pass r ≡ true → (first_in r ≡ 0) × (other_in r ≡ 1) × (split_in r ≡ 0)
 other_tells (First split) h live = absurd (false_not (sym h))
 other_tells Other h live = (refl, refl, refl)
 other_tells Spent h live = absurd (false_not live)
 
-pub joins : (id other : ℕ) (v w : View) → is_live v.rank ≡ true → is_first w.rank ≡ false → is_live w.rank ≡ true → Joins IsTicking id v other w (joined_with v w) spent_view
+pub joins : (id other : ℕ) (v w : View) → is_live_pass v.rank ≡ true → is_first_pass w.rank ≡ false → is_live_pass w.rank ≡ true → Joins IsTicking id v other w (joined_with v w) spent_view
 joins id other v w live plain alive s rule e apart e' =
     let u : View = joined_with v w in
     let now : List View = set s.views id u in

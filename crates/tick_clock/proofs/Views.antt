@@ -11,7 +11,7 @@ use Rattle.tick_clock.specs.declared.ticking.Rank.{Rank}
 use Rattle.tick_clock.specs.declared.ticking.Rank.TheVariants.{First, Other, Spent}
 use Rattle.tick_clock.specs.declared.ticking.Ticket.{Ticket}
 use Rattle.tick_clock.specs.declared.ticking.View.{View}
-use Rattle.tick_clock.specs.Ticking.{is_live, first_in, other_in, split_in, firsts, others, split_by, all_drawn, IsTidy, spent_view}
+use Rattle.tick_clock.specs.Ticking.{is_live_pass, first_in, other_in, split_in, firsts, others, split_by, all_drawn, IsTidy, spent_view}
 
 -- one view changes
 pub sum_by-put : (f : View → ℕ) (vs : List View) (i : ℕ) (v w : View) → get_elem? vs i ≡ some v → sum_by f (set vs i w) + f v ≡ sum_by f vs + f w
@@ -98,7 +98,7 @@ last_tidy n vs w tidy h j v e = ⊎_elim (λ t. tidy j v t) (λ t. subst (IsTidy
 true_not : true ≡ false → ⊥
 true_not e = cc
 
-pub live_tidy : (n : ℕ) (v : View) → v.known ≤ n → is_live v.rank ≡ true → IsTidy n v
+pub live_tidy : (n : ℕ) (v : View) → v.known ≤ n → is_live_pass v.rank ≡ true → IsTidy n v
 live_tidy n v h live = (h, λ spent. absurd (true_not (sym live ∙ spent)))
 
 no_split : (r : Rank) → first_in r ≡ 0 → split_in r ≡ 0
@@ -113,7 +113,7 @@ none_split (v ∷ vs) h =
     let here = sum_by-cons firsts v vs in
     omega (arith, h, here, sum_by-cons split_by v vs, no_split v.rank (omega (arith, h, here)), none_split vs (omega (arith, h, here)))
 
-not_live : (r : Rank) → first_in r ≡ 0 → other_in r ≡ 0 → is_live r ≡ false
+not_live : (r : Rank) → first_in r ≡ 0 → other_in r ≡ 0 → is_live_pass r ≡ false
 not_live (First split) h k = absurd (omega (arith, h))
 not_live Other h k = absurd (omega (arith, k))
 not_live Spent h k = refl

@@ -16,16 +16,16 @@ pub record PassState : Type 0 where
   pub drawn : List Ticket
 
 -- the first pass of a clock
-abbrev pub is_first : Rank → Bool
-is_first (First split) = true
-is_first Other = false
-is_first Spent = false
+abbrev pub is_first_pass : Rank → Bool
+is_first_pass (First split) = true
+is_first_pass Other = false
+is_first_pass Spent = false
 
 -- one more pass was split off
-abbrev pub one_more : Rank → Rank
-one_more (First split) = First (split + 1)
-one_more Other = Other
-one_more Spent = Spent
+abbrev pub one_more_pass : Rank → Rank
+one_more_pass (First split) = First (split + 1)
+one_more_pass Other = Other
+one_more_pass Spent = Spent
 
 -- a first pass as it is made
 abbrev pub first_pass : TableId → PassState

@@ -8,13 +8,13 @@ use Rattle.tick_clock.specs.declared.ticking.Rank.{Rank}
 use Rattle.tick_clock.specs.declared.ticking.Rank.TheVariants.{First, Other, Spent}
 use Rattle.tick_clock.specs.declared.ticking.Ticket.{Ticket}
 use Rattle.tick_clock.specs.declared.ticking.View.{View}
-use Rattle.tick_clock.specs.Tickets.{PassState, one_more, last_of, IsRising, Shows}
+use Rattle.tick_clock.specs.Tickets.{PassState, one_more_pass, last_of, IsRising, Shows}
 
 -- the pass was not joined into another
-abbrev pub is_live : Rank → Bool
-is_live (First split) = true
-is_live Other = true
-is_live Spent = false
+abbrev pub is_live_pass : Rank → Bool
+is_live_pass (First split) = true
+is_live_pass Other = true
+is_live_pass Spent = false
 
 -- of a pass's rank: whether it is the first, whether it is another one, and how many it has split off
 abbrev pub first_in : Rank → ℕ
@@ -52,7 +52,7 @@ all_drawn (v ∷ vs) = v.drawn ++ all_drawn vs
 
 -- the view has found no more than the word, and has no tickets where it is spent
 abbrev pub IsTidy : ℕ → View → Type 0
-IsTidy word v = (v.known ≤ word) × (is_live v.rank ≡ false → v.drawn ≡ [])
+IsTidy word v = (v.known ≤ word) × (is_live_pass v.rank ≡ false → v.drawn ≡ [])
 
 -- There is one first pass, and the passes split off are those that are not spent and those that were joined. All tickets are a rising row that ends with the word, and the views have each of them once. So the word is the last ticket drawn; each
 -- view's tickets are at most the word, and differ from those of other views; and each ticket is one more than 0, than another ticket
@@ -77,7 +77,7 @@ spent_view = record { rank = Spent; joined = 0; known = 0; drawn = [] }
 
 -- a pass is split off: the first one's view, and that of the pass
 abbrev pub split_more : View → View
-split_more v = record v { rank = one_more v.rank }
+split_more v = record v { rank = one_more_pass v.rank }
 
 abbrev pub fresh_view : View → View
 fresh_view v = record { rank = Other; joined = 0; known = v.known; drawn = [] }
@@ -115,5 +115,5 @@ state_of clock v seen = record { clock = clock; rank = v.rank; joined = v.joined
 -- a pass was not joined into another, and keeps what it has found
 pub record IsPass (me : Me ℕ View) (known : ℕ) : Type 0 where
   pub empty : me.1 ≡ []
-  pub live : is_live me.0.rank ≡ true
+  pub live : is_live_pass me.0.rank ≡ true
   pub found : me.0.known ≡ known

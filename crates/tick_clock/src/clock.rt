@@ -1,6 +1,6 @@
 //! Clocks.
 ghost use Rattle.std.specs.Prelude.{◌≡◌, ◌+◌, ◌<◌, ◌≤◌, ◌⊎◌, max, true, false, None, IfOk, IfSome};
-ghost use Rattle.tick_clock.specs.Tickets.{first_pass, fresh_pass, is_first, one_more, drawn_with, joined_pass, IsEnd, IsSamePass, AreApart, ShowsTickets, Tries};
+ghost use Rattle.tick_clock.specs.Tickets.{first_pass, fresh_pass, is_first_pass, one_more_pass, drawn_with, joined_pass, IsEnd, IsSamePass, AreApart, ShowsTickets, Tries};
 
 use crate::note::Note;
 use crate::pass::{Pass, greater};
@@ -78,8 +78,8 @@ impl Clock {
     /// Splits a pass off the first one. It has no tickets, and has seen what the first one has seen.
     pub fn split(&self, pass: &mut Pass) -> Pass
         requires own { pass.old.clock ≡ self.now }
-        requires first { is_first pass.old.rank ≡ true }
-        ensures counted { pass.new ≡ record pass.old { rank = one_more pass.old.rank } }
+        requires first { is_first_pass pass.old.rank ≡ true }
+        ensures counted { pass.new ≡ record pass.old { rank = one_more_pass pass.old.rank } }
         ensures fresh { result ≡ fresh_pass pass.old }
     {
         let table = &self.table;
@@ -94,7 +94,7 @@ impl Clock {
     /// Joins another pass into this one, which has then the tickets of both, and has seen what both had seen.
     pub fn join(&self, pass: &mut Pass, other: Pass)
         requires own { (pass.old.clock ≡ self.now) × (other.clock ≡ self.now) }
-        requires other { is_first other.rank ≡ false }
+        requires other { is_first_pass other.rank ≡ false }
         ensures both { pass.new ≡ joined_pass pass.old other pass.new.known }
         ensures found { max pass.old.known other.known ≤ pass.new.known }
         ensures apart { AreApart pass.new.drawn }

@@ -6,7 +6,7 @@ use Rattle.decl_text.specs.Places.{At, left}
 use Rattle.decl_text.specs.Text.{lines, without_empty_end}
 use Rattle.decl_text.proofs.Cuts.{before_append, none_before, none_pass_one_more}
 use Rattle.trace_replay.specs.Lines.{is_told, told_lines}
-use Rattle.trace_replay.specs.Parts.{AreParts, IsBehind, IsCutAt}
+use Rattle.trace_replay.specs.Parts.{AreTextParts, HasNoEventBefore, IsFirstEventAt}
 use Rattle.trace_replay.proofs.LineLemmas.{passed_over}
 use Rattle.trace_replay.proofs.WalkLemmas.{cut_on}
 
@@ -14,7 +14,7 @@ no_lines : lines [] ≡ []
 unfolding without_empty_end
 no_lines = refl
 
-pub at_first : (text : List ℕ) → IsBehind text 0 1
+pub at_first : (text : List ℕ) → HasNoEventBefore text 0 1
 at_first text = record {
   front = [];
   before = λ more. refl;
@@ -25,10 +25,10 @@ at_first text = record {
 }
 
 -- the next line tells no event
-pub further : (text line : List ℕ) (place next number : ℕ) → IsBehind text place number → place < next
+pub further : (text line : List ℕ) (place next number : ℕ) → HasNoEventBefore text place number → place < next
     → lines (drop place text) ≡ line ∷ lines (drop next text)
     → ((more : ℕ) → lines (drop place (take (next + more) text)) ≡ line ∷ lines (drop next (take (next + more) text)))
-    → is_told line ≡ false → IsBehind text next (number + 1)
+    → is_told line ≡ false → HasNoEventBefore text next (number + 1)
 further text line place next number behind on is cut none = record {
   front = behind.front ++ line ∷ [];
   before = λ more.
@@ -49,10 +49,10 @@ pub left_at : (text : List ℕ) (at : At) (place : ℕ) → at.text ≡ text →
 left_at text at place same is = ap (λ n. lines (drop n text)) (sym is) ∙ ap (λ t. lines (drop at.place t)) (sym same)
 
 -- the same of a walk over the lines
-pub goes_on : (text line : List ℕ) (old new : At) (place next number : ℕ) → IsBehind text place number → old.text ≡ text → new.text ≡ old.text → old.place ≡ place
+pub goes_on : (text line : List ℕ) (old new : At) (place next number : ℕ) → HasNoEventBefore text place number → old.text ≡ text → new.text ≡ old.text → old.place ≡ place
     → next ≡ new.place → old.place < new.place → lines (left old) ≡ line ∷ lines (left new)
     → ((more : ℕ) → lines (drop old.place (take (new.place + more) old.text)) ≡ line ∷ lines (drop new.place (take (new.place + more) old.text)))
-    → is_told line ≡ false → IsBehind text next (number + 1)
+    → is_told line ≡ false → HasNoEventBefore text next (number + 1)
 goes_on text line old new place next number behind same still at next_is on is cut none =
     further text line place next number behind (omega (arith, on, at, next_is))
     (left_at text old place same at ∙ is ∙ ap (λ ls. line ∷ ls) (sym (left_at text new next (still ∙ same) (sym next_is))))
@@ -74,7 +74,7 @@ pub stops_at_end : (rest : List (List ℕ)) → rest ≡ [] → before_first is_
 stops_at_end rest none = ap (before_first is_told) none
 
 -- a text is cut there
-pub are_parts : (text : List ℕ) (place number : ℕ) → IsCutAt text place number → AreParts text (take place text) (drop place text) number
+pub are_parts : (text : List ℕ) (place number : ℕ) → IsFirstEventAt text place number → AreTextParts text (take place text) (drop place text) number
 are_parts text place number cut =
     let behind = cut.behind in
     let whole : place + 0 ≡ place = omega arith in

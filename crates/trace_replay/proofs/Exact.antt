@@ -4,7 +4,7 @@ use Rattle.std.specs.Prelude.{unwrap_or}
 use Rattle.std.proofs.lemmas.List.{append-nil}
 use Rattle.stack_base.specs.declared.stack.Stack.{Stack}
 use Rattle.trace_text.specs.Laws.{EventsAreApart}
-use Rattle.trace_text.specs.Names.{IsNamed}
+use Rattle.trace_text.specs.Names.{DevicesAreNamed}
 use Rattle.run_machine.specs.declared.event.Event.{Event}
 use Rattle.run_machine.specs.Scene.{Scene}
 use Rattle.run_machine.specs.Opened.{Scenario, scene, start}
@@ -12,11 +12,11 @@ use Rattle.run_machine.specs.OneState.{AreApart}
 use Rattle.run_machine.specs.Runs.{State, Happens, IsRun}
 use Rattle.run_machine.proofs.Apart.{runs_lead_to_one_state}
 use Rattle.run_machine.proofs.OneState.{events_lead_to_one_state}
-use Rattle.plain_core.specs.Cores.{CoreState, scene_of, state_of}
+use Rattle.plain_core.specs.Cores.{CoreState, scene_of_core, state_of_core}
 use Rattle.plain_core.specs.Ledgers.{ledger_of}
-use Rattle.plain_core.specs.Opening.{IsOpened}
-use Rattle.trace_replay.specs.Names.{Names, after, event_placed, no_names}
-use Rattle.trace_replay.specs.Replay.{AreLinesOf, IsReplay, StopsAt, Tells}
+use Rattle.plain_core.specs.Opening.{IsOpenedCore}
+use Rattle.trace_replay.specs.Names.{Names, names_after, event_placed, no_names}
+use Rattle.trace_replay.specs.Replay.{AreLinesOf, IsReplay, StopsAt, TellsEvent}
 use Rattle.trace_replay.specs.Exact.{IsReplayOf, RunsHaveNoBadLine, TellRun}
 use Rattle.trace_replay.specs.declared.walk.Replayed.{Replayed}
 
@@ -29,18 +29,18 @@ pub record GoesOn (scene : Scene) (stack : Stack) (names : Names) (state : State
   pub run : IsRun scene state events final
 
 -- a line tells one event
-pub one_told : (stack : Stack) (names : Names) (line : List ℕ) (first second : Event) (next again : Names) → EventsAreApart → IsNamed stack
-    → Tells stack names line first next → Tells stack names line second again → (second ≡ first) × (again ≡ next)
+pub one_told : (stack : Stack) (names : Names) (line : List ℕ) (first second : Event) (next again : Names) → EventsAreApart → DevicesAreNamed stack
+    → TellsEvent stack names line first next → TellsEvent stack names line second again → (second ≡ first) × (again ≡ next)
 one_told stack names line first second next again apart named a b =
     let same = apart stack line b.told a.told named b.said a.said in
     let placed : Some second ≡ Some first = sym b.placed ∙ ap (event_placed names) same ∙ a.placed in (
       ap (λ (o : Option Event). unwrap_or o first) placed,
-      b.next_is ∙ ap (λ (e : Event). after names e.what) same ∙ sym a.next_is,
+      b.next_is ∙ ap (λ (e : Event). names_after names e.what) same ∙ sym a.next_is,
     )
 
 -- where all lines tell a run, those behind the first of them go on from where these lead
 behind : (scene : Scene) (stack : Stack) (names last : Names) (old new : State) (front rest : List (ℕ × List ℕ)) (events : List Event)
-    → EventsAreApart → IsNamed stack → AreApart scene old → AreLinesOf stack names front events last → IsRun scene old events new
+    → EventsAreApart → DevicesAreNamed stack → AreApart scene old → AreLinesOf stack names front events last → IsRun scene old events new
     → GoesOn scene stack names old (front ++ rest) → GoesOn scene stack last new rest
 behind scene stack names last old new [] rest [] lines named apart said run on =
     subst (λ (n : Names). GoesOn scene stack n new rest) (sym said) (subst (λ (s : State). GoesOn scene stack names s rest) (sym run) on)
@@ -111,8 +111,8 @@ no_bad_line lines = record {
 }
 
 -- what a replay says from an opened core it says from the start of its scenario
-pub from_start : (s : Scenario) (core : CoreState) (told : List (ℕ × List ℕ)) (replayed : Replayed) → IsOpened s core
-    → IsReplay (scene_of core) s.stack (state_of core) told replayed → IsReplayOf s told replayed
+pub from_start : (s : Scenario) (core : CoreState) (told : List (ℕ × List ℕ)) (replayed : Replayed) → IsOpenedCore s core
+    → IsReplay (scene_of_core core) s.stack (state_of_core core) told replayed → IsReplayOf s told replayed
 from_start s core told replayed opened is =
     subst (λ (from : State). IsReplay (scene s ledger_of) s.stack from told replayed) opened.state
-    (subst (λ (sc : Scene). IsReplay sc s.stack (state_of core) told replayed) opened.scene is)
+    (subst (λ (sc : Scene). IsReplay sc s.stack (state_of_core core) told replayed) opened.scene is)

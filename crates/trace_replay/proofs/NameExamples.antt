@@ -6,11 +6,11 @@ use Rattle.run_machine.specs.declared.event.End.TheVariants as end
 use Rattle.run_machine.specs.declared.event.What.{What}
 use Rattle.run_machine.specs.declared.event.What.TheVariants.{Link, Drop}
 use Rattle.run_machine.specs.Maps.{upd}
-use Rattle.trace_replay.specs.Names.{Names, after, no_names, placed}
+use Rattle.trace_replay.specs.Names.{Names, names_after, no_names, placed}
 
 all_placed : Names → List What → List (Option What)
 all_placed names [] = []
-all_placed names (what ∷ more) = placed names what ∷ all_placed (after names what) more
+all_placed names (what ∷ more) = placed names what ∷ all_placed (names_after names what) more
 
 -- a name is free again when its node has closed, and may be any number
 again : all_placed no_names (Link 0 how.Write 7 ∷ Drop 0 7 Ok end.Top ∷ Link 0 how.Write 4000000000 ∷ Link 1 how.Write 4000000000 ∷ Drop 0 4000000000 Ok end.Top ∷ Link 0 how.Write 7 ∷ Drop 0 7 Ok end.Left ∷ [])

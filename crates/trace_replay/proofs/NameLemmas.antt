@@ -10,7 +10,7 @@ use Rattle.std.proofs.lemmas.Cmp.{ranked}
 use Rattle.std.proofs.lemmas.Bool.Decides.{nat_tests}
 use Rattle.run_machine.specs.Maps.{upd}
 use Rattle.trace_replay.specs.declared.names.Name.{Name}
-use Rattle.trace_replay.specs.Named.{count_in, name_cmp, place_in}
+use Rattle.trace_replay.specs.Named.{opened_by, name_cmp, place_in}
 
 told_same : (r : Ordering) (w v : ℕ) → MatchOrdering r (w < v) (w ≡ v) (v < w) → is_eq r ≡ (v == w)
 told_same Less w v is = grind (arith, nat_tests)
@@ -35,12 +35,12 @@ counted false n found = refl
 
 -- one more count
 pub count_on : (old new : List (ℕ × ℕ)) (w n : ℕ) → ((v : ℕ) → lookup (is_at (nat_cmp v)) new ≡ cond (is_at (nat_cmp w) v) (Some n) (lookup (is_at (nat_cmp v)) old))
-    → count_in new ≡ upd (count_in old) w n
+    → opened_by new ≡ upd (opened_by old) w n
 unfolding upd
 count_on old new w n is = λ k v.
     (ap (λ (found : Option ℕ). unwrap_or found 0) (is v)
     ∙ counted (is_at (nat_cmp w) v) n (lookup (is_at (nat_cmp v)) old)
-    ∙ ap (λ b. cond b n (count_in old v)) (same_number w v)) k
+    ∙ ap (λ b. cond b n (opened_by old v)) (same_number w v)) k
 
 number_is : (v w : ℕ) → (v == w) ≡ true → v ≡ w
 number_is v w is = grind (arith, nat_tests)

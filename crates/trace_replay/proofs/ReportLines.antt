@@ -24,11 +24,11 @@ use Rattle.model_disks.specs.Disks.{sum_of_words}
 use Rattle.model_disks.specs.Runs.{written_runs}
 use Rattle.decl_text.specs.Reading.{NonePass}
 use Rattle.decl_text.specs.Text.{lines}
-use Rattle.trace_text.specs.Names.{IsNamed, is_any}
+use Rattle.trace_text.specs.Names.{DevicesAreNamed, is_any}
 use Rattle.trace_text.proofs.NameWords.{is_visible, list_all_follows, name_is_word}
-use Rattle.report_text.specs.Pools.{told_pools, name_at, pool_name}
+use Rattle.report_text.specs.Pools.{told_pools, name_of_device, pool_name}
 use Rattle.report_text.specs.Report as said
-use Rattle.report_text.specs.Report.{Told, report, run_lines}
+use Rattle.report_text.specs.Report.{Reported, report, run_lines}
 use Rattle.trace_replay.specs.Lines.{is_told}
 use Rattle.trace_replay.specs.Traces.{TellsNoEvent, ReportsTellNoEvent}
 use Rattle.trace_replay.proofs.TextLines.{is_inner, inner_first, no_lines}
@@ -81,7 +81,7 @@ hex_inner table (byte ∷ bytes) inner =
     let low = all_of (is_inner (get_or table (byte % 16) 0)) (list_all is_inner (encode_with table bytes)) (at_inner table (byte % 16) inner) (hex_inner table bytes inner) in
     all_of (is_inner (get_or table (byte / 16) 0)) (list_all is_inner (get_or table (byte % 16) 0 ∷ encode_with table bytes)) (at_inner table (byte / 16) inner) low
 
-status_inner : (one : Status) → IsInner (said.status_word one)
+status_inner : (one : Status) → IsInner (said.reported_status one)
 status_inner status.Ok = refl
 status_inner status.Io = refl
 status_inner status.Medium = refl
@@ -90,7 +90,7 @@ status_inner status.NoSpace = refl
 visible_inner : (byte : ℕ) → is_visible byte ≡ true → is_inner byte ≡ true
 visible_inner byte is = grind (arith, nat_tests, is)
 
-name_inner : (stack : Stack) (number : ℕ) → IsNamed stack → IsInner (name_at stack number)
+name_inner : (stack : Stack) (number : ℕ) → DevicesAreNamed stack → IsInner (name_of_device stack number)
 name_inner stack number named = by (slice_get stack.devices.items number) refl
   where
     by : (found : Option Device) → slice_get stack.devices.items number ≡ found → IsInner (option_map_or (λ (device : Device). device.name.bytes) found [])
@@ -98,13 +98,13 @@ name_inner stack number named = by (slice_get stack.devices.items number) refl
     by (Some device) is =
         let has = ap (λ (f : Option Device). option_map_or (λ (d : Device). is_any d.kind) f false) is in
         let name = ap (λ (f : Option Device). option_map_or (λ (d : Device). d.name.bytes) f []) is in
-        subst IsInner name (list_all_follows is_visible is_inner visible_inner (name_at stack number) (name_is_word stack (record { 0 = number }) named has).visible)
+        subst IsInner name (list_all_follows is_visible is_inner visible_inner (name_of_device stack number) (name_is_word stack (record { 0 = number }) named has).visible)
 
-pool_inner : (stack : Stack) (pool : PoolId) → IsNamed stack → IsInner (pool_name stack pool)
+pool_inner : (stack : Stack) (pool : PoolId) → DevicesAreNamed stack → IsInner (pool_name stack pool)
 pool_inner stack FsBios named = refl
 pool_inner stack FsVecs named = refl
-pool_inner stack (Bios dev) named = joined (name_at stack dev.0) (codes ".bios") (name_inner stack dev.0 named) refl
-pool_inner stack (Records dev) named = joined (name_at stack dev.0) (codes ".records") (name_inner stack dev.0 named) refl
+pool_inner stack (Bios dev) named = joined (name_of_device stack dev.0) (codes ".bios") (name_inner stack dev.0 named) refl
+pool_inner stack (Records dev) named = joined (name_of_device stack dev.0) (codes ".records") (name_inner stack dev.0 named) refl
 
 -- before whatever tells no event, this text tells none
 abbrev AddsNone : List ℕ → Type 0
@@ -137,7 +137,7 @@ parts_none parts inner other =
 -- the lines of a report
 write_none : (number : ℕ) (one : Status) → AddsNone (said.write_line number one)
 write_none number one =
-    parts_none (codes "write " ∷ decimal number ∷ codes " " ∷ said.status_word one ∷ []) (refl, (decimal_inner number, (refl, (status_inner one, tt)))) refl
+    parts_none (codes "write " ∷ decimal number ∷ codes " " ∷ said.reported_status one ∷ []) (refl, (decimal_inner number, (refl, (status_inner one, tt)))) refl
 
 writes_none : (number : ℕ) (all : List Status) → AddsNone (said.write_lines number all)
 writes_none number [] = λ back none. none
@@ -166,10 +166,10 @@ steps_none : (steps bound : ℕ) → AddsNone (said.steps_line steps bound)
 steps_none steps bound = parts_none (codes "steps " ∷ decimal steps ∷ codes " of " ∷ decimal bound ∷ []) (refl, (decimal_inner steps, (refl, (decimal_inner bound, tt)))) refl
 
 -- the whole
-module _ (stack : Stack) (told : Told) (named : IsNamed stack) where
+module _ (stack : Stack) (told : Reported) (named : DevicesAreNamed stack) where
   image_none : (disk : DevId × List (List ℕ)) → AddsNone (said.image_lines stack disk)
   image_none disk =
-      let name = name_at stack disk.0.0 in
+      let name = name_of_device stack disk.0.0 in
       let inner = name_inner stack disk.0.0 named in
       both (said.sum_line stack disk) (run_lines name (written_runs disk.1)) (sum_none name (sum_of_words disk.1) inner) (runs_none name inner (written_runs disk.1))
 

@@ -17,14 +17,14 @@ use Rattle.run_machine.specs.Opened.{Scenario, scene, start}
 use Rattle.run_machine.specs.Runs.{State, IsRun, HasEnded}
 use Rattle.run_machine.proofs.Apart.{runs_lead_to_one_state}
 use Rattle.block_core.specs.Scenarios.{IsScenario, IsNaming}
-use Rattle.trace_text.specs.Laws.{IsLineOf, EventsAreApart, LinesAreText}
-use Rattle.trace_text.specs.Lines.{line_of}
-use Rattle.trace_text.specs.Names.{IsNamed}
+use Rattle.trace_text.specs.Laws.{IsEventLine, EventsAreApart, LinesAreText}
+use Rattle.trace_text.specs.Lines.{line_of_event}
+use Rattle.trace_text.specs.Names.{DevicesAreNamed}
 use Rattle.plain_core.specs.Ledgers.{ledger_of}
 use Rattle.report_text.specs.Report.{report}
 use Rattle.trace_replay.specs.Exact.{IsReplayOf, TellRun, RunsHaveNoBadLine}
 use Rattle.trace_replay.specs.Lines.{is_told, told_in}
-use Rattle.trace_replay.specs.Names.{Names, no_names, after}
+use Rattle.trace_replay.specs.Names.{Names, no_names, names_after}
 use Rattle.trace_replay.specs.Replay.{AreLinesOf, IsFinish}
 use Rattle.trace_replay.specs.Traces.{AreRead, IsReadAsRun, trace_of, HasTrace, AcceptedTextsTellNoEvent, IsReplayable, IsReplayedWhole, TracesReplay, ReportsTellNoEvent, ReportedRunsReplay}
 use Rattle.trace_replay.specs.declared.walk.Finish.{Finish}
@@ -35,84 +35,84 @@ use Rattle.trace_replay.proofs.TextLines.{line_first, whole_first, told_are, non
 use Rattle.trace_replay.proofs.renaming.Runs.{runs_are_read_by_names}
 
 -- a line of an event begins with its word
-is_event : (stack : Stack) (event : Event) → is_told (line_of stack event) ≡ true
+is_event : (stack : Stack) (event : Event) → is_told (line_of_event stack event) ≡ true
 is_event stack event = refl
 
 -- the lines of a trace are its events'
-module _ (stack : Stack) (named : IsNamed stack) (text_lines : LinesAreText) where
-  line_is : (event : Event) → IsEventOf stack event → Fits event → IsLineOf stack (line_of stack event) event
+module _ (stack : Stack) (named : DevicesAreNamed stack) (text_lines : LinesAreText) where
+  line_is : (event : Event) → IsEventOf stack event → Fits event → IsEventLine stack (line_of_event stack event) event
   line_is event of fits = record { said = refl; named = of; fits = fits }
 
   pub trace_lines : (events : List Event) (report : List ℕ) → All (IsEventOf stack) events → All Fits events
-      → lines (trace_of stack events ++ report) ≡ map (line_of stack) events ++ lines report
+      → lines (trace_of stack events ++ report) ≡ map (line_of_event stack) events ++ lines report
   trace_lines [] report of fits = refl
   trace_lines (event ∷ events) report of fits =
-      let line = line_of stack event in
+      let line = line_of_event stack event in
       let plain = text_lines stack line event named (line_is event (All-head (IsEventOf stack) event events of) (All-head Fits event events fits)) in
       let rest = trace_of stack events ++ report in
       ap lines (
-      ap (λ bytes. bytes ++ report) (flat_map-cons (λ e. line_of stack e ++ 10 ∷ []) event events)
+      ap (λ bytes. bytes ++ report) (flat_map-cons (λ e. line_of_event stack e ++ 10 ∷ []) event events)
       ∙ append_assoc (line ++ 10 ∷ []) (trace_of stack events) report
       ∙ append_assoc line (10 ∷ []) rest
       )
       ∙ line_first line rest plain
       ∙ ap (λ all. line ∷ all) (trace_lines events report (All-tail (IsEventOf stack) event events of) (All-tail Fits event events fits))
 
-  all_told : (events : List Event) → filter is_told (map (line_of stack) events) ≡ map (line_of stack) events
+  all_told : (events : List Event) → filter is_told (map (line_of_event stack) events) ≡ map (line_of_event stack) events
   all_told [] = refl
-  all_told (event ∷ events) = ap (λ all. line_of stack event ∷ all) (all_told events)
+  all_told (event ∷ events) = ap (λ all. line_of_event stack event ∷ all) (all_told events)
 
   module _ (accepted_none : AcceptedTextsTellNoEvent) (events : List Event) (text scenario report : List ℕ) (has : HasTrace stack events text scenario report) where
     abbrev before : NonePass is_told (lines scenario)
     before = accepted_none scenario has.accepted
 
-    all_lines : lines text ≡ lines scenario ++ (map (line_of stack) events ++ lines report)
+    all_lines : lines text ≡ lines scenario ++ (map (line_of_event stack) events ++ lines report)
     all_lines =
         ap lines has.is ∙ whole_first scenario (trace_of stack events ++ report)
         ∙ ap (λ all. lines scenario ++ all) (trace_lines events report has.named has.fits)
 
-    pub told_are_its : NonePass is_told (lines report) → map (λ (line : ℕ × List ℕ). line.1) (told_in 1 text) ≡ map (line_of stack) events
+    pub told_are_its : NonePass is_told (lines report) → map (λ (line : ℕ × List ℕ). line.1) (told_in 1 text) ≡ map (line_of_event stack) events
     told_are_its none =
         told_are 1 (lines text)
         ∙ ap (filter is_told) all_lines
-        ∙ filter-append is_told (lines scenario) (map (line_of stack) events ++ lines report)
-        ∙ ap (λ all. all ++ filter is_told (map (line_of stack) events ++ lines report)) (none_told (lines scenario) before)
-        ∙ filter-append is_told (map (line_of stack) events) (lines report)
-        ∙ ap (λ all. filter is_told (map (line_of stack) events) ++ all) (none_told (lines report) none)
-        ∙ append-nil (filter is_told (map (line_of stack) events))
+        ∙ filter-append is_told (lines scenario) (map (line_of_event stack) events ++ lines report)
+        ∙ ap (λ all. all ++ filter is_told (map (line_of_event stack) events ++ lines report)) (none_told (lines scenario) before)
+        ∙ filter-append is_told (map (line_of_event stack) events) (lines report)
+        ∙ ap (λ all. filter is_told (map (line_of_event stack) events) ++ all) (none_told (lines report) none)
+        ∙ append-nil (filter is_told (map (line_of_event stack) events))
         ∙ all_told events
 
-    begins : (events : List Event) → 0 < length events → Begins is_told (map (line_of stack) events ++ lines report)
+    begins : (events : List Event) → 0 < length events → Begins is_told (map (line_of_event stack) events ++ lines report)
     begins [] some = absurd (omega (arith, some))
     begins (event ∷ events) some = refl
 
     pub scenario_ends : 0 < length events → before_first is_told (lines text) ≡ lines scenario
     scenario_ends some =
-        ap (before_first is_told) all_lines ∙ before_is is_told (lines scenario) (map (line_of stack) events ++ lines report) before (begins events some)
+        ap (before_first is_told) all_lines ∙ before_is is_told (lines scenario) (map (line_of_event stack) events ++ lines report) before (begins events some)
 
   -- these lines tell what the events are read as
   pub read_lines : (names last : Names) (events read : List Event) (told : List (ℕ × List ℕ)) → All (IsEventOf stack) events → All Fits events
-      → map (λ (line : ℕ × List ℕ). line.1) told ≡ map (line_of stack) events → AreRead names events read last → AreLinesOf stack names told read last
+      → map (λ (line : ℕ × List ℕ). line.1) told ≡ map (line_of_event stack) events → AreRead names events read last → AreLinesOf stack names told read last
   read_lines names last [] [] [] of fits lines_are is = is
   read_lines names last [] [] (line ∷ told) of fits lines_are is = absurd cc
   read_lines names last [] (event ∷ read) told of fits lines_are is = absurd is
   read_lines names last (event ∷ events) [] told of fits lines_are is = absurd is
   read_lines names last (event ∷ events) (one ∷ read) [] of fits lines_are is = absurd cc
   read_lines names last (event ∷ events) (one ∷ read) (line ∷ told) of fits lines_are is =
-      let said : line.1 ≡ line_of stack event = ap (λ (all : List (List ℕ)). slice_index_or all 0 []) lines_are in
+      let said : line.1 ≡ line_of_event stack event = ap (λ (all : List (List ℕ)). slice_index_or all 0 []) lines_are in
       let more = ap (λ (all : List (List ℕ)). drop 1 all) lines_are in (
-        after names event.what,
+        names_after names event.what,
         record {
           told = event;
           said = record { said = said; named = All-head (IsEventOf stack) event events of; fits = All-head Fits event events fits };
           placed = is.0;
           next_is = refl;
         },
-        read_lines (after names event.what) last events read told (All-tail (IsEventOf stack) event events of) (All-tail Fits event events fits) more is.1,
+        read_lines (names_after names event.what) last events read told (All-tail (IsEventOf stack) event events of) (All-tail Fits event events fits) more is.1,
       )
 
 -- the same lines tell the same events
-same_events : (stack : Stack) (names first second : Names) (told : List (ℕ × List ℕ)) (one other : List Event) → EventsAreApart → IsNamed stack
+same_events : (stack : Stack) (names first second : Names) (told : List (ℕ × List ℕ)) (one other : List Event) → EventsAreApart → DevicesAreNamed stack
     → AreLinesOf stack names told one first → AreLinesOf stack names told other second → other ≡ one
 same_events stack names first second [] [] [] apart named a b = refl
 same_events stack names first second [] [] (event ∷ other) apart named a b = absurd b
@@ -139,7 +139,7 @@ ends_so s state Open is ended = absurd (is.0 ended)
 ends_so s state Stuck is ended = let none = ended.writes in let some = is.0 in absurd (omega (arith, none, some))
 
 module _ (accepted_none : AcceptedTextsTellNoEvent) (apart : EventsAreApart) (text_lines : LinesAreText) (s : Scenario) (ledger : ℕ → LedgerId) (events : List Event) (state : State) (text scenario report : List ℕ)
-    (good : IsScenario s) (naming : IsNaming ledger) (named : IsNamed s.stack) (run : IsRun (scene s ledger) (start s) events state) (has : HasTrace s.stack events text scenario report)
+    (good : IsScenario s) (naming : IsNaming ledger) (named : DevicesAreNamed s.stack) (run : IsRun (scene s ledger) (start s) events state) (has : HasTrace s.stack events text scenario report)
     (none : NonePass is_told (lines report)) where
   abbrev as_run : IsReadAsRun s events state
   as_run = runs_are_read_by_names s ledger events state good naming run
@@ -167,7 +167,7 @@ module _ (accepted_none : AcceptedTextsTellNoEvent) (apart : EventsAreApart) (te
       runs_lead_to_one_state.one s ledger_of as_run.events is.state as_run.other (subst (λ (es : List Event). IsRun (scene s ledger_of) (start s) es is.state) same is.run) as_run.run in
       let told = ap length (told_are_its s.stack named text_lines accepted_none events text scenario report has none) in
       let long = length-map (told_in 1 text) (λ (line : ℕ × List ℕ). line.1) in
-      let many = length-map events (line_of s.stack) in
+      let many = length-map events (line_of_event s.stack) in
       record {
         bad = bad;
         count = is.count ∙ count_lines s.stack no_names is.names (told_in 1 text) is.events said ∙ sym long ∙ told ∙ many;

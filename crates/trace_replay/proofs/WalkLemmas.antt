@@ -15,14 +15,14 @@ use Rattle.stack_base.specs.Mapping.{smallest}
 use Rattle.run_machine.specs.declared.event.Event.{Event}
 use Rattle.run_machine.specs.Scene.{Scene}
 use Rattle.run_machine.specs.Runs.{State, Happens, IsRun, IsEnabled}
-use Rattle.plain_core.specs.Cores.{CoreState, scene_of, state_of}
-use Rattle.trace_text.specs.Laws.{EventsAreApart, IsLineOf}
-use Rattle.trace_text.specs.Names.{IsNamed}
+use Rattle.plain_core.specs.Cores.{CoreState, scene_of_core, state_of_core}
+use Rattle.trace_text.specs.Laws.{EventsAreApart, IsEventLine}
+use Rattle.trace_text.specs.Names.{DevicesAreNamed}
 use Rattle.report_text.specs.Pools.{pools_at, rising_from, told_pools}
 use Rattle.trace_replay.specs.declared.extents.Extent.{Extent}
-use Rattle.trace_replay.specs.Replay.{AreLinesOf, IsFinish, IsReplay, Tells, extent_over, later, out_in, spares_in, wider}
+use Rattle.trace_replay.specs.Replay.{AreLinesOf, IsFinish, IsReplay, TellsEvent, extent_over, later, out_in, spares_in, wider}
 use Rattle.trace_replay.specs.Names.{Names, no_names, event_placed}
-use Rattle.trace_replay.specs.Walks.{AppliesLine, Follows, HasCome, extents_over}
+use Rattle.trace_replay.specs.Walks.{AppliesLine, FollowsLines, HasCome, extents_over}
 
 -- a run with one more event
 run_on : (scene : Scene) (old : State) (events : List Event) (now : State) → IsRun scene old events now → (event : Event) (new : State) → Happens scene now event new
@@ -38,8 +38,8 @@ later_on scene old (first ∷ events) now (next, here, run) event new happens = 
 
 -- and one more line
 lines_on : (stack : Stack) (names : Names) (front : List (ℕ × List ℕ)) (events : List Event) (last : Names) (line : ℕ × List ℕ) (event : Event) (next : Names)
-    → AreLinesOf stack names front events last → Tells stack last line.1 event next → AreLinesOf stack names (front ++ line ∷ []) (events ++ event ∷ []) next
-lines_on stack names [] [] last line event next said is = (next, subst (λ (n : Names). Tells stack n line.1 event next) said is, refl)
+    → AreLinesOf stack names front events last → TellsEvent stack last line.1 event next → AreLinesOf stack names (front ++ line ∷ []) (events ++ event ∷ []) next
+lines_on stack names [] [] last line event next said is = (next, subst (λ (n : Names). TellsEvent stack n line.1 event next) said is, refl)
 lines_on stack names (first ∷ front) (one ∷ events) last line event next said is = (said.0, said.1, lines_on stack said.0 front events last line event next said.2 is)
 lines_on stack names [] (one ∷ events) last line event next said is = absurd said
 lines_on stack names (first ∷ front) [] last line event next said is = absurd said
@@ -81,8 +81,8 @@ extents_on stack first states new =
     map_each (wider new) (extent_over (first ∷ states)) (extent_over (first ∷ (states ++ new ∷ []))) (told_pools stack) (wider_on first states new)
 
 -- at first
-pub comes : (stack : Stack) (told : List (ℕ × List ℕ)) (core : CoreState) (extents : List Extent) → extents ≡ extents_over stack (state_of core ∷ [])
-    → HasCome stack (scene_of core) (state_of core) told told no_names core 0 extents
+pub comes : (stack : Stack) (told : List (ℕ × List ℕ)) (core : CoreState) (extents : List Extent) → extents ≡ extents_over stack (state_of_core core ∷ [])
+    → HasCome stack (scene_of_core core) (state_of_core core) told told no_names core 0 extents
 comes stack told core extents is = record {
   front = [];
   cut = refl;
@@ -97,45 +97,45 @@ comes stack told core extents is = record {
 -- the event of the next line was applied
 pub comes_on : (stack : Stack) (scene : Scene) (start : State) (told rest : List (ℕ × List ℕ)) (number : ℕ) (line : List ℕ) (names next : Names) (old new : CoreState) (count : ℕ)
     (extents wide : List Extent) → HasCome stack scene start told ((number, line) ∷ rest) names old count extents → AppliesLine stack line names old true next new
-    → wide ≡ map (wider (state_of new)) extents → HasCome stack scene start told rest next new (count + 1) wide
+    → wide ≡ map (wider (state_of_core new)) extents → HasCome stack scene start told rest next new (count + 1) wide
 comes_on stack scene start told rest number line names next old new count extents wide come applies widens =
     let event = applies.0 in
-    let happens = subst (λ s. Happens s (state_of old) event (state_of new)) come.scene_is applies.2 in
+    let happens = subst (λ s. Happens s (state_of_core old) event (state_of_core new)) come.scene_is applies.2 in
     record {
       front = come.front ++ (number, line) ∷ [];
       cut = come.cut ∙ cut_on come.front (number, line) rest;
       events = come.events ++ event ∷ [];
       said = lines_on stack no_names come.front come.events names (number, line) event next come.said applies.1;
-      run = run_on scene start come.events (state_of old) come.run event (state_of new) happens;
+      run = run_on scene start come.events (state_of_core old) come.run event (state_of_core new) happens;
       scene_is = applies.3 ∙ come.scene_is;
       count_is = omega (arith, come.count_is, length-append come.events (event ∷ []));
       extents_are =
           widens
-          ∙ ap (map (wider (state_of new))) come.extents_are
-          ∙ extents_on stack start (later scene start come.events (state_of old) come.run) (state_of new)
-          ∙ ap (λ (states : List State). extents_over stack (start ∷ states)) (sym (later_on scene start come.events (state_of old) come.run event (state_of new) happens));
+          ∙ ap (map (wider (state_of_core new))) come.extents_are
+          ∙ extents_on stack start (later scene start come.events (state_of_core old) come.run) (state_of_core new)
+          ∙ ap (λ (states : List State). extents_over stack (start ∷ states)) (sym (later_on scene start come.events (state_of_core old) come.run event (state_of_core new) happens));
     }
 
 -- it can't come
 pub comes_to_bad : (stack : Stack) (told rest : List (ℕ × List ℕ)) (number : ℕ) (line : List ℕ) (first : CoreState) (names next : Names) (old new : CoreState) (count : ℕ) (extents : List Extent)
-    → HasCome stack (scene_of first) (state_of first) told ((number, line) ∷ rest) names old count extents → AppliesLine stack line names old false next new
-    → Follows stack told first new extents count (Some number)
+    → HasCome stack (scene_of_core first) (state_of_core first) told ((number, line) ∷ rest) names old count extents → AppliesLine stack line names old false next new
+    → FollowsLines stack told first new extents count (Some number)
 comes_to_bad stack told rest number line first names next old new count extents come applies =
-    subst (λ (core : CoreState). Follows stack told first core extents count (Some number)) (sym applies.0) (record {
+    subst (λ (core : CoreState). FollowsLines stack told first core extents count (Some number)) (sym applies.0) (record {
       rest = (number, line) ∷ rest;
       names = names;
       come = come;
-      stops = (refl, λ event later tells enabled. applies.1 event later tells (subst (λ (scene : Scene). IsEnabled scene (state_of old) event) (sym come.scene_is) enabled));
+      stops = (refl, λ event later tells enabled. applies.1 event later tells (subst (λ (scene : Scene). IsEnabled scene (state_of_core old) event) (sym come.scene_is) enabled));
     })
 
 -- no line is left
 pub comes_to_end : (stack : Stack) (told rest : List (ℕ × List ℕ)) (first : CoreState) (names : Names) (new : CoreState) (count : ℕ) (extents : List Extent) → rest ≡ []
-    → HasCome stack (scene_of first) (state_of first) told rest names new count extents → Follows stack told first new extents count None
+    → HasCome stack (scene_of_core first) (state_of_core first) told rest names new count extents → FollowsLines stack told first new extents count None
 comes_to_end stack told rest first names new count extents none come =
     record {
       rest = [];
       names = names;
-      come = subst (λ (lines : List (ℕ × List ℕ)). HasCome stack (scene_of first) (state_of first) told lines names new count extents) none come;
+      come = subst (λ (lines : List (ℕ × List ℕ)). HasCome stack (scene_of_core first) (state_of_core first) told lines names new count extents) none come;
       stops = tt;
     }
 
@@ -152,17 +152,17 @@ noted_on f (y ∷ xs) (suc i) d x lt is =
     ∙ ap (λ n. map f (take n (y ∷ xs)) ++ drop n (y ∷ xs)) (sym (noted_next i))
 
 -- where the event that a line tells can't come, no event can that it tells
-pub none_other : (stack : Stack) (line : List ℕ) (names next : Names) (old new : CoreState) (told event : Event) → EventsAreApart → IsNamed stack → IsLineOf stack line told
-    → Some event ≡ event_placed names told → (new ≡ old) × ((next : State) → Happens (scene_of old) (state_of old) event next → ⊥) → AppliesLine stack line names old false next new
+pub none_other : (stack : Stack) (line : List ℕ) (names next : Names) (old new : CoreState) (told event : Event) → EventsAreApart → DevicesAreNamed stack → IsEventLine stack line told
+    → Some event ≡ event_placed names told → (new ≡ old) × ((next : State) → Happens (scene_of_core old) (state_of_core old) event next → ⊥) → AppliesLine stack line names old false next new
 none_other stack line names next old new told event apart named is placed none = (
   none.0,
   λ other later tells enabled.
       let same : Some other ≡ Some event = sym tells.placed ∙ ap (event_placed names) (apart stack line tells.told told named tells.said is) ∙ sym placed in
-      none.1 enabled.0 (subst (λ (e : Event). Happens (scene_of old) (state_of old) e enabled.0) (ap (λ (o : Option Event). unwrap_or o event) same) enabled.1),
+      none.1 enabled.0 (subst (λ (e : Event). Happens (scene_of_core old) (state_of_core old) e enabled.0) (ap (λ (o : Option Event). unwrap_or o event) same) enabled.1),
 )
 
 -- nor where it has no place
-pub none_placed : (stack : Stack) (line : List ℕ) (names next : Names) (core : CoreState) (told : Event) → EventsAreApart → IsNamed stack → IsLineOf stack line told
+pub none_placed : (stack : Stack) (line : List ℕ) (names next : Names) (core : CoreState) (told : Event) → EventsAreApart → DevicesAreNamed stack → IsEventLine stack line told
     → None ≡ event_placed names told → AppliesLine stack line names core false next core
 none_placed stack line names next core told apart named is placed = (
   refl,
@@ -203,7 +203,7 @@ passed_on stack scene start told number line more rest names called core now cou
 
 pub applied_on : (stack : Stack) (scene : Scene) (start : State) (told : List (ℕ × List ℕ)) (number : ℕ) (line : List ℕ) (more rest : List (List ℕ)) (names next called : Names) (core new now : CoreState)
     (count events : ℕ) (extents wide : List Extent) → HasCome stack scene start told (told_lines number rest) names core count extents → rest ≡ line ∷ more → is_told line ≡ true
-    → AppliesLine stack line names core true next new → called ≡ next → now ≡ new → events ≡ count + 1 → wide ≡ map (wider (state_of new)) extents
+    → AppliesLine stack line names core true next new → called ≡ next → now ≡ new → events ≡ count + 1 → wide ≡ map (wider (state_of_core new)) extents
     → HasCome stack scene start told (told_lines (number + 1) more) called now events wide
 applied_on stack scene start told number line more rest names next called core new now count events extents wide come is some applies same_names same_core same_count widens =
     rw (same_names, same_core, same_count)
@@ -212,8 +212,8 @@ applied_on stack scene start told number line more rest names next called core n
 
 -- what was followed is a replay
 pub replays : (stack : Stack) (told : List (ℕ × List ℕ)) (old new : CoreState) (count : ℕ) (bad : Option ℕ) (finish : Finish) (extents : Vec Extent)
-    → Follows stack told old new extents.items count bad → IsFinish (scene_of new) (state_of new) finish
-    → IsReplay (scene_of old) stack (state_of old) told (record { events = count; bad = bad; finish = finish; extents = extents })
+    → FollowsLines stack told old new extents.items count bad → IsFinish (scene_of_core new) (state_of_core new) finish
+    → IsReplay (scene_of_core old) stack (state_of_core old) told (record { events = count; bad = bad; finish = finish; extents = extents })
 replays stack told old new count bad finish extents is ends = record {
   front = is.come.front;
   rest = is.rest;
@@ -221,11 +221,11 @@ replays stack told old new count bad finish extents is ends = record {
   events = is.come.events;
   names = is.names;
   said = is.come.said;
-  state = state_of new;
+  state = state_of_core new;
   run = is.come.run;
   stops = is.stops;
   count = is.come.count_is;
-  finish = subst (λ (scene : Scene). IsFinish scene (state_of new) finish) is.come.scene_is ends;
+  finish = subst (λ (scene : Scene). IsFinish scene (state_of_core new) finish) is.come.scene_is ends;
   extents = is.come.extents_are;
 }
 
@@ -241,8 +241,8 @@ own_pools : (states : List State) (pools : List PoolId) → map (λ (e : Extent)
 own_pools states [] = refl
 own_pools states (pool ∷ pools) = ap (λ ps. pool ∷ ps) (own_pools states pools)
 
-pub pools_are : (stack : Stack) (told : List (ℕ × List ℕ)) (old new : CoreState) (extents : List Extent) (count : ℕ) (bad : Option ℕ) → Follows stack told old new extents count bad
+pub pools_are : (stack : Stack) (told : List (ℕ × List ℕ)) (old new : CoreState) (extents : List Extent) (count : ℕ) (bad : Option ℕ) → FollowsLines stack told old new extents count bad
     → map (λ (e : Extent). e.pool) extents ≡ told_pools stack
 pools_are stack told old new extents count bad is =
-    let states = state_of old ∷ later (scene_of old) (state_of old) is.come.events (state_of new) is.come.run in
+    let states = state_of_core old ∷ later (scene_of_core old) (state_of_core old) is.come.events (state_of_core new) is.come.run in
     ap (map (λ (e : Extent). e.pool)) is.come.extents_are ∙ own_pools states (told_pools stack)

@@ -1,7 +1,7 @@
 -- What a replay says of a list of lines: whether they are those of a run.
 use Rattle.std.specs.Prelude.{◌≡◌, ℕ, List, None}
 use Rattle.stack_base.specs.Stack.{HasRescuers}
-use Rattle.trace_text.specs.Names.{IsNamed}
+use Rattle.trace_text.specs.Names.{DevicesAreNamed}
 use Rattle.run_machine.specs.declared.event.Event.{Event}
 use Rattle.run_machine.specs.Opened.{Scenario, scene, start}
 use Rattle.run_machine.specs.Runs.{State, IsRun}
@@ -27,7 +27,7 @@ IsReplayOf s told replayed = IsReplay (scene s ledger_of) s.stack (start s) told
 -- There is no bad line exactly where the lines are those of a run.
 pub record RunsHaveNoBadLine : Type 0 where
   pub good : (s : Scenario) (told : List (ℕ × List ℕ)) (replayed : Replayed) → IsReplayOf s told replayed → replayed.bad ≡ None → TellRun s told
-  pub run : (s : Scenario) (told : List (ℕ × List ℕ)) (replayed : Replayed) → IsNamed s.stack → IsReplayOf s told replayed → TellRun s told → replayed.bad ≡ None
+  pub run : (s : Scenario) (told : List (ℕ × List ℕ)) (replayed : Replayed) → DevicesAreNamed s.stack → IsReplayOf s told replayed → TellRun s told → replayed.bad ≡ None
 
 -- No run of a scenario that can be run, whose mirrors of two members or more have rescuers, is stuck, whatever lines tell it.
 abbrev pub NoneIsStuck : Type 0

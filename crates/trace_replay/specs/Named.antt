@@ -14,11 +14,11 @@ abbrev pub name_cmp : Name → Name → Ordering
 name_cmp one other = ordering_then (nat_cmp one.writer other.writer) (nat_cmp one.node other.node)
 
 -- what is found in entries, if anything is
-abbrev pub count_in : List (ℕ × ℕ) → ℕ → ℕ
-count_in entries writer = unwrap_or (lookup (is_at (nat_cmp writer)) entries) 0
+abbrev pub opened_by : List (ℕ × ℕ) → ℕ → ℕ
+opened_by entries writer = unwrap_or (lookup (is_at (nat_cmp writer)) entries) 0
 
 abbrev pub place_in : List (Name × ℕ) → ℕ → ℕ → Option ℕ
 place_in entries writer node = lookup (is_at (name_cmp (record { writer = writer; node = node }))) entries
 
-abbrev pub names_of : Names → named.Names
-names_of names = record { opened = count_in names.opened.entries; place = place_in names.places.entries }
+abbrev pub names_in_entries : Names → named.Names
+names_in_entries names = record { opened = opened_by names.opened.entries; place = place_in names.places.entries }

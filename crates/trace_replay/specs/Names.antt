@@ -37,10 +37,10 @@ dropped names writer name end.Up = record names { place = renamed names writer n
 dropped names writer name end.Top = record names { place = renamed names writer name None }
 
 -- the names after an event
-abbrev pub after : Names → What → Names
-after names (what.Link writer how name) = linked names writer name
-after names (what.Drop writer name status end) = dropped names writer name end
-after names what = names
+abbrev pub names_after : Names → What → Names
+names_after names (what.Link writer how name) = linked names writer name
+names_after names (what.Drop writer name status end) = dropped names writer name end
+names_after names what = names
 
 -- what an event that names nodes is in the machine; nothing where the name of a new node is taken, or that of an old one is of none
 abbrev pub placed : Names → What → Option What

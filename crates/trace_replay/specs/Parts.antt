@@ -11,7 +11,7 @@ scenario_lines text = before_first is_told (lines text)
 
 -- This is the scenario of a text, and what stands behind it, of which the first line has this number in the text. The
 -- text has no other lines of events.
-pub record AreParts (text scenario events : List ℕ) (first : ℕ) : Type 0 where
+pub record AreTextParts (text scenario events : List ℕ) (first : ℕ) : Type 0 where
   pub scenario_is : lines scenario ≡ scenario_lines text
   pub told : told_in first events ≡ told_in 1 text
   pub joined : scenario ++ events ≡ text
@@ -22,7 +22,7 @@ abbrev pub StandBefore : List ℕ → List (List ℕ) → ℕ → Type 0
 StandBefore text front place = (more : ℕ) → lines (take (place + more) text) ≡ front ++ lines (drop place (take (place + more) text))
 
 -- none of the lines before a place tells an event, and the next line has this number
-pub record IsBehind (text : List ℕ) (place number : ℕ) : Type 0 where
+pub record HasNoEventBefore (text : List ℕ) (place number : ℕ) : Type 0 where
   pub front : List (List ℕ)
   pub before : StandBefore text front place
   pub all : lines text ≡ front ++ lines (drop place text)
@@ -31,7 +31,7 @@ pub record IsBehind (text : List ℕ) (place number : ℕ) : Type 0 where
   pub few : number ≤ place + 1
 
 -- and it is the first that does, or there is none
-pub record IsCutAt (text : List ℕ) (place number : ℕ) : Type 0 where
-  pub behind : IsBehind text place number
+pub record IsFirstEventAt (text : List ℕ) (place number : ℕ) : Type 0 where
+  pub behind : HasNoEventBefore text place number
   pub within : place ≤ length text
   pub next : before_first is_told (lines (drop place text)) ≡ []

@@ -7,33 +7,33 @@ use Rattle.stack_base.specs.PoolId.{pool_number}
 use Rattle.run_machine.specs.declared.event.Event.{Event}
 use Rattle.run_machine.specs.Scene.{Scene}
 use Rattle.run_machine.specs.Runs.{State, IsRun, IsEnabled, HasFree, HasEnded, unfinished}
-use Rattle.trace_text.specs.Laws.{IsLineOf}
+use Rattle.trace_text.specs.Laws.{IsEventLine}
 use Rattle.report_text.specs.Pools.{told_pools}
-use Rattle.trace_replay.specs.Names.{Names, after, event_placed, no_names}
+use Rattle.trace_replay.specs.Names.{Names, names_after, event_placed, no_names}
 use Rattle.trace_replay.specs.declared.extents.Extent.{Extent}
 use Rattle.trace_replay.specs.declared.walk.Finish.{Finish}
 use Rattle.trace_replay.specs.declared.walk.Finish.TheVariants.{Ended, Open, Stuck}
 use Rattle.trace_replay.specs.declared.walk.Replayed.{Replayed}
 
 -- A line tells an event of the machine: it is the line of one that has names where this one has places.
-pub record Tells (stack : Stack) (names : Names) (line : List ℕ) (event : Event) (next : Names) : Type 0 where
+pub record TellsEvent (stack : Stack) (names : Names) (line : List ℕ) (event : Event) (next : Names) : Type 0 where
   pub told : Event
-  pub said : IsLineOf stack line told
+  pub said : IsEventLine stack line told
   pub placed : event_placed names told ≡ Some event
-  pub next_is : next ≡ after names told.what
+  pub next_is : next ≡ names_after names told.what
 
 -- each of these lines tells the event at its place, with these names before them and those behind them
 abbrev pub AreLinesOf : Stack → Names → List (ℕ × List ℕ) → List Event → Names → Type 0
 AreLinesOf stack names [] [] last = last ≡ names
 AreLinesOf stack names (line ∷ lines) (event ∷ events) last =
-    (next : Names) × Tells stack names line.1 event next × AreLinesOf stack next lines events last
+    (next : Names) × TellsEvent stack names line.1 event next × AreLinesOf stack next lines events last
 AreLinesOf stack names lines events last = ⊥
 
 -- No line is left; or the first that is left is the bad one: it tells no event, or one that can't come next.
 abbrev pub StopsAt : Scene → Stack → Names → State → List (ℕ × List ℕ) → Option ℕ → Type 0
 StopsAt scene stack names state [] None = Unit {0}
 StopsAt scene stack names state (line ∷ lines) (Some bad) =
-    (bad ≡ line.0) × ((event : Event) (next : Names) → Tells stack names line.1 event next → IsEnabled scene state event → ⊥)
+    (bad ≡ line.0) × ((event : Event) (next : Names) → TellsEvent stack names line.1 event next → IsEnabled scene state event → ⊥)
 StopsAt scene stack names state lines bad = ⊥
 
 -- the state has ended; a write is unfinished, and nothing can come that needs no ordinary memory; or it is neither so nor so

@@ -14,13 +14,13 @@ use Rattle.run_machine.specs.Named.{Fits, IsEventOf}
 use Rattle.run_machine.specs.Opened.{Scenario, scene, start}
 use Rattle.run_machine.specs.Runs.{State, IsRun, IsEnabled, HasEnded}
 use Rattle.block_core.specs.Scenarios.{IsScenario, IsNaming}
-use Rattle.trace_text.specs.Lines.{line_of}
-use Rattle.trace_text.specs.Names.{IsNamed}
+use Rattle.trace_text.specs.Lines.{line_of_event}
+use Rattle.trace_text.specs.Names.{DevicesAreNamed}
 use Rattle.plain_core.specs.Ledgers.{ledger_of}
-use Rattle.report_text.specs.Report.{Told, report}
+use Rattle.report_text.specs.Report.{Reported, report}
 use Rattle.trace_replay.specs.Exact.{IsReplayOf, TellRun}
 use Rattle.trace_replay.specs.Lines.{is_told, told_in}
-use Rattle.trace_replay.specs.Names.{Names, after, event_placed, no_names}
+use Rattle.trace_replay.specs.Names.{Names, names_after, event_placed, no_names}
 use Rattle.trace_replay.specs.Parts.{scenario_lines}
 use Rattle.trace_replay.specs.declared.walk.Finish.TheVariants.{Ended}
 use Rattle.trace_replay.specs.declared.walk.Replayed.{Replayed}
@@ -28,7 +28,7 @@ use Rattle.trace_replay.specs.declared.walk.Replayed.{Replayed}
 -- read by names, one after the other, these events are those of the machine
 abbrev pub AreRead : Names → List Event → List Event → Names → Type 0
 AreRead names [] [] last = last ≡ names
-AreRead names (told ∷ more) (event ∷ events) last = (event_placed names told ≡ Some event) × AreRead (after names told.what) more events last
+AreRead names (told ∷ more) (event ∷ events) last = (event_placed names told ≡ Some event) × AreRead (names_after names told.what) more events last
 AreRead names told events last = ⊥
 
 -- two states have the same in pools, in the tally and on the disks of a stack
@@ -60,7 +60,7 @@ NextPlacesAreVacant = (s : Scenario) (ledger : ℕ → LedgerId) (told events : 
 
 -- the lines of events, each with the byte 10 that ends it
 abbrev pub trace_of : Stack → List Event → List ℕ
-trace_of stack events = flat_map (λ event. line_of stack event ++ 10 ∷ []) events
+trace_of stack events = flat_map (λ event. line_of_event stack event ++ 10 ∷ []) events
 
 -- a text with the byte 10 that its last line may lack
 unfoldable pub in_whole_lines : List ℕ → List ℕ
@@ -102,7 +102,7 @@ pub record IsReplayedWhole (events : List Event) (state : State) (replayed : Rep
 -- This text has the trace of a run of a scenario, of whose devices no two have one name.
 pub record TracesRun (s : Scenario) (events : List Event) (state : State) (text scenario behind : List ℕ) : Type 0 where
   pub good : IsScenario s
-  pub stack : IsNamed s.stack
+  pub stack : DevicesAreNamed s.stack
   pub ledger : ℕ → LedgerId
   pub naming : IsNaming ledger
   pub run : IsRun (scene s ledger) (start s) events state
@@ -117,11 +117,11 @@ pub record TracesReplay : Type 0 where
 
 -- A report of a stack whose devices have names tells no event, whatever it says of a run.
 abbrev pub ReportsTellNoEvent : Type 0
-ReportsTellNoEvent = (stack : Stack) (told : Told) → IsNamed stack → TellsNoEvent (report stack told)
+ReportsTellNoEvent = (stack : Stack) (told : Reported) → DevicesAreNamed stack → TellsNoEvent (report stack told)
 
 -- So a scenario, the trace of any run of it and any report of its stack are replayed to the end.
 pub record ReportedRunsReplay : Type 0 where
-  pub text : (s : Scenario) (events : List Event) (state : State) (text scenario : List ℕ) (told : Told)
+  pub text : (s : Scenario) (events : List Event) (state : State) (text scenario : List ℕ) (told : Reported)
       → TracesRun s events state text scenario (report s.stack told) → IsReplayable s events text scenario
-  pub whole : (s : Scenario) (events : List Event) (state : State) (text scenario : List ℕ) (told : Told) (replayed : Replayed)
+  pub whole : (s : Scenario) (events : List Event) (state : State) (text scenario : List ℕ) (told : Reported) (replayed : Replayed)
       → TracesRun s events state text scenario (report s.stack told) → IsReplayOf s (told_in 1 text) replayed → IsReplayedWhole events state replayed

@@ -2,7 +2,7 @@
 ghost use Rattle.std.specs.Prelude.{◌≡◌, ◌++◌, All, length, map};
 ghost use Rattle.std.specs.List.{flat_map};
 ghost use Rattle.outside_io.specs.Saying.{Says, Writes};
-ghost use Rattle.report_text.specs.Pools.{HasPool, told_pools};
+ghost use Rattle.report_text.specs.Pools.{HasDeviceOfPool, told_pools};
 ghost use Rattle.trace_replay.specs.Answer.{bad_line, events_line, extent_line, finish_line, replay_text};
 
 use crate::extents::Extent;
@@ -46,7 +46,7 @@ fn put_finish<K: Sink>(pen: &mut Pen, out: &mut K, finish: Finish)
 // `pool POOL lowest S most O`
 #[tactic(auto, using(crate::proofs::AnswerLemmas::named))]
 fn put_extent<K: Sink>(pen: &mut Pen, out: &mut K, stack: &Stack, extent: &Extent)
-    requires { HasPool stack.now extent.now.pool }
+    requires { HasDeviceOfPool stack.now extent.now.pool }
     ensures { Says K.held K.faults out.old pen.old out.new pen.new (extent_line stack.now extent.now) }
 {
     let (owner, element) = pool_parts(stack, extent.pool);
@@ -71,7 +71,7 @@ fn put_extent<K: Sink>(pen: &mut Pen, out: &mut K, stack: &Stack, extent: &Exten
 
 // A line for each of these pools, in their order.
 fn put_extents<K: Sink>(pen: &mut Pen, out: &mut K, stack: &Stack, extents: &[Extent])
-    requires { All (HasPool stack.now) (map (λ extent. extent.pool) extents.now) }
+    requires { All (HasDeviceOfPool stack.now) (map (λ extent. extent.pool) extents.now) }
     ensures { Says K.held K.faults out.old pen.old out.new pen.new
         (flat_map (extent_line stack.now) extents.now) }
 {

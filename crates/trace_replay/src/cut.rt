@@ -1,6 +1,6 @@
 //! Where the scenario of a text ends, behind which the lines of events stand.
 ghost use Rattle.std.specs.Prelude.{◌≡◌, ◌^◌, ◌<◌, length};
-ghost use Rattle.trace_replay.specs.Parts.{AreParts, IsCutAt};
+ghost use Rattle.trace_replay.specs.Parts.{AreTextParts, IsFirstEventAt};
 
 use crate::told::is_told;
 use decl_text::Lines;
@@ -19,7 +19,7 @@ pub struct Parts<'a> {
 // The place of the first line whose first word is `event`, or the end of the text, and the number of the line there.
 fn first_told(text: &[u8]) -> (usize, u64)
     requires { length text.now < 2 ^ 63 }
-    ensures { IsCutAt text.now result.0 result.1 }
+    ensures { IsFirstEventAt text.now result.0 result.1 }
 {
     let mut lines = Lines::from(text, 0);
     let mut place = 0;
@@ -37,7 +37,7 @@ fn first_told(text: &[u8]) -> (usize, u64)
 /// Cuts a text before the first line whose first word is `event`.
 pub fn cut_text(text: &[u8]) -> Parts<'_>
     requires { length text.now < 2 ^ 63 }
-    ensures { AreParts text.now result.scenario.now result.events.now result.first }
+    ensures { AreTextParts text.now result.scenario.now result.events.now result.first }
 {
     let (place, first) = first_told(text);
     let (scenario, events) = text.split_at(place);

@@ -1,6 +1,6 @@
 //! How far the pools of a run went.
 ghost use Rattle.std.specs.Prelude.{◌≡◌, ◌++◌, ◌≤◌, [], ◌∷◌, length, map, IfOk};
-ghost use Rattle.plain_core.specs.Cores.{state_of};
+ghost use Rattle.plain_core.specs.Cores.{state_of_core};
 ghost use Rattle.report_text.specs.Pools.{pools_at};
 ghost use Rattle.trace_replay.specs.Walks.{extents_over};
 ghost use Rattle.trace_replay.specs.Replay.{extent_over, wider};
@@ -22,7 +22,7 @@ pub struct Extent {
 
 // A pool, as it is at first.
 fn first_extent(core: &Core, pool: PoolId) -> Extent
-    ensures { result ≡ extent_over (state_of core.now ∷ []) pool }
+    ensures { result ≡ extent_over (state_of_core core.now ∷ []) pool }
 {
     let has = core.facts(pool);
     Extent {
@@ -39,7 +39,7 @@ fn push_pools(
     number: u32,
     kind: &Kind,
 ) -> Result<(), AllocError>
-    ensures { IfOk result (λ _. extents.new.items ≡ extents.old.items ++ map (extent_over (state_of core.now ∷ [])) (pools_at number kind.now)) }
+    ensures { IfOk result (λ _. extents.new.items ≡ extents.old.items ++ map (extent_over (state_of_core core.now ∷ [])) (pools_at number kind.now)) }
 {
     let dev = DevId(number);
     match kind {
@@ -62,7 +62,7 @@ pub(crate) fn first_extents(
     stack: &Stack,
 ) -> Result<Vec<Extent>, AllocError>
     requires { length stack.now.devices.items ≤ 32 }
-    ensures { IfOk result (λ extents. extents.items ≡ extents_over stack.now (state_of core.now ∷ [])) }
+    ensures { IfOk result (λ extents. extents.items ≡ extents_over stack.now (state_of_core core.now ∷ [])) }
 {
     let mut extents = Vec::new(alloc);
     extents.push(first_extent(core, PoolId::FsBios))?;
@@ -75,7 +75,7 @@ pub(crate) fn first_extents(
 
 // A pool that has gone so far, and what it has now.
 fn wider(core: &Core, extent: Extent) -> Extent
-    ensures { result ≡ wider (state_of core.now) extent }
+    ensures { result ≡ wider (state_of_core core.now) extent }
 {
     let has = core.facts(extent.pool);
     Extent {
@@ -87,7 +87,7 @@ fn wider(core: &Core, extent: Extent) -> Extent
 
 /// What the pools have now is noted.
 pub(crate) fn note(core: &Core, extents: &mut [Extent])
-    ensures { extents.new ≡ map (wider (state_of core.now)) extents.old }
+    ensures { extents.new ≡ map (wider (state_of_core core.now)) extents.old }
 {
     'noting: for place in 0..extents.len() {
         extents[place] = wider(core, extents[place]);

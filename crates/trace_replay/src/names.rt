@@ -1,7 +1,7 @@
 //! Which place each name of a trace stands for.
 ghost use Rattle.std.specs.Prelude.{◌≡◌, None, Some, OnOk};
-ghost use Rattle.trace_replay.specs.Names.{after, event_placed, linked, no_names, placed, renamed};
-ghost use Rattle.trace_replay.specs.Named.{names_of};
+ghost use Rattle.trace_replay.specs.Names.{names_after, event_placed, linked, no_names, placed, renamed};
+ghost use Rattle.trace_replay.specs.Named.{names_in_entries};
 
 use run_machine::{End, Event, What};
 use std::alloc::{AllocError, Global};
@@ -26,7 +26,7 @@ pub struct Names {
 impl Names {
     /// No node was opened.
     pub fn new(alloc: Global) -> Names
-        ensures { names_of result ≡ no_names }
+        ensures { names_in_entries result ≡ no_names }
     {
         Names {
             opened: BTreeMap::new(alloc),
@@ -36,7 +36,7 @@ impl Names {
 
     // How many nodes a writer has opened.
     fn opened(&self, writer: u32) -> u32
-        ensures { result ≡ (names_of self.now).opened writer }
+        ensures { result ≡ (names_in_entries self.now).opened writer }
     {
         match self.opened.get(&writer) {
             Some(opened) => *opened,
@@ -46,14 +46,14 @@ impl Names {
 
     // Where the open node of this name is.
     fn place(&self, writer: u32, node: u32) -> Option<u32>
-        ensures { result ≡ (names_of self.now).place writer node }
+        ensures { result ≡ (names_in_entries self.now).place writer node }
     {
         self.places.get(&Name { writer, node }).copied()
     }
 
     // What it is in the machine.
     fn placed(&self, what: What) -> Option<What>
-        ensures { result ≡ placed (names_of self.now) what }
+        ensures { result ≡ placed (names_in_entries self.now) what }
     {
         match what {
             What::Link { writer, how, node } => {
@@ -83,7 +83,7 @@ impl Names {
 
     /// What an event is in the machine, if it is one: with the places of its nodes for their names.
     pub fn event_placed(&self, event: &Event) -> Option<Event>
-        ensures { result ≡ event_placed (names_of self.now) event.now }
+        ensures { result ≡ event_placed (names_in_entries self.now) event.now }
     {
         match self.placed(event.what) {
             Some(what) => Some(Event {
@@ -96,7 +96,7 @@ impl Names {
 
     // A node was opened.
     fn link(&mut self, writer: u32, node: u32) -> Result<(), AllocError>
-        ensures { OnOk result (names_of self.new ≡ linked (names_of self.old) writer node) }
+        ensures { OnOk result (names_in_entries self.new ≡ linked (names_in_entries self.old) writer node) }
     {
         let place = self.opened(writer);
         let Some(opened) = place.checked_add(1) else {
@@ -109,7 +109,7 @@ impl Names {
 
     // A node was closed.
     fn close(&mut self, writer: u32, node: u32)
-        ensures { names_of self.new ≡ record (names_of self.old) { place = renamed (names_of self.old) writer node None } }
+        ensures { names_in_entries self.new ≡ record (names_in_entries self.old) { place = renamed (names_in_entries self.old) writer node None } }
     {
         self.places.remove(&Name { writer, node });
     }
@@ -120,7 +120,7 @@ impl Names {
     ///
     /// Where there is no memory.
     pub fn note(&mut self, what: What) -> Result<(), AllocError>
-        ensures { OnOk result (names_of self.new ≡ after (names_of self.old) what) }
+        ensures { OnOk result (names_in_entries self.new ≡ names_after (names_in_entries self.old) what) }
     {
         match what {
             What::Link { writer, node, .. } => self.link(writer, node),

@@ -1,13 +1,13 @@
 //! Replays a given run.
 ghost use Rattle.std.specs.Prelude.{◌≡◌, ◌+◌, ◌-◌, ◌^◌, ◌<◌, ◌≤◌, [], ◌∷◌, length, map, IfOk};
-ghost use Rattle.trace_text.specs.Names.{IsNamed};
-ghost use Rattle.plain_core.specs.Cores.{scene_of, state_of};
+ghost use Rattle.trace_text.specs.Names.{DevicesAreNamed};
+ghost use Rattle.plain_core.specs.Cores.{scene_of_core, state_of_core};
 ghost use Rattle.report_text.specs.Pools.{told_pools};
 ghost use Rattle.trace_replay.specs.Replay.{IsFinish, IsReplay};
 ghost use Rattle.trace_replay.specs.Lines.{told_in};
-ghost use Rattle.trace_replay.specs.Named.{names_of};
+ghost use Rattle.trace_replay.specs.Named.{names_in_entries};
 ghost use Rattle.trace_replay.specs.Names.{no_names};
-ghost use Rattle.trace_replay.specs.Walks.{AppliesLine, Follows, extents_over};
+ghost use Rattle.trace_replay.specs.Walks.{AppliesLine, FollowsLines, extents_over};
 
 use crate::extents::{Extent, first_extents, note};
 use crate::names::Names;
@@ -50,8 +50,8 @@ fn apply_line(
     line: &[u8],
     stack: &Stack,
 ) -> Result<bool, AllocError>
-    requires { IsNamed stack.now }
-    ensures { IfOk result (λ applied. AppliesLine stack.now line.now (names_of names.old) core.old applied (names_of names.new) core.new) }
+    requires { DevicesAreNamed stack.now }
+    ensures { IfOk result (λ applied. AppliesLine stack.now line.now (names_in_entries names.old) core.old applied (names_in_entries names.new) core.new) }
 {
     events_are_apart();
     let Some(told) = read_event(line, stack) else {
@@ -72,7 +72,7 @@ fn apply_line(
 
 // What a run leaves in this state.
 fn finish_of(core: &Core) -> Finish
-    ensures { IsFinish (scene_of core.now) (state_of core.now) result }
+    ensures { IsFinish (scene_of_core core.now) (state_of_core core.now) result }
 {
     if core.has_ended() {
         Finish::Ended
@@ -92,11 +92,11 @@ fn follow(
     stack: &Stack,
     extents: &mut Vec<Extent>,
 ) -> Result<(u64, Option<u64>), AllocError>
-    requires named { IsNamed stack.now }
+    requires named { DevicesAreNamed stack.now }
     requires countable { first + length text.now < 2 ^ 64 }
-    requires names { names_of names.old ≡ no_names }
-    requires extents { extents.old.items ≡ extents_over stack.now (state_of core.old ∷ []) }
-    ensures { IfOk result (λ followed. Follows stack.now (told_in first text.now) core.old core.new extents.new.items followed.0 followed.1) }
+    requires names { names_in_entries names.old ≡ no_names }
+    requires extents { extents.old.items ≡ extents_over stack.now (state_of_core core.old ∷ []) }
+    ensures { IfOk result (λ followed. FollowsLines stack.now (told_in first text.now) core.old core.new extents.new.items followed.0 followed.1) }
 {
     let mut lines = Lines::from(text, 0);
     let mut number = first;
@@ -127,9 +127,9 @@ pub fn replay(
     first: u64,
     stack: &Stack,
 ) -> Result<Replayed, AllocError>
-    requires named { IsNamed stack.now }
+    requires named { DevicesAreNamed stack.now }
     requires countable { first + length lines.now < 2 ^ 64 }
-    ensures replay { IfOk result (IsReplay (scene_of core) stack.now (state_of core) (told_in first lines.now)) }
+    ensures replay { IfOk result (IsReplay (scene_of_core core) stack.now (state_of_core core) (told_in first lines.now)) }
     ensures pools { IfOk result (λ replayed. map (λ extent. extent.pool) replayed.extents.items ≡ told_pools stack.now) }
 {
     let mut core = core;

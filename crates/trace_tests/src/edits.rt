@@ -1,6 +1,6 @@
 //! Edits of lines at each place. Whatever event is read of one is written as just that line.
 ghost use Rattle.std.specs.Prelude.{◌<◌, length};
-ghost use Rattle.trace_text.specs.Names.{IsNamed};
+ghost use Rattle.trace_text.specs.Names.{DevicesAreNamed};
 
 use crate::lines::{MIRROR, OTHERS, RUN, is_event};
 use crate::stacks::stack_of;
@@ -49,7 +49,7 @@ fn changes(
     line: &[u8],
     place: usize,
 ) -> Result<u64, Fail>
-    requires named { IsNamed stack.now }
+    requires named { DevicesAreNamed stack.now }
     requires within { place < length line.now }
 {
     let mut events: u64 = 0;
@@ -67,7 +67,7 @@ fn edits_at(
     line: &[u8],
     place: usize,
 ) -> Result<u64, Fail>
-    requires named { IsNamed stack.now }
+    requires named { DevicesAreNamed stack.now }
     requires within { place < length line.now }
 {
     let shorter = without(rt.alloc(), line, place)?;
@@ -80,7 +80,7 @@ fn edits_at(
 
 // How many edits of this line are events.
 fn edits(rt: &(impl Abort + AllocGlobal), stack: &Stack, line: &[u8]) -> Result<u64, Fail>
-    requires { IsNamed stack.now }
+    requires { DevicesAreNamed stack.now }
 {
     let mut events: u64 = 0;
     for place in 0..line.len() {
@@ -91,7 +91,7 @@ fn edits(rt: &(impl Abort + AllocGlobal), stack: &Stack, line: &[u8]) -> Result<
 
 // How many edits of these lines are events.
 fn all_edits(rt: &(impl Abort + AllocGlobal), stack: &Stack, lines: &[&str]) -> Result<u64, Fail>
-    requires { IsNamed stack.now }
+    requires { DevicesAreNamed stack.now }
 {
     let mut events: u64 = 0;
     for line in lines {

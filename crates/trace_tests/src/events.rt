@@ -1,5 +1,5 @@
 //! Events, and the lines that they are.
-ghost use Rattle.trace_text.specs.Names.{IsNamed};
+ghost use Rattle.trace_text.specs.Names.{DevicesAreNamed};
 
 use crate::lines::{MIRROR, is_event};
 use crate::stacks::stack_of;
@@ -136,7 +136,7 @@ const EVENTS: &[(&str, Event)] = &[
 /// Checks that each of these events is written as its line, and that the line is read as an event that is written so again. No two events of
 /// a stack are written as one line, so it is the same one.
 pub fn check_told(rt: &impl Abort, stack: &Stack, events: &[(&str, Event)])
-    requires { IsNamed stack.now }
+    requires { DevicesAreNamed stack.now }
 {
     for (line, event) in events {
         let mut written = ArrayVec::new();

@@ -1,5 +1,5 @@
 //! Lines that were written by hand: those of events, and those that are none.
-ghost use Rattle.trace_text.specs.Names.{IsNamed};
+ghost use Rattle.trace_text.specs.Names.{DevicesAreNamed};
 
 use crate::stacks::stack_of;
 use arrayvec::ArrayVec;
@@ -131,7 +131,7 @@ const NONE: &[&str] = &[
 
 /// Whether the line is that of an event, and if so, checks that the event is written as that line.
 pub fn is_event(rt: &impl Abort, stack: &Stack, line: &[u8]) -> bool
-    requires { IsNamed stack.now }
+    requires { DevicesAreNamed stack.now }
 {
     match read_event(line, stack) {
         None => false,
@@ -146,7 +146,7 @@ pub fn is_event(rt: &impl Abort, stack: &Stack, line: &[u8]) -> bool
 
 /// Checks that each line is that of an event.
 pub fn check_events(rt: &impl Abort, stack: &Stack, lines: &[&str])
-    requires { IsNamed stack.now }
+    requires { DevicesAreNamed stack.now }
 {
     for line in lines {
         assert!(rt; is_event(rt, stack, line.as_bytes()), "{line}");
@@ -155,7 +155,7 @@ pub fn check_events(rt: &impl Abort, stack: &Stack, lines: &[&str])
 
 /// Checks that no line is that of an event.
 pub fn check_none(rt: &impl Abort, stack: &Stack, lines: &[&str])
-    requires { IsNamed stack.now }
+    requires { DevicesAreNamed stack.now }
 {
     for line in lines {
         assert!(rt; !is_event(rt, stack, line.as_bytes()), "{line}");

@@ -26,10 +26,10 @@ use Rattle.run_machine.specs.declared.event.End.TheVariants as end
 use Rattle.run_machine.specs.declared.event.What.{What}
 use Rattle.run_machine.specs.declared.event.What.TheVariants as what
 use Rattle.run_machine.specs.declared.event.Event.{Event}
-use Rattle.trace_text.specs.Names.{HasDevice, HasPool, IsNamed, has_set, is_any, is_disk, is_mirror}
-use Rattle.trace_text.specs.Lines.{Fits, IsEventOf, end_word, got_word, how_word, line_of, device_name, pool_word, status_word, task_word, what_words, words_of}
+use Rattle.trace_text.specs.Names.{HasDevice, HasPool, DevicesAreNamed, has_set, is_any, is_disk, is_mirror}
+use Rattle.trace_text.specs.Lines.{Fits, IsEventOf, end_word, got_word, how_word, line_of_event, device_name, pool_word, status_word, task_word, what_words, words_of}
 use Rattle.trace_text.specs.Reading.{at_end, both, event_of, field, made, fixed_word, task_of_word, what_of}
-use Rattle.trace_text.specs.Laws.{IsLineOf, IsRead, is_line_byte}
+use Rattle.trace_text.specs.Laws.{IsEventLine, IsEventRead, is_line_byte}
 use Rattle.trace_text.proofs.NameLemmas.{any_of}
 use Rattle.trace_text.proofs.NameWords.{is_visible, list_all_follows, name_is_word}
 use Rattle.trace_text.proofs.NumberLemmas.{numerals}
@@ -48,20 +48,20 @@ digit_visible byte is = grind (arith, nat_tests)
 number_unbroken : (n : ℕ) → n < 2 ^ 64 → is_unbroken (decimal n) ≡ true
 number_unbroken n small = list_all_follows is_ascii_digit is_visible digit_visible (decimal n) (digits_decimal numerals n small)
 
-name_unbroken : (stack : Stack) (dev : DevId) → IsNamed stack → HasDevice is_any stack dev → is_unbroken (device_name stack dev) ≡ true
+name_unbroken : (stack : Stack) (dev : DevId) → DevicesAreNamed stack → HasDevice is_any stack dev → is_unbroken (device_name stack dev) ≡ true
 name_unbroken stack dev named has = (name_is_word stack dev named has).visible
 
 joined_unbroken : (a b : List ℕ) → is_unbroken a ≡ true → is_unbroken b ≡ true → is_unbroken (a ++ b) ≡ true
 joined_unbroken a b first second = rw (list_all-append is_visible a b, first, second) refl
 
-pool_unbroken : (stack : Stack) (pool : PoolId) → IsNamed stack → HasPool stack pool → is_unbroken (pool_word stack pool) ≡ true
+pool_unbroken : (stack : Stack) (pool : PoolId) → DevicesAreNamed stack → HasPool stack pool → is_unbroken (pool_word stack pool) ≡ true
 pool_unbroken stack FsBios named has = refl
 pool_unbroken stack FsVecs named has = refl
 pool_unbroken stack (Bios dev) named has = joined_unbroken (device_name stack dev) (codes ".bios") (name_unbroken stack dev named (any_of has_set stack dev has)) refl
 pool_unbroken stack (Records dev) named has =
     joined_unbroken (device_name stack dev) (codes ".records") (name_unbroken stack dev named (any_of is_mirror stack dev has)) refl
 
-task_unbroken : (stack : Stack) (one : TaskId) → IsNamed stack → IsTask stack one → is_unbroken (task_word stack one) ≡ true
+task_unbroken : (stack : Stack) (one : TaskId) → DevicesAreNamed stack → IsTask stack one → is_unbroken (task_word stack one) ≡ true
 task_unbroken stack (task.Writer number) named is = joined_unbroken (codes "w") (decimal number) refl (number_unbroken number (omega (arith, is.1)))
 task_unbroken stack (task.Rescuer dev) named is = joined_unbroken (codes "r:") (device_name stack dev) refl (name_unbroken stack dev named is.0)
 task_unbroken stack (task.Completer disk) named is =
@@ -98,7 +98,7 @@ abbrev pub AreUnbroken : List (List ℕ) → Type 0
 AreUnbroken [] = Unit {0}
 AreUnbroken (word ∷ words) = (is_unbroken word ≡ true) × AreUnbroken words
 
-what_unbroken : (stack : Stack) (one : What) → IsNamed stack → IsWhat stack one → AreUnbroken (what_words stack one)
+what_unbroken : (stack : Stack) (one : What) → DevicesAreNamed stack → IsWhat stack one → AreUnbroken (what_words stack one)
 what_unbroken stack (what.Take pool got) named is = (refl, (pool_unbroken stack pool named is.0, (got_unbroken got, tt)))
 what_unbroken stack (what.Try pool got) named is = (refl, (pool_unbroken stack pool named is.0, (got_unbroken got, tt)))
 what_unbroken stack (what.Give pool) named is = (refl, (pool_unbroken stack pool named is.0, tt))
@@ -115,7 +115,7 @@ what_unbroken stack (what.Done write status) named is = (refl, (short_unbroken w
 what_unbroken stack (what.Resize pool min) named is = (refl, (pool_unbroken stack pool named is.0, (short_unbroken min is.1, tt)))
 what_unbroken stack (what.Round round) named is = (refl, (short_unbroken round is.1, tt))
 
-words_unbroken : (stack : Stack) (event : Event) → IsNamed stack → IsEventOf stack event → Fits event → AreUnbroken (words_of stack event)
+words_unbroken : (stack : Stack) (event : Event) → DevicesAreNamed stack → IsEventOf stack event → Fits event → AreUnbroken (words_of stack event)
 words_unbroken stack event named is fits =
     (refl, (task_unbroken stack event.task named (is.task, fits.task), what_unbroken stack event.what named (is.what, fits.what)))
 
@@ -140,7 +140,7 @@ ends None a e = absurd (cc)
 ends (Some (found, [])) a e = ap (λ (x : _). Some (x, [])) (same_Some found a e)
 ends (Some (found, word ∷ words)) a e = absurd (cc)
 
-event_takes : (stack : Stack) (words : List (List ℕ)) (event : Event) → IsNamed stack → event_of stack words ≡ Some event
+event_takes : (stack : Stack) (words : List (List ℕ)) (event : Event) → DevicesAreNamed stack → event_of stack words ≡ Some event
     → (words ≡ words_of stack event) × IsEventOf stack event × Fits event
 unfolding event_of
 event_takes stack words event named e =
@@ -149,7 +149,7 @@ event_takes stack words event named e =
     (λ of is said. (said ∙ append-nil (words_of stack (record { task = of.1.0; what = of.1.1 })), record { task = is.1.0.0; what = is.1.1.0 }, record { task = is.1.0.1; what = is.1.1.1 }))
     (ends _ event e)
 
-event_again : (stack : Stack) (event : Event) → IsNamed stack → IsEventOf stack event → Fits event → event_of stack (words_of stack event) ≡ Some event
+event_again : (stack : Stack) (event : Event) → DevicesAreNamed stack → IsEventOf stack event → Fits event → event_of stack (words_of stack event) ≡ Some event
 unfolding event_of
 event_again stack event named is fits =
     ap at_end (ap (made (λ of. record { task = of.1.0; what = of.1.1 }) (both (field (fixed_word (codes "event"))) (both (field (task_of_word stack)) (what_of stack)))) (sym (append-nil (words_of stack event)))
@@ -157,18 +157,18 @@ event_again stack event named is fits =
     (λ of. record { task = of.1.0; what = of.1.1 }) (tt, (event.task, event.what)) [] (tt, ((is.task, fits.task), (is.what, fits.what))))
 
 -- a line of an event is read as that event, and what is read of a line is the event whose line it is
-line_again : (stack : Stack) (line : List ℕ) (event : Event) → IsNamed stack → IsLineOf stack line event → event_of stack (slice_split (λ byte. byte == 32) line) ≡ Some event
+line_again : (stack : Stack) (line : List ℕ) (event : Event) → DevicesAreNamed stack → IsEventLine stack line event → event_of stack (slice_split (λ byte. byte == 32) line) ≡ Some event
 line_again stack line event named is =
     ap (λ bytes. event_of stack (slice_split (λ byte. byte == 32) bytes)) is.said
     ∙ ap (event_of stack) (parts_are (codes "event") (task_word stack event.task ∷ what_words stack event.what) (words_unbroken stack event named is.named is.fits))
     ∙ event_again stack event named is.named is.fits
 
-line_takes : (stack : Stack) (line : List ℕ) (event : Event) → IsNamed stack → event_of stack (slice_split (λ byte. byte == 32) line) ≡ Some event → IsLineOf stack line event
+line_takes : (stack : Stack) (line : List ℕ) (event : Event) → DevicesAreNamed stack → event_of stack (slice_split (λ byte. byte == 32) line) ≡ Some event → IsEventLine stack line event
 line_takes stack line event named e =
     let t = event_takes stack (slice_split (λ byte. byte == 32) line) event named e in
     record { said = sym (join_with_byte-slice_split 32 line) ∙ ap (join_with_byte 32) t.0; named = t.1; fits = t.2 }
 
-pub is_read : (stack : Stack) (line : List ℕ) (answer : Option Event) → IsNamed stack → answer ≡ event_of stack (slice_split (λ byte. byte == 32) line) → IsRead stack line answer
+pub is_read : (stack : Stack) (line : List ℕ) (answer : Option Event) → DevicesAreNamed stack → answer ≡ event_of stack (slice_split (λ byte. byte == 32) line) → IsEventRead stack line answer
 is_read stack line (Some event) named is = line_takes stack line event named (sym is)
 is_read stack line None named is = λ event of. absurd (let again = line_again stack line event named of in none-some event (is ∙ again))
 
@@ -183,15 +183,15 @@ line_is_text (word ∷ next ∷ words) whole =
     rw (list_all-append is_line_byte word (32 ∷ join_with_byte 32 (next ∷ words)), list_all_follows is_visible is_line_byte visible_line_byte word whole.0)
     (line_is_text (next ∷ words) whole.1)
 
-pub text_line : (stack : Stack) (line : List ℕ) (event : Event) → IsNamed stack → IsLineOf stack line event → list_all is_line_byte line ≡ true
+pub text_line : (stack : Stack) (line : List ℕ) (event : Event) → DevicesAreNamed stack → IsEventLine stack line event → list_all is_line_byte line ≡ true
 text_line stack line event named is =
     subst (λ bytes. list_all is_line_byte bytes ≡ true) (sym is.said) (line_is_text (words_of stack event) (words_unbroken stack event named is.named is.fits))
 
 -- no two events have one line
-pub events_apart : (stack : Stack) (line : List ℕ) (one other : Event) → IsNamed stack → IsLineOf stack line one → IsLineOf stack line other → one ≡ other
+pub events_apart : (stack : Stack) (line : List ℕ) (one other : Event) → DevicesAreNamed stack → IsEventLine stack line one → IsEventLine stack line other → one ≡ other
 events_apart stack line one other named first second = same_Some one other (sym (line_again stack line one named first) ∙ line_again stack line other named second)
 
-pub read_back : (stack : Stack) (event : Event) (answer : Option Event) → IsNamed stack → IsEventOf stack event → Fits event
-    → IsRead stack (line_of stack event) answer → answer ≡ Some event
-read_back stack event (Some other) named is fits read = ap Some (events_apart stack (line_of stack event) other event named read (record { said = refl; named = is; fits = fits }))
+pub read_back : (stack : Stack) (event : Event) (answer : Option Event) → DevicesAreNamed stack → IsEventOf stack event → Fits event
+    → IsEventRead stack (line_of_event stack event) answer → answer ≡ Some event
+read_back stack event (Some other) named is fits read = ap Some (events_apart stack (line_of_event stack event) other event named read (record { said = refl; named = is; fits = fits }))
 read_back stack event None named is fits read = absurd (read event (record { said = refl; named = is; fits = fits }))

@@ -11,7 +11,7 @@ use Rattle.run_machine.specs.declared.event.Got.TheVariants as got
 use Rattle.run_machine.specs.declared.event.How.TheVariants as how
 use Rattle.run_machine.specs.declared.event.End.TheVariants as end
 use Rattle.run_machine.specs.declared.event.What.TheVariants as what
-use Rattle.trace_text.specs.Lines.{line_of, device_name}
+use Rattle.trace_text.specs.Lines.{line_of_event, device_name}
 use Rattle.trace_text.specs.Reading.{long_of, number_of, short_of}
 
 a : DevId
@@ -37,45 +37,45 @@ digit_1 = decimal_digit 1 (omega arith)
 digit_2 : decimal 2 ≡ codes "2"
 digit_2 = decimal_digit 2 (omega arith)
 
-took : (stack : Stack) → line_of stack (record { task = task.Writer 0; what = what.Take FsBios got.Spare }) ≡ codes "event w0 take fs.bios spare"
+took : (stack : Stack) → line_of_event stack (record { task = task.Writer 0; what = what.Take FsBios got.Spare }) ≡ codes "event w0 take fs.bios spare"
 took stack = rw digit_0 refl
 
-linked : (stack : Stack) → line_of stack (record { task = task.Writer 0; what = what.Link 0 how.Master 1 }) ≡ codes "event w0 link 0 master 1"
+linked : (stack : Stack) → line_of_event stack (record { task = task.Writer 0; what = what.Link 0 how.Master 1 }) ≡ codes "event w0 link 0 master 1"
 linked stack = rw (digit_0, digit_1) refl
 
-had_record : (stack : Stack) → AreNamed stack → line_of stack (record { task = task.Writer 0; what = what.Take (Records m) got.Ordinary }) ≡ codes "event w0 take m.records ordinary"
+had_record : (stack : Stack) → AreNamed stack → line_of_event stack (record { task = task.Writer 0; what = what.Take (Records m) got.Ordinary }) ≡ codes "event w0 take m.records ordinary"
 unfolding m
 had_record stack named = rw (digit_0, named.third) refl
 
-missed : (stack : Stack) → AreNamed stack → line_of stack (record { task = task.Writer 0; what = what.Try (Bios m) got.Missed }) ≡ codes "event w0 try m.bios missed"
+missed : (stack : Stack) → AreNamed stack → line_of_event stack (record { task = task.Writer 0; what = what.Try (Bios m) got.Missed }) ≡ codes "event w0 try m.bios missed"
 unfolding m
 missed stack named = rw (digit_0, named.third) refl
 
-punted : (stack : Stack) → AreNamed stack → line_of stack (record { task = task.Writer 0; what = what.Punt m 1 }) ≡ codes "event w0 punt m 1"
+punted : (stack : Stack) → AreNamed stack → line_of_event stack (record { task = task.Writer 0; what = what.Punt m 1 }) ≡ codes "event w0 punt m 1"
 punted stack named = rw (digit_0, digit_1, named.third) refl
 
-popped : (stack : Stack) → AreNamed stack → line_of stack (record { task = task.Rescuer m; what = what.Pop m }) ≡ codes "event r:m pop m"
+popped : (stack : Stack) → AreNamed stack → line_of_event stack (record { task = task.Rescuer m; what = what.Pop m }) ≡ codes "event r:m pop m"
 popped stack named = rw named.third refl
 
-pushed : (stack : Stack) → AreNamed stack → line_of stack (record { task = task.Rescuer m; what = what.Push b 0 2 1 }) ≡ codes "event r:m push b 0 2 leg 1"
+pushed : (stack : Stack) → AreNamed stack → line_of_event stack (record { task = task.Rescuer m; what = what.Push b 0 2 1 }) ≡ codes "event r:m push b 0 2 leg 1"
 pushed stack named = rw (digit_0, digit_1, digit_2, named.second, named.third) refl
 
-completed : (stack : Stack) → AreNamed stack → line_of stack (record { task = task.Completer a; what = what.Complete a 0 status.Medium }) ≡ codes "event c:a complete a 0 medium"
+completed : (stack : Stack) → AreNamed stack → line_of_event stack (record { task = task.Completer a; what = what.Complete a 0 status.Medium }) ≡ codes "event c:a complete a 0 medium"
 completed stack named = rw (digit_0, named.first) refl
 
-dropped : (stack : Stack) → AreNamed stack → line_of stack (record { task = task.Completer a; what = what.Drop 0 2 status.NoSpace end.Up }) ≡ codes "event c:a drop 0 2 nospace up"
+dropped : (stack : Stack) → AreNamed stack → line_of_event stack (record { task = task.Completer a; what = what.Drop 0 2 status.NoSpace end.Up }) ≡ codes "event c:a drop 0 2 nospace up"
 dropped stack named = rw (digit_0, digit_2, named.first) refl
 
-given : (stack : Stack) → AreNamed stack → line_of stack (record { task = task.Completer a; what = what.Give FsVecs }) ≡ codes "event c:a give fs.vecs"
+given : (stack : Stack) → AreNamed stack → line_of_event stack (record { task = task.Completer a; what = what.Give FsVecs }) ≡ codes "event c:a give fs.vecs"
 given stack named = rw named.first refl
 
-ended : (stack : Stack) → AreNamed stack → line_of stack (record { task = task.Completer a; what = what.Done 0 status.Io }) ≡ codes "event c:a done 0 io"
+ended : (stack : Stack) → AreNamed stack → line_of_event stack (record { task = task.Completer a; what = what.Done 0 status.Io }) ≡ codes "event c:a done 0 io"
 ended stack named = rw (digit_0, named.first) refl
 
-resized : (stack : Stack) → AreNamed stack → line_of stack (record { task = task.Keeper; what = what.Resize (Bios m) 2 }) ≡ codes "event k resize m.bios 2"
+resized : (stack : Stack) → AreNamed stack → line_of_event stack (record { task = task.Keeper; what = what.Resize (Bios m) 2 }) ≡ codes "event k resize m.bios 2"
 resized stack named = rw (digit_2, named.third) refl
 
-started : (stack : Stack) → line_of stack (record { task = task.Keeper; what = what.Round 1 }) ≡ codes "event k round 1"
+started : (stack : Stack) → line_of_event stack (record { task = task.Keeper; what = what.Round 1 }) ≡ codes "event k round 1"
 started stack = rw digit_1 refl
 
 -- numbers have no leading zero, digits alone, one at least, and end where their fields do

@@ -14,7 +14,7 @@ use Rattle.stack_base.specs.declared.ids.DevId.{DevId}
 use Rattle.stack_base.specs.declared.stack.Kind.{Kind}
 use Rattle.stack_base.specs.declared.stack.Device.{Device}
 use Rattle.stack_base.specs.declared.stack.Stack.{Stack}
-use Rattle.trace_text.specs.Names.{IsNamed, HasDevice, has_device, is_any, is_disk}
+use Rattle.trace_text.specs.Names.{DevicesAreNamed, HasDevice, has_device, is_any, is_disk}
 use Rattle.trace_text.specs.Lines.{device_name}
 use Rattle.trace_text.specs.Reading.{device_of, if_suits, disk_of}
 use Rattle.trace_text.proofs.Readers.{IsWord}
@@ -33,7 +33,7 @@ there suits stack dev has = there_at (slice_get stack.devices.items dev.0) suits
 pub name_at : (stack : Stack) (dev : DevId) (device : Device) → slice_get stack.devices.items dev.0 ≡ Some device → device_name stack dev ≡ device.name.bytes
 name_at stack dev device is = ap (λ o. option_map_or (λ (device : Device). device.name.bytes) o []) is
 
-device_again : (stack : Stack) (dev : DevId) → IsNamed stack → HasDevice is_any stack dev → device_of stack (device_name stack dev) ≡ Some dev
+device_again : (stack : Stack) (dev : DevId) → DevicesAreNamed stack → HasDevice is_any stack dev → device_of stack (device_name stack dev) ≡ Some dev
 unfolding device_of
 device_again stack dev named has =
     let at = there is_any stack dev has in
@@ -87,7 +87,7 @@ device_takes stack name dev e =
     let m = mapped_some (λ (place : ℕ). record { 0 = place }) (position (λ (device : Device). bytes_eq device.name.bytes name) stack.devices.items) dev e in
     device_in stack stack.devices.items name m.0 dev refl m.1 (placed m.0 dev m.2)
 
-pub device_is : (stack : Stack) → IsNamed stack → IsWord (device_name stack) (HasDevice is_any stack) (device_of stack)
+pub device_is : (stack : Stack) → DevicesAreNamed stack → IsWord (device_name stack) (HasDevice is_any stack) (device_of stack)
 device_is stack named = record {
   again = λ dev has. device_again stack dev named has;
   takes = λ name dev e. device_takes stack name dev e;
@@ -97,11 +97,11 @@ device_is stack named = record {
 pub any_of : (suits : Kind → Bool) (stack : Stack) (dev : DevId) → HasDevice suits stack dev → HasDevice is_any stack dev
 any_of suits stack dev has = let at = there suits stack dev has in there_is stack dev at.0 at.1
 
-pub suited_again : (suits : Kind → Bool) (stack : Stack) (dev : DevId) → IsNamed stack → HasDevice suits stack dev
+pub suited_again : (suits : Kind → Bool) (stack : Stack) (dev : DevId) → DevicesAreNamed stack → HasDevice suits stack dev
     → option_and_then (if_suits suits stack) (device_of stack (device_name stack dev)) ≡ Some dev
 suited_again suits stack dev named has = rw (device_again stack dev named (any_of suits stack dev has), has) refl
 
-pub disk_is : (stack : Stack) → IsNamed stack → IsWord (device_name stack) (HasDevice is_disk stack) (disk_of stack)
+pub disk_is : (stack : Stack) → DevicesAreNamed stack → IsWord (device_name stack) (HasDevice is_disk stack) (disk_of stack)
 unfolding disk_of
 disk_is stack named = record {
   again = λ dev has. suited_again is_disk stack dev named has;

@@ -14,7 +14,7 @@ use Rattle.stack_base.specs.declared.ids.DevId.{DevId}
 use Rattle.stack_base.specs.declared.ids.PoolId.{PoolId}
 use Rattle.stack_base.specs.declared.ids.PoolId.TheVariants.{FsBios, FsVecs, Bios, Records}
 use Rattle.stack_base.specs.declared.stack.Stack.{Stack}
-use Rattle.trace_text.specs.Names.{IsNamed, HasDevice, HasPool, has_set, is_mirror}
+use Rattle.trace_text.specs.Names.{DevicesAreNamed, HasDevice, HasPool, has_set, is_mirror}
 use Rattle.trace_text.specs.Lines.{device_name, pool_word}
 use Rattle.trace_text.specs.Reading.{bios_of, device_of, device_pool, fs_pool, if_suits, is_dot, pool_named, pool_of, records_of}
 use Rattle.trace_text.proofs.NameLemmas.{any_of, device_takes, mapped_some, suited_again, suits_some}
@@ -45,15 +45,15 @@ cut_named stack name kept is =
     ∙ ap (λ k. pool_named stack name k) cut.1
     ∙ ap (λ own. cond own (fs_pool kept) (device_pool stack name kept)) is.own
 
-bios_again : (stack : Stack) (dev : DevId) → IsNamed stack → HasDevice has_set stack dev → bios_of stack (device_name stack dev) ≡ Some (Bios dev)
+bios_again : (stack : Stack) (dev : DevId) → DevicesAreNamed stack → HasDevice has_set stack dev → bios_of stack (device_name stack dev) ≡ Some (Bios dev)
 unfolding bios_of
 bios_again stack dev named has = ap (option_map Bios) (suited_again has_set stack dev named has)
 
-records_again : (stack : Stack) (dev : DevId) → IsNamed stack → HasDevice is_mirror stack dev → records_of stack (device_name stack dev) ≡ Some (Records dev)
+records_again : (stack : Stack) (dev : DevId) → DevicesAreNamed stack → HasDevice is_mirror stack dev → records_of stack (device_name stack dev) ≡ Some (Records dev)
 unfolding records_of
 records_again stack dev named has = ap (option_map Records) (suited_again is_mirror stack dev named has)
 
-pool_again : (stack : Stack) (pool : PoolId) → IsNamed stack → HasPool stack pool → pool_of stack (pool_word stack pool) ≡ Some pool
+pool_again : (stack : Stack) (pool : PoolId) → DevicesAreNamed stack → HasPool stack pool → pool_of stack (pool_word stack pool) ≡ Some pool
 unfolding pool_of
 pool_again stack FsBios named has = refl
 pool_again stack FsVecs named has = refl
@@ -137,7 +137,7 @@ pool_takes stack word pool e =
     e in
     (cut.0, cut_whole word cut.2 ∙ cut.1)
 
-pub pool_is : (stack : Stack) → IsNamed stack → IsWord (pool_word stack) (HasPool stack) (pool_of stack)
+pub pool_is : (stack : Stack) → DevicesAreNamed stack → IsWord (pool_word stack) (HasPool stack) (pool_of stack)
 pool_is stack named = record {
   again = λ pool has. pool_again stack pool named has;
   takes = λ word pool e. pool_takes stack word pool e;

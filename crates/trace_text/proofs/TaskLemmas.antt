@@ -9,7 +9,7 @@ use Rattle.std.proofs.lemmas.Slice.Eq.{bytes_eq-Decides}
 use Rattle.stack_base.specs.declared.stack.Stack.{Stack}
 use Rattle.run_machine.specs.declared.event.TaskId.{TaskId}
 use Rattle.run_machine.specs.declared.event.TaskId.TheVariants as task
-use Rattle.trace_text.specs.Names.{IsNamed}
+use Rattle.trace_text.specs.Names.{DevicesAreNamed}
 use Rattle.trace_text.specs.Lines.{FitsTask, HasTask, task_word}
 use Rattle.trace_text.specs.Reading.{past_front, completer_of_word, device_of, disk_of, rescuer_of_word, short_of, task_of_word, writer_of_word}
 use Rattle.trace_text.proofs.NameLemmas.{device_is, disk_is, mapped_some}
@@ -45,14 +45,14 @@ writer_takes stack word one e =
     let is = (number_is (2 ^ 32) (omega arith)).takes some.0 m.0 some.2 in
     subst (IsTaskWord stack word) m.2 ((tt, is.0), some.1 ∙ ap (λ x. codes "w" ++ x) is.1)
 
-rescuer_takes : (stack : Stack) (word : List ℕ) (one : TaskId) → IsNamed stack → rescuer_of_word stack word ≡ Some one → IsTaskWord stack word one
+rescuer_takes : (stack : Stack) (word : List ℕ) (one : TaskId) → DevicesAreNamed stack → rescuer_of_word stack word ≡ Some one → IsTaskWord stack word one
 rescuer_takes stack word one named e =
     let m = mapped_some task.Rescuer (option_and_then (device_of stack) (past_front (codes "r:") word)) one e in
     let some = marked_some (device_of stack) (codes "r:") word m.0 m.1 in
     let is = (device_is stack named).takes some.0 m.0 some.2 in
     subst (IsTaskWord stack word) m.2 ((is.0, tt), some.1 ∙ ap (λ x. codes "r:" ++ x) is.1)
 
-completer_takes : (stack : Stack) (word : List ℕ) (one : TaskId) → IsNamed stack → completer_of_word stack word ≡ Some one → IsTaskWord stack word one
+completer_takes : (stack : Stack) (word : List ℕ) (one : TaskId) → DevicesAreNamed stack → completer_of_word stack word ≡ Some one → IsTaskWord stack word one
 completer_takes stack word one named e =
     let m = mapped_some task.Completer (option_and_then (disk_of stack) (past_front (codes "c:") word)) one e in
     let some = marked_some (disk_of stack) (codes "c:") word m.0 m.1 in
@@ -63,7 +63,7 @@ or_takes : {A : Type 0} (x y : Option A) (a : A) (P : Type 0) → (x ≡ Some a 
 or_takes None y a P first second e = second e
 or_takes (Some one) y a P first second e = first e
 
-task_takes : (stack : Stack) (word : List ℕ) (one : TaskId) → IsNamed stack → task_of_word stack word ≡ Some one → IsTaskWord stack word one
+task_takes : (stack : Stack) (word : List ℕ) (one : TaskId) → DevicesAreNamed stack → task_of_word stack word ≡ Some one → IsTaskWord stack word one
 unfolding task_of_word
 task_takes stack word one named e =
     chosen (bytes_eq word (codes "k")) (Some task.Keeper) (option_or (writer_of_word word) (option_or (rescuer_of_word stack word) (completer_of_word stack word))) one (IsTaskWord stack word one)
@@ -74,7 +74,7 @@ task_takes stack word one named e =
     other)
     e
 
-task_again : (stack : Stack) (one : TaskId) → IsNamed stack → IsTask stack one → task_of_word stack (task_word stack one) ≡ Some one
+task_again : (stack : Stack) (one : TaskId) → DevicesAreNamed stack → IsTask stack one → task_of_word stack (task_word stack one) ≡ Some one
 unfolding task_of_word
 task_again stack task.Keeper named is = refl
 task_again stack (task.Writer number) named is =
@@ -84,7 +84,7 @@ task_again stack (task.Rescuer dev) named is =
 task_again stack (task.Completer disk) named is =
     rw ((disk_is stack named).again disk is.0) refl
 
-pub task_is : (stack : Stack) → IsNamed stack → IsWord (task_word stack) (IsTask stack) (task_of_word stack)
+pub task_is : (stack : Stack) → DevicesAreNamed stack → IsWord (task_word stack) (IsTask stack) (task_of_word stack)
 task_is stack named = record {
   again = λ one is. task_again stack one named is;
   takes = λ word one e. task_takes stack word one named e;

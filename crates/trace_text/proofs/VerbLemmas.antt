@@ -7,7 +7,7 @@ use Rattle.run_machine.specs.declared.event.What.{What}
 use Rattle.run_machine.specs.declared.event.What.TheVariants as what
 use Rattle.trace_text.specs.declared.verb.Verb.{Verb}
 use Rattle.trace_text.specs.declared.verb.Verb.TheVariants as verb
-use Rattle.trace_text.specs.Names.{IsNamed}
+use Rattle.trace_text.specs.Names.{DevicesAreNamed}
 use Rattle.trace_text.specs.Lines.{FitsWhat, HasWhat, what_words}
 use Rattle.trace_text.specs.Reading.{Reads, field, long_of, short_of, verb_of_word, verb_word, what_behind, what_of}
 use Rattle.trace_text.proofs.NameLemmas.{device_is, disk_is}
@@ -39,7 +39,7 @@ long = of_word (number_is (2 ^ 64) (omega arith))
 abbrev pub IsBehind : Stack → Verb → List (List ℕ) → List (List ℕ) → What → Type 0
 IsBehind stack verb words rest one = IsWhat stack one × (verb_word verb ∷ words ≡ what_words stack one ++ rest)
 
-behind_takes : (stack : Stack) (verb : Verb) (words rest : List (List ℕ)) (one : What) → IsNamed stack → what_behind stack verb words ≡ Some (one, rest)
+behind_takes : (stack : Stack) (verb : Verb) (words rest : List (List ℕ)) (one : What) → DevicesAreNamed stack → what_behind stack verb words ≡ Some (one, rest)
     → IsBehind stack verb words rest one
 behind_takes stack verb.Take words rest one named e =
     made_takes (then (of_word (pool_is stack named)) (of_word got_is)) (λ of. what.Take of.0 of.1) words one rest (IsBehind stack verb.Take words rest)
@@ -85,7 +85,7 @@ behind_takes stack verb.Round words rest one named e =
 verb_first : (one : Verb) (words : List (List ℕ)) → field verb_of_word (verb_word one ∷ words) ≡ Some (one, words)
 verb_first one words = (of_word verb_is).again one words tt
 
-what_again : (stack : Stack) (one : What) (rest : List (List ℕ)) → IsNamed stack → IsWhat stack one → what_of stack (what_words stack one ++ rest) ≡ Some (one, rest)
+what_again : (stack : Stack) (one : What) (rest : List (List ℕ)) → DevicesAreNamed stack → IsWhat stack one → what_of stack (what_words stack one ++ rest) ≡ Some (one, rest)
 what_again stack (what.Take pool got) rest named is =
     behind_verb stack _ _ verb.Take verb.Take _ (verb_first verb.Take _) refl
     (made_again (then (of_word (pool_is stack named)) (of_word got_is)) (λ of. what.Take of.0 of.1) (pool, got) rest (is.0, tt))
@@ -132,7 +132,7 @@ of_verb : (stack : Stack) (o : Option (Verb × List (List ℕ))) (one : What) (r
 of_verb stack None one rest e = absurd (cc)
 of_verb stack (Some at) one rest e = (at, refl, e)
 
-what_takes : (stack : Stack) (words : List (List ℕ)) (one : What) (rest : List (List ℕ)) → IsNamed stack → what_of stack words ≡ Some (one, rest)
+what_takes : (stack : Stack) (words : List (List ℕ)) (one : What) (rest : List (List ℕ)) → DevicesAreNamed stack → what_of stack words ≡ Some (one, rest)
     → IsWhat stack one × (words ≡ what_words stack one ++ rest)
 unfolding what_of
 what_takes stack words one rest named e =
@@ -141,7 +141,7 @@ what_takes stack words one rest named e =
     let b = behind_takes stack v.0.0 v.0.1 rest one named v.2 in
     (b.0, first.1 ∙ b.1)
 
-pub what_is : (stack : Stack) → IsNamed stack → IsReader (what_words stack) (IsWhat stack) (what_of stack)
+pub what_is : (stack : Stack) → DevicesAreNamed stack → IsReader (what_words stack) (IsWhat stack) (what_of stack)
 what_is stack named = record {
   again = λ one rest is. what_again stack one rest named is;
   takes = λ words one rest e. what_takes stack words one rest named e;

@@ -81,5 +81,5 @@ abbrev pub words_of : Stack → Event → List (List ℕ)
 words_of stack event = codes "event" ∷ task_word stack event.task ∷ what_words stack event.what
 
 -- the words, with one blank between any two
-abbrev pub line_of : Stack → Event → List ℕ
-line_of stack event = join_with_byte 32 (words_of stack event)
+abbrev pub line_of_event : Stack → Event → List ℕ
+line_of_event stack event = join_with_byte 32 (words_of stack event)

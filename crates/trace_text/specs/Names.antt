@@ -13,7 +13,7 @@ use Rattle.decl_text.specs.declared.accepted.Accepted.{Accepted}
 pub use Rattle.run_machine.specs.Named.{is_disk, is_mirror, has_set, is_any, has_device, HasDevice, HasPool}
 
 -- each device has a name, and no two have the same
-pub record IsNamed (stack : Stack) : Type 0 where
+pub record DevicesAreNamed (stack : Stack) : Type 0 where
   pub few : length stack.devices.items ≤ 32
   pub named : (number : ℕ) (device : Device) → slice_get stack.devices.items number ≡ Some device → IsTrue (is_name device.name.bytes)
   pub apart : (i j : ℕ) (one other : Device) → slice_get stack.devices.items i ≡ Some one → slice_get stack.devices.items j ≡ Some other
@@ -21,4 +21,4 @@ pub record IsNamed (stack : Stack) : Type 0 where
 
 -- a stack that the declarations of a text mean is named so
 abbrev pub AcceptedStacksAreNamed : Type 0
-AcceptedStacksAreNamed = (accepted : Accepted) → IsNamed accepted.stack
+AcceptedStacksAreNamed = (accepted : Accepted) → DevicesAreNamed accepted.stack

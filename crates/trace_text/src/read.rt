@@ -1,8 +1,8 @@
 //! Reads events.
 ghost use Rattle.std.specs.Prelude.{◌≡◌, ◌≤◌, ◌==◌, codes, length};
 ghost use Rattle.std.specs.List.{slice_split};
-ghost use Rattle.trace_text.specs.Laws.{IsRead};
-ghost use Rattle.trace_text.specs.Names.{IsNamed};
+ghost use Rattle.trace_text.specs.Laws.{IsEventRead};
+ghost use Rattle.trace_text.specs.Names.{DevicesAreNamed};
 ghost use Rattle.trace_text.specs.Reading.{Reads, device_of, disk_of, end_of_word, event_of, field, got_of_word, how_of_word, long_of, fixed_word, pool_of, short_of, status_of_word, task_of_word, verb_of_word, what_of, take_behind, try_behind, give_behind, punt_behind, pop_behind, push_behind, complete_behind, link_behind, drop_behind, done_behind, resize_behind, round_behind};
 
 use crate::verb::{Verb, end_of_word, got_of_word, how_of_word, status_of_word, verb_of_word};
@@ -265,8 +265,8 @@ fn event(words: &mut Words<'_>, stack: &Stack) -> Option<Event>
 /// The event whose line this is, and nothing where it is the line of none: words are told apart by one blank each, numbers have no leading
 /// zeros and fit their fields, and what a word names the stack has.
 pub fn read_event(line: &[u8], stack: &Stack) -> Option<Event>
-    requires { IsNamed stack.now }
-    ensures { IsRead stack.now line.now result }
+    requires { DevicesAreNamed stack.now }
+    ensures { IsEventRead stack.now line.now result }
 {
     event(&mut Words::of(line), stack)
 }

@@ -1,6 +1,6 @@
 //! Writes events.
 ghost use Rattle.std.specs.Prelude.{◌≡◌, ◌+◌, ◌≤◌, ◌++◌, ◌∷◌, [], codes, decimal, length};
-ghost use Rattle.trace_text.specs.Lines.{end_word, how_word, line_of, status_word, device_name, pool_word, task_word, what_words};
+ghost use Rattle.trace_text.specs.Lines.{end_word, how_word, line_of_event, status_word, device_name, pool_word, task_word, what_words};
 ghost use Rattle.trace_text.specs.Writing.{spaced};
 ghost use Rattle.run_machine.specs.declared.event.What.TheVariants as what;
 
@@ -241,7 +241,7 @@ fn put_what(into: &mut Line, stack: &Stack, what: What)
 /// Makes `into` the event's line, without the byte 10 that would end it. Where the stack has what the event names, and its devices have different
 /// names, `read_event` reads the event again. A device that the stack does not have is told by no name.
 pub fn write_event(e: &Event, stack: &Stack, into: &mut ArrayVec<u8, 128>)
-    ensures { into.new.items ≡ line_of stack.now e.now }
+    ensures { into.new.items ≡ line_of_event stack.now e.now }
 {
     into.clear();
     into.try_extend_from_slice(b"event").unwrap();

@@ -1,12 +1,12 @@
 -- A text that is refused was read, and nothing was written behind a fault.
 use Rattle.std.proofs.Common.{◌∙◌, sym}
-use Rattle.biostack_top.specs.Streams.{Call, stream}
+use Rattle.biostack_top.specs.Streams.{CallStreams, stream}
 use Rattle.biostack_top.proofs.EndingLemmas.{refused_workers, stops_with_workers}
 use Rattle.biostack_top.proofs.serve_shared.Goals as goal
 
 pub returns-clause-refused : goal.returns-clause-refused
 returns-clause-refused g c = λ is.
-    let call : Call g.row.S.Denot g.row.K.Denot = record {
+    let call : CallStreams g.row.S.Denot g.row.K.Denot = record {
       source = stream g.S.Source.left g.S.Source.faults c.args.source.now c.serve_workers-ending.new.source;
       out = stream g.K.Sink.held g.K.Sink.faults c.args.out.now c.serve_workers-ending.new.out;
     } in
@@ -16,7 +16,7 @@ returns-clause-refused g c = λ is.
 
 pub returns-clause-stops : goal.returns-clause-stops
 returns-clause-stops g c =
-    let call : Call g.row.S.Denot g.row.K.Denot = record {
+    let call : CallStreams g.row.S.Denot g.row.K.Denot = record {
       source = stream g.S.Source.left g.S.Source.faults c.args.source.now c.serve_workers-ending.new.source;
       out = stream g.K.Sink.held g.K.Sink.faults c.args.out.now c.serve_workers-ending.new.out;
     } in

@@ -8,7 +8,7 @@ use Rattle.run_machine.specs.Maps.{upd}
 use Rattle.run_machine.specs.Scene.{Scene}
 use Rattle.run_machine.specs.Opened.{Scenario, scene, start, setup as setup_in}
 use Rattle.run_machine.specs.Runs.{State, Steps, IsRun}
-use Rattle.block_core.specs.Charges.{held_charge, close_charge, charge, charged, spent, open_charges, rank, EventsLowerRank}
+use Rattle.block_core.specs.Charges.{held_charge, close_charge, charge, charged, spent_charges, open_charges, state_rank, EventsLowerRank}
 use Rattle.block_core.specs.Scenarios.{IsScenario, IsNaming}
 use Rattle.block_core.specs.Payers.{Paid, unit_price}
 use Rattle.block_core.specs.Touches.{touch_of, masters_after, were_masters, none_was}
@@ -94,8 +94,8 @@ one_price was_master scene s =
 module _ (scene : Scene) (f : Fair scene) (g : Ground scene.setup) (p : (price : Paid → ℕ) → Priced price scene.setup) where
   -- one event
   step_costs : (price : Paid → ℕ) (was_master : ℕ → Bool) (s : State) (place : ℕ) (event : Event) (new : State) → Whole scene s → Steps scene s place event new
-      → price (paid_as (end_told (was_master place) (s.task place)) event.what) + charged price (masters_after s place (touch_of event.what) was_master) scene new + spent price scene s
-      ≤ charged price was_master scene s + spent price scene new
+      → price (paid_as (end_told (was_master place) (s.task place)) event.what) + charged price (masters_after s place (touch_of event.what) was_master) scene new + spent_charges price scene s
+      ≤ charged price was_master scene s + spent_charges price scene new
   step_costs price was_master s place event new i steps =
       let moved = step_is_move scene s f i.kept place event new steps in
       let low = lowers price was_master scene s g (p price) i.kept i.placed moved.move moved.can in
@@ -103,17 +103,17 @@ module _ (scene : Scene) (f : Fair scene) (g : Ground scene.setup) (p : (price :
       ap (λ touch. masters_after s place touch was_master) moved.touches ∙ ap (λ at. masters_after s at (touch_by moved.move) was_master) (sym moved.at)
       ∙ closed_so scene s was_master moved.move moved.can in
       let charges = ap (λ was. charged price was scene new) now ∙ ap (charged price (was_after was_master moved.move) scene) moved.is in
-      let spends = ap (spent price scene) moved.is in
+      let spends = ap (spent_charges price scene) moved.is in
       let pays = ap price (moved.pays (was_master place)) ∙ ap (λ at. price (kind_of (was_master at) moved.move)) (sym moved.at) in
       omega (arith, low, charges, spends, pays)
 
   -- and all of them
   pub runs_cost : (price : Paid → ℕ) (was_master : ℕ → Bool) (s : State) (events : List Event) (new : State) → Whole scene s → (run : IsRun scene s events new)
-      → costs price scene was_master s events new run + charged price (were_masters scene s events new run was_master) scene new + spent price scene s
-      ≤ charged price was_master scene s + spent price scene new
+      → costs price scene was_master s events new run + charged price (were_masters scene s events new run was_master) scene new + spent_charges price scene s
+      ≤ charged price was_master scene s + spent_charges price scene new
   runs_cost price was_master s [] new i run =
       let charges = ap (charged price was_master scene) run in
-      let spends = ap (spent price scene) run in
+      let spends = ap (spent_charges price scene) run in
       omega (arith, charges, spends)
   runs_cost price was_master s (event ∷ events) new i (next, (place, steps), run) =
       let j = runs_whole scene f g s (event ∷ []) next i (next, (place, steps), refl) in
@@ -159,7 +159,7 @@ module _ (s : Scenario) (ledger : ℕ → LedgerId) (good : IsScenario s) (namin
       runs_use_up (scene s ledger) fair g p price was_master old later new i j run
 
   run_lowers : (before later : List Event) (old new : State) → IsRun (scene s ledger) (start s) before old → IsRun (scene s ledger) old later new
-      → length later + rank (scene s ledger) new ≤ rank (scene s ledger) old
+      → length later + state_rank (scene s ledger) new ≤ state_rank (scene s ledger) old
   run_lowers before later old new first second =
       omega (
         arith,
@@ -169,7 +169,7 @@ module _ (s : Scenario) (ledger : ℕ → LedgerId) (good : IsScenario s) (namin
       )
 
   run_covers : (events : List Event) (state : State) → IsRun (scene s ledger) (start s) events state → (price : Paid → ℕ) (was_master : ℕ → Bool)
-      → spent price (scene s ledger) state ≤ charged price was_master (scene s ledger) state
+      → spent_charges price (scene s ledger) state ≤ charged price was_master (scene s ledger) state
   run_covers events state run price was_master =
       let g = ground s.stack good.stack (setup_in s).places in
       let j = runs_whole (scene s ledger) fair g (start s) events state (start_whole s ledger good naming) run in

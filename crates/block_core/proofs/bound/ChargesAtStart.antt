@@ -16,7 +16,7 @@ use Rattle.run_machine.specs.Lines.{rests}
 use Rattle.run_machine.specs.Tasks.{TaskState, Writer, Rescuer, Completer, Duty, Resizes, Starts, Keeps, Keeper, Todo, NoBio, Empty}
 use Rattle.block_core.specs.Touches.{none_was}
 use Rattle.block_core.specs.Weights.{Pending, Rescued, total, sum_at, task_weight, book_weight}
-use Rattle.block_core.specs.Charges.{write_charge, todo_charge, charge, duty_charge, task_charge, task_spent, entries_left, charged, spent}
+use Rattle.block_core.specs.Charges.{write_charge, todo_charge, charge, duty_charge, task_charge, task_spent, entries_left, charged, spent_charges}
 use Rattle.block_core.proofs.moves.Sums.{same_or_not}
 use Rattle.std.specs.Prelude.{zip, find}
 use Rattle.std.specs.List.{list_any, flat_map}
@@ -245,7 +245,7 @@ module _ (s : Scenario) (good : IsScenario s) (ledger : ℕ → LedgerId) where
     pub start_charge : charged price none_was (scene s ledger) (start s) ≤ all_costs price s
     start_charge = omega (arith, total_charge price, mul-le-mul_left (cost price ScriptEntry) entries_charge, duties_charge)
 
-    pub start_spent : spent price (scene s ledger) (start s) ≡ 0
+    pub start_spent : spent_charges price (scene s ledger) (start s) ≡ 0
     start_spent =
         let keeper_spent : (ds : List Duty) → sum_by (task_spent price) (keepers ds) ≡ 0 = none_spent in
         omega (arith, placed_sum (task_spent price), opened_sum (task_spent price) (λ dev. refl) (λ dev. refl), sum_of_zero (writers s), keeper_spent (duties s))

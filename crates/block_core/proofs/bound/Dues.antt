@@ -20,7 +20,7 @@ use Rattle.run_machine.specs.Tasks.{Todo, Taken, NoBio, HasBio, HasBoth, Carried
 use Rattle.block_core.specs.Weights.{Weight, Spot, Lined, Rescued, Pending, Brought, line_weight, carried_weight}
 use Rattle.block_core.specs.Charges.{there}
 use Rattle.block_core.specs.Fragments.{todo_fragments, legs_come, leg_fragments}
-use Rattle.block_core.specs.Places.{bio_needs, legs_need}
+use Rattle.block_core.specs.Places.{bio_needs, unmade_legs_need}
 use Rattle.block_core.proofs.moves.Moves.{Move, IsBare, place_of, Can, after, lost, gained, limit_of, with_line, HasLine, Wants, with_want, taken_of, filled_of, vector_of, cut_lists, Tells, Hands, piece}
 use Rattle.block_core.proofs.moves.Moves as moves
 use Rattle.block_core.proofs.sound.Facts.{own_part, own_of, away}
@@ -48,7 +48,7 @@ bio_due setup Pending item = 2
 bio_due setup Brought item = 1
 
 abbrev pub copy_due : Setup → Bio → ℕ → ℕ
-copy_due setup bio leg = 4 * legs_need (tree_at setup bio.dev) bio.range.start bio.range.len leg + 3 * legs_come setup one_each bio leg
+copy_due setup bio leg = 4 * unmade_legs_need (tree_at setup bio.dev) bio.range.start bio.range.len leg + 3 * legs_come setup one_each bio leg
 
 abbrev pub todo_run : Setup → Todo → ℕ
 todo_run setup todo = 4 * needed (tree_at setup todo.write.dev) todo.write.start todo.write.count + 3 * sum_by one_each (todo_fragments setup todo)
@@ -100,7 +100,7 @@ IsHad (moves.Pops place dev bio bios) = ⊥
 IsHad m = Unit {0}
 
 -- behind the last leg nothing is due
-legs_done : (t : Tree) (start len leg : ℕ) → leg ≡ legs_of t → legs_need t start len leg ≡ 0
+legs_done : (t : Tree) (start len leg : ℕ) → leg ≡ legs_of t → unmade_legs_need t start len leg ≡ 0
 legs_done (Leaf number sectors) start len leg is = refl
 legs_done (Split number kind sizes members) start len leg is = refl
 legs_done (Mirrored number sizes members) start len leg is =

@@ -18,7 +18,7 @@ use Rattle.run_machine.specs.Objects.{clear_bio, clear_vector, clear_slip}
 use Rattle.run_machine.specs.Runs.{State}
 use Rattle.block_core.specs.Weights.{Weight, Rescued, Lined, sum_at, doing_weight, carried_weight, task_weight, line_weight}
 use Rattle.block_core.specs.Touches.{is_master}
-use Rattle.block_core.specs.Charges.{bio_charge, write_run, vector_charge, end_charge, held_charge, close_charge, charge, want_spent, doing_spent, task_spent, duty_charge, task_charge, charged, spent}
+use Rattle.block_core.specs.Charges.{bio_charge, write_run, vector_charge, end_charge, held_charge, close_charge, charge, want_spent, doing_spent, task_spent, duty_charge, task_charge, charged, spent_charges}
 use Rattle.block_core.specs.Payers.{Paid, WriteBio, WriteVector, ScriptEntry, PieceBio, cost}
 use Rattle.block_core.specs.Payers as paid
 use Rattle.block_core.proofs.moves.Moves.{Move, place_of, Can, after, limit_of, HasLine, with_want, filled_of, cut_lists, piece}
@@ -56,8 +56,8 @@ module _ (price : Paid → ℕ) (was_master : ℕ → Bool) (scene : Scene) (s :
   -- an event lowers what is charged and not spent by its price
   abbrev Lowers : Move → Type 0
   Lowers m =
-      charged price (was_after was_master m) scene (after scene s m) + spent price scene s + price (kind_of (was_master (place_of m)) m)
-      ≤ charged price was_master scene s + spent price scene (after scene s m)
+      charged price (was_after was_master m) scene (after scene s m) + spent_charges price scene s + price (kind_of (was_master (place_of m)) m)
+      ≤ charged price was_master scene s + spent_charges price scene (after scene s m)
 
   has : (place : ℕ) (x : TaskState) (doing : Doing) (lists : TaskLists) → s.task place ≡ x → HasLine x doing lists → DoingPlaced scene.setup (limit_of x) doing lists
   has place x doing lists is h = line_placed scene.setup x doing lists (subst (TaskPlaced scene.setup) is (a.tasks place)) h
@@ -409,5 +409,5 @@ module _ (price : Paid → ℕ) (was_master : ℕ → Bool) (scene : Scene) (s :
   tasks_cover zero = omega arith
   tasks_cover (suc n) = omega (arith, tasks_cover n, task_covers n (s.task n) (a.tasks n) (i.tasks n))
 
-  pub covers : spent price scene s ≤ charged price was_master scene s
+  pub covers : spent_charges price scene s ≤ charged price was_master scene s
   covers = omega (arith, tasks_cover scene.tasks)

@@ -30,7 +30,7 @@ use Rattle.run_machine.specs.Lines.{Line}
 use Rattle.run_machine.specs.Tasks.{TaskState, Writer, Rescuer, Completer, Keeper, Todo, Taken, NoBio, HasBio, HasBoth, Duty, Resizes, Starts, Empty, Brings, Carries, Fails}
 use Rattle.run_machine.specs.Opened.{Scenario, scene, start, todos, duties, keepers, setup as setup_in, writers}
 use Rattle.run_machine.specs.Runs.{State, IsRun}
-use Rattle.block_core.specs.Weights.{Weight, Rescued, Pending, total, one, weigh_option, task_weight, book_weight, taken_weight, elements, holding_elements, refs, under}
+use Rattle.block_core.specs.Weights.{Weight, Rescued, Pending, total, one, weigh_option, task_weight, book_weight, taken_weight, elements_of_pool, holding_elements, refs, under}
 use Rattle.block_core.specs.Charges.{there, task_duties, duties_left}
 use Rattle.block_core.specs.Exact.{is_miss, NoneMissed, all_nodes, all_below, starts_round, StepsWithoutMisses}
 use Rattle.block_core.specs.Fragments.{todo_fragments, HasNone, NothingComes}
@@ -217,8 +217,8 @@ module _ (scene : Scene) (s : State) (i : Kept scene s) (held : total scene odd 
   no_node : (writer k : ℕ) (node : Node) → node_at (s.objects.book writer) k ≡ Some node → ⊥
   no_node writer k node at = none_open scene s i bare_none out writer k node at
 
-  home : (p place : ℕ) (x : TaskState) → place < scene.tasks → s.task place ≡ x → task_weight (elements p) place x ≡ 0
-  home p place x lt is = omega (arith, i.outs p, out p, task_part scene (elements p) s place x lt is)
+  home : (p place : ℕ) (x : TaskState) → place < scene.tasks → s.task place ≡ x → task_weight (elements_of_pool p) place x ≡ 0
+  home p place x lt is = omega (arith, i.outs p, out p, task_part scene (elements_of_pool p) s place x lt is)
 
   holds_none : (held : Holding) → ((p : ℕ) → holding_elements p held ≡ 0) → there held.bio + there held.vector + there held.slip ≡ 0
   holds_none held none = omega (arith, by_bio held.bio (λ p. omega (arith, none p)), by_vector held.vector (λ p. omega (arith, none p)), by_slip held.slip (λ p. omega (arith, none p)))
@@ -247,7 +247,7 @@ module _ (scene : Scene) (s : State) (i : Kept scene s) (held : total scene odd 
       let worth_one : tops_left closed.parent * one r r ≡ 1 = ap (λ parent. tops_left parent * one r r) found ∙ omega (arith, one-same r) in
       omega (arith, worth_one, left r, task_part scene (unfinished_of (is_of_round rounds r)) s place (Completer disk (Carries writer closed)) lt is)
 
-  no_taken : (taken : Taken) → ((p : ℕ) → taken_weight (elements p) taken ≡ 0) → taken_weight in_hand taken ≡ 0
+  no_taken : (taken : Taken) → ((p : ℕ) → taken_weight (elements_of_pool p) taken ≡ 0) → taken_weight in_hand taken ≡ 0
   no_taken NoBio none = refl
   no_taken (HasBio bio) none = absurd (omega (arith, none bio.share.no, one-same bio.share.no))
   no_taken (HasBoth bio vector) none = absurd (omega (arith, none bio.share.no, one-same bio.share.no))

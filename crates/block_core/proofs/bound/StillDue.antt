@@ -19,7 +19,7 @@ use Rattle.run_machine.specs.Runs.{State}
 use Rattle.block_core.specs.Weights.{Weight, Lined, total}
 use Rattle.block_core.specs.Charges.{there, task_duties}
 use Rattle.block_core.specs.Fragments.{leg_fragments}
-use Rattle.block_core.specs.Places.{bio_needs, legs_need}
+use Rattle.block_core.specs.Places.{bio_needs, unmade_legs_need}
 use Rattle.block_core.proofs.moves.Moves.{Move, IsBare, place_of, Can, after, lost, gained, limit_of, with_line, HasLine, Wants, with_want, taken_of, filled_of, vector_of, cut_lists, Tells, Hands, piece}
 use Rattle.block_core.proofs.moves.Moves as moves
 use Rattle.block_core.proofs.moves.Deltas.{delta}
@@ -185,7 +185,7 @@ module _ (scene : Scene) (s : State) (f : Fair scene) (g : Ground scene.setup) (
       )
     where
       by_tree : (t : Tree) → tree_at scene.setup bio.bio.dev ≡ t → AskFits t bio.bio.range bio.bio.dev.0 (ToMaster slip)
-          → bio_needs scene.setup bio.bio ≡ 1 + legs_need (tree_at scene.setup bio.bio.dev) bio.bio.range.start bio.bio.range.len 0
+          → bio_needs scene.setup bio.bio ≡ 1 + unmade_legs_need (tree_at scene.setup bio.bio.dev) bio.bio.range.start bio.bio.range.len 0
       by_tree (Mirrored number sizes members) is fits = p.master bio.bio (has place x (Drives bio (ToMaster slip)) lists c.1 c.2).1.0.0 number sizes members is
       by_tree (Leaf number sectors) is fits = absurd fits
       by_tree (Split number kind sizes members) is fits = absurd fits

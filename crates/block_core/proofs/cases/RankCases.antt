@@ -12,7 +12,7 @@ use Rattle.run_machine.specs.Tasks.{Resizes, Starts}
 use Rattle.stack_base.specs.declared.ids.PoolId.TheVariants.{FsBios}
 use Rattle.block_core.specs.Exact.{starts_round}
 use Rattle.block_core.specs.Payers.{WriteBio, WriteVector, Record, PieceBio, Fragment, pays_for, unit_price}
-use Rattle.block_core.specs.Charges.{begun_charge, run_charge, rank}
+use Rattle.block_core.specs.Charges.{begun_charge, run_charge, state_rank}
 use Rattle.block_core.specs.PayerCounts.{records_begun, pieces_begun, record_count, piece_count}
 
 -- a record and two legs, of a fragment each, as the table has it
@@ -30,8 +30,8 @@ module _ (some : LedgerId) where
   scene = record { setup = setup true; tasks = 4; books = 1; writes = 1; ledger = ledger some }
 
   abbrev ranks : State → List Turn → List ℕ
-  ranks s [] = rank scene s ∷ []
-  ranks s (turn ∷ turns) = rank scene s ∷ ranks (behind scene.setup s turn) turns
+  ranks s [] = state_rank scene s ∷ []
+  ranks s (turn ∷ turns) = state_rank scene s ∷ ranks (behind scene.setup s turn) turns
 
   -- Five of the write's bio and 24 of its run: a take, a link, a take of the record, and with the link of the master the end of the bio falls away,
   -- which a mirror copies, with the attempt and the punt that the first leg does not need, since its first attempt waits; then the leg's take and link.

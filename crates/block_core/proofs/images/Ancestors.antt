@@ -14,7 +14,7 @@ use Rattle.run_machine.specs.Scene.{Scene, tree_at}
 use Rattle.run_machine.specs.Lines.{Want, Ask, Doing, Rests, Drives, Copies, Breaks, legs_of}
 use Rattle.run_machine.specs.Tasks.{TaskState, Writer, Rescuer, Completer, Keeper, Carried, Empty, Brings, Carries, Fails}
 use Rattle.run_machine.specs.Runs.{State}
-use Rattle.block_core.specs.Weights.{Weight, Lined, Rescued, Pending, total, sum_at, one, line_weight, refs, names, under, legs_left, count_of}
+use Rattle.block_core.specs.Weights.{Weight, Lined, Rescued, Pending, total, sum_at, one, line_weight, refs, names_node, under, legs_left, count_of}
 use Rattle.block_core.specs.Weights.{apart}
 use Rattle.block_core.specs.OfOneWrite.{bio_strays, parent_strays, strays}
 use Rattle.block_core.specs.Present.{AreSuch, DoingIs, LineIs, CarriedIs, TaskIs, AllAtWork}
@@ -28,7 +28,7 @@ use Rattle.block_core.proofs.images.PlannedOnce.{term_in}
 use Rattle.block_core.proofs.sound.OfOneWrite.{node_write, driven_of_write, copied_of_write, child_of_write}
 
 -- a bio refers to the node that it names
-pub names_one : (item : Item Pad) → names item.bio.writer item.bio.node item ≡ 1
+pub names_one : (item : Item Pad) → names_node item.bio.writer item.bio.node item ≡ 1
 names_one item = ap (λ n. n * one item.bio.node item.bio.node) (one-same item.bio.writer) ∙ ap (λ n. 1 * n) (one-same item.bio.node)
 
 -- what is referred to is open
@@ -72,7 +72,7 @@ module _ (scene : Scene) (s : State) (i : Kept scene s) (level : ℕ → ℕ →
   of_node writer key node at = way_up (all_levels writer + 1) writer key node at (omega arith)
 
   -- and of each bio that names one
-  pub of_named : (item : Item Pad) → names item.bio.writer item.bio.node item ≤ total scene (refs scene.setup item.bio.writer item.bio.node) s → bio_strays write_of item ≤ total scene (strays write_of) s
+  pub of_named : (item : Item Pad) → names_node item.bio.writer item.bio.node item ≤ total scene (refs scene.setup item.bio.writer item.bio.node) s → bio_strays write_of item ≤ total scene (strays write_of) s
       → P item.bio.write
   of_named item part own =
       let up = open_at scene s i item.bio.writer item.bio.node (omega (arith, part, names_one item)) in

@@ -12,7 +12,7 @@ use Rattle.run_machine.specs.Scene.{Scene, tree_at}
 use Rattle.run_machine.specs.Lines.{Takes, Punts as WantsPunt, Links, Doing, Rests, Drives, Copies, Breaks, Line, rests, legs_of}
 use Rattle.run_machine.specs.Tasks.{TaskState, Writer, Rescuer, Completer, Keeper, Taken, NoBio, HasBio, HasBoth, Empty, Brings, Carries, Fails}
 use Rattle.run_machine.specs.Runs.{State}
-use Rattle.block_core.specs.Weights.{Weight, Pending, Rescued, Lined, total, one, weigh_option, doing_weight, task_weight, line_weight, taken_weight, book_weight, elements, holding_elements, refs, legs_left, count_of}
+use Rattle.block_core.specs.Weights.{Weight, Pending, Rescued, Lined, total, one, weigh_option, doing_weight, task_weight, line_weight, taken_weight, book_weight, elements_of_pool, holding_elements, refs, legs_left, count_of}
 use Rattle.block_core.specs.Fragments.{HasNone, NothingComes, HasBegun, AllIsHome, NothingComesWhereAllIsHome}
 use Rattle.block_core.proofs.moves.Sums.{one-same, within_book}
 use Rattle.block_core.proofs.sound.Places.{sum_at-ge}
@@ -36,7 +36,7 @@ no_items : (xs : List (Item Pad)) → ((p : ℕ) → sum_by (λ (bio : Item Pad)
 no_items [] none = refl
 no_items (x ∷ xs) none = absurd (omega (arith, none x.share.no, sum_by-cons (λ (bio : Item Pad). one bio.share.no x.share.no) x xs, one-same x.share.no))
 
-want_named : (w k : ℕ) (limit : ℕ) (doing : Doing) → ((p : ℕ) → doing_weight (elements p) limit doing ≡ 0) → doing_weight (named w k) limit doing ≡ 0
+want_named : (w k : ℕ) (limit : ℕ) (doing : Doing) → ((p : ℕ) → doing_weight (elements_of_pool p) limit doing ≡ 0) → doing_weight (named w k) limit doing ≡ 0
 want_named w k limit Rests none = refl
 want_named w k limit (Breaks breach kept) none = refl
 want_named w k limit (Copies bio master leg (Takes waits)) none = refl
@@ -44,14 +44,14 @@ want_named w k limit (Copies bio master leg WantsPunt) none = refl
 want_named w k limit (Copies bio master leg (Links hand)) none = refl
 want_named w k limit (Drives bio ask) none = absurd (let h = none bio.share.no in let e = one-same bio.share.no in omega (arith, h, e))
 
-line_named : (w k limit : ℕ) (line : Line) → ((p : ℕ) → line_weight (elements p) limit line ≡ 0) → line_weight (named w k) limit line ≡ 0
+line_named : (w k limit : ℕ) (line : Line) → ((p : ℕ) → line_weight (elements_of_pool p) limit line ≡ 0) → line_weight (named w k) limit line ≡ 0
 line_named w k limit line none =
     let l0 = no_items line.lists.list0 (λ p. omega (arith, none p)) in
     let l1 = no_items line.lists.list1 (λ p. omega (arith, none p)) in
     let d = want_named w k limit line.doing (λ p. omega (arith, none p)) in
     omega (arith, d, ap (sum_by ((named w k).bio (Lined limit))) l0, ap (sum_by ((named w k).bio (Lined limit))) l1)
 
-task_named : (w k place : ℕ) (x : TaskState) → ((p : ℕ) → task_weight (elements p) place x ≡ 0) → task_weight (named w k) place x ≡ 0
+task_named : (w k place : ℕ) (x : TaskState) → ((p : ℕ) → task_weight (elements_of_pool p) place x ≡ 0) → task_weight (named w k) place x ≡ 0
 task_named w k place (Writer number todos taken line) none = omega (arith, taken_named taken, line_named w k 32 line (λ p. omega (arith, none p)))
   where
     taken_named : (taken : Taken) → taken_weight (named w k) taken ≡ 0
@@ -87,18 +87,18 @@ held_some node slipped owned none = by_role node.role node.held.bio node.held.sl
     by_role (role.Leg parent) bio slip b s h o = by_bio bio b o
 
 module _ (scene : Scene) (s : State) (i : Kept scene s) (slips : total scene bare s ≡ 0) (out : (p : ℕ) → (s.objects.pool p).facts.out ≡ 0) where
-  all_home : (p : ℕ) → total scene (elements p) s ≡ 0
+  all_home : (p : ℕ) → total scene (elements_of_pool p) s ≡ 0
   all_home p = sym (i.outs p) ∙ out p
 
-  task_home : (p place : ℕ) → place < scene.tasks → task_weight (elements p) place (s.task place) ≡ 0
-  task_home p place lt = omega (arith, all_home p, sum_at-ge (task_weight (elements p)) scene.tasks s.task place lt)
+  task_home : (p place : ℕ) → place < scene.tasks → task_weight (elements_of_pool p) place (s.task place) ≡ 0
+  task_home p place lt = omega (arith, all_home p, sum_at-ge (task_weight (elements_of_pool p)) scene.tasks s.task place lt)
 
   rescue_home : (dev : ℕ) → dev < scene.setup.count → s.objects.rescue dev ≡ []
-  rescue_home dev lt = no_items (s.objects.rescue dev) (λ p. omega (arith, all_home p, sum_at-ge (λ dev bios. sum_by ((elements p).bio Rescued) bios) scene.setup.count s.objects.rescue dev lt))
+  rescue_home dev lt = no_items (s.objects.rescue dev) (λ p. omega (arith, all_home p, sum_at-ge (λ dev bios. sum_by ((elements_of_pool p).bio Rescued) bios) scene.setup.count s.objects.rescue dev lt))
 
   disk_home : (dev : ℕ) → dev < scene.setup.count → (s.objects.disk dev).pending ≡ []
   disk_home dev lt =
-      no_items (s.objects.disk dev).pending (λ p. omega (arith, all_home p, sum_at-ge (λ dev (disk : DiskState). sum_by ((elements p).bio Pending) disk.pending) scene.setup.count s.objects.disk dev lt))
+      no_items (s.objects.disk dev).pending (λ p. omega (arith, all_home p, sum_at-ge (λ dev (disk : DiskState). sum_by ((elements_of_pool p).bio Pending) disk.pending) scene.setup.count s.objects.disk dev lt))
 
   -- no bio names a node
   none_named : (w k : ℕ) → total scene (named w k) s ≡ 0
@@ -128,7 +128,7 @@ module _ (scene : Scene) (s : State) (i : Kept scene s) (slips : total scene bar
     | inl lt ↦
         let owned : own_of (node_at (s.objects.book writer) k) ≡ own_part node.role node.held.bio = ap own_of at in
         held_some node (omega (arith, slips, node_weighs bare writer k node lt at)) (omega (arith, owned, i.owns writer k, none_named writer k))
-        (λ p. omega (arith, all_home p, node_weighs (elements p) writer k node lt at))
+        (λ p. omega (arith, all_home p, node_weighs (elements_of_pool p) writer k node lt at))
     | inr ge ↦
         let none : node_at (s.objects.book writer) k ≡ None = ap (λ nodes. node_at (record { writer = (s.objects.book writer).writer; nodes = nodes }) k) (i.inside writer ge) in
         absurd (let e : None ≡ Some node = sym none ∙ at in cc)
@@ -156,8 +156,8 @@ module _ (scene : Scene) (s : State) (i : Kept scene s) (slips : total scene bar
       by_doing Rests q f = let lists = subst (λ d. DoingFits scene.setup d line.lists) q f in λ j. record { doing = q j; lists = lists j }
       by_doing (Breaks breach kept) q f = absurd (subst (λ d. DoingFits scene.setup d line.lists) q f)
       by_doing (Drives bio ask) q f =
-          let a = weighs (elements bio.share.no) in
-          let b : doing_weight (elements bio.share.no) limit line.doing ≡ doing_weight (elements bio.share.no) limit (Drives bio ask) = ap (doing_weight (elements bio.share.no) limit) q in
+          let a = weighs (elements_of_pool bio.share.no) in
+          let b : doing_weight (elements_of_pool bio.share.no) limit line.doing ≡ doing_weight (elements_of_pool bio.share.no) limit (Drives bio ask) = ap (doing_weight (elements_of_pool bio.share.no) limit) q in
           absurd (omega (arith, a, b, one-same bio.share.no, all_home bio.share.no))
       by_doing (Copies bio master leg want) q f =
           let lt : leg < legs_of (tree_at scene.setup bio.dev) = subst (λ d. DoingFits scene.setup d line.lists) q f in

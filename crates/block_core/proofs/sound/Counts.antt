@@ -15,7 +15,7 @@ use Rattle.run_machine.specs.Scene.{Setup, Scene, tree_at}
 use Rattle.run_machine.specs.Lines.{Want, Links, Copies, rests, settled, first_length, legs_of, leg_at}
 use Rattle.run_machine.specs.Tasks.{TaskState, Writer, Rescuer, Completer, Keeper, Todo, Carried, Empty, Brings, Carries, Fails}
 use Rattle.run_machine.specs.Runs.{State}
-use Rattle.block_core.specs.Weights.{total, one, task_weight, line_weight, carried_weight, refs, names, under, count_of}
+use Rattle.block_core.specs.Weights.{total, one, task_weight, line_weight, carried_weight, refs, names_node, under, count_of}
 use Rattle.block_core.proofs.moves.Moves.{Move, IsTaking, place_of, Can, after, lost, gained, limit_of, with_line, HasLine, Wants, with_want, taken_of, filled_of, vector_of, cut_lists, IsTake, Tells, Hands, piece, with_pool, with_book}
 use Rattle.block_core.proofs.moves.Moves as moves
 use Rattle.block_core.proofs.moves.Listed.{IsBlind, goes_weight, first_weight, landed_same}
@@ -28,18 +28,18 @@ use Rattle.block_core.proofs.moves.BookMaps.{made, became, chained}
 pub blind_refs : (setup : Setup) (w k : ℕ) → IsBlind (refs setup w k)
 blind_refs setup w k limit item t = landed_same (λ (bio : Bio). one bio.writer w * one bio.node k) (λ to members bio. refl) t item.bio
 
-pub begun_names : (g : Item Pad → ℕ) → (w k : ℕ) → g ≡ names w k → (writer : ℕ) (todo : Todo) (item : Item Pad) (vector : Option VectorItem) (key : ℕ)
+pub begun_names : (g : Item Pad → ℕ) → (w k : ℕ) → g ≡ names_node w k → (writer : ℕ) (todo : Todo) (item : Item Pad) (vector : Option VectorItem) (key : ℕ)
     → sum_by g (filled_of writer todo item vector key ∷ []) ≡ one writer w * one key k
-begun_names g w k is writer todo item None key = let q = ap (λ h. sum_by h (filled_of writer todo item None key ∷ [])) is in omega (arith, q, sum_by-cons (names w k) (filled_of writer todo item None key) [])
-begun_names g w k is writer todo item (Some vector) key = let q = ap (λ h. sum_by h (filled_of writer todo item (Some vector) key ∷ [])) is in omega (arith, q, sum_by-cons (names w k) (filled_of writer todo item (Some vector) key) [])
+begun_names g w k is writer todo item None key = let q = ap (λ h. sum_by h (filled_of writer todo item None key ∷ [])) is in omega (arith, q, sum_by-cons (names_node w k) (filled_of writer todo item None key) [])
+begun_names g w k is writer todo item (Some vector) key = let q = ap (λ h. sum_by h (filled_of writer todo item (Some vector) key ∷ [])) is in omega (arith, q, sum_by-cons (names_node w k) (filled_of writer todo item (Some vector) key) [])
 
 begun_refs : (setup : Setup) (w k writer : ℕ) (todo : Todo) (later : List Todo) (item : Item Pad) (vector : Option VectorItem) (key : ℕ)
     → line_weight (refs setup w k) 32 (settled setup (filled_of writer todo item vector key ∷ []))
     ≡ task_weight (refs setup w k) 0 (Writer writer (todo ∷ later) (taken_of item vector) rests) + one writer w * one key k
 begun_refs setup w k writer todo later item None key =
-    omega (arith, first_weight (refs setup w k) (blind_refs setup w k) 32 setup (filled_of writer todo item None key ∷ []), begun_names (names w k) w k refl writer todo item None key)
+    omega (arith, first_weight (refs setup w k) (blind_refs setup w k) 32 setup (filled_of writer todo item None key ∷ []), begun_names (names_node w k) w k refl writer todo item None key)
 begun_refs setup w k writer todo later item (Some vector) key =
-    omega (arith, first_weight (refs setup w k) (blind_refs setup w k) 32 setup (filled_of writer todo item (Some vector) key ∷ []), begun_names (names w k) w k refl writer todo item (Some vector) key)
+    omega (arith, first_weight (refs setup w k) (blind_refs setup w k) 32 setup (filled_of writer todo item (Some vector) key ∷ []), begun_names (names_node w k) w k refl writer todo item (Some vector) key)
 
 -- what tells a node of an end is a reference to it
 pub tells_refs : (setup : Setup) (w k writer key : ℕ) (status : Status) (part : Option (Item Pad)) (carried : Carried) → Tells carried writer key status part
@@ -64,7 +64,7 @@ spread : (x y z n : ℕ) → x * (y * n + z * 0) ≡ x * y * (n - 0)
 spread x y z n = grind arith
 
 -- a leg's bio has the node that was made for it
-pub leg_named : (w k : ℕ) (bio : Bio) (hand : Item Pad) (leg key : ℕ) (t : Tree) → leg < legs_of t → names w k (leg_at bio hand leg key t) ≡ one bio.writer w * one key k
+pub leg_named : (w k : ℕ) (bio : Bio) (hand : Item Pad) (leg key : ℕ) (t : Tree) → leg < legs_of t → names_node w k (leg_at bio hand leg key t) ≡ one bio.writer w * one key k
 leg_named w k bio hand leg key (Leaf number sectors) lt = absurd (omega (arith, lt))
 leg_named w k bio hand leg key (Split number kind sizes members) lt = absurd (omega (arith, lt))
 leg_named w k bio hand leg key (Mirrored number sizes members) lt = refl
@@ -100,7 +100,7 @@ module _ (scene : Scene) (s : State) (f : Fair scene) (i : Kept scene s) where
   counts (moves.Punts place x doing lists dev) c w k = same (moves.Punts place x doing lists dev) c w k refl refl
   counts (moves.Pops place dev bio bios) c w k =
       same (moves.Pops place dev bio bios) c w k refl
-      (omega (arith, first_weight (refs scene.setup w k) (blind_refs scene.setup w k) dev.0 scene.setup (bio ∷ []), sum_by-cons (names w k) bio []))
+      (omega (arith, first_weight (refs scene.setup w k) (blind_refs scene.setup w k) dev.0 scene.setup (bio ∷ []), sum_by-cons (names_node w k) bio []))
   counts (moves.Pushes place x bio lists) c w k =
       same (moves.Pushes place x bio lists) c w k refl (omega (arith, goes_weight (refs scene.setup w k) (blind_refs scene.setup w k) (limit_of x) scene.setup bio.bio.dev lists))
   counts (moves.Completed place disk index bio status new) c w k = same (moves.Completed place disk index bio status new) c w k refl refl
@@ -121,7 +121,7 @@ module _ (scene : Scene) (s : State) (f : Fair scene) (i : Kept scene s) where
         i.counts w k,
         delta scene (refs scene.setup w k) s (moves.Chained place x bio lists hand number kind sizes members key node) c,
         goes_weight (refs scene.setup w k) (blind_refs scene.setup w k) (limit_of x) scene.setup bio.bio.dev (cut_lists bio lists hand n key kind sizes members),
-        cut_weight (names w k) bio lists hand n key kind sizes members,
+        cut_weight (names_node w k) bio lists hand n key kind sizes members,
         chained count_of refl s.objects.book bio.bio.writer key bio.bio.node node (child_node node.write bio.bio.node) (raised node) w k 1 1 0 c.6 c.5 refl (omega arith),
       )
   -- links of masters
@@ -149,7 +149,7 @@ module _ (scene : Scene) (s : State) (f : Fair scene) (i : Kept scene s) where
         copies_weight (refs scene.setup w k) (blind_refs scene.setup w k) (limit_of x) scene.setup (submitted item lists) bio master (leg + 1),
         left_behind (one bio.writer w * one master k) (leg + 1) legs,
         ap (λ n. one bio.writer w * one master k * n) one_less,
-        sum_by_push (names w k) lists.list0 item,
+        sum_by_push (names_node w k) lists.list0 item,
         leg_named w k bio hand leg key (tree_at scene.setup bio.dev) lt,
         made count_of refl s.objects.book bio.writer key (leg_node node.write master) w k 1 c.5 refl,
       )

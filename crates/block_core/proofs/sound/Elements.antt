@@ -16,7 +16,7 @@ use Rattle.run_machine.specs.Scene.{Setup, Scene, tree_at}
 use Rattle.run_machine.specs.Lines.{Want, Takes, Punts, Links, ToPush, ToCut, ToRecord, ToMaster, Doing, Rests, Drives, Copies, Breaks, Line, rests, copies, first_length, landed, legs_of, leg_at}
 use Rattle.run_machine.specs.Tasks.{TaskState, Writer, Rescuer, Completer, Keeper, Todo, Taken, NoBio, HasBio, HasBoth, Carried, Empty, Brings, Carries, Fails}
 use Rattle.run_machine.specs.Runs.{State}
-use Rattle.block_core.specs.Weights.{Weight, Spot, Lined, Rescued, Pending, total, sum_at, weigh_option, want_weight, doing_weight, line_weight, taken_weight, carried_weight, task_weight, book_weight, elements, holding_elements, one}
+use Rattle.block_core.specs.Weights.{Weight, Spot, Lined, Rescued, Pending, total, sum_at, weigh_option, want_weight, doing_weight, line_weight, taken_weight, carried_weight, task_weight, book_weight, elements_of_pool, holding_elements, one}
 use Rattle.block_core.specs.Charges.{there}
 use Rattle.block_core.specs.Rooms.{to_open, todo_need, legs_need}
 use Rattle.block_core.proofs.moves.Moves.{Move, Can, after, lost, gained, limit_of, HasLine, Tells, taken_of, filled_of, cut_lists, piece}
@@ -173,13 +173,13 @@ module _ (scene : Scene) (s : State) (g : Ground scene.setup) (n : Needs scene.s
   few : (share : LedgerId) (q : ℕ) → one share.no q ≤ 1
   few share q = omega (arith, some_of share.no q 1)
 
-  want_few : (q : ℕ) (want : Want) → want_weight (elements q) want ≤ 1
+  want_few : (q : ℕ) (want : Want) → want_weight (elements_of_pool q) want ≤ 1
   want_few q (Takes waits) = omega arith
   want_few q Punts = omega arith
   want_few q (Links hand) = few hand.share q
 
   doing_out : (q limit : ℕ) (doing : Doing) (lists : TaskLists) → DoingFits scene.setup doing lists → DoingPlaced scene.setup limit doing lists
-      → doing_weight (elements q) limit doing ≤ doing_weight (worth scene.setup) limit doing
+      → doing_weight (elements_of_pool q) limit doing ≤ doing_weight (worth scene.setup) limit doing
   doing_out q limit Rests lists fit d = omega arith
   doing_out q limit (Breaks breach kept) lists fit d = omega arith
   doing_out q limit (Drives bio ToPush) lists fit d = omega (arith, few bio.share q)
@@ -195,10 +195,10 @@ module _ (scene : Scene) (s : State) (g : Ground scene.setup) (n : Needs scene.s
   doing_out q limit (Copies bio master leg Punts) lists fit d = omega arith
   doing_out q limit (Copies bio master leg (Links hand)) lists fit d = omega (arith, few hand.share q, fit, legs_few (tree_at scene.setup bio.dev) bio.range leg)
 
-  bios_out : (q : ℕ) (spot : Spot) (bios : List (Item Pad)) → sum_by ((elements q).bio spot) bios ≤ sum_by ((worth scene.setup).bio spot) bios
-  bios_out q spot bios = sum_by-le-sum_by ((elements q).bio spot) ((worth scene.setup).bio spot) bios (λ item. omega (arith, few item.share q))
+  bios_out : (q : ℕ) (spot : Spot) (bios : List (Item Pad)) → sum_by ((elements_of_pool q).bio spot) bios ≤ sum_by ((worth scene.setup).bio spot) bios
+  bios_out q spot bios = sum_by-le-sum_by ((elements_of_pool q).bio spot) ((worth scene.setup).bio spot) bios (λ item. omega (arith, few item.share q))
 
-  line_out : (q limit : ℕ) (line : Line) → LineFits scene.setup line → LinePlaced scene.setup limit line → line_weight (elements q) limit line ≤ line_weight (worth scene.setup) limit line
+  line_out : (q limit : ℕ) (line : Line) → LineFits scene.setup line → LinePlaced scene.setup limit line → line_weight (elements_of_pool q) limit line ≤ line_weight (worth scene.setup) limit line
   line_out q limit line fit d = omega (arith, doing_out q limit line.doing line.lists fit d, bios_out q (Lined limit) line.lists.list0, bios_out q (Lined limit) line.lists.list1)
 
   held_out : (q : ℕ) (held : Holding) → holding_elements q held ≤ held_count held
@@ -216,7 +216,7 @@ module _ (scene : Scene) (s : State) (g : Ground scene.setup) (n : Needs scene.s
       by_slip None = omega arith
       by_slip (Some slip) = few slip.share q
 
-  taken_out : (q : ℕ) (todos : List Todo) (taken : Taken) → taken_weight (elements q) taken ≤ writes_need scene.setup todos taken
+  taken_out : (q : ℕ) (todos : List Todo) (taken : Taken) → taken_weight (elements_of_pool q) taken ≤ writes_need scene.setup todos taken
   taken_out q todos NoBio = omega arith
   taken_out q [] (HasBio bio) = few bio.share q
   taken_out q (todo ∷ later) (HasBio bio) = omega (arith, few bio.share q)
@@ -228,7 +228,7 @@ module _ (scene : Scene) (s : State) (g : Ground scene.setup) (n : Needs scene.s
   hand_free (HasBio bio) = refl
   hand_free (HasBoth bio vector) = refl
 
-  task_out : (q place : ℕ) (x : TaskState) → TaskFits scene x → TaskPlaced scene.setup x → task_weight (elements q) place x ≤ task_weight (worth scene.setup) place x
+  task_out : (q place : ℕ) (x : TaskState) → TaskFits scene x → TaskPlaced scene.setup x → task_weight (elements_of_pool q) place x ≤ task_weight (worth scene.setup) place x
   task_out q place (Writer number todo taken line) fit t = omega (arith, taken_out q todo taken, hand_free taken, line_out q 32 line fit.1 t.1)
   task_out q place (Rescuer dev line) fit t = line_out q dev.0 line fit.1 t
   task_out q place (Completer disk Empty) fit t = omega arith
@@ -237,7 +237,7 @@ module _ (scene : Scene) (s : State) (g : Ground scene.setup) (n : Needs scene.s
   task_out q place (Completer disk (Fails breach kept)) fit t = omega arith
   task_out q place (Keeper keeping) fit t = omega arith
 
-  node_out : (q writer place : ℕ) (node : Option Node) → weigh_option ((elements q).node writer place) node ≤ weigh_option ((worth scene.setup).node writer place) node
+  node_out : (q writer place : ℕ) (node : Option Node) → weigh_option ((elements_of_pool q).node writer place) node ≤ weigh_option ((worth scene.setup).node writer place) node
   node_out q writer place None = omega arith
   node_out q writer place (Some node) = held_out q node.held
 
@@ -251,13 +251,13 @@ module _ (scene : Scene) (s : State) (g : Ground scene.setup) (n : Needs scene.s
       omega (
         arith,
         i.outs q,
-        sum_le (task_weight (elements q)) (task_weight (worth scene.setup)) scene.tasks s.task (λ place. task_out q place (s.task place) (i.tasks place) (a.tasks place)),
-        sum_le (λ dev bios. sum_by ((elements q).bio Rescued) bios) (λ dev bios. sum_by ((worth scene.setup).bio Rescued) bios) scene.setup.count s.objects.rescue
+        sum_le (task_weight (elements_of_pool q)) (task_weight (worth scene.setup)) scene.tasks s.task (λ place. task_out q place (s.task place) (i.tasks place) (a.tasks place)),
+        sum_le (λ dev bios. sum_by ((elements_of_pool q).bio Rescued) bios) (λ dev bios. sum_by ((worth scene.setup).bio Rescued) bios) scene.setup.count s.objects.rescue
             (λ dev. bios_out q Rescued (s.objects.rescue dev)),
-        sum_le (λ dev (disk : DiskState). sum_by ((elements q).bio Pending) disk.pending) (λ dev (disk : DiskState). sum_by ((worth scene.setup).bio Pending) disk.pending)
+        sum_le (λ dev (disk : DiskState). sum_by ((elements_of_pool q).bio Pending) disk.pending) (λ dev (disk : DiskState). sum_by ((worth scene.setup).bio Pending) disk.pending)
             scene.setup.count s.objects.disk (λ dev. bios_out q Pending (s.objects.disk dev).pending),
-        sum_le (book_weight (elements q)) (book_weight (worth scene.setup)) scene.books s.objects.book
-            (λ writer. sum_le (λ place. weigh_option ((elements q).node writer place)) (λ place. weigh_option ((worth scene.setup).node writer place))
+        sum_le (book_weight (elements_of_pool q)) (book_weight (worth scene.setup)) scene.books s.objects.book
+            (λ writer. sum_le (λ place. weigh_option ((elements_of_pool q).node writer place)) (λ place. weigh_option ((worth scene.setup).node writer place))
             (length (s.objects.book writer).nodes) (node_at (s.objects.book writer)) (λ place. node_out q writer place (node_at (s.objects.book writer) place))),
       )
 

@@ -16,7 +16,7 @@ use Rattle.run_machine.specs.Opened.{Scenario, scene, start, tasks as opened_tas
 use Rattle.run_machine.specs.Runs.{State, IsRun}
 use Rattle.block_core.specs.Weights.{Pending, Rescued, total, sum_at, task_weight, book_weight, count_of}
 use Rattle.block_core.specs.Scenarios.{IsScenario, IsNaming}
-use Rattle.block_core.specs.Breaks.{IsAllowed}
+use Rattle.block_core.specs.Breaks.{ElementsAreAllowed}
 use Rattle.block_core.specs.Few.{OutsAreFew, EndsAreFew, CountersAreSmall, NoCounterIsFull}
 use Rattle.block_core.proofs.sound.Facts.{Fair}
 use Rattle.block_core.proofs.sound.Orders.{Ground}
@@ -101,7 +101,7 @@ module _ (s : Scenario) (ledger : ℕ → LedgerId) (good : IsScenario s) (namin
       let count : count_of (node_at (state.objects.book writer) place) ≡ node.count = ap count_of at in
       omega (arith, count, ends_few (scene s ledger) state i.kept (run_roomy s ledger good naming events state run) writer place)
 
-  counters : IsAllowed s → CountersAreSmall state
+  counters : ElementsAreAllowed s → CountersAreSmall state
   counters allowed = record {
     outs = λ number. omega (arith, outs number, allowed);
     ends = λ writer place node at. omega (arith, ends writer place node at, small s ledger good allowed naming writer);

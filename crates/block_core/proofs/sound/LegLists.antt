@@ -18,7 +18,7 @@ use Rattle.run_machine.specs.Scene.{Setup, Scene, tree_at}
 use Rattle.run_machine.specs.Lines.{Want, Takes, Punts as WantsPunt, Links, ToPush, ToCut, ToRecord, ToMaster, Doing, Rests, Drives, Copies, Breaks, Line, settled, goes_on, copies, asks_at, first_waits, first_length, landed, legs_of, leg_at, is_of, not_punted}
 use Rattle.run_machine.specs.Tasks.{TaskState, Writer, Rescuer, Completer, Keeper}
 use Rattle.run_machine.specs.Runs.{State}
-use Rattle.block_core.specs.Weights.{Lined, total, refs, names, count_of}
+use Rattle.block_core.specs.Weights.{Lined, total, refs, names_node, count_of}
 use Rattle.block_core.specs.Orders.{IsLegOf}
 use Rattle.block_core.proofs.moves.Moves.{Move, place_of, Can, after, limit_of, with_line, HasLine, Wants, with_want, taken_of, filled_of, vector_of, cut_lists, Tells, piece}
 use Rattle.block_core.proofs.moves.Moves as moves
@@ -194,7 +194,7 @@ module _ (scene : Scene) (s : State) (i : Kept scene s) (p : Placed scene.setup 
   new = after scene s m
 
   -- a leg that a bio in a task's list 0 names is open behind the event too
-  leg_stays : (writer master : ℕ) (item : Item Pad) → names item.bio.writer item.bio.node item ≤ total scene (refs scene.setup item.bio.writer item.bio.node) new
+  leg_stays : (writer master : ℕ) (item : Item Pad) → names_node item.bio.writer item.bio.node item ≤ total scene (refs scene.setup item.bio.writer item.bio.node) new
       → IsLegOf s writer master item → IsLegOf new writer master item
   leg_stays writer master item part (of, (node, at, role)) =
       let here : node_at (s.objects.book item.bio.writer) item.bio.node ≡ Some node = subst (λ w. node_at (s.objects.book w) item.bio.node ≡ Some node) (sym of) at in
@@ -207,7 +207,7 @@ module _ (scene : Scene) (s : State) (i : Kept scene s) (p : Placed scene.setup 
       ]
 
   legs_stay : (writer master : ℕ) (items : List (Item Pad))
-      → ((item : Item Pad) → ((g : Item Pad → ℕ) → g item ≤ sum_by g items) → names item.bio.writer item.bio.node item ≤ total scene (refs scene.setup item.bio.writer item.bio.node) new)
+      → ((item : Item Pad) → ((g : Item Pad → ℕ) → g item ≤ sum_by g items) → names_node item.bio.writer item.bio.node item ≤ total scene (refs scene.setup item.bio.writer item.bio.node) new)
       → Each (IsLegOf s writer master) items → Each (IsLegOf new writer master) items
   legs_stay writer master [] part legs = tt
   legs_stay writer master (item ∷ items) part legs = (

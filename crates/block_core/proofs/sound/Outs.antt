@@ -10,7 +10,7 @@ use Rattle.bio_lists.specs.Submission.{submitted}
 use Rattle.run_machine.specs.Scene.{Scene, tree_at}
 use Rattle.run_machine.specs.Lines.{ToMaster, Drives, first_length, legs_of, leg_at}
 use Rattle.run_machine.specs.Runs.{State}
-use Rattle.block_core.specs.Weights.{total, one, weigh_option, elements, holding_elements}
+use Rattle.block_core.specs.Weights.{total, one, weigh_option, elements_of_pool, holding_elements}
 use Rattle.block_core.proofs.moves.Moves.{Move, IsTaking, place_of, Can, after, lost, gained, limit_of, with_line, HasLine, Wants, with_want, taken_of, filled_of, vector_of, cut_lists, IsTake, Tells, Hands, piece, with_pool, with_book}
 use Rattle.block_core.proofs.moves.Moves as moves
 use Rattle.block_core.proofs.moves.Sums.{weight-upd}
@@ -21,44 +21,44 @@ use Rattle.block_core.proofs.sound.Facts.{Fair, Kept}
 use Rattle.block_core.proofs.sound.Places.{out_more, out_same, out_less, cut_weight, blind_elements, begun_elements, hands_elements, copies_weight, unless_none, line_part, named_away, told_elements, is_away}
 
 module _ (scene : Scene) (s : State) (f : Fair scene) (i : Kept scene s) where
-  pub outs : (m : Move) → Can scene s m → (q : ℕ) → ((after scene s m).objects.pool q).facts.out ≡ total scene (elements q) (after scene s m)
+  pub outs : (m : Move) → Can scene s m → (q : ℕ) → ((after scene s m).objects.pool q).facts.out ≡ total scene (elements_of_pool q) (after scene s m)
   -- takes
   outs (moves.TakesFirst place writer todo later move) c q =
-      omega (arith, i.outs q, delta scene (elements q) s (moves.TakesFirst place writer todo later move) c, out_more s.objects.pool 65 move q c.2, ap (λ n. one n q) (f.named 65))
+      omega (arith, i.outs q, delta scene (elements_of_pool q) s (moves.TakesFirst place writer todo later move) c, out_more s.objects.pool 65 move q c.2, ap (λ n. one n q) (f.named 65))
   outs (moves.TakesVector place writer todo later item move) c q =
-      omega (arith, i.outs q, delta scene (elements q) s (moves.TakesVector place writer todo later item move) c, out_more s.objects.pool 64 move q c.2, ap (λ n. one n q) (f.named 64))
+      omega (arith, i.outs q, delta scene (elements_of_pool q) s (moves.TakesVector place writer todo later item move) c, out_more s.objects.pool 64 move q c.2, ap (λ n. one n q) (f.named 64))
   outs (moves.TakesSub place x doing lists dev waits move) c q =
-      omega (arith, i.outs q, delta scene (elements q) s (moves.TakesSub place x doing lists dev waits move) c, out_more s.objects.pool (2 * dev.0) move q c.4, ap (λ n. one n q) (f.named (2 * dev.0)))
+      omega (arith, i.outs q, delta scene (elements_of_pool q) s (moves.TakesSub place x doing lists dev waits move) c, out_more s.objects.pool (2 * dev.0) move q c.4, ap (λ n. one n q) (f.named (2 * dev.0)))
   outs (moves.TakesSlip place x bio lists move) c q =
       omega (
         arith,
         i.outs q,
-        delta scene (elements q) s (moves.TakesSlip place x bio lists move) c,
+        delta scene (elements_of_pool q) s (moves.TakesSlip place x bio lists move) c,
         out_more s.objects.pool (2 * bio.bio.dev.0 + 1) move q c.3,
         ap (λ n. one n q) (f.named (2 * bio.bio.dev.0 + 1)),
       )
   -- misses and punts
   outs (moves.MissesOne place x number used) c q =
-      omega (arith, i.outs q, delta scene (elements q) s (moves.MissesOne place x number used) c, out_same s.objects.pool number used q)
+      omega (arith, i.outs q, delta scene (elements_of_pool q) s (moves.MissesOne place x number used) c, out_same s.objects.pool number used q)
   outs (moves.MissesTry place x doing lists dev used) c q =
-      omega (arith, i.outs q, delta scene (elements q) s (moves.MissesTry place x doing lists dev used) c, out_same s.objects.pool (2 * dev.0) used q)
-  outs (moves.Punts place x doing lists dev) c q = omega (arith, i.outs q, delta scene (elements q) s (moves.Punts place x doing lists dev) c)
+      omega (arith, i.outs q, delta scene (elements_of_pool q) s (moves.MissesTry place x doing lists dev used) c, out_same s.objects.pool (2 * dev.0) used q)
+  outs (moves.Punts place x doing lists dev) c q = omega (arith, i.outs q, delta scene (elements_of_pool q) s (moves.Punts place x doing lists dev) c)
   -- pops
   outs (moves.Pops place dev bio bios) c q =
       omega (
         arith,
         i.outs q,
-        delta scene (elements q) s (moves.Pops place dev bio bios) c,
-        first_weight (elements q) (blind_elements q) dev.0 scene.setup (bio ∷ []),
+        delta scene (elements_of_pool q) s (moves.Pops place dev bio bios) c,
+        first_weight (elements_of_pool q) (blind_elements q) dev.0 scene.setup (bio ∷ []),
         sum_by-cons (λ (bio : Item Pad). one bio.share.no q) bio [],
       )
   -- pushes, completions and links of writes
   outs (moves.Pushes place x bio lists) c q =
-      omega (arith, i.outs q, delta scene (elements q) s (moves.Pushes place x bio lists) c, goes_weight (elements q) (blind_elements q) (limit_of x) scene.setup bio.bio.dev lists)
+      omega (arith, i.outs q, delta scene (elements_of_pool q) s (moves.Pushes place x bio lists) c, goes_weight (elements_of_pool q) (blind_elements q) (limit_of x) scene.setup bio.bio.dev lists)
   outs (moves.Completed place disk index bio status new) c q =
-      omega (arith, i.outs q, delta scene (elements q) s (moves.Completed place disk index bio status new) c)
+      omega (arith, i.outs q, delta scene (elements_of_pool q) s (moves.Completed place disk index bio status new) c)
   outs (moves.Begins place writer todo later item vector key) c q =
-      omega (arith, i.outs q, delta scene (elements q) s (moves.Begins place writer todo later item vector key) c, begun_elements scene q writer todo later item vector key)
+      omega (arith, i.outs q, delta scene (elements_of_pool q) s (moves.Begins place writer todo later item vector key) c, begun_elements scene q writer todo later item vector key)
   -- links of pieces
   outs (moves.Chained place x bio lists hand number kind sizes members key node) c q =
       let g : Item Pad → ℕ = λ bio. one bio.share.no q in
@@ -66,8 +66,8 @@ module _ (scene : Scene) (s : State) (f : Fair scene) (i : Kept scene s) where
       omega (
         arith,
         i.outs q,
-        delta scene (elements q) s (moves.Chained place x bio lists hand number kind sizes members key node) c,
-        goes_weight (elements q) (blind_elements q) (limit_of x) scene.setup bio.bio.dev (cut_lists bio lists hand n key kind sizes members),
+        delta scene (elements_of_pool q) s (moves.Chained place x bio lists hand number kind sizes members key node) c,
+        goes_weight (elements_of_pool q) (blind_elements q) (limit_of x) scene.setup bio.bio.dev (cut_lists bio lists hand n key kind sizes members),
         cut_weight g bio lists hand n key kind sizes members,
       )
   -- links of masters
@@ -79,9 +79,9 @@ module _ (scene : Scene) (s : State) (f : Fair scene) (i : Kept scene s) where
       omega (
         arith,
         i.outs q,
-        delta scene (elements q) s (moves.Mastered place x bio lists slip key node) c,
+        delta scene (elements_of_pool q) s (moves.Mastered place x bio lists slip key node) c,
         held,
-        copies_weight (elements q) (blind_elements q) (limit_of x) scene.setup lists bio.bio key 0,
+        copies_weight (elements_of_pool q) (blind_elements q) (limit_of x) scene.setup lists bio.bio key 0,
         unless_none (0 == legs_of (tree_at scene.setup bio.bio.dev)),
       )
   -- links of legs
@@ -91,8 +91,8 @@ module _ (scene : Scene) (s : State) (f : Fair scene) (i : Kept scene s) where
       omega (
         arith,
         i.outs q,
-        delta scene (elements q) s (moves.Legged place x bio lists master leg hand key node) c,
-        copies_weight (elements q) (blind_elements q) (limit_of x) scene.setup (submitted item lists) bio master (leg + 1),
+        delta scene (elements_of_pool q) s (moves.Legged place x bio lists master leg hand key node) c,
+        copies_weight (elements_of_pool q) (blind_elements q) (limit_of x) scene.setup (submitted item lists) bio master (leg + 1),
         unless_none (leg + 1 == legs_of (tree_at scene.setup bio.dev)),
         sum_by_push g lists.list0 item,
         same_share (tree_at scene.setup bio.dev),
@@ -107,7 +107,7 @@ module _ (scene : Scene) (s : State) (f : Fair scene) (i : Kept scene s) where
       omega (
         arith,
         i.outs q,
-        delta scene (elements q) s (moves.Told place disk carried writer key status part node) c,
+        delta scene (elements_of_pool q) s (moves.Told place disk carried writer key status part node) c,
         told_elements q writer key status part carried node c.2 (λ bio ending is. (is_away scene s place disk carried writer key status part node i c.0 c.1 c.2 c.4 bio ending is).0),
       )
   -- drops that close a node
@@ -115,21 +115,21 @@ module _ (scene : Scene) (s : State) (f : Fair scene) (i : Kept scene s) where
       omega (
         arith,
         i.outs q,
-        delta scene (elements q) s (moves.Closes place disk carried writer key status part node) c,
+        delta scene (elements_of_pool q) s (moves.Closes place disk carried writer key status part node) c,
         told_elements q writer key status part carried node c.2 (λ bio ending is. (is_away scene s place disk carried writer key status part node i c.0 c.1 c.2 c.4 bio ending is).0),
       )
   -- gives and ends of writes
   outs (moves.Gives place disk writer number closed held) c q =
-      omega (arith, i.outs q, delta scene (elements q) s (moves.Gives place disk writer number closed held) c, hands_elements q number closed.held held c.2, out_less s.objects.pool number q c.3)
+      omega (arith, i.outs q, delta scene (elements_of_pool q) s (moves.Gives place disk writer number closed held) c, hands_elements q number closed.held held c.2, out_less s.objects.pool number q c.3)
   outs (moves.Ends place disk writer closed) c q =
-      omega (arith, i.outs q, delta scene (elements q) s (moves.Ends place disk writer closed) c, ap (holding_elements q) c.2)
+      omega (arith, i.outs q, delta scene (elements_of_pool q) s (moves.Ends place disk writer closed) c, ap (holding_elements q) c.2)
   -- resizes
   outs (moves.Resized place pool min later duties) c q =
       omega (
         arith,
         i.outs q,
-        delta scene (elements q) s (moves.Resized place pool min later duties) c,
+        delta scene (elements_of_pool q) s (moves.Resized place pool min later duties) c,
         weight-upd (λ (y : PoolState). y.facts.out) s.objects.pool (pool_number pool) (after_move (s.objects.pool (pool_number pool)) (resizes min)) q,
       )
   -- rounds
-  outs (moves.Started place round later duties) c q = omega (arith, i.outs q, delta scene (elements q) s (moves.Started place round later duties) c)
+  outs (moves.Started place round later duties) c q = omega (arith, i.outs q, delta scene (elements_of_pool q) s (moves.Started place round later duties) c)

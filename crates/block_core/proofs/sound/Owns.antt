@@ -14,7 +14,7 @@ use Rattle.run_machine.specs.Scene.{Setup, Scene, tree_at}
 use Rattle.run_machine.specs.Lines.{Want, Takes, Punts as WantsPunt, Links, ToPush, ToCut, ToRecord, ToMaster, Doing, Rests, Drives, Copies, Breaks, rests, settled, first_length, legs_of, leg_at}
 use Rattle.run_machine.specs.Tasks.{TaskState, Writer, Rescuer, Completer, Keeper, Todo, Taken, NoBio, HasBio, HasBoth, Carried, Empty, Brings, Carries, Fails}
 use Rattle.run_machine.specs.Runs.{State}
-use Rattle.block_core.specs.Weights.{total, sum_at, one, weigh_option, want_weight, doing_weight, task_weight, line_weight, taken_weight, carried_weight, book_weight, refs, names, count_of}
+use Rattle.block_core.specs.Weights.{total, sum_at, one, weigh_option, want_weight, doing_weight, task_weight, line_weight, taken_weight, carried_weight, book_weight, refs, names_node, count_of}
 use Rattle.block_core.proofs.moves.Moves.{Move, IsTaking, place_of, Can, after, lost, gained, limit_of, with_line, HasLine, Wants, with_want, taken_of, filled_of, vector_of, cut_lists, IsTake, Tells, Hands, piece, with_pool, with_book}
 use Rattle.block_core.proofs.moves.Moves as moves
 use Rattle.block_core.proofs.moves.Sums.{one-same}
@@ -82,9 +82,9 @@ begun_named : (setup : Setup) (w k writer : ℕ) (todo : Todo) (later : List Tod
     → line_weight (named w k) 32 (settled setup (filled_of writer todo item vector key ∷ []))
     ≡ task_weight (named w k) 0 (Writer writer (todo ∷ later) (taken_of item vector) rests) + one writer w * one key k
 begun_named setup w k writer todo later item None key =
-    omega (arith, first_weight (named w k) (blind_named w k) 32 setup (filled_of writer todo item None key ∷ []), begun_names (names w k) w k refl writer todo item None key)
+    omega (arith, first_weight (named w k) (blind_named w k) 32 setup (filled_of writer todo item None key ∷ []), begun_names (names_node w k) w k refl writer todo item None key)
 begun_named setup w k writer todo later item (Some vector) key =
-    omega (arith, first_weight (named w k) (blind_named w k) 32 setup (filled_of writer todo item (Some vector) key ∷ []), begun_names (names w k) w k refl writer todo item (Some vector) key)
+    omega (arith, first_weight (named w k) (blind_named w k) 32 setup (filled_of writer todo item (Some vector) key ∷ []), begun_names (names_node w k) w k refl writer todo item (Some vector) key)
 
 abbrev pub brought : Carried → ℕ
 brought Empty = 0
@@ -157,7 +157,7 @@ module _ (scene : Scene) (s : State) (f : Fair scene) (i : Kept scene s) where
   owns (moves.MissesTry place x doing lists dev used) c w k = same (moves.MissesTry place x doing lists dev used) c w k refl refl
   owns (moves.Punts place x doing lists dev) c w k = same (moves.Punts place x doing lists dev) c w k refl refl
   owns (moves.Pops place dev bio bios) c w k =
-      same (moves.Pops place dev bio bios) c w k refl (omega (arith, first_weight (named w k) (blind_named w k) dev.0 scene.setup (bio ∷ []), sum_by-cons (names w k) bio []))
+      same (moves.Pops place dev bio bios) c w k refl (omega (arith, first_weight (named w k) (blind_named w k) dev.0 scene.setup (bio ∷ []), sum_by-cons (names_node w k) bio []))
   owns (moves.Pushes place x bio lists) c w k =
       same (moves.Pushes place x bio lists) c w k refl (omega (arith, goes_weight (named w k) (blind_named w k) (limit_of x) scene.setup bio.bio.dev lists))
   owns (moves.Completed place disk index bio status new) c w k = same (moves.Completed place disk index bio status new) c w k refl refl
@@ -178,7 +178,7 @@ module _ (scene : Scene) (s : State) (f : Fair scene) (i : Kept scene s) where
         i.owns w k,
         delta scene (named w k) s (moves.Chained place x bio lists hand number kind sizes members key node) c,
         goes_weight (named w k) (blind_named w k) (limit_of x) scene.setup bio.bio.dev (cut_lists bio lists hand n key kind sizes members),
-        cut_weight (names w k) bio lists hand n key kind sizes members,
+        cut_weight (names_node w k) bio lists hand n key kind sizes members,
         chained own_of refl s.objects.book bio.bio.writer key bio.bio.node node (child_node node.write bio.bio.node) (raised node) w k 1 0 0 c.6 c.5 refl refl,
       )
   -- links of masters
@@ -207,7 +207,7 @@ module _ (scene : Scene) (s : State) (f : Fair scene) (i : Kept scene s) where
         delta scene (named w k) s (moves.Legged place x bio lists master leg hand key node) c,
         copies_weight (named w k) (blind_named w k) (limit_of x) scene.setup (submitted item lists) bio master (leg + 1),
         unless_none (leg + 1 == legs),
-        sum_by_push (names w k) lists.list0 item,
+        sum_by_push (names_node w k) lists.list0 item,
         leg_named w k bio hand leg key (tree_at scene.setup bio.dev) lt,
         made own_of refl s.objects.book bio.writer key (leg_node node.write master) w k 1 c.5 refl,
       )

@@ -20,7 +20,7 @@ use Rattle.run_machine.specs.Scene.{Setup, Scene, tree_at}
 use Rattle.run_machine.specs.Lines.{Takes, Doing, Copies, rests, settled, goes_on, copies, first_waits, legs_of}
 use Rattle.run_machine.specs.Tasks.{TaskState, Writer, Rescuer, Completer, Keeper, Todo, Carried, Empty, Brings, Carries, Fails}
 use Rattle.run_machine.specs.Runs.{State}
-use Rattle.block_core.specs.Weights.{Weight, Lined, total, sum_at, one, doing_weight, task_weight, line_weight, carried_weight, elements, holding_elements, names}
+use Rattle.block_core.specs.Weights.{Weight, Lined, total, sum_at, one, doing_weight, task_weight, line_weight, carried_weight, elements_of_pool, holding_elements, names_node}
 use Rattle.block_core.proofs.moves.Moves.{limit_of, HasLine, taken_of, filled_of, vector_of, cut_lists, IsTake, Tells, Hands, piece}
 use Rattle.block_core.proofs.moves.Sums.{weight-upd, one-same, same_or_not}
 use Rattle.block_core.proofs.moves.Listed.{IsBlind, goes_weight, first_weight}
@@ -63,16 +63,16 @@ cut_weight g bio lists hand n key kind sizes members =
     omega (arith, sum_by_push g lists.list0 child, sum_by_push g (lists.list0 ++ child ∷ []) (split_rest bio n))
 
 -- the place of an element does not matter to its pool
-pub blind_elements : (q : ℕ) → IsBlind (elements q)
+pub blind_elements : (q : ℕ) → IsBlind (elements_of_pool q)
 blind_elements q limit item t = refl
 
 pub begun_elements : (scene : Scene) (q writer : ℕ) (todo : Todo) (later : List Todo) (item : Item Pad) (vector : Option VectorItem) (key : ℕ)
-    → line_weight (elements q) 32 (settled scene.setup (filled_of writer todo item vector key ∷ [])) + (elements q).node writer key (top_node todo.number (vector_of todo vector))
-    ≡ task_weight (elements q) 0 (Writer writer (todo ∷ later) (taken_of item vector) rests)
+    → line_weight (elements_of_pool q) 32 (settled scene.setup (filled_of writer todo item vector key ∷ [])) + (elements_of_pool q).node writer key (top_node todo.number (vector_of todo vector))
+    ≡ task_weight (elements_of_pool q) 0 (Writer writer (todo ∷ later) (taken_of item vector) rests)
 begun_elements scene q writer todo later item None key =
-    omega (arith, first_weight (elements q) (blind_elements q) 32 scene.setup (filled_of writer todo item None key ∷ []), sum_by-cons (λ (bio : Item Pad). one bio.share.no q) (filled_of writer todo item None key) [])
+    omega (arith, first_weight (elements_of_pool q) (blind_elements q) 32 scene.setup (filled_of writer todo item None key ∷ []), sum_by-cons (λ (bio : Item Pad). one bio.share.no q) (filled_of writer todo item None key) [])
 begun_elements scene q writer todo later item (Some vector) key =
-    omega (arith, first_weight (elements q) (blind_elements q) 32 scene.setup (filled_of writer todo item (Some vector) key ∷ []), sum_by-cons (λ (bio : Item Pad). one bio.share.no q) (filled_of writer todo item (Some vector) key) [])
+    omega (arith, first_weight (elements_of_pool q) (blind_elements q) 32 scene.setup (filled_of writer todo item (Some vector) key ∷ []), sum_by-cons (λ (bio : Item Pad). one bio.share.no q) (filled_of writer todo item (Some vector) key) [])
 
 pub hands_elements : (q number : ℕ) (old new : Holding) → Hands old number new → holding_elements q new + one number q ≡ holding_elements q old
 hands_elements q number old new (inl h) = rw (h.3, h.1, h.2) (omega arith)
@@ -120,9 +120,9 @@ line_part scene w s place x doing lists lt is h =
 
 -- A bio that a task's driver has names a node whose own part is away, and which is no master.
 pub named_away : (scene : Scene) (s : State) (bio : Item Pad) (node : Node) → Kept scene s → node_at (s.objects.book bio.bio.writer) bio.bio.node ≡ Some node
-    → names bio.bio.writer bio.bio.node bio ≤ total scene (named bio.bio.writer bio.bio.node) s → (node.held.bio ≡ None) × (own_part node.role None ≡ 1)
+    → names_node bio.bio.writer bio.bio.node bio ≤ total scene (named bio.bio.writer bio.bio.node) s → (node.held.bio ≡ None) × (own_part node.role None ≡ 1)
 named_away scene s bio node i at part =
-    let a : names bio.bio.writer bio.bio.node bio ≡ 1 = rw (one-same bio.bio.writer, one-same bio.bio.node) refl in
+    let a : names_node bio.bio.writer bio.bio.node bio ≡ 1 = rw (one-same bio.bio.writer, one-same bio.bio.node) refl in
     let o = i.owns bio.bio.writer bio.bio.node in
     let q : own_of (node_at (s.objects.book bio.bio.writer) bio.bio.node) ≡ own_part node.role node.held.bio = ap own_of at in
     by_part node.role node.held.bio (omega (arith, a, o, q, part))
@@ -143,14 +143,14 @@ pub brought_away : (scene : Scene) (s : State) (place : ℕ) (disk : DevId) (bio
     → (node.held.bio ≡ None) × (own_part node.role None ≡ 1)
 brought_away scene s place disk bio status node i lt is at =
     let w = named bio.bio.writer bio.bio.node in
-    let a : task_weight w place (s.task place) ≡ names bio.bio.writer bio.bio.node bio = ap (task_weight w place) is in
+    let a : task_weight w place (s.task place) ≡ names_node bio.bio.writer bio.bio.node bio = ap (task_weight w place) is in
     let b = sum_at-ge (task_weight w) scene.tasks s.task place lt in
     named_away scene s bio node i at (omega arith)
 
 -- what a node holds once it was told
 pub told_elements : (q writer key : ℕ) (status : Status) (part : Option (Item Pad)) (carried : Carried) (node : Node) → Tells carried writer key status part
     → ((bio : Item Pad) (ending : Status) → carried ≡ Brings bio ending → node.held.bio ≡ None)
-    → holding_elements q (told node status part).held ≡ holding_elements q node.held + carried_weight (elements q) 0 carried
+    → holding_elements q (told node status part).held ≡ holding_elements q node.held + carried_weight (elements_of_pool q) 0 carried
 told_elements q writer key status part (Brings bio ending) node t none =
     let a : node.held.bio ≡ None = none bio ending refl in rw (a, t.3) (omega arith)
 told_elements q writer key status part (Carries of closed) node t none = rw (t.3, t.4) (omega arith)

@@ -33,11 +33,11 @@ use Rattle.block_core.proofs.stuck.Rescuers.{are_rescued, opened_waits}
 use Rattle.block_core.proofs.sound.OffLevels.{off_levels, AreLeveled}
 use Rattle.block_core.proofs.sound.LevelsKept.{stays_leveled}
 use Rattle.block_core.specs.Places.{HasPlaces}
-use Rattle.block_core.specs.Rounds.{IsTallied}
+use Rattle.block_core.specs.Rounds.{RoundsAreTallied}
 use Rattle.block_core.proofs.unrefused.BioNeeds.{Worth, worth}
 use Rattle.block_core.proofs.unrefused.BookRoom.{stays_roomy}
 use Rattle.block_core.proofs.start.RoomAtStart.{start_roomy}
-use Rattle.block_core.specs.Scenarios.{HasReserves, AreInOrder}
+use Rattle.block_core.specs.Scenarios.{EveryPoolKeepsSome, AreInOrder}
 use Rattle.block_core.specs.Stuck.{NoStateIsStuck}
 use Rattle.std.proofs.lemmas.List.FromFn.{length-map-range_with_len}
 use Rattle.run_machine.specs.declared.event.TaskId.{TaskId}
@@ -186,7 +186,7 @@ module _ (s : Scenario) (ledger : ℕ → LedgerId) (good : IsScenario s) (namin
   start_leveled = (λ writer place. 0, total_zero (scene s ledger) (start s) (off_levels (λ writer place. 0)) (λ n todos. refl) (start_opened s good ledger))
 
   -- the tally is right
-  pub run_tallied : (events : List Event) (state : State) → IsRun (scene s ledger) (start s) events state → IsTallied s.rounds (scene s ledger) state
+  pub run_tallied : (events : List Event) (state : State) → IsRun (scene s ledger) (start s) events state → RoundsAreTallied s.rounds (scene s ledger) state
   run_tallied events state run =
       let g = ground s.stack good.stack (setup_in s).places in
       let t = runs_tallied (scene s ledger) fair g s.rounds (keeper_place s good ledger) (start s) events state start_whole (start_tallied s good ledger) run in
@@ -200,7 +200,7 @@ module _ (s : Scenario) (ledger : ℕ → LedgerId) (good : IsScenario s) (namin
       (runs_waiting (scene s ledger) fair g (are_rescued s.stack good.stack (setup_in s).places rescuers) (start s) events state start_whole
       (opened_waits (scene s ledger) (start s) (start_opened s good ledger)) run)
 
-  pub run_goes_by : HasRescuers s.stack → HasReserves s → AreInOrder s.rounds → (events : List Event) (state : State) → IsRun (scene s ledger) (start s) events state → HasNumbers state
+  pub run_goes_by : HasRescuers s.stack → EveryPoolKeepsSome s → AreInOrder s.rounds → (events : List Event) (state : State) → IsRun (scene s ledger) (start s) events state → HasNumbers state
       → HasFree (scene s ledger) state ⊎ HasEnded state
   run_goes_by rescuers reserves ordered events state run numbers =
       let places = (setup_in s).places in
@@ -221,7 +221,7 @@ module _ (s : Scenario) (ledger : ℕ → LedgerId) (good : IsScenario s) (namin
       goes_on_or_ended sc state l.0 known ids keeper p (start_crew s good ledger reserves ordered) s.rounds t none fair (worth s.stack good.stack places) r numbers
 
   -- a run that has ended has no unfinished write
-  pub run_free_by : HasRescuers s.stack → HasReserves s → AreInOrder s.rounds → (events : List Event) (state : State) → IsRun (scene s ledger) (start s) events state → HasNumbers state → 1 ≤ unfinished state
+  pub run_free_by : HasRescuers s.stack → EveryPoolKeepsSome s → AreInOrder s.rounds → (events : List Event) (state : State) → IsRun (scene s ledger) (start s) events state → HasNumbers state → 1 ≤ unfinished state
       → HasFree (scene s ledger) state
   run_free_by rescuers reserves ordered events state run numbers some =
       elim (run_goes_by rescuers reserves ordered events state run numbers) [
@@ -229,7 +229,7 @@ module _ (s : Scenario) (ledger : ℕ → LedgerId) (good : IsScenario s) (namin
         | inr ended ↦ let none = ended.writes in absurd (omega (arith, some, none))
       ]
 
-  run_free : HasRescuers s.stack → HasReserves s → AreInOrder s.rounds → (events : List Event) (state : State) → IsRun (scene s ledger) (start s) events state → length events + 9 < 2 ^ 64 → 1 ≤ unfinished state
+  run_free : HasRescuers s.stack → EveryPoolKeepsSome s → AreInOrder s.rounds → (events : List Event) (state : State) → IsRun (scene s ledger) (start s) events state → length events + 9 < 2 ^ 64 → 1 ≤ unfinished state
       → HasFree (scene s ledger) state
   run_free rescuers reserves ordered events state run few some =
       let sc = scene s ledger in

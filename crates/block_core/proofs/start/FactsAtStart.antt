@@ -10,7 +10,7 @@ use Rattle.run_machine.specs.Scene.{Scene}
 use Rattle.run_machine.specs.Lines.{rests}
 use Rattle.run_machine.specs.Tasks.{TaskState, Writer, Rescuer, Completer, Keeper, Keeps, Duty, Todo, NoBio, Empty}
 use Rattle.run_machine.specs.Runs.{State}
-use Rattle.block_core.specs.Weights.{Weight, Pending, Rescued, total, sum_at, weigh_option, task_weight, book_weight, elements, refs, count_of}
+use Rattle.block_core.specs.Weights.{Weight, Pending, Rescued, total, sum_at, weigh_option, task_weight, book_weight, elements_of_pool, refs, count_of}
 use Rattle.block_core.specs.Roles.{named}
 use Rattle.block_core.proofs.sound.Facts.{own_of, GoesOn, TaskFits, IsIn, Kept}
 use Rattle.std.specs.Prelude.{All, replicate, zip}
@@ -93,7 +93,7 @@ begins_in scene (Keeper keeping) h = tt
 pub opened_kept : (scene : Scene) (s : State) → IsOpened scene s → Kept scene s
 opened_kept scene s o = record {
   pools = o.add_up;
-  outs = λ p. o.pools p ∙ sym (total_zero scene s (elements p) (λ n todos. refl) o);
+  outs = λ p. o.pools p ∙ sym (total_zero scene s (elements_of_pool p) (λ n todos. refl) o);
   counts = λ w k. ap count_of (o.books w k) ∙ sym (total_zero scene s (refs scene.setup w k) (λ n todos. refl) o);
   owns = λ w k. ap own_of (o.books w k) ∙ sym (total_zero scene s (named w k) (λ n todos. refl) o);
   inside = o.inside;

@@ -10,7 +10,7 @@ use Rattle.run_machine.specs.Lines.{rests}
 use Rattle.run_machine.specs.Tasks.{TaskState, Writer, Duty, NoBio}
 use Rattle.run_machine.specs.Opened.{Scenario, scene, start, tasks as opened_tasks, todos, todos_of, is_by, writers, duties, keepers, places_of, setup as setup_in}
 use Rattle.block_core.specs.Weights.{Pending, Rescued, total, sum_at, one, task_weight, book_weight}
-use Rattle.block_core.specs.Rooms.{todo_need, room, HasRoom}
+use Rattle.block_core.specs.Rooms.{todo_need, room, HasRoomInBooks}
 use Rattle.block_core.specs.Scenarios.{IsScenario}
 use Rattle.block_core.proofs.moves.Sums.{same_or_not, one-same, one-other}
 use Rattle.block_core.proofs.start.FactsAtStart.{start_opened, nodes_zero, sum_at-zero}
@@ -67,7 +67,7 @@ module _ (s : Scenario) (good : IsScenario s) (ledger : ℕ → LedgerId) where
         sum_at-zero (book_weight r) (scene s ledger).books (start s).objects.book (λ writer. nodes_zero r writer ((start s).objects.book writer) (o.books writer)),
       )
 
-  pub start_roomy : HasRoom (scene s ledger) (start s)
+  pub start_roomy : HasRoomInBooks (scene s ledger) (start s)
   start_roomy = record {
     places = λ w. length-replicate {A = Option Node} (places_of s w) None;
     room = total_room;

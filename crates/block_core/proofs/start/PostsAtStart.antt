@@ -28,7 +28,7 @@ use Rattle.std.specs.Option.{option_map_or}
 use Rattle.std.proofs.lemmas.Bool.Decides.{nat_tests}
 use Rattle.stack_base.specs.Tree.{Cuts}
 use Rattle.run_machine.proofs.Frames.{pools_are_numbered}
-use Rattle.block_core.specs.Scenarios.{IsScenario, AreInOrder, KeepsSome, HasReserves}
+use Rattle.block_core.specs.Scenarios.{IsScenario, AreInOrder, KeepsSome, EveryPoolKeepsSome}
 use Rattle.block_core.proofs.stuck.NothingWaits.{IsPool}
 use Rattle.block_core.proofs.moves.Geometry.{at_device}
 use Rattle.block_core.proofs.sound.Posts.{ByRounds, Mins, starts, Manned, Posted}
@@ -131,7 +131,7 @@ keepers_id : (ds : List Duty) → id_of (get_or (keepers ds) 0 no_task) ≡ id.K
 keepers_id [] = refl
 keepers_id (duty ∷ ds) = refl
 
-module _ (s : Scenario) (good : IsScenario s) (ledger : ℕ → LedgerId) (reserves : HasReserves s) (ordered : AreInOrder s.rounds) where
+module _ (s : Scenario) (good : IsScenario s) (ledger : ℕ → LedgerId) (reserves : EveryPoolKeepsSome s) (ordered : AreInOrder s.rounds) where
   abbrev count : ℕ
   count = (setup_in s).count
 

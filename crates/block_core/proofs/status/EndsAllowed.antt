@@ -21,7 +21,7 @@ use Rattle.run_machine.specs.Scene.{Setup, Scene, tree_at}
 use Rattle.run_machine.specs.Lines.{Links, ToPush, ToCut, ToMaster, Doing, Drives, Copies, rests, first_length, legs_of, leg_at, punted}
 use Rattle.run_machine.specs.Tasks.{TaskState, Writer, HasBio, HasBoth}
 use Rattle.run_machine.specs.Runs.{State}
-use Rattle.block_core.specs.Weights.{Weight, Lined, Rescued, total, names}
+use Rattle.block_core.specs.Weights.{Weight, Lined, Rescued, total, names_node}
 use Rattle.block_core.proofs.status.Marks.{is, bio_may, leg_may, todo_may, Mark, allowed, allowed_by, mismatch, above, unallowed, IsMarked}
 use Rattle.block_core.proofs.moves.Moves.{Move, Can, after, lost, gained, limit_of, HasLine, filled_of, cut_lists, piece}
 use Rattle.block_core.proofs.moves.Moves as moves
@@ -74,7 +74,7 @@ module _ (scene : Scene) (ends : Fragment → Status) (written : ℕ → Status 
 
     -- a node that a driven bio names is no master
     driven_node : (place : ℕ) (x : TaskState) (bio : Item Pad) (doing : Doing) (lists : TaskLists) (node : Node) → place < scene.tasks → s.task place ≡ x → HasLine x doing lists
-        → names bio.bio.writer bio.bio.node bio ≤ total scene (named bio.bio.writer bio.bio.node) s
+        → names_node bio.bio.writer bio.bio.node bio ≤ total scene (named bio.bio.writer bio.bio.node) s
         → node_at (s.objects.book bio.bio.writer) bio.bio.node ≡ Some node → (mark bio.bio.writer bio.bio.node).master ≡ false
     driven_node place x bio doing lists node here at line part open_there =
         not_master node.role (mark bio.bio.writer bio.bio.node).master (named_away scene s bio node i open_there part).1 (by_role scene ends written s i endings mark h bio.bio.writer bio.bio.node node open_there)

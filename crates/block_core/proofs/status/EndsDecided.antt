@@ -20,7 +20,7 @@ use Rattle.run_machine.specs.Scene.{Setup, Scene, tree_at}
 use Rattle.run_machine.specs.Lines.{Links, ToPush, ToCut, ToMaster, Doing, Drives, Copies, rests, first_length, landed, legs_of, leg_at}
 use Rattle.run_machine.specs.Tasks.{TaskState, Writer, HasBio, HasBoth, Carried}
 use Rattle.run_machine.specs.Runs.{State}
-use Rattle.block_core.specs.Weights.{Weight, Lined, total, one, names, under}
+use Rattle.block_core.specs.Weights.{Weight, Lined, total, one, names_node, under}
 use Rattle.block_core.proofs.status.Marks.{is, bio_may, leg_may, todo_may, Mark, decides, lack, deciding, IsMarked}
 use Rattle.block_core.proofs.moves.Moves.{Move, Can, after, lost, gained, limit_of, HasLine, filled_of, vector_of, cut_lists, piece}
 use Rattle.block_core.proofs.moves.Moves as moves
@@ -55,7 +55,7 @@ module _ (scene : Scene) (ends : Fragment → Status) (written : ℕ → Status 
   landing_decides mark master w k limit item there =
       let at : Bio = landed (tree_at setup item.bio.dev) item.bio in
       ap (λ n. n * decides master (bio_may setup ends at Ok)) (landed_same (λ (bio : Bio). one bio.writer w * one bio.node k) (λ to members bio. refl) (tree_at setup item.bio.dev) item.bio)
-      ∙ ap (λ n. names w k item * decides master n) (v.lands item.bio Ok there)
+      ∙ ap (λ n. names_node w k item * decides master n) (v.lands item.bio Ok there)
 
   module _ (s : State) (g : Ground setup) (i : Kept scene s) (a : Placed setup s) (counted : total scene (misfits over) s ≡ 0) (endings : (place : ℕ) → HasEnding ends (s.task place))
       (mark : ℕ → ℕ → Mark) (h : IsMarked scene ends written mark s) where

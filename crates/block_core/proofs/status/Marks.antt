@@ -18,7 +18,7 @@ use Rattle.run_machine.specs.Scene.{Setup, Scene, tree_at}
 use Rattle.run_machine.specs.Tasks.{Todo}
 use Rattle.run_machine.specs.Opened.{Scenario}
 use Rattle.run_machine.specs.Runs.{State}
-use Rattle.block_core.specs.Weights.{Weight, Spot, Lined, Rescued, Pending, Brought, total, one, names, under, legs_left}
+use Rattle.block_core.specs.Weights.{Weight, Spot, Lined, Rescued, Pending, Brought, total, one, names_node, under, legs_left}
 use Rattle.block_core.specs.Weights.{apart}
 use Rattle.block_core.specs.Fragments.{offset_of, fragment_of}
 
@@ -126,7 +126,7 @@ unallowed setup ends written mark end = record {
 abbrev pub deciding : Setup → (Fragment → Status) → (ℕ → ℕ → Mark) → Bool → ℕ → ℕ → Weight
 deciding setup ends mark master w k = record {
   todo = λ writer todos taken. 0;
-  bio = λ spot item. names w k item * decides master (bio_may setup ends item.bio Ok);
+  bio = λ spot item. names_node w k item * decides master (bio_may setup ends item.bio Ok);
   copy = λ bio m leg.
       one bio.writer w * one m k * sum_by (λ j. decides master (leg_may ends (tree_at setup bio.dev) bio j Ok)) (range_with_len leg (legs_left setup bio leg));
   hand = λ bio. 0;

@@ -13,7 +13,7 @@ use Rattle.bio_books.specs.Drops.{Closed, closed_of}
 use Rattle.run_machine.specs.Scene.{Setup, Scene, tree_at}
 use Rattle.run_machine.specs.Tasks.{TaskState, Writer, Rescuer, Completer, Keeper, Carried, Empty, Brings, Carries, Fails}
 use Rattle.run_machine.specs.Runs.{State}
-use Rattle.block_core.specs.Weights.{Weight, total, one, carried_weight, refs, names, under, legs_left, count_of}
+use Rattle.block_core.specs.Weights.{Weight, total, one, carried_weight, refs, names_node, under, legs_left, count_of}
 use Rattle.block_core.specs.Fragments.{fragment_of}
 use Rattle.block_core.proofs.status.Marks.{is, bio_may, leg_may, Mark, IsMark, allowed, decides, lack, mismatch, above, unallowed, deciding, IsMarked}
 use Rattle.block_core.proofs.moves.Moves.{Can, after, Tells}
@@ -56,7 +56,7 @@ module _ (scene : Scene) (ends : Fragment → Status) (written : ℕ → Status 
   deciding_within : (mark : ℕ → ℕ → Mark) → ((w k : ℕ) → IsMark (mark w k)) → (master : Bool) (w k : ℕ) → IsWithin (deciding setup ends mark master w k) (refs setup w k) (refs setup w k) (refs setup w k)
   deciding_within mark fair master w k = record {
     todo = λ writer todos taken. omega arith;
-    bio = λ spot item. omega (arith, times_few (names w k item) (decides master (bio_may setup ends item.bio Ok)) (decides_few master (bio_may setup ends item.bio Ok) (few_yes _)));
+    bio = λ spot item. omega (arith, times_few (names_node w k item) (decides master (bio_may setup ends item.bio Ok)) (decides_few master (bio_may setup ends item.bio Ok) (few_yes _)));
     copy = λ bio m leg.
         omega (
           arith,
@@ -117,7 +117,7 @@ module _ (scene : Scene) (ends : Fragment → Status) (written : ℕ → Status 
       let e = (subst (HasEnding ends) at (endings place)).1 in
       let like : bio_may setup ends bio.bio Ok ≡ is Ok (ends (fragment_of bio.bio)) = omega (arith, teller_off Ok place disk (Brings bio ending) here at) in
       let same : bio_may setup ends bio.bio Ok ≡ is Ok status = like ∙ ap (is Ok) (sym e ∙ sym t.2) in
-      ap (λ n. names w k bio * decides master n) same ∙ ap (λ n. one n w * one bio.bio.node k * decides master (is Ok status)) (sym t.0)
+      ap (λ n. names_node w k bio * decides master n) same ∙ ap (λ n. one n w * one bio.bio.node k * decides master (is Ok status)) (sym t.0)
       ∙ ap (λ n. one writer w * one n k * decides master (is Ok status)) (sym t.1)
   told_weight master w k place disk (Carries of closed) writer key status part here at t =
       ap (λ p. under w k of p * decides master (is Ok closed.status)) t.1 ∙ ap (λ n. one n w * one key k * decides master (is Ok closed.status)) (sym t.0)

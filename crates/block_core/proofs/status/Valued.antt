@@ -30,7 +30,7 @@ use Rattle.block_core.specs.Fragments.{fragment_of}
 use Rattle.block_core.specs.Touches.{is_master}
 use Rattle.block_core.specs.AtWork.{IsBrought, IsInDisk}
 use Rattle.block_core.specs.Values.{BioMayEnd, LegMayEnd, TodoMayEnd, IsAllowed, Decides, BioComes, LegComes, NodeComes, ClosedComes, Comes, NodeIsValued, EndsAsItsFragment, IsValued}
-use Rattle.block_core.specs.Weights.{Weight, apart, one, names, under, legs_left, doing_weight, total}
+use Rattle.block_core.specs.Weights.{Weight, apart, one, names_node, under, legs_left, doing_weight, total}
 use Rattle.block_core.proofs.moves.Totals.{task_part}
 use Rattle.block_core.proofs.sound.Facts.{Kept}
 use Rattle.block_core.proofs.stuck.Idle.{node_part}
@@ -261,7 +261,7 @@ module _ (s : Scenario) (scene : Scene) (bios : ℕ → ℕ → Bio) (state : St
       where
         by_found : Weighs scene state (to_come master) → Comes scene ends bios state w k (Decides master)
         by_found (inl (item, spot, there, weighs)) =
-            let a = both (names w k item) (decides master (bio_may setup ends item.bio Ok)) weighs in
+            let a = both (names_node w k item) (decides master (bio_may setup ends item.bio Ok)) weighs in
             let b = both (one item.bio.writer w) (one item.bio.node k) a.0 in
             inl (
               item,

@@ -13,7 +13,7 @@ use Rattle.run_machine.specs.Scene.{Setup, Scene}
 use Rattle.run_machine.specs.Tasks.{Completer, Carried, Empty, Carries}
 use Rattle.run_machine.specs.Objects.{done_one}
 use Rattle.run_machine.specs.Runs.{State}
-use Rattle.block_core.specs.Weights.{total, one, elements, holding_elements, refs}
+use Rattle.block_core.specs.Weights.{total, one, elements_of_pool, holding_elements, refs}
 use Rattle.block_core.proofs.moves.Moves.{with_pool, with_book}
 use Rattle.block_core.proofs.moves.Sums.{upd-same, one-same}
 use Rattle.block_core.proofs.sound.Facts.{Fair, Kept}
@@ -87,7 +87,7 @@ module _ (scene : Scene) (s : State) (f : Fair scene) (worth : Worth scene.setup
   -- an element is out whose completer has it
   held_out : (place : ℕ) → place < scene.tasks → (disk : DevId) (w : ℕ) (closed : Closed) → s.task place ≡ Completer disk (Carries w closed) → (q : ℕ) → 1 ≤ holding_elements q closed.held → 0 < (s.objects.pool q).facts.out
   held_out place here disk w closed at q some =
-      let part = task_in scene s (elements q) place (Completer disk (Carries w closed)) here at in
+      let part = task_in scene s (elements_of_pool q) place (Completer disk (Carries w closed)) here at in
       let all = k.outs q in
       omega (arith, part, all, some)
 

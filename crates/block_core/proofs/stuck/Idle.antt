@@ -14,7 +14,7 @@ use Rattle.run_machine.specs.Scene.{Scene}
 use Rattle.run_machine.specs.Lines.{Doing, Rests, Drives, Copies, Breaks, Line}
 use Rattle.run_machine.specs.Tasks.{TaskState, Writer, Rescuer, Completer, Keeper, Todo, Taken, NoBio, HasBio, HasBoth, Empty, Brings, Carries, Fails}
 use Rattle.run_machine.specs.Runs.{State}
-use Rattle.block_core.specs.Weights.{Weight, Rescued, Pending, total, sum_at, one, weigh_option, line_weight, task_weight, book_weight, elements, refs, names, under, legs_left, count_of}
+use Rattle.block_core.specs.Weights.{Weight, Rescued, Pending, total, sum_at, one, weigh_option, line_weight, task_weight, book_weight, elements_of_pool, refs, names_node, under, legs_left, count_of}
 use Rattle.block_core.proofs.moves.Moves.{HasLine}
 use Rattle.block_core.proofs.moves.Sums.{one-same, within_book}
 use Rattle.block_core.proofs.sound.Facts.{DoingFits, TaskFits, Kept}
@@ -106,7 +106,7 @@ module _ (scene : Scene) (s : State) (i : Kept scene s) (level : ℕ → ℕ →
   no_ref : (writer key : ℕ) → total scene (refs scene.setup writer key) s ≡ 0
   no_ref writer key = let count : count_of (node_at (s.objects.book writer) key) ≡ 0 = ap count_of (none_open writer key) in omega (arith, count, i.counts writer key)
 
-  names_one : (item : Item Pad) → names item.bio.writer item.bio.node item ≡ 1
+  names_one : (item : Item Pad) → names_node item.bio.writer item.bio.node item ≡ 1
   names_one item = ap (λ n. n * one item.bio.node item.bio.node) (one-same item.bio.writer) ∙ ap (λ n. 1 * n) (one-same item.bio.node)
 
   -- a task that submits has a bio that names a node, or copies one for a master
@@ -124,10 +124,10 @@ module _ (scene : Scene) (s : State) (i : Kept scene s) (level : ℕ → ℕ →
       ap (λ k. k * one master master * left) (one-same bio.writer) ∙ (ap (λ k. 1 * k * left) (one-same master) ∙ omega arith) in
       absurd (omega (arith, refers, fits, no_ref bio.writer master, task_part scene w s place x here is, line_part w place x (Copies bio master leg want) lists h))
 
-  resting : (q limit : ℕ) (line : Line) → (line.doing ≡ Rests) × (line.lists ≡ no_lists) → line_weight (elements q) limit line ≡ 0
+  resting : (q limit : ℕ) (line : Line) → (line.doing ≡ Rests) × (line.lists ≡ no_lists) → line_weight (elements_of_pool q) limit line ≡ 0
   resting q limit line at = rw (at.0, at.1) refl
 
-  task_home : (q place : ℕ) (x : TaskState) → place < scene.tasks → s.task place ≡ x → TaskFits scene x → task_weight (elements q) place x ≡ 0
+  task_home : (q place : ℕ) (x : TaskState) → place < scene.tasks → s.task place ≡ x → TaskFits scene x → task_weight (elements_of_pool q) place x ≡ 0
   task_home q place (Writer number todos NoBio line) here is fits =
       omega (arith, resting q 32 line (no_line place (Writer number todos NoBio line) line.doing line.lists here is refl fits.1))
   task_home q place (Writer number todos (HasBio item) line) here is fits = absurd (let same = none.hands place number todos (HasBio item) line here is in cc)
@@ -153,10 +153,10 @@ module _ (scene : Scene) (s : State) (i : Kept scene s) (level : ℕ → ℕ →
   task_home q place (Keeper keeping) here is fits = refl
 
   -- no bio waits for a rescuer, or at a disk
-  rescue_home : (q dev : ℕ) → dev < scene.setup.count → sum_by ((elements q).bio Rescued) (s.objects.rescue dev) ≡ 0
+  rescue_home : (q dev : ℕ) → dev < scene.setup.count → sum_by ((elements_of_pool q).bio Rescued) (s.objects.rescue dev) ≡ 0
   rescue_home q dev lt = by_list (s.objects.rescue dev) refl
     where
-      by_list : (bios : List (Item Pad)) → s.objects.rescue dev ≡ bios → sum_by ((elements q).bio Rescued) bios ≡ 0
+      by_list : (bios : List (Item Pad)) → s.objects.rescue dev ≡ bios → sum_by ((elements_of_pool q).bio Rescued) bios ≡ 0
       by_list [] is = refl
       by_list (bio ∷ bios) is =
           let w = refs scene.setup bio.bio.writer bio.bio.node in
@@ -170,10 +170,10 @@ module _ (scene : Scene) (s : State) (i : Kept scene s) (level : ℕ → ℕ →
             part_of (λ dev bios. sum_by (w.bio Rescued) bios) scene.setup.count s.objects.rescue dev lt,
           ))
 
-  pending_home : (q dev : ℕ) → dev < scene.setup.count → sum_by ((elements q).bio Pending) (s.objects.disk dev).pending ≡ 0
+  pending_home : (q dev : ℕ) → dev < scene.setup.count → sum_by ((elements_of_pool q).bio Pending) (s.objects.disk dev).pending ≡ 0
   pending_home q dev lt = by_list (s.objects.disk dev).pending refl
     where
-      by_list : (bios : List (Item Pad)) → (s.objects.disk dev).pending ≡ bios → sum_by ((elements q).bio Pending) bios ≡ 0
+      by_list : (bios : List (Item Pad)) → (s.objects.disk dev).pending ≡ bios → sum_by ((elements_of_pool q).bio Pending) bios ≡ 0
       by_list [] is = refl
       by_list (bio ∷ bios) is =
           let w = refs scene.setup bio.bio.writer bio.bio.node in
@@ -192,8 +192,8 @@ module _ (scene : Scene) (s : State) (i : Kept scene s) (level : ℕ → ℕ →
       omega (
         arith,
         i.outs q,
-        none_at (task_weight (elements q)) scene.tasks s.task (λ place lt. task_home q place (s.task place) lt refl (i.tasks place)),
-        none_at (λ dev bios. sum_by ((elements q).bio Rescued) bios) scene.setup.count s.objects.rescue (rescue_home q),
-        none_at (λ dev (disk : DiskState). sum_by ((elements q).bio Pending) disk.pending) scene.setup.count s.objects.disk (pending_home q),
-        none_at (book_weight (elements q)) scene.books s.objects.book (λ writer lt. nodes_zero (elements q) writer (s.objects.book writer) (none_open writer)),
+        none_at (task_weight (elements_of_pool q)) scene.tasks s.task (λ place lt. task_home q place (s.task place) lt refl (i.tasks place)),
+        none_at (λ dev bios. sum_by ((elements_of_pool q).bio Rescued) bios) scene.setup.count s.objects.rescue (rescue_home q),
+        none_at (λ dev (disk : DiskState). sum_by ((elements_of_pool q).bio Pending) disk.pending) scene.setup.count s.objects.disk (pending_home q),
+        none_at (book_weight (elements_of_pool q)) scene.books s.objects.book (λ writer lt. nodes_zero (elements_of_pool q) writer (s.objects.book writer) (none_open writer)),
       )

@@ -29,7 +29,7 @@ use Rattle.run_machine.specs.Objects.{Serves}
 use Rattle.run_machine.specs.Events.{what_of}
 use Rattle.run_machine.specs.Lines.{line_request}
 use Rattle.run_machine.specs.Runs.{HasFree}
-use Rattle.block_core.specs.Places.{bio_needs, legs_need, places, HasPlaces}
+use Rattle.block_core.specs.Places.{bio_needs, unmade_legs_need, places, HasPlaces}
 use Rattle.block_core.proofs.unrefused.BioNeeds.{Worth}
 use Rattle.block_core.proofs.stuck.NothingWaits.{spares, StillWant, StillDoing, zero_or}
 use Rattle.block_core.proofs.stuck.Idle.{open_in_books}
@@ -140,9 +140,9 @@ module _ (scene : Scene) (s : State) (f : Fair scene) (worth : Worth scene.setup
       let part = line_in scene s (refs setup w master) place x (Copies bio master leg (Links hand)) lists here at h in
       let o = open_at scene s k w master (omega (arith, part, some_needs (one bio.writer w * one master master) (legs_left setup bio leg) both_one left)) in
       let own = worth.leg bio hand leg 0 d.0 fits in
-      let need : 1 ≤ legs_need (tree_at setup bio.dev) bio.range.start bio.range.len leg = omega (arith, own) in
+      let need : 1 ≤ unmade_legs_need (tree_at setup bio.dev) bio.range.start bio.range.len leg = omega (arith, own) in
       let roomy = line_in scene s (places setup w) place x (Copies bio master leg (Links hand)) lists here at h in
-      let v = vacant scene s room w (open_in_books scene s k w master o.0 o.1) (omega (arith, roomy, some_needs (one bio.writer w) (legs_need (tree_at setup bio.dev) bio.range.start bio.range.len leg) (one-same w) need)) in
+      let v = vacant scene s room w (open_in_books scene s k w master o.0 o.1) (omega (arith, roomy, some_needs (one bio.writer w) (unmade_legs_need (tree_at setup bio.dev) bio.range.start bio.range.len leg) (one-same w) need)) in
       let book = with_node (s.objects.book w) v.0 (Some (leg_node o.0.write master)) in
       let opened : LegsAt (s.objects.book w) master (Some o.0) (Made v.0) book = (v.1, refl) in
       inl (free_line scene s place here x at (Copies bio master leg (Links hand)) lists h busy (requests.LinkedTo (Made v.0)) _ refl refl (with_book s.objects w book)

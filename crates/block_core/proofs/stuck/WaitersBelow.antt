@@ -13,7 +13,7 @@ use Rattle.run_machine.specs.Scene.{Setup, Scene}
 use Rattle.run_machine.specs.Lines.{Doing, Rests, Drives, Copies, Breaks, Line, rests}
 use Rattle.run_machine.specs.Tasks.{TaskState, Writer, Rescuer, Completer, Keeper, Todo, Taken, NoBio, HasBio, HasBoth, Empty, Brings, Carries, Fails}
 use Rattle.run_machine.specs.Runs.{State}
-use Rattle.block_core.specs.Weights.{Weight, Pending, Rescued, Lined, total, sum_at, one, weigh_option, doing_weight, task_weight, line_weight, book_weight, elements, holding_elements, refs, names, under, legs_left, count_of}
+use Rattle.block_core.specs.Weights.{Weight, Pending, Rescued, Lined, total, sum_at, one, weigh_option, doing_weight, task_weight, line_weight, book_weight, elements_of_pool, holding_elements, refs, names_node, under, legs_left, count_of}
 use Rattle.block_core.proofs.sound.Facts.{DoingFits, LineFits, TaskFits, Kept}
 use Rattle.block_core.proofs.sound.TaskLines.{IsBusy}
 use Rattle.block_core.proofs.sound.Orders.{IsOwn, DoingPlaced, TaskPlaced, Placed, Ground}
@@ -156,7 +156,7 @@ module _ (scene : Scene) (s : State) (level : ℕ → ℕ → ℕ) (known : Know
   ]
 
   -- a bio that names a node is of the node's level
-  named_below : (w k : ℕ) (item : Item Pad) → Below setup s (min item.share.no 64) → 1 ≤ names w k item → bio_off level item ≡ 0 → Below setup s (level w k)
+  named_below : (w k : ℕ) (item : Item Pad) → Below setup s (min item.share.no 64) → 1 ≤ names_node w k item → bio_off level item ≡ 0 → Below setup s (level w k)
   named_below w k item below some none =
       let b = both (one item.bio.writer w) (one item.bio.node k) some in
       let a : level item.bio.writer item.bio.node ≡ level w k = ap (level item.bio.writer) (one-eq item.bio.node k b.1) ∙ ap (λ v. level v k) (one-eq item.bio.writer w b.0) in
@@ -244,7 +244,7 @@ module _ (scene : Scene) (s : State) (level : ℕ → ℕ → ℕ) (known : Know
   -- a pool with an element out has a task that waits below it
   pub out_below : (q : ℕ) → 1 ≤ (s.objects.pool q).facts.out → Below setup s q
   out_below q out =
-      let u = elements q in
+      let u = elements_of_pool q in
       let some : 1 ≤ total scene u s = let all = known.kept.outs q in omega (arith, out, all) in
       let pending = no_pending u in
       elim (zero_or (sum_at (task_weight u) scene.tasks s.task)) [
@@ -265,7 +265,7 @@ module _ (scene : Scene) (s : State) (level : ℕ → ℕ → ℕ) (known : Know
         ]
       ]
     where
-      by_task : Has (elements q) → Below setup s q
+      by_task : Has (elements_of_pool q) → Below setup s q
       by_task (inl (limit, inl (item, below, some, none))) = let same = one-eq item.share.no q some in lower setup s (min item.share.no 64) q (omega (arith, same)) below
       by_task (inl (limit, inr (bio, master, leg, below, some, none))) = absurd (omega (arith, some))
       by_task (inr (item, some, home, empty)) =
@@ -273,7 +273,7 @@ module _ (scene : Scene) (s : State) (level : ℕ → ℕ → ℕ) (known : Know
           record { pool = 64; low = omega (arith, same, home); empty = empty; is = inr (inl refl) }
 
       by_node : (v j : ℕ) → v < scene.books → j < length (s.objects.book v).nodes → (found : Option Node) → node_at (s.objects.book v) j ≡ found
-          → 1 ≤ weigh_option ((elements q).node v j) found → Below setup s q
+          → 1 ≤ weigh_option ((elements_of_pool q).node v j) found → Below setup s q
       by_node v j known_book inside None is h = absurd (omega (arith, h))
       by_node v j known_book inside (Some node) is h =
           lower setup s (level v j) q (held_above q (level v j) node.held h (off_node v j node known_book inside is).1) (node_waits (level v j + 1) v j node is (omega arith))

@@ -23,7 +23,7 @@ use Rattle.run_machine.specs.Scene.{setup_of}
 use Rattle.block_core.proofs.moves.Moves.{piece}
 use Rattle.std.specs.List.{range_with_len}
 use Rattle.layout_model.proofs.Begun.{needed_legs}
-use Rattle.block_core.specs.Places.{bio_needs, legs_need}
+use Rattle.block_core.specs.Places.{bio_needs, unmade_legs_need}
 use Rattle.block_core.proofs.moves.Geometry.{IsThere, is_cut, at_device, lands_needs, cuts, sizes_at, members_at, number_of_tree}
 
 pub record Worth (setup : Setup) : Type 0 where
@@ -33,19 +33,19 @@ pub record Worth (setup : Setup) : Type 0 where
       → bio_needs setup bio.bio ≡ bio_needs setup (piece bio hand (first_length kind sizes bio.bio.range) key kind sizes members).bio
       + (1 + bio_needs setup (split_rest bio (first_length kind sizes bio.bio.range)).bio)
   pub master : (bio : Bio) → IsThere setup bio → (number : ℕ) (sizes : List ℕ) (members : ℕ → Tree) → tree_at setup bio.dev ≡ Mirrored number sizes members
-      → bio_needs setup bio ≡ 1 + legs_need (tree_at setup bio.dev) bio.range.start bio.range.len 0
+      → bio_needs setup bio ≡ 1 + unmade_legs_need (tree_at setup bio.dev) bio.range.start bio.range.len 0
   pub leg : (bio : Bio) (hand : Item Pad) (leg key : ℕ) → IsThere setup bio → leg < legs_of (tree_at setup bio.dev)
-      → legs_need (tree_at setup bio.dev) bio.range.start bio.range.len leg
-      ≡ 1 + bio_needs setup (leg_at bio hand leg key (tree_at setup bio.dev)).bio + legs_need (tree_at setup bio.dev) bio.range.start bio.range.len (leg + 1)
+      → unmade_legs_need (tree_at setup bio.dev) bio.range.start bio.range.len leg
+      ≡ 1 + bio_needs setup (leg_at bio hand leg key (tree_at setup bio.dev)).bio + unmade_legs_need (tree_at setup bio.dev) bio.range.start bio.range.len (leg + 1)
 
 module _ (stack : Stack) (good : IsStack stack) (places : ℕ → ℕ) where
   abbrev setup : Setup
   setup = setup_of stack places
 
   master_needs : (bio : Bio) → IsThere setup bio → (number : ℕ) (sizes : List ℕ) (members : ℕ → Tree) → tree_at setup bio.dev ≡ Mirrored number sizes members
-      → bio_needs setup bio ≡ 1 + legs_need (tree_at setup bio.dev) bio.range.start bio.range.len 0
+      → bio_needs setup bio ≡ 1 + unmade_legs_need (tree_at setup bio.dev) bio.range.start bio.range.len 0
   master_needs bio there number sizes members is =
-      let P : Tree → Type 0 = λ t. needed t bio.range.start bio.range.len ≡ 1 + legs_need t bio.range.start bio.range.len 0 in
+      let P : Tree → Type 0 = λ t. needed t bio.range.start bio.range.len ≡ 1 + unmade_legs_need t bio.range.start bio.range.len 0 in
       let some = there.some in
       let a = needed_legs number sizes members bio.range.start bio.range.len (omega (arith, some)) in
       let e : length sizes - 0 ≡ length sizes = omega arith in
@@ -56,7 +56,7 @@ module _ (stack : Stack) (good : IsStack stack) (places : ℕ → ℕ) where
 
   LegNeeds : Bio → Item Pad → ℕ → ℕ → Tree → Type 0
   LegNeeds bio hand leg key t = leg < legs_of t
-      → legs_need t bio.range.start bio.range.len leg ≡ 1 + bio_needs setup (leg_at bio hand leg key t).bio + legs_need t bio.range.start bio.range.len (leg + 1)
+      → unmade_legs_need t bio.range.start bio.range.len leg ≡ 1 + bio_needs setup (leg_at bio hand leg key t).bio + unmade_legs_need t bio.range.start bio.range.len (leg + 1)
 
   leg_of : (bio : Bio) (hand : Item Pad) (leg key : ℕ) → IsThere setup bio → LegNeeds bio hand leg key (tree stack bio.dev.0)
   unfolding LegNeeds
@@ -89,8 +89,8 @@ module _ (stack : Stack) (good : IsStack stack) (places : ℕ → ℕ) where
               omega (arith, own, all, left)
 
   leg_needs : (bio : Bio) (hand : Item Pad) (leg key : ℕ) → IsThere setup bio → leg < legs_of (tree_at setup bio.dev)
-      → legs_need (tree_at setup bio.dev) bio.range.start bio.range.len leg
-      ≡ 1 + bio_needs setup (leg_at bio hand leg key (tree_at setup bio.dev)).bio + legs_need (tree_at setup bio.dev) bio.range.start bio.range.len (leg + 1)
+      → unmade_legs_need (tree_at setup bio.dev) bio.range.start bio.range.len leg
+      ≡ 1 + bio_needs setup (leg_at bio hand leg key (tree_at setup bio.dev)).bio + unmade_legs_need (tree_at setup bio.dev) bio.range.start bio.range.len (leg + 1)
   unfolding LegNeeds
   leg_needs bio hand leg key there lt = leg_of bio hand leg key there lt
 

@@ -31,7 +31,7 @@ use Rattle.block_core.proofs.sound.OrdersKept.{line_placed}
 use Rattle.block_core.proofs.moves.Deltas.{delta}
 use Rattle.block_core.proofs.sound.Places.{cut_weight}
 use Rattle.block_core.proofs.moves.Listed.{landed_same, asks_weight, order_weight}
-use Rattle.block_core.specs.Places.{bio_needs, legs_need, writes_need, places}
+use Rattle.block_core.specs.Places.{bio_needs, unmade_legs_need, writes_need, places}
 use Rattle.block_core.proofs.unrefused.BioNeeds.{Worth}
 
 module _ (setup : Setup) (g : Worth setup) (w : ℕ) where
@@ -64,11 +64,11 @@ module _ (setup : Setup) (g : Worth setup) (w : ℕ) where
 
   copies_room : (limit : ℕ) (lists : TaskLists) (bio : Bio) (master leg : ℕ) → There lists.list0 → There lists.list1
       → line_weight (places setup w) limit (copies setup lists bio master leg)
-      ≤ one bio.writer w * legs_need (tree_at setup bio.dev) bio.range.start bio.range.len leg + sum_by lined lists.list0 + sum_by lined lists.list1
+      ≤ one bio.writer w * unmade_legs_need (tree_at setup bio.dev) bio.range.start bio.range.len leg + sum_by lined lists.list0 + sum_by lined lists.list1
   copies_room limit lists bio master leg there0 there1 = by_test (leg == legs_of (tree_at setup bio.dev))
     where
       by_test : (v : Bool) → line_weight (places setup w) limit (if v then goes_on setup bio.dev lists else record { doing = Copies bio master leg (Takes (first_waits setup bio.dev lists)); lists = lists })
-          ≤ one bio.writer w * legs_need (tree_at setup bio.dev) bio.range.start bio.range.len leg + sum_by lined lists.list0 + sum_by lined lists.list1
+          ≤ one bio.writer w * unmade_legs_need (tree_at setup bio.dev) bio.range.start bio.range.len leg + sum_by lined lists.list0 + sum_by lined lists.list1
       by_test true = omega (arith, goes_room limit bio.dev lists there0 there1)
       by_test false = omega arith
 
@@ -183,7 +183,7 @@ module _ (scene : Scene) (s : State) (g : Worth scene.setup) (ground : Ground sc
   room (moves.Mastered place x bio lists slip key node) c =
       let d = at place x (Drives bio (ToMaster slip)) lists c.1 c.2 in
       let none : Each (λ (item : Item Pad). IsThere setup item.bio) lists.list0 = subst (Each (λ (item : Item Pad). IsThere setup item.bio)) (sym d.0) tt in
-      let n = legs_need (tree_at setup bio.bio.dev) bio.bio.range.start bio.bio.range.len 0 in
+      let n = unmade_legs_need (tree_at setup bio.bio.dev) bio.bio.range.start bio.bio.range.len 0 in
       let own : bio_needs setup bio.bio ≡ 1 + n = by_tree (tree_at setup bio.bio.dev) refl d.3 d.1.0.0 in
       let parts : one bio.bio.writer w * bio_needs setup bio.bio ≡ one bio.bio.writer w * n + one bio.bio.writer w = ap (λ m. one bio.bio.writer w * m) own ∙ times_more (one bio.bio.writer w) n in
       omega (
@@ -197,7 +197,7 @@ module _ (scene : Scene) (s : State) (g : Worth scene.setup) (ground : Ground sc
       times_more a n = grind arith
 
       by_tree : (t : Tree) → tree_at setup bio.bio.dev ≡ t → AskFits t bio.bio.range bio.bio.dev.0 (ToMaster slip) → IsThere setup bio.bio
-          → bio_needs setup bio.bio ≡ 1 + legs_need (tree_at setup bio.bio.dev) bio.bio.range.start bio.bio.range.len 0
+          → bio_needs setup bio.bio ≡ 1 + unmade_legs_need (tree_at setup bio.bio.dev) bio.bio.range.start bio.bio.range.len 0
       by_tree (Leaf number sectors) is a there = absurd a
       by_tree (Split number kind sizes members) is a there = absurd a
       by_tree (Mirrored number sizes members) is a there = g.master bio.bio there number sizes members is
@@ -210,8 +210,8 @@ module _ (scene : Scene) (s : State) (g : Worth scene.setup) (ground : Ground sc
       let l = ground.leg bio hand leg key d.0 lt in
       let there0 : Each P (submitted item lists).list0 = each_append P lists.list0 (item ∷ []) (there_own setup bio.dev.0 (limit_of x) lists.list0 d.2) (l.0, tt) in
       let n = bio_needs setup item.bio in
-      let more = legs_need (tree_at setup bio.dev) bio.range.start bio.range.len (leg + 1) in
-      let parts : one bio.writer w * legs_need (tree_at setup bio.dev) bio.range.start bio.range.len leg ≡ one bio.writer w * n + one bio.writer w + one bio.writer w * more =
+      let more = unmade_legs_need (tree_at setup bio.dev) bio.range.start bio.range.len (leg + 1) in
+      let parts : one bio.writer w * unmade_legs_need (tree_at setup bio.dev) bio.range.start bio.range.len leg ≡ one bio.writer w * n + one bio.writer w + one bio.writer w * more =
       ap (λ m. one bio.writer w * m) (g.leg bio hand leg key d.0 lt) ∙ times_more (one bio.writer w) n more in
       let own : one item.bio.writer w ≡ one bio.writer w = same_writer (tree_at setup bio.dev) lt in
       omega (

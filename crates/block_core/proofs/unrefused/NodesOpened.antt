@@ -16,7 +16,7 @@ use Rattle.run_machine.specs.Lines.{Links, ToPush, ToCut, ToMaster, Doing, Drive
 use Rattle.run_machine.specs.Tasks.{TaskState, Writer, Todo}
 use Rattle.run_machine.specs.Runs.{State}
 use Rattle.block_core.specs.Weights.{Lined, line_weight, one}
-use Rattle.block_core.specs.Rooms.{need_at, todo_need, legs_need, room, HasRoom}
+use Rattle.block_core.specs.Rooms.{need_at, todo_need, legs_need, room, HasRoomInBooks}
 use Rattle.block_core.proofs.moves.Moves.{Move, Can, after, lost, gained, limit_of, HasLine, taken_of, filled_of, cut_lists, piece, with_book}
 use Rattle.block_core.proofs.moves.Moves as moves
 use Rattle.block_core.proofs.moves.Sums.{upd-same, upd-other, same_or_not}
@@ -176,7 +176,7 @@ module _ (scene : Scene) (s : State) (g : Ground scene.setup) (n : Needs scene.s
   places (moves.Resized place pool min later duties) c all = all
   places (moves.Started place round later duties) c all = all
 
-  pub stays_roomy : (m : Move) → Can scene s m → HasRoom scene s → HasRoom scene (after scene s m)
+  pub stays_roomy : (m : Move) → Can scene s m → HasRoomInBooks scene s → HasRoomInBooks scene (after scene s m)
   stays_roomy m c r = record {
     places = places m c r.places;
     room = λ w. omega (arith, delta scene (room scene.setup w) s m c, fits w m c, r.room w);

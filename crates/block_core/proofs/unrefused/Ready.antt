@@ -23,7 +23,7 @@ use Rattle.run_machine.specs.Tasks.{TaskState, Writer, Rescuer, Completer, Keepe
 use Rattle.run_machine.specs.Objects.{Objects, Serves}
 use Rattle.run_machine.specs.Runs.{State}
 use Rattle.block_core.specs.Weights.{sum_at, one, weigh_option, task_weight, book_weight, refs, count_of, legs_left}
-use Rattle.block_core.specs.Rooms.{need_at, todo_need, legs_need, room, HasRoom}
+use Rattle.block_core.specs.Rooms.{need_at, todo_need, legs_need, room, HasRoomInBooks}
 use Rattle.block_core.specs.Breaks.{is_refusal}
 use Rattle.block_core.proofs.moves.Moves.{HasLine}
 use Rattle.block_core.proofs.moves.Sums.{one-same}
@@ -233,7 +233,7 @@ abbrev pub IsSmall : Scene → Type 0
 IsSmall scene = (writer : ℕ) → 1 + scene.setup.places writer + scene.tasks < 2 ^ 64 - 1
 
 -- no node waits for more ends than its own part, one for each place of its book, and one for each task
-pub ends_few : (scene : Scene) (s : State) → Kept scene s → HasRoom scene s → (writer key : ℕ)
+pub ends_few : (scene : Scene) (s : State) → Kept scene s → HasRoomInBooks scene s → (writer key : ℕ)
     → count_of (node_at (s.objects.book writer) key) ≤ 1 + scene.setup.places writer + scene.tasks
 ends_few scene s i r writer key =
     omega (
@@ -246,7 +246,7 @@ ends_few scene s i r writer key =
       carried_few scene s,
     )
 
-module _ (scene : Scene) (s : State) (n : Needs scene.setup) (small : IsSmall scene) (i : Kept scene s) (a : Placed scene.setup s) (r : HasRoom scene s)
+module _ (scene : Scene) (s : State) (n : Needs scene.setup) (small : IsSmall scene) (i : Kept scene s) (a : Placed scene.setup s) (r : HasRoomInBooks scene s)
     (place : ℕ) (here : place < scene.tasks) where
   -- a task that has still to open a node in a book finds a vacant place there
   has_vacant : (x : TaskState) (writer : ℕ) → s.task place ≡ x → writer < scene.books → 1 ≤ task_weight (room scene.setup writer) place x → HasVacant (s.objects.book writer)

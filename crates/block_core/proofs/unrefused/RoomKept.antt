@@ -6,7 +6,7 @@ use Rattle.run_machine.specs.Scene.{Scene}
 use Rattle.run_machine.specs.Opened.{Scenario, scene, start, setup as setup_in}
 use Rattle.run_machine.specs.Runs.{State, Steps, IsRun}
 use Rattle.block_core.specs.Scenarios.{IsScenario, IsNaming}
-use Rattle.block_core.specs.Rooms.{HasRoom, BooksHaveRoom}
+use Rattle.block_core.specs.Rooms.{HasRoomInBooks, BooksHaveRoom}
 use Rattle.block_core.proofs.sound.Facts.{Fair}
 use Rattle.block_core.proofs.sound.Orders.{Ground}
 use Rattle.block_core.proofs.moves.Devices.{ground}
@@ -17,19 +17,19 @@ use Rattle.block_core.proofs.start.PlacesAtStart.{start_roomy}
 use Rattle.block_core.proofs.sound.Wholes.{Whole, runs_whole, start_whole}
 
 module _ (scene : Scene) (f : Fair scene) (g : Ground scene.setup) (n : Needs scene.setup) where
-  step_roomy : (s : State) (place : ℕ) (event : Event) (new : State) → Whole scene s → HasRoom scene s → Steps scene s place event new → HasRoom scene new
+  step_roomy : (s : State) (place : ℕ) (event : Event) (new : State) → Whole scene s → HasRoomInBooks scene s → Steps scene s place event new → HasRoomInBooks scene new
   step_roomy s place event new i r steps =
       let moved = step_is_move scene s f i.kept place event new steps in
-      subst (HasRoom scene) (sym moved.is) (stays_roomy scene s g n i.kept i.placed moved.move moved.can r)
+      subst (HasRoomInBooks scene) (sym moved.is) (stays_roomy scene s g n i.kept i.placed moved.move moved.can r)
 
-  pub runs_roomy : (s : State) (events : List Event) (new : State) → Whole scene s → HasRoom scene s → IsRun scene s events new → HasRoom scene new
-  runs_roomy s [] new i r run = subst (HasRoom scene) (sym run) r
+  pub runs_roomy : (s : State) (events : List Event) (new : State) → Whole scene s → HasRoomInBooks scene s → IsRun scene s events new → HasRoomInBooks scene new
+  runs_roomy s [] new i r run = subst (HasRoomInBooks scene) (sym run) r
   runs_roomy s (event ∷ events) new i r (next, (place, steps), run) =
       let j = runs_whole scene f g s (event ∷ []) next i (next, (place, steps), refl) in
       runs_roomy next events new j (step_roomy s place event next i r steps) run
 
 module _ (s : Scenario) (ledger : ℕ → LedgerId) (good : IsScenario s) (naming : IsNaming ledger) where
-  pub run_roomy : (events : List Event) (state : State) → IsRun (scene s ledger) (start s) events state → HasRoom (scene s ledger) state
+  pub run_roomy : (events : List Event) (state : State) → IsRun (scene s ledger) (start s) events state → HasRoomInBooks (scene s ledger) state
   run_roomy events state run =
       let places = (setup_in s).places in
       runs_roomy (scene s ledger) (record { named = naming }) (ground s.stack good.stack places) (needs_known s.stack good.stack places) (start s) events state

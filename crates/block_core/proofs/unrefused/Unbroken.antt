@@ -18,7 +18,7 @@ use Rattle.run_machine.specs.Tasks.{TaskState, Writer, Rescuer, Completer, Keepe
 use Rattle.run_machine.specs.Opened.{Scenario, scene, start, tasks as opened_tasks, todos, todos_of, is_by, writers, duties, keepers, places_of, setup as setup_in, at as device_at}
 use Rattle.run_machine.specs.Runs.{State, IsRun, IsLet}
 use Rattle.block_core.specs.Scenarios.{IsScenario, IsNaming}
-use Rattle.block_core.specs.Breaks.{IsAllowed, broke_in, is_broken, GoesUnrefused, NoTaskBreaks}
+use Rattle.block_core.specs.Breaks.{ElementsAreAllowed, broke_in, is_broken, GoesUnrefused, NoTaskBreaks}
 use Rattle.block_core.proofs.sound.Facts.{DoingFits, TaskFits, Fair}
 use Rattle.block_core.proofs.moves.Devices.{ground}
 use Rattle.block_core.proofs.unrefused.NodeNeeds.{needs_known}
@@ -51,7 +51,7 @@ unbroken scene (Completer disk carried) fits on = on
 unbroken scene (Keeper (Keeps duties)) fits on = refl
 unbroken scene (Keeper (Stops breach)) fits on = absurd fits
 
-module _ (s : Scenario) (ledger : ℕ → LedgerId) (good : IsScenario s) (allowed : IsAllowed s) (naming : IsNaming ledger) where
+module _ (s : Scenario) (ledger : ℕ → LedgerId) (good : IsScenario s) (allowed : ElementsAreAllowed s) (naming : IsNaming ledger) where
   -- a book has no more places than all writes need elements
   places_few : (w : ℕ) → places_of s w ≤ most_elements
   places_few w =

@@ -3,10 +3,10 @@ ghost use Rattle.std.specs.Prelude.{◌≡◌, ◌+◌, ◌<◌, length, true, I
 ghost use Rattle.stack_base.specs.Tree.{tree};
 ghost use Rattle.bio_lists.specs.Submission.{submitted};
 ghost use Rattle.run_machine.specs.Lines.{first_waits, copies, leg_at, legs_of};
-ghost use Rattle.task_steps.specs.Routed.{setup};
-ghost use Rattle.task_steps.specs.Within.{IsWithin, ListsAreWithin, DoingFits};
-ghost use Rattle.plain_core.specs.Lists.{lists_of, HasRoom};
-ghost use Rattle.plain_core.specs.Views.{line_of, want_of};
+ghost use Rattle.task_steps.specs.Routed.{routing_setup};
+ghost use Rattle.task_steps.specs.Within.{IsWithinDevice, ListsAreWithin, DoingFits};
+ghost use Rattle.plain_core.specs.Lists.{lists_of, ListsHaveCapacity};
+ghost use Rattle.plain_core.specs.Views.{line_of_plain, want_of_plain};
 ghost use Rattle.plain_core.specs.Steps.{LineSteps, CanTurn, turned, copies_for};
 
 use crate::fault::CoreFault;
@@ -20,13 +20,13 @@ use task_core::{Routes, What};
 
 // A leg of a mirror's bio is submitted.
 fn copy(routes: &Routes, copying: &Copying, hand: &Hand, node: u32, lists: &mut Lists)
-    requires room { HasRoom 2 lists.old }
-    requires within { IsWithin routes.now.stack copying.now.bio }
+    requires room { ListsHaveCapacity 2 lists.old }
+    requires within { IsWithinDevice routes.now.stack copying.now.bio }
     requires leg { copying.now.leg < legs_of (tree routes.now.stack copying.now.bio.dev.0) }
     requires lists { ListsAreWithin routes.now.stack (lists_of lists.old) }
     ensures copied { lists_of lists.new
         ≡ submitted (leg_at copying.now.bio hand.now copying.now.leg node (tree routes.now.stack copying.now.bio.dev.0)) (lists_of lists.old) }
-    ensures room { HasRoom 0 lists.new }
+    ensures room { ListsHaveCapacity 0 lists.new }
     ensures within { ListsAreWithin routes.now.stack (lists_of lists.new) }
 {
     let (made, pad) = routes.leg(&copying.bio, copying.leg, node);
@@ -35,12 +35,12 @@ fn copy(routes: &Routes, copying: &Copying, hand: &Hand, node: u32, lists: &mut 
 
 // The next leg of a mirror's bio is to be made, or what waits behind the last one.
 fn copy_on(routes: &Routes, copying: &mut Copying, want: &mut Want, lists: &Lists) -> Next
-    requires room { HasRoom 0 lists.now }
+    requires room { ListsHaveCapacity 0 lists.now }
     requires leg { copying.old.leg < legs_of (tree routes.now.stack copying.old.bio.dev.0) }
     requires device { copying.old.bio.dev.0 < length routes.now.stack.devices.items }
     requires lists { ListsAreWithin routes.now.stack (lists_of lists.now) }
-    ensures copies { copies (setup routes.now) (lists_of lists.now) copying.old.bio copying.old.master (copying.old.leg + 1)
-        ≡ turned (setup routes.now) (copies_for copying.new (want_of want.new)) (lists_of lists.now) result }
+    ensures copies { copies (routing_setup routes.now) (lists_of lists.now) copying.old.bio copying.old.master (copying.old.leg + 1)
+        ≡ turned (routing_setup routes.now) (copies_for copying.new (want_of_plain want.new)) (lists_of lists.now) result }
     ensures turns { CanTurn routes.now.stack lists.now result }
 {
     let dev = copying.bio.dev;
@@ -64,9 +64,9 @@ pub(crate) fn copy_step(
     what: &What,
 ) -> Result<Next, CoreFault>
     requires stack { objects.old.stack ≡ routes.now.stack }
-    requires fits { DoingFits routes.now.stack (copies_for copying.old (want_of want.old)) }
+    requires fits { DoingFits routes.now.stack (copies_for copying.old (want_of_plain want.old)) }
     requires lists { ListsAreWithin routes.now.stack (lists_of lists.old) }
-    ensures steps { LineSteps routes.now objects.old (copies_for copying.old (want_of want.old)) (lists_of lists.old) what.now result objects.new (copies_for copying.new (want_of want.new)) (lists_of lists.new) }
+    ensures steps { LineSteps routes.now objects.old (copies_for copying.old (want_of_plain want.old)) (lists_of lists.old) what.now result objects.new (copies_for copying.new (want_of_plain want.new)) (lists_of lists.new) }
     ensures turns { IfOk result (CanTurn routes.now.stack lists.new) }
 {
     routes.known();
@@ -97,10 +97,10 @@ pub(crate) fn copy_step(
 
 // A mirror begins to copy a bio, or what waits behind it is next where it has no legs.
 pub(crate) fn begin_copy(routes: &Routes, bio: Bio, master: u32, line: &mut Line)
-    requires room { HasRoom 0 line.old.lists }
+    requires room { ListsHaveCapacity 0 line.old.lists }
     requires device { bio.dev.0 < length routes.now.stack.devices.items }
     requires lists { ListsAreWithin routes.now.stack (lists_of line.old.lists) }
-    ensures { line_of line.new ≡ copies (setup routes.now) (lists_of line.old.lists) bio master 0 }
+    ensures { line_of_plain line.new ≡ copies (routing_setup routes.now) (lists_of line.old.lists) bio master 0 }
 {
     if routes.legs(bio.dev) == 0 {
         return go_on(routes, bio.dev, line);

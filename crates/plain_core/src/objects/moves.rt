@@ -11,8 +11,8 @@ ghost use Rattle.run_machine.specs.Events.{pool_of};
 ghost use Rattle.run_machine.specs.Requests.{Write, Chain, Master, Leg};
 ghost use Rattle.run_machine.specs.Objects.{done_one};
 ghost use Rattle.run_machine.specs.Scene.{keeps_data};
-ghost use Rattle.task_steps.specs.Within.{IsWithin, ListsAreWithin};
-ghost use Rattle.plain_core.specs.Lists.{lists_of, HasRoom};
+ghost use Rattle.task_steps.specs.Within.{IsWithinDevice, ListsAreWithin};
+ghost use Rattle.plain_core.specs.Lists.{lists_of, ListsHaveCapacity};
 ghost use Rattle.plain_core.specs.Plain.{Gives, HasSize};
 ghost use Rattle.plain_core.specs.Told.{Takes, MovesAs, Punts, Pops, Pushes, PushesIn, IsComplete, CompletesIn, Links, Joins, IsDrop};
 
@@ -129,11 +129,11 @@ impl Objects {
 
     /// A bio comes to the disk that it is at. Where it does, the lists have room for what comes next.
     pub fn push(&mut self, part: &Part, lists: &mut Lists, what: &What) -> Result<(), CoreFault>
-        requires within { IsWithin self.old.stack part.now.bio }
+        requires within { IsWithinDevice self.old.stack part.now.bio }
         requires disk { keeps_data (tree self.old.stack part.now.bio.dev.0) ≡ true }
         ensures pushes { Pushes self.old part.now what.now result self.new }
         ensures same { lists_of lists.new ≡ lists_of lists.old }
-        ensures room { OnOk result (HasRoom 2 lists.new) }
+        ensures room { OnOk result (ListsHaveCapacity 2 lists.new) }
     {
         let bio = part.bio();
         if !told::pushes(
@@ -201,7 +201,7 @@ impl Objects {
     ) -> Result<u32, CoreFault>
         ensures joins { Joins self.old writer (Chain parent) what.now result self.new }
         ensures same { lists_of lists.new ≡ lists_of lists.old }
-        ensures room { OnOk result (HasRoom 2 lists.new) }
+        ensures room { OnOk result (ListsHaveCapacity 2 lists.new) }
     {
         let Some(place) = told::linked_of(what, writer, How::Chain) else {
             return Err(CoreFault::NotEnabled);
@@ -226,7 +226,7 @@ impl Objects {
     ) -> Result<u32, CoreFault>
         ensures joins { Joins self.old part.now.bio.writer (Master part.now.bio.node part.now slip.now legs) what.now result self.new }
         ensures same { lists_of lists.new ≡ lists_of lists.old }
-        ensures room { OnOk result (HasRoom 2 lists.new) }
+        ensures room { OnOk result (ListsHaveCapacity 2 lists.new) }
     {
         let bio = part.bio();
         let Some(place) = told::linked_of(what, bio.writer, How::Master) else {
@@ -251,7 +251,7 @@ impl Objects {
     ) -> Result<u32, CoreFault>
         ensures joins { Joins self.old writer (Leg master) what.now result self.new }
         ensures same { lists_of lists.new ≡ lists_of lists.old }
-        ensures room { OnOk result (HasRoom 2 lists.new) }
+        ensures room { OnOk result (ListsHaveCapacity 2 lists.new) }
     {
         let Some(place) = told::linked_of(what, writer, How::Leg) else {
             return Err(CoreFault::NotEnabled);

@@ -1,9 +1,9 @@
 //! Steps of completers.
 ghost use Rattle.std.specs.Prelude.{◌≡◌, ℕ, ◌<◌, true, false, None};
-ghost use Rattle.plain_core.specs.Views.{carried_of, completer_of};
+ghost use Rattle.plain_core.specs.Views.{carried_of_plain, completer_of};
 ghost use Rattle.run_machine.specs.Tasks.{after_drop};
 ghost use Rattle.task_steps.specs.Routed.{Routing};
-ghost use Rattle.plain_core.specs.Books.{ended_of};
+ghost use Rattle.plain_core.specs.Books.{ended_of_plain};
 ghost use Rattle.plain_core.specs.Steps.{TaskMoves, GivesFirst, PassesOn, ClosesOn, IsCarried};
 
 use crate::asks;
@@ -18,7 +18,7 @@ use task_core::What;
 
 // What a completer carries when a node was told of an end.
 fn after_drop(writer: u32, ended: Ended) -> Carried
-    ensures { (node : ℕ) → carried_of result ≡ after_drop writer node (ended_of ended) }
+    ensures { (node : ℕ) → carried_of_plain result ≡ after_drop writer node (ended_of_plain ended) }
 {
     match ended {
         Ended::Left => Carried::Empty,
@@ -129,7 +129,7 @@ fn carry(
     carried: &mut Carried,
     what: &What,
 ) -> Result<(), CoreFault>
-    ensures { IsCarried objects.old disk (carried_of carried.old) what.now result objects.new (carried_of carried.new) }
+    ensures { IsCarried objects.old disk (carried_of_plain carried.old) what.now result objects.new (carried_of_plain carried.new) }
 {
     match carried {
         Carried::Empty => match asks::complete(objects, disk, what) {

@@ -3,7 +3,7 @@ ghost use Rattle.std.specs.Prelude.{◌≡◌, ◌+◌, ◌<◌, [], ◌∷◌, 
 ghost use Rattle.plain_core.specs.Views.{keeper_of};
 ghost use Rattle.run_machine.specs.Tasks.{duty_request};
 ghost use Rattle.task_steps.specs.Routed.{Routing};
-ghost use Rattle.plain_core.specs.Steps.{TaskMoves, Answers, duty_reply};
+ghost use Rattle.plain_core.specs.Steps.{TaskMoves, AnswersRequest, duty_reply};
 
 use crate::asks;
 use crate::fault::CoreFault;
@@ -20,7 +20,7 @@ pub fn next_duty(duties: &[Duty], done: usize) -> Option<&Duty>
 
 // What the keeper does next.
 fn keep(objects: &mut Objects, duty: &Duty, what: &What) -> Result<(), CoreFault>
-    ensures { Answers objects.old (duty_request duty.now) what.now (λ done. duty_reply duty.now) result objects.new }
+    ensures { AnswersRequest objects.old (duty_request duty.now) what.now (λ done. duty_reply duty.now) result objects.new }
 {
     match duty.pool {
         Some(pool) => asks::resize(objects, pool, duty.number, what),

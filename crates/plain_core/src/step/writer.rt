@@ -2,10 +2,10 @@
 ghost use Rattle.std.specs.Prelude.{◌≡◌, ◌+◌, ◌<◌, [], ◌∷◌, true, false, List, drop, length, None, MatchOption};
 ghost use Rattle.layout_model.specs.Writes.{IsWrite};
 ghost use Rattle.run_machine.specs.Lines.{settled, Rests as AtRest};
-ghost use Rattle.task_steps.specs.Routed.{setup, Routing};
+ghost use Rattle.task_steps.specs.Routed.{routing_setup, Routing};
 ghost use Rattle.run_machine.specs.Tasks.{needs_vector, first_bio, NoBio, HasBio, HasBoth, Writer as Writing, Todo as Later};
-ghost use Rattle.task_steps.specs.Within.{IsWithin, TaskFits};
-ghost use Rattle.plain_core.specs.Views.{line_of, doing_of, taken_of, writer_of};
+ghost use Rattle.task_steps.specs.Within.{IsWithinDevice, TaskFits};
+ghost use Rattle.plain_core.specs.Views.{line_of_plain, doing_of_plain, taken_of_plain, writer_of};
 ghost use Rattle.plain_core.specs.Steps.{TaskMoves, TakesVector};
 
 use crate::asks;
@@ -51,8 +51,8 @@ fn first_bio(writer: u32, todo: &Todo, node: u32) -> Bio
 
 // A bio is submitted.
 pub(crate) fn start(routes: &Routes, part: Part, line: &mut Line)
-    requires { IsWithin routes.now.stack part.bio }
-    ensures { line_of line.new ≡ settled (setup routes.now) (part ∷ []) }
+    requires { IsWithinDevice routes.now.stack part.bio }
+    ensures { line_of_plain line.new ≡ settled (routing_setup routes.now) (part ∷ []) }
 {
     line.lists.clear();
     drive(routes, part, line);
@@ -89,9 +89,9 @@ fn data_of(write: &Write) -> Data
 
 // The top node of the next write is open: its bio is submitted, and it is begun.
 fn begin(routes: &Routes, writer: &mut Writer, part: Part)
-    requires within { IsWithin routes.now.stack part.bio }
+    requires within { IsWithinDevice routes.now.stack part.bio }
     requires next { writer.old.begun < length writer.old.todo.items }
-    ensures { writer_of writer.new ≡ Writing writer.old.number (drop (writer.old.begun + 1) writer.old.todo.items) NoBio (settled (setup routes.now) (part ∷ [])) }
+    ensures { writer_of writer.new ≡ Writing writer.old.number (drop (writer.old.begun + 1) writer.old.todo.items) NoBio (settled (routing_setup routes.now) (part ∷ [])) }
 {
     start(routes, part, &mut writer.line);
     writer.taken = Taken::NoBio;
@@ -105,8 +105,8 @@ fn take_step(
     round: u32,
     what: &What,
 ) -> Result<(), CoreFault>
-    requires rests { doing_of writer.old.line.doing ≡ AtRest }
-    requires taken { taken_of writer.old.taken ≡ NoBio }
+    requires rests { doing_of_plain writer.old.line.doing ≡ AtRest }
+    requires taken { taken_of_plain writer.old.taken ≡ NoBio }
     ensures { (r : Routing) (next : Later) (later : List Later) → drop writer.old.begun writer.old.todo.items ≡ next ∷ later → next.round ≡ round
         → TaskMoves r objects.old (writer_of writer.old) what.now result objects.new (writer_of writer.new) }
 {
@@ -130,8 +130,8 @@ fn vector_step(
     hand: &Hand,
     what: &What,
 ) -> Result<(), CoreFault>
-    requires rests { doing_of writer.old.line.doing ≡ AtRest }
-    requires taken { taken_of writer.old.taken ≡ HasBio hand.now }
+    requires rests { doing_of_plain writer.old.line.doing ≡ AtRest }
+    requires taken { taken_of_plain writer.old.taken ≡ HasBio hand.now }
     ensures { (r : Routing) (next : Later) (later : List Later) → drop writer.old.begun writer.old.todo.items ≡ next ∷ later → needs_vector next.write ≡ true
         → TaskMoves r objects.old (writer_of writer.old) what.now result objects.new (writer_of writer.new) }
 {
@@ -154,8 +154,8 @@ fn short_step(
     hand: &Hand,
     what: &What,
 ) -> Result<(), CoreFault>
-    requires rests { doing_of writer.old.line.doing ≡ AtRest }
-    requires taken { taken_of writer.old.taken ≡ HasBio hand.now }
+    requires rests { doing_of_plain writer.old.line.doing ≡ AtRest }
+    requires taken { taken_of_plain writer.old.taken ≡ HasBio hand.now }
     requires next { drop writer.old.begun writer.old.todo.items ≡ next.now ∷ drop (writer.old.begun + 1) writer.old.todo.items }
     requires write { IsWrite routes.now.stack next.now.write }
     requires needs { needs_vector next.now.write ≡ false }
@@ -181,8 +181,8 @@ fn long_step(
     vector: &Vector,
     what: &What,
 ) -> Result<(), CoreFault>
-    requires rests { doing_of writer.old.line.doing ≡ AtRest }
-    requires taken { taken_of writer.old.taken ≡ HasBoth hand.now vector.now }
+    requires rests { doing_of_plain writer.old.line.doing ≡ AtRest }
+    requires taken { taken_of_plain writer.old.taken ≡ HasBoth hand.now vector.now }
     requires next { drop writer.old.begun writer.old.todo.items ≡ next.now ∷ drop (writer.old.begun + 1) writer.old.todo.items }
     requires write { IsWrite routes.now.stack next.now.write }
     ensures { TaskMoves routes.now objects.old (writer_of writer.old) what.now result objects.new (writer_of writer.new) }
@@ -205,7 +205,7 @@ fn write_step(
     writer: &mut Writer,
     what: &What,
 ) -> Result<(), CoreFault>
-    requires rests { doing_of writer.old.line.doing ≡ AtRest }
+    requires rests { doing_of_plain writer.old.line.doing ≡ AtRest }
     requires fits { TaskFits routes.now.stack (writer_of writer.old) }
     ensures { TaskMoves routes.now objects.old (writer_of writer.old) what.now result objects.new (writer_of writer.new) }
 {

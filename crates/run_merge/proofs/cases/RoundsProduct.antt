@@ -23,7 +23,7 @@ use Rattle.run_machine.specs.Runs.{State, IsRun}
 use Rattle.run_machine.specs.Scene.{Scene}
 use Rattle.run_machine.proofs.Turns.{follow, turns_run, does_step}
 use Rattle.run_machine.proofs.cases.RoundsRun.{a, bio, closed, events, ledger, rounds_run, scenario, scene, scene_is, setup, start, start_is, turns}
-use Rattle.shared_objects.specs.Calls.{is_same}
+use Rattle.shared_objects.specs.Calls.{is_same_object}
 use Rattle.run_merge.specs.Entries.{Entry, entries_in}
 use Rattle.run_merge.specs.Machines.{entries_at}
 use Rattle.run_merge.specs.Products.{entries_by, IsProduct, AreOfRun}
@@ -94,8 +94,8 @@ swapped p x y apart xs ys = filter-append p xs (x ∷ y ∷ ys) ∙ ap (λ l. fi
         ap (λ u. cond u (x ∷ filter p (y ∷ ys)) (filter p (y ∷ ys))) a
         ∙ sym (ap (λ u. cond (p y) (y ∷ cond u (x ∷ rest) rest) (cond u (x ∷ rest) rest)) a)
 
-same_object : (name a b : Object) → is_same a b ≡ false → is_same name a ≡ true → is_same name b ≡ true → ⊥
-same_object name a b apart x y = true≢false (sym (subst (λ n. is_same n b ≡ true) (same_is name a x) y) ∙ apart)
+same_object : (name a b : Object) → is_same_object a b ≡ false → is_same_object name a ≡ true → is_same_object name b ≡ true → ⊥
+same_object name a b apart x y = true≢false (sym (subst (λ n. is_same_object n b ≡ true) (same_is name a x) y) ∙ apart)
 
 module _ (memory : Global) (some : LedgerId) where
   abbrev s : Scenario
@@ -149,7 +149,7 @@ module _ (memory : Global) (some : LedgerId) where
   -- Though at each object and of each task the entries are the same where a take or a change of a reserve comes too early.
   take_at : (name : Object) → entries_at name (take_early some) ≡ entries_at name (good some)
   take_at name =
-      swapped (λ (e : Entry). is_same name (object_of e.asked)) (take some 1) (round some) (same_object name (object_of (take some 1).asked) (object_of (round some).asked) refl)
+      swapped (λ (e : Entry). is_same_object name (object_of e.asked)) (take some 1) (round some) (same_object name (object_of (take some 1).asked) (object_of (round some).asked) refl)
       (take some 0 ∷ written some 0 ++ done some 0 ∷ resize some ∷ []) (written some 1 ++ done some 1 ∷ [])
 
   take_by : (place : ℕ) → entries_by place (take_early some) ≡ entries_by place (good some)
@@ -159,7 +159,7 @@ module _ (memory : Global) (some : LedgerId) where
 
   resize_at : (name : Object) → entries_at name (resize_early some) ≡ entries_at name (good some)
   resize_at name =
-      swapped (λ (e : Entry). is_same name (object_of e.asked)) (resize some) (done some 0) (same_object name (object_of (resize some).asked) (object_of (done some 0).asked) refl)
+      swapped (λ (e : Entry). is_same_object name (object_of e.asked)) (resize some) (done some 0) (same_object name (object_of (resize some).asked) (object_of (done some 0).asked) refl)
       (take some 0 ∷ written some 0) (round some ∷ take some 1 ∷ written some 1 ++ done some 1 ∷ [])
 
   resize_by : (place : ℕ) → entries_by place (resize_early some) ≡ entries_by place (good some)

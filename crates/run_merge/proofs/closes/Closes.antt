@@ -8,7 +8,7 @@ use Rattle.std.proofs.lemmas.List.Elements.{All-head, All-tail, All-nil, All-wea
 use Rattle.std.proofs.lemmas.Option.{slice_get_cases}
 use Rattle.stack_base.specs.declared.ids.DevId.{DevId}
 use Rattle.bio_records.specs.Rescue.{Rescue}
-use Rattle.seat_lock.specs.History.{one_if, count, calls_by}
+use Rattle.seat_lock.specs.History.{indicator, count, calls_by}
 use Rattle.seat_lock.proofs.Histories.{count_one}
 use Rattle.tick_clock.specs.Tickets.{PassState}
 use Rattle.run_machine.specs.Laws.{Object, OfPool, OfRescuer, OfDisk, OfBook, OfTally, OfNone, object_of}
@@ -19,13 +19,13 @@ use Rattle.run_machine.specs.Runs.{State}
 use Rattle.run_machine.specs.Tasks.{TaskState, look_of}
 use Rattle.task_core.specs.declared.plain.Plain.{Plain}
 use Rattle.task_core.specs.Plains.{list_number, objects_of, stage_of}
-use Rattle.task_core.specs.Tables.{has_number}
+use Rattle.task_core.specs.Tables.{is_entry_of}
 use Rattle.task_core.specs.opened.OfOne.{scenario_in}
 use Rattle.block_core.specs.Breaks.{is_broken}
 use Rattle.block_core.proofs.claim.Runnable.{accepted_texts_are_runnable}
 use Rattle.object_things.specs.Histories.{Call, drawn_in, or_last}
 use Rattle.object_things.specs.Stamps.{ThingState}
-use Rattle.shared_objects.specs.Calls.{is_same}
+use Rattle.shared_objects.specs.Calls.{is_same_object}
 use Rattle.shared_objects.specs.Closes.{Returned, ClosesAs}
 use Rattle.shared_objects.specs.Kinds.{ThingAt, opened_at, unasked}
 use Rattle.shared_objects.specs.Logs.{LogLeads}
@@ -118,7 +118,7 @@ none_by : (place : ℕ) (calls : List Call) → All (λ (call : Call). call.by <
 none_by place [] less = refl
 none_by place (call ∷ calls) less =
     let lt = All-head (λ (call : Call). call.by < place + 1) call calls less in
-    let zero_of : count call.by ((place + 1) ∷ []) ≡ 0 = count_one call.by (place + 1) ∙ ap one_if (ne_eqb (place + 1) call.by (λ same. omega (arith, same, lt))) in
+    let zero_of : count call.by ((place + 1) ∷ []) ≡ 0 = count_one call.by (place + 1) ∙ ap indicator (ne_eqb (place + 1) call.by (λ same. omega (arith, same, lt))) in
     ap (λ b. cond b (call ∷ calls_by ((place + 1) ∷ []) calls) (calls_by ((place + 1) ∷ []) calls)) (le-ltb 0 (count call.by ((place + 1) ∷ [])) (omega (arith, zero_of)))
     ∙ none_by place calls (All-tail (λ (call : Call). call.by < place + 1) call calls less)
 
@@ -130,7 +130,7 @@ list_bios (Some entry) dev = refl
 
 opened_is : (plain : Plain) (name : Object) → get (objects_of plain) name ≡ seen_at name (opened_at plain name)
 opened_is plain (OfPool number) = refl
-opened_is plain (OfRescuer dev) = list_bios (find (has_number list_number dev) plain.lists.items) dev
+opened_is plain (OfRescuer dev) = list_bios (find (is_entry_of list_number dev) plain.lists.items) dev
 opened_is plain (OfDisk dev) = refl
 opened_is plain (OfBook writer) = refl
 opened_is plain OfTally = refl
@@ -222,7 +222,7 @@ module _ (s : Scenario) (plain : Plain) (names : List Object) (history : Object 
           (λ name. none_by place (history name)
           (All-weaker (λ (call : Call). (0 < call.by) × (call.by ≤ length tasks)) (λ (call : Call). call.by < place + 1)
           (λ call h. let lt = h.1 in omega (arith, lt, le)) (history name) (c.numbers name)))
-          (All-nil (λ (n : Ticketed). list_any (λ name. is_same name (object_of n.entry.asked)) names ≡ true)) tt
+          (All-nil (λ (n : Ticketed). list_any (λ name. is_same_object name (object_of n.entry.asked)) names ≡ true)) tt
 
       nothing : {X : Type 0} (n : Ticketed) (rest mine : List Ticketed) → [] ≡ mine ++ n ∷ rest → X
       nothing n rest [] is = absurd (true≢false (sym (ap has_some is)))

@@ -19,7 +19,7 @@ use Rattle.task_core.specs.declared.plain.Plain.{Plain}
 use Rattle.block_core.specs.Breaks.{is_broken}
 use Rattle.object_things.specs.Histories.{Call, drawn_in}
 use Rattle.object_things.specs.Stamps.{ThingState, StepOf, is_spent}
-use Rattle.shared_objects.specs.Calls.{is_same, struck}
+use Rattle.shared_objects.specs.Calls.{is_same_object, struck}
 use Rattle.shared_objects.specs.Closes.{Returned, ClosesAs}
 use Rattle.shared_objects.specs.Kinds.{ThingAt, serves_at, looks_at, opened_at, unasked}
 use Rattle.shared_objects.specs.Logs.{is_event, is_refused, is_stop, is_glance, events_in, tickets_in, LogLeads}
@@ -148,9 +148,9 @@ module _ (s : Scenario) (plain : Plain) (names : List Object) (history : Object 
   pub done_at : (place : ℕ) (task : Returned) → slice_get tasks place ≡ Some task → done_by place (event_histories names history) ≡ ticketed_events task.log
   done_at place task at =
       done_is names history place task.log c.apart number_some (λ name. c.calls name place task at)
-      (All-map (λ (n : Ticketed). list_any (λ name. is_same name (object_of n.entry.asked)) names ≡ true) ticketed (events_in task.log)
-      (All-filter is_told (λ (call : Call). list_any (λ name. is_same name (object_of call.asked)) names ≡ true) task.log
-      (All-weaker (Contains task.log) (λ (call : Call). list_any (λ name. is_same name (object_of call.asked)) names ≡ true)
+      (All-map (λ (n : Ticketed). list_any (λ name. is_same_object name (object_of n.entry.asked)) names ≡ true) ticketed (events_in task.log)
+      (All-filter is_told (λ (call : Call). list_any (λ name. is_same_object name (object_of call.asked)) names ≡ true) task.log
+      (All-weaker (Contains task.log) (λ (call : Call). list_any (λ name. is_same_object name (object_of call.asked)) names ≡ true)
       (named s plain names history left tasks pass c place task at) task.log (All-contains_itself task.log))))
       (log_rises place task at)
 

@@ -5,7 +5,7 @@ use Rattle.std.specs.Prelude.{All, map}
 use Rattle.std.proofs.lemmas.Bool.{true≢false}
 use Rattle.std.proofs.lemmas.List.{map-append}
 use Rattle.std.proofs.lemmas.List.Elements.{All-head, All-tail, All-cons, All-nil, filter-append}
-use Rattle.object_things.specs.Histories.{Call, IsNext, or_last, TicketsRise}
+use Rattle.object_things.specs.Histories.{Call, IsNextTicket, or_last, TicketsRise}
 use Rattle.shared_objects.specs.Logs.{events_in}
 use Rattle.shared_objects.proofs.Leading.{event_first, quiet_first}
 use Rattle.run_merge.specs.Merging.{Ticketed, RiseFrom}
@@ -37,7 +37,7 @@ rises_events last end [] rises has = tt
 rises_events last end (call ∷ calls) rises has =
     by_two (is_told call) refl call.told.ticket refl rises.0 (rises_events (or_last last call.told.ticket) end calls rises.1 (All-tail HasTicket call calls has))
   where
-    by_two : (told : Bool) → is_told call ≡ told → (ticket : Option ℕ) → call.told.ticket ≡ ticket → IsNext last ticket → RiseFrom (or_last last ticket) (ticketed_events calls)
+    by_two : (told : Bool) → is_told call ≡ told → (ticket : Option ℕ) → call.told.ticket ≡ ticket → IsNextTicket last ticket → RiseFrom (or_last last ticket) (ticketed_events calls)
         → RiseFrom last (ticketed_events (call ∷ calls))
     by_two true is (Some n) t next rest =
         subst (RiseFrom last) (sym (events_told call calls is))
@@ -56,7 +56,7 @@ none_greater last end (call ∷ calls) rises has =
     Below : List Ticketed → Type 0
     Below ns = All (λ (n : Ticketed). n.ticket ≤ end) ns
 
-    by_two : (told : Bool) → is_told call ≡ told → (ticket : Option ℕ) → call.told.ticket ≡ ticket → IsNext last ticket
+    by_two : (told : Bool) → is_told call ≡ told → (ticket : Option ℕ) → call.told.ticket ≡ ticket → IsNextTicket last ticket
         → (or_last last ticket ≤ end) × Below (ticketed_events calls) → (last ≤ end) × Below (ticketed_events (call ∷ calls))
     by_two true is (Some n) t next rest =
         let le = rest.0 in

@@ -5,7 +5,7 @@ use Rattle.std.specs.List.{list_any}
 use Rattle.std.proofs.lemmas.Bool.{true≢false, eq-eqb, lt-ltb}
 use Rattle.std.proofs.lemmas.List.Elements.{All-filter, All-contains, All-contains_itself, All-weaker, Contains-append_right, filter-append}
 use Rattle.std.proofs.lemmas.Option.{slice_get_cases, slice_get_within, get_or_from_slice_get}
-use Rattle.seat_lock.specs.History.{one_if, count, Leads}
+use Rattle.seat_lock.specs.History.{indicator, count, Leads}
 use Rattle.seat_lock.proofs.Histories.{count_one, each_in_place}
 use Rattle.tick_clock.specs.Tickets.{PassState}
 use Rattle.run_machine.specs.Laws.{Object, OfNone, object_of}
@@ -13,7 +13,7 @@ use Rattle.run_machine.specs.Opened.{Scenario, setup}
 use Rattle.task_core.specs.declared.plain.Plain.{Plain}
 use Rattle.object_things.specs.Histories.{Call}
 use Rattle.object_things.specs.Stamps.{ThingState}
-use Rattle.shared_objects.specs.Calls.{is_same}
+use Rattle.shared_objects.specs.Calls.{is_same_object}
 use Rattle.shared_objects.specs.Closes.{Returned, ClosesAs}
 use Rattle.shared_objects.specs.Kinds.{ThingAt, answers_at, opened_at, unasked}
 use Rattle.shared_objects.specs.Logs.{HasStopped, IsLogged}
@@ -49,7 +49,7 @@ at_all P xs i x all is = All-contains P xs x all (i, slice_get_within xs i x is,
 -- the seat of the task at a place made this call
 pub is_mine : (place by : ℕ) → by ≡ place + 1 → nat_lt 0 (count by ((place + 1) ∷ [])) ≡ true
 is_mine place by is =
-    lt-ltb 0 (count by ((place + 1) ∷ [])) (subst (λ n. 0 < n) (sym (count_one by (place + 1) ∙ ap one_if (eq-eqb (place + 1) by (sym is)))) (omega arith))
+    lt-ltb 0 (count by ((place + 1) ∷ [])) (subst (λ n. 0 < n) (sym (count_one by (place + 1) ∙ ap indicator (eq-eqb (place + 1) by (sym is)))) (omega arith))
 
 pub or_first : (a b : Bool) → (a || b) ≡ false → a ≡ false
 or_first true b h = absurd (true≢false h)
@@ -59,19 +59,19 @@ pub or_second : (a b : Bool) → (a || b) ≡ false → b ≡ false
 or_second true b h = absurd (true≢false h)
 or_second false b h = h
 
-pub turned : (a b : Object) → is_same a b ≡ false → is_same b a ≡ false
-turned a b not = by_test (is_same b a) refl
+pub turned : (a b : Object) → is_same_object a b ≡ false → is_same_object b a ≡ false
+turned a b not = by_test (is_same_object b a) refl
   where
-    by_test : (t : Bool) → is_same b a ≡ t → t ≡ false
-    by_test true is = absurd (true≢false (sym (ap (λ o. is_same a o) (same_is b a is) ∙ same_self a) ∙ not))
+    by_test : (t : Bool) → is_same_object b a ≡ t → t ≡ false
+    by_test true is = absurd (true≢false (sym (ap (λ o. is_same_object a o) (same_is b a is) ∙ same_self a) ∙ not))
     by_test false is = refl
 
-none_turned : (o : Object) (names : List Object) → list_any (λ name. is_same name o) names ≡ false → list_any (is_same o) names ≡ false
+none_turned : (o : Object) (names : List Object) → list_any (λ name. is_same_object name o) names ≡ false → list_any (is_same_object o) names ≡ false
 none_turned o [] none = refl
 none_turned o (name ∷ names) none =
-    let first = turned name o (or_first (is_same name o) (list_any (λ n. is_same n o) names) none) in
-    let rest = none_turned o names (or_second (is_same name o) (list_any (λ n. is_same n o) names) none) in
-    ap (λ b. b || list_any (is_same o) names) first ∙ rest
+    let first = turned name o (or_first (is_same_object name o) (list_any (λ n. is_same_object n o) names) none) in
+    let rest = none_turned o names (or_second (is_same_object name o) (list_any (λ n. is_same_object n o) names) none) in
+    ap (λ b. b || list_any (is_same_object o) names) first ∙ rest
 
 none_in : {X Y : Type 0} (x : X) → Contains [] x → Y
 none_in x (k, lt, at) = absurd (omega (arith, lt))
@@ -102,7 +102,7 @@ module _ (s : Scenario) (plain : Plain) (names : List Object) (history : Object 
         task = task;
         at = at;
         by = by_is;
-        there = of_filter (λ (x : Call). is_same name (object_of x.asked)) task.log call
+        there = of_filter (λ (x : Call). is_same_object name (object_of x.asked)) task.log call
             (subst (λ l. Contains l call) (c.calls name (call.by - 1) task at)
             (filter_there (λ (x : Call). nat_lt 0 (count x.by (((call.by - 1) + 1) ∷ []))) (history name) call there (is_mine (call.by - 1) call.by by_is)));
       }
@@ -116,7 +116,7 @@ module _ (s : Scenario) (plain : Plain) (names : List Object) (history : Object 
   kept place task at call there =
       of_filter (λ (x : Call). nat_lt 0 (count x.by ((place + 1) ∷ []))) (history (object_of call.asked)) call
       (subst (λ l. Contains l call) (sym (c.calls (object_of call.asked) place task at))
-      (filter_there (λ (x : Call). is_same (object_of call.asked) (object_of x.asked)) task.log call there (same_self (object_of call.asked))))
+      (filter_there (λ (x : Call). is_same_object (object_of call.asked) (object_of x.asked)) task.log call there (same_self (object_of call.asked))))
 
   -- each call of a log asks some object, of which there is a history
   pub ask_some : (place : ℕ) (task : Returned) → slice_get tasks place ≡ Some task → AskSome task.log
@@ -125,13 +125,13 @@ module _ (s : Scenario) (plain : Plain) (names : List Object) (history : Object 
       none : (call : Call) → Contains task.log call → object_of call.asked ≡ OfNone → ⊥
       none call there is =
           none_in call (subst (λ l. Contains l call) (sym ((logged place task at).0.calls OfNone))
-          (filter_there (λ (x : Call). is_same OfNone (object_of x.asked)) task.log call there (ap (is_same OfNone) is)))
+          (filter_there (λ (x : Call). is_same_object OfNone (object_of x.asked)) task.log call there (ap (is_same_object OfNone) is)))
 
   pub named : (place : ℕ) (task : Returned) → slice_get tasks place ≡ Some task → (call : Call) → Contains task.log call
-      → list_any (λ name. is_same name (object_of call.asked)) names ≡ true
-  named place task at call there = by_test (list_any (λ name. is_same name (object_of call.asked)) names) refl
+      → list_any (λ name. is_same_object name (object_of call.asked)) names ≡ true
+  named place task at call there = by_test (list_any (λ name. is_same_object name (object_of call.asked)) names) refl
     where
-      by_test : (b : Bool) → list_any (λ name. is_same name (object_of call.asked)) names ≡ b → b ≡ true
+      by_test : (b : Bool) → list_any (λ name. is_same_object name (object_of call.asked)) names ≡ b → b ≡ true
       by_test true is = refl
       by_test false is =
           none_in call (subst (λ l. Contains l call) (c.others (object_of call.asked) (none_turned (object_of call.asked) names is)) (kept place task at call there))

@@ -5,11 +5,11 @@ use Rattle.std.specs.List.{list_any}
 use Rattle.std.proofs.lemmas.Bool.{true≢false, eq-eqb, ne_eqb, eqb-true, eqb-false, lt-ltb}
 use Rattle.std.proofs.lemmas.List.{append_assoc}
 use Rattle.std.proofs.lemmas.List.Elements.{All-head, All-tail, All-nil, All-filter, All-append, filter-append}
-use Rattle.seat_lock.specs.History.{one_if, count, calls_by}
+use Rattle.seat_lock.specs.History.{indicator, count, calls_by}
 use Rattle.seat_lock.proofs.Histories.{count_one}
 use Rattle.run_machine.specs.Laws.{Object, object_of}
 use Rattle.object_things.specs.Histories.{Call}
-use Rattle.shared_objects.specs.Calls.{calls_to, is_same}
+use Rattle.shared_objects.specs.Calls.{calls_to, is_same_object}
 use Rattle.shared_objects.specs.Names.{Apart}
 use Rattle.shared_objects.specs.Logs.{events_in}
 use Rattle.run_merge.specs.Merging.{Ticketed, insert, sorted, RiseFrom, all_of, done_by}
@@ -31,11 +31,11 @@ mine_is place (suc by) some = by_test (place == by) refl
     by_test true is =
         let same = eqb-true place by is in
         eq-eqb place (suc by - 1) (omega (arith, same)) ∙ sym (lt-ltb 0 (count (suc by) ((place + 1) ∷ []))
-        (subst (λ n. 0 < n) (sym (count_one (suc by) (place + 1) ∙ ap one_if (eq-eqb (place + 1) (suc by) (omega (arith, same))))) (omega arith)))
+        (subst (λ n. 0 < n) (sym (count_one (suc by) (place + 1) ∙ ap indicator (eq-eqb (place + 1) (suc by) (omega (arith, same))))) (omega arith)))
     by_test false is =
         let other = eqb-false place by is in
         ne_eqb place (suc by - 1) (λ same. other (omega (arith, same)))
-        ∙ sym (ap (λ n. nat_lt 0 n) (count_one (suc by) (place + 1) ∙ ap one_if (ne_eqb (place + 1) (suc by) (λ same. other (omega (arith, same))))))
+        ∙ sym (ap (λ n. nat_lt 0 n) (count_one (suc by) (place + 1) ∙ ap indicator (ne_eqb (place + 1) (suc by) (λ same. other (omega (arith, same))))))
 
 abbrev mine : ℕ → Call → Bool
 mine place call = nat_lt 0 (count call.by ((place + 1) ∷ []))
@@ -67,12 +67,12 @@ picks_mine p place (call ∷ calls) some =
 -- of the calls at an object the events are those among all that are at it
 pub events_to : (name : Object) (log : List Call) → ticketed_events (calls_to name log) ≡ filter (is_at name) (ticketed_events log)
 events_to name [] = refl
-events_to name (call ∷ calls) = by_two (is_told call) (is_same name (object_of call.asked)) refl refl (events_to name calls)
+events_to name (call ∷ calls) = by_two (is_told call) (is_same_object name (object_of call.asked)) refl refl (events_to name calls)
   where
     rest : List Call
     rest = calls_to name calls
 
-    by_two : (told own : Bool) → is_told call ≡ told → is_same name (object_of call.asked) ≡ own → ticketed_events rest ≡ filter (is_at name) (ticketed_events calls)
+    by_two : (told own : Bool) → is_told call ≡ told → is_same_object name (object_of call.asked) ≡ own → ticketed_events rest ≡ filter (is_at name) (ticketed_events calls)
         → ticketed_events (cond own (call ∷ rest) rest) ≡ filter (is_at name) (map ticketed (cond told (call ∷ events_in calls) (events_in calls)))
     by_two true true t m is =
         events_told call rest t ∙ ap (λ l. ticketed call ∷ l) is
@@ -93,28 +93,28 @@ record IsPut (names : List Object) (e : Ticketed) (events : List Ticketed) : Typ
   less : parts names events ≡ before ++ after
 
 module _ (e : Ticketed) (events : List Ticketed) where
-  no_other : (names : List Object) → list_any (is_same (object_of e.entry.asked)) names ≡ false → parts names (e ∷ events) ≡ parts names events
+  no_other : (names : List Object) → list_any (is_same_object (object_of e.entry.asked)) names ≡ false → parts names (e ∷ events) ≡ parts names events
   no_other [] none = refl
   no_other (name ∷ names) none =
-      let first = or_first (is_same (object_of e.entry.asked) name) (list_any (is_same (object_of e.entry.asked)) names) none in
-      let others = or_second (is_same (object_of e.entry.asked) name) (list_any (is_same (object_of e.entry.asked)) names) none in
+      let first = or_first (is_same_object (object_of e.entry.asked) name) (list_any (is_same_object (object_of e.entry.asked)) names) none in
+      let others = or_second (is_same_object (object_of e.entry.asked) name) (list_any (is_same_object (object_of e.entry.asked)) names) none in
       ap (λ b. cond b (e ∷ filter (is_at name) events) (filter (is_at name) events) ++ parts names (e ∷ events)) (turned (object_of e.entry.asked) name first)
       ∙ ap (λ l. filter (is_at name) events ++ l) (no_other names others)
 
-  put_in : (names : List Object) → Apart is_same names → list_any (λ name. is_same name (object_of e.entry.asked)) names ≡ true → IsPut names e events
+  put_in : (names : List Object) → Apart is_same_object names → list_any (λ name. is_same_object name (object_of e.entry.asked)) names ≡ true → IsPut names e events
   put_in [] apart there = absurd (true≢false (sym there))
-  put_in (name ∷ names) apart there = by_test (is_same name (object_of e.entry.asked)) refl there (λ t. put_in names apart.1 t)
+  put_in (name ∷ names) apart there = by_test (is_same_object name (object_of e.entry.asked)) refl there (λ t. put_in names apart.1 t)
     where
       few : List Ticketed
       few = filter (is_at name) events
 
-      by_test : (b : Bool) → is_same name (object_of e.entry.asked) ≡ b → (b || list_any (λ n. is_same n (object_of e.entry.asked)) names) ≡ true
-          → (list_any (λ n. is_same n (object_of e.entry.asked)) names ≡ true → IsPut names e events) → IsPut (name ∷ names) e events
+      by_test : (b : Bool) → is_same_object name (object_of e.entry.asked) ≡ b → (b || list_any (λ n. is_same_object n (object_of e.entry.asked)) names) ≡ true
+          → (list_any (λ n. is_same_object n (object_of e.entry.asked)) names ≡ true → IsPut names e events) → IsPut (name ∷ names) e events
       by_test true is there rest = record {
         before = [];
         after = few ++ parts names events;
         more = ap (λ b. cond b (e ∷ few) few ++ parts names (e ∷ events)) is
-            ∙ ap (λ l. e ∷ (few ++ l)) (no_other names (subst (λ o. list_any (is_same o) names ≡ false) (same_is name (object_of e.entry.asked) is) apart.0));
+            ∙ ap (λ l. e ∷ (few ++ l)) (no_other names (subst (λ o. list_any (is_same_object o) names ≡ false) (same_is name (object_of e.entry.asked) is) apart.0));
         less = refl;
       }
       by_test false is there rest =
@@ -143,25 +143,25 @@ all_in_parts P [] events all = All-nil P
 all_in_parts P (name ∷ names) events all =
     All-append P (filter (is_at name) events) (parts names events) (All-filter (is_at name) P events all) (all_in_parts P names events all)
 
-pub sorted_parts : (names : List Object) (last : ℕ) (events : List Ticketed) → Apart is_same names
-    → All (λ (n : Ticketed). list_any (λ name. is_same name (object_of n.entry.asked)) names ≡ true) events → RiseFrom last events → sorted (parts names events) ≡ events
+pub sorted_parts : (names : List Object) (last : ℕ) (events : List Ticketed) → Apart is_same_object names
+    → All (λ (n : Ticketed). list_any (λ name. is_same_object name (object_of n.entry.asked)) names ≡ true) events → RiseFrom last events → sorted (parts names events) ≡ events
 sorted_parts names last [] apart there rises = ap sorted (none names)
   where
     none : (names : List Object) → parts names [] ≡ []
     none [] = refl
     none (name ∷ names) = none names
 sorted_parts names last (e ∷ events) apart there rises =
-    let put = put_in e events names apart (All-head (λ (n : Ticketed). list_any (λ name. is_same name (object_of n.entry.asked)) names ≡ true) e events there) in
+    let put = put_in e events names apart (All-head (λ (n : Ticketed). list_any (λ name. is_same_object name (object_of n.entry.asked)) names ≡ true) e events there) in
     let above : All (λ (n : Ticketed). e.ticket < n.ticket) (put.before ++ put.after) =
     subst (All (λ (n : Ticketed). e.ticket < n.ticket)) put.less (all_in_parts (λ (n : Ticketed). e.ticket < n.ticket) names events (rises_above e.ticket events rises.1)) in
     ap sorted put.more ∙ insert_middle e put.before put.after above ∙ ap (λ l. e ∷ l) (ap sorted (sym put.less)
-    ∙ sorted_parts names e.ticket events apart (All-tail (λ (n : Ticketed). list_any (λ name. is_same name (object_of n.entry.asked)) names ≡ true) e events there) rises.1)
+    ∙ sorted_parts names e.ticket events apart (All-tail (λ (n : Ticketed). list_any (λ name. is_same_object name (object_of n.entry.asked)) names ≡ true) e events there) rises.1)
 
 -- so of histories that keep what the task did at each object
-pub done_is : (names : List Object) (history : Object → List Call) (place : ℕ) (log : List Call) → Apart is_same names
+pub done_is : (names : List Object) (history : Object → List Call) (place : ℕ) (log : List Call) → Apart is_same_object names
     → ((name : Object) → All (λ (call : Call). 0 < call.by) (history name))
     → ((name : Object) → calls_by ((place + 1) ∷ []) (history name) ≡ calls_to name log)
-    → All (λ (n : Ticketed). list_any (λ name. is_same name (object_of n.entry.asked)) names ≡ true) (ticketed_events log)
+    → All (λ (n : Ticketed). list_any (λ name. is_same_object name (object_of n.entry.asked)) names ≡ true) (ticketed_events log)
     → RiseFrom 0 (ticketed_events log) → done_by place (event_histories names history) ≡ ticketed_events log
 done_is names history place log apart some calls there rises = ap sorted (picked names) ∙ sorted_parts names 0 (ticketed_events log) apart there rises
   where

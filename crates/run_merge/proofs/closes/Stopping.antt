@@ -12,7 +12,7 @@ use Rattle.run_machine.specs.Opened.{Scenario, setup, start}
 use Rattle.run_machine.specs.Requests.{Reply, LookLeft, Spent}
 use Rattle.run_machine.specs.Tasks.{TaskState, look_of}
 use Rattle.task_core.specs.declared.plain.Plain.{Plain}
-use Rattle.object_things.specs.Histories.{Call, drawn_in, LeadDrawn, DrawnRun, IsNext, TicketsRise}
+use Rattle.object_things.specs.Histories.{Call, drawn_in, LeadDrawn, DrawnRun, IsNextTicket, TicketsRise}
 use Rattle.object_things.specs.Stamps.{ThingState, StepOf, is_spent}
 use Rattle.shared_objects.specs.Closes.{Returned, ClosesAs}
 use Rattle.shared_objects.specs.Kinds.{ThingAt, serves_at, looks_at, opened_at, unasked}
@@ -144,7 +144,7 @@ module _ (s : Scenario) (plain : Plain) (names : List Object) (history : Object 
           mine_few =
               let l = (logged s plain names history left tasks pass c place task at).0 in
               let parts = rises_parts 0 l.end st.here (st.call ∷ st.later) (subst (λ log. TicketsRise 0 log l.end) st.log_is l.rises) in
-              let lt : parts.0 < n = subst (IsNext parts.0) ticket parts.2.0 in
+              let lt : parts.0 < n = subst (IsNextTicket parts.0) ticket parts.2.0 in
               let events : ticketed_events task.log ≡ ticketed_events st.here =
               ap ticketed_events st.log_is ∙ events_append st.here (st.call ∷ st.later)
               ∙ ap (λ l. ticketed_events st.here ++ l) (events_untold st.call st.later st.untold ∙ ap (map ticketed) st.none) ∙ append-nil (ticketed_events st.here) in

@@ -9,7 +9,7 @@ use Rattle.run_machine.specs.Opened.{Scenario, start, setup}
 use Rattle.run_machine.specs.Requests.{Request}
 use Rattle.run_machine.specs.Runs.{State}
 use Rattle.run_machine.specs.Tasks.{TaskState, look_of}
-use Rattle.shared_objects.specs.Calls.{is_same}
+use Rattle.shared_objects.specs.Calls.{is_same_object}
 use Rattle.shared_objects.specs.Logs.{is_event}
 use Rattle.run_merge.specs.Machines.{LeadsObject}
 use Rattle.run_merge.specs.Merging.{Ticketed, Histories, without_tickets, sorted, RiseFrom, all_of, history_of, AreOfDifferentObjects, AreTagged, done_by, LetsAsk, Shown}
@@ -44,7 +44,7 @@ module _ (ticket : ℕ) where
 
   pub history_early : (name : Object) (hs : Histories) → history_of name (early_histories ticket hs) ≡ early ticket (history_of name hs)
   history_early name [] = refl
-  history_early name (h ∷ hs) = by_test (is_same name h.0) (history_early name hs)
+  history_early name (h ∷ hs) = by_test (is_same_object name h.0) (history_early name hs)
     where
       by_test : (b : Bool) → history_of name (early_histories ticket hs) ≡ early ticket (history_of name hs)
           → (if b then early ticket h.1 else history_of name (early_histories ticket hs)) ≡ early ticket (if b then h.1 else history_of name hs)
@@ -61,12 +61,12 @@ module _ (ticket : ℕ) where
   apart_early [] a = tt
   apart_early (h ∷ hs) a = (others hs a.0, apart_early hs a.1)
     where
-      others : (hs : Histories) → All (λ (other : Object × List Ticketed). is_same h.0 other.0 ≡ false) hs
-          → All (λ (other : Object × List Ticketed). is_same h.0 other.0 ≡ false) (early_histories ticket hs)
-      others [] a = All-nil (λ (other : Object × List Ticketed). is_same h.0 other.0 ≡ false)
+      others : (hs : Histories) → All (λ (other : Object × List Ticketed). is_same_object h.0 other.0 ≡ false) hs
+          → All (λ (other : Object × List Ticketed). is_same_object h.0 other.0 ≡ false) (early_histories ticket hs)
+      others [] a = All-nil (λ (other : Object × List Ticketed). is_same_object h.0 other.0 ≡ false)
       others (o ∷ os) a =
-          All-cons (λ (other : Object × List Ticketed). is_same h.0 other.0 ≡ false) (o.0, early ticket o.1) (early_histories ticket os)
-          (All-head (λ (other : Object × List Ticketed). is_same h.0 other.0 ≡ false) o os a) (others os (All-tail (λ (other : Object × List Ticketed). is_same h.0 other.0 ≡ false) o os a))
+          All-cons (λ (other : Object × List Ticketed). is_same_object h.0 other.0 ≡ false) (o.0, early ticket o.1) (early_histories ticket os)
+          (All-head (λ (other : Object × List Ticketed). is_same_object h.0 other.0 ≡ false) o os a) (others os (All-tail (λ (other : Object × List Ticketed). is_same_object h.0 other.0 ≡ false) o os a))
 
   tagged_early : (hs : Histories) → AreTagged hs → AreTagged (early_histories ticket hs)
   tagged_early [] a = tt
@@ -159,12 +159,12 @@ shown_put s ledger hs last shown name v leads = record {
   apart = shown.apart;
   tagged = shown.tagged;
   rises = shown.rises;
-  objects = λ other. by_test other (is_same other name) refl;
+  objects = λ other. by_test other (is_same_object other name) refl;
   tasks = shown.tasks;
   looks = shown.looks;
 }
   where
-    by_test : (other : Object) (b : Bool) → is_same other name ≡ b
+    by_test : (other : Object) (b : Bool) → is_same_object other name ≡ b
         → LeadsObject ledger other (get (start s).objects other) (without_tickets (history_of other hs)) (get (put_object last.objects name v) other)
     by_test other true same =
         subst (λ k. LeadsObject ledger k (get (start s).objects k) (without_tickets (history_of k hs)) (get (put_object last.objects name v) k)) (sym (same_is other name same))

@@ -18,7 +18,7 @@ use Rattle.run_machine.specs.Opened.{at}
 use Rattle.run_machine.specs.Scene.{is_device, is_disk, has_set, is_mirror, keeps_data}
 use Rattle.task_core.specs.Leaving.{disk_at, disks_from, falling_from, pools_at}
 use Rattle.task_core.proofs.opened.Filling.{filter_more}
-use Rattle.task_steps.specs.Routed.{Routing, setup}
+use Rattle.task_steps.specs.Routed.{Routing, routing_setup}
 use Rattle.run_merge.specs.Falling.{DevicePools, at_number, below, with_facts, falling_below}
 
 keeps_by : (n : ℕ) (k : Kind) (trees : List Tree) → keeps_data (over n k trees) ≡ kinds.is_disk k
@@ -40,10 +40,10 @@ mirrors_by n (kind.Limit longest chunk) trees = refl
 mirrors_by n (kind.Mirror records) trees = refl
 
 abbrev pub has_records : Routing → ℕ → Bool
-has_records r n = is_device (setup r) n && is_mirror ((setup r).tree n)
+has_records r n = is_device (routing_setup r) n && is_mirror ((routing_setup r).tree n)
 
 module _ (r : Routing) (good : IsStack r.stack) (n : ℕ) (device : Device) (found : slice_get r.stack.devices.items n ≡ Some device) where
-  there : is_device (setup r) n ≡ true
+  there : is_device (routing_setup r) n ≡ true
   there = lt-ltb n (length r.stack.devices.items) (slice_get_within r.stack.devices.items n device found)
 
   tree_here : tree r.stack n ≡ over n device.kind (map (λ (m : DevId). tree r.stack m.0) device.members.items)
@@ -52,10 +52,10 @@ module _ (r : Routing) (good : IsStack r.stack) (n : ℕ) (device : Device) (fou
   keeps_here : keeps_data (tree r.stack n) ≡ kinds.is_disk device.kind
   keeps_here = ap keeps_data tree_here ∙ keeps_by n device.kind (map (λ (m : DevId). tree r.stack m.0) device.members.items)
 
-  pub disk_is : is_disk (setup r) n ≡ kinds.is_disk device.kind
+  pub disk_is : is_disk (routing_setup r) n ≡ kinds.is_disk device.kind
   disk_is = ap (λ b. b && keeps_data (tree r.stack n)) there ∙ keeps_here
 
-  pub set_is : has_set (setup r) n ≡ kinds.has_set device.kind
+  pub set_is : has_set (routing_setup r) n ≡ kinds.has_set device.kind
   set_is = ap (λ b. b && not (keeps_data (tree r.stack n))) there ∙ ap not keeps_here
 
   pub records_is : has_records r n ≡ kinds.is_mirror device.kind
@@ -64,7 +64,7 @@ module _ (r : Routing) (good : IsStack r.stack) (n : ℕ) (device : Device) (fou
 
 -- no device is behind the last
 module _ (r : Routing) (n : ℕ) (past : length r.stack.devices.items ≤ n) where
-  pub no_set : has_set (setup r) n ≡ false
+  pub no_set : has_set (routing_setup r) n ≡ false
   no_set = ap (λ b. b && not (keeps_data (tree r.stack n))) (le-ltb n (length r.stack.devices.items) past)
 
   pub no_records : has_records r n ≡ false

@@ -22,9 +22,9 @@ use Rattle.task_core.specs.Leaving.{disks_of, falling_from, falling_pools}
 use Rattle.task_core.specs.Plains.{no_disk, no_pool, stage_of}
 use Rattle.task_core.specs.Tables.{look_up}
 use Rattle.task_core.specs.declared.plain.Plain.{Plain}
-use Rattle.task_steps.specs.Routed.{Routing, setup}
+use Rattle.task_steps.specs.Routed.{Routing, routing_setup}
 use Rattle.object_things.specs.Stamps.{ThingState}
-use Rattle.shared_objects.specs.Closed.{state_of}
+use Rattle.shared_objects.specs.Closed.{state_of_held}
 use Rattle.shared_objects.specs.Holding.{set_key, slip_key}
 use Rattle.shared_objects.specs.Kinds.{unasked}
 use Rattle.shared_objects.specs.Left.{HasClosed}
@@ -78,7 +78,7 @@ module _ (closed : Closed) (has : HasClosed closed) where
   -- the pools of the devices that were closed
   abbrev pub pools_in : DevicePools
   pools_in = record {
-    has_set = has_set (setup (stage_of closed.told.value.objects).routing);
+    has_set = has_set (routing_setup (stage_of closed.told.value.objects).routing);
     is_mirror = has_records (stage_of closed.told.value.objects).routing;
     facts = λ pool. ((state_in closed).objects.pool (pool_number pool)).facts;
   }
@@ -86,10 +86,10 @@ module _ (closed : Closed) (has : HasClosed closed) where
   small : (is : ℕ → Bool) → All (λ n. n < 32) (filter is (range_with_len 0 count))
   small is = All-filter is (λ n. n < 32) (range_with_len 0 count) (all_small 0 count 32 (let le = few in omega (arith, le)))
 
-  sets_are : sets_below pools_in 32 ≡ map (λ n. (Of (at n), pools_in.facts (Bios (at n)))) (filter (has_set (setup routing)) (range_with_len 0 count))
+  sets_are : sets_below pools_in 32 ≡ map (λ n. (Of (at n), pools_in.facts (Bios (at n)))) (filter (has_set (routing_setup routing)) (range_with_len 0 count))
   sets_are =
-      below_past (has_set (setup routing)) (λ n. (Of (at n), pools_in.facts (Bios (at n)))) count 32 (λ m past. no_set routing m past) few
-      ∙ below_is (has_set (setup routing)) (λ n. (Of (at n), pools_in.facts (Bios (at n)))) count
+      below_past (has_set (routing_setup routing)) (λ n. (Of (at n), pools_in.facts (Bios (at n)))) count 32 (λ m past. no_set routing m past) few
+      ∙ below_is (has_set (routing_setup routing)) (λ n. (Of (at n), pools_in.facts (Bios (at n)))) count
 
   records_are : records_below pools_in 32 ≡ map (λ n. (at n, pools_in.facts (Records (at n)))) (filter (has_records routing) (range_with_len 0 count))
   records_are =
@@ -98,13 +98,13 @@ module _ (closed : Closed) (has : HasClosed closed) where
 
   -- what was found of each pool
   abbrev vecs_left : ThingState LedgerPool
-  vecs_left = state_of closed.vecs.thing
+  vecs_left = state_of_held closed.vecs.thing
 
   abbrev sets_left : ℕ → ThingState LedgerPool
-  sets_left = look_up (λ entry. set_key entry.0) (λ entry. state_of entry.1.thing) (λ n. unasked (no_pool plain.stage.value.stack plain.vecs.ledger n)) closed.bios.items
+  sets_left = look_up (λ entry. set_key entry.0) (λ entry. state_of_held entry.1.thing) (λ n. unasked (no_pool plain.stage.value.stack plain.vecs.ledger n)) closed.bios.items
 
   abbrev slips_left : ℕ → ThingState LedgerPool
-  slips_left = look_up (λ entry. slip_key entry.0) (λ entry. state_of entry.1.thing) (λ n. unasked (no_pool plain.stage.value.stack plain.vecs.ledger n)) closed.records.items
+  slips_left = look_up (λ entry. slip_key entry.0) (λ entry. state_of_held entry.1.thing) (λ n. unasked (no_pool plain.stage.value.stack plain.vecs.ledger n)) closed.records.items
 
   abbrev set_found : ℕ → SetId × Facts
   set_found n = (Of (at n), (sets_left (2 * n)).object.state.facts)
@@ -127,16 +127,16 @@ module _ (closed : Closed) (has : HasClosed closed) where
   -- the rows
   pub bios_row : row_of (λ shut. shut.thing.object.state.facts) closed.bios.items ≡ (Fs, pools_in.facts FsBios) ∷ sets_below pools_in 32
   bios_row =
-      all_sets routing (λ shut. state_of shut.thing) (λ n. unasked (no_pool plain.stage.value.stack plain.vecs.ledger n)) closed.bios.items
+      all_sets routing (λ shut. state_of_held shut.thing) (λ n. unasked (no_pool plain.stage.value.stack plain.vecs.ledger n)) closed.bios.items
       (has.order.bios ∙ has.opened.rows.bios.order) (λ thing. thing.object.state.facts)
       ∙ ap (λ l. (Fs, pools_in.facts FsBios) ∷ l)
-      (map_alike set_found set_named (filter (has_set (setup routing)) (range_with_len 0 count))
-      (All-weaker (λ n. n < 32) (λ n. set_found n ≡ set_named n) set_same (filter (has_set (setup routing)) (range_with_len 0 count)) (small (has_set (setup routing))))
+      (map_alike set_found set_named (filter (has_set (routing_setup routing)) (range_with_len 0 count))
+      (All-weaker (λ n. n < 32) (λ n. set_found n ≡ set_named n) set_same (filter (has_set (routing_setup routing)) (range_with_len 0 count)) (small (has_set (routing_setup routing))))
       ∙ sym sets_are)
 
   pub records_row : row_of (λ shut. shut.thing.object.state.facts) closed.records.items ≡ records_below pools_in 32
   records_row =
-      all_records routing (λ shut. state_of shut.thing) (λ n. unasked (no_pool plain.stage.value.stack plain.vecs.ledger n)) closed.records.items
+      all_records routing (λ shut. state_of_held shut.thing) (λ n. unasked (no_pool plain.stage.value.stack plain.vecs.ledger n)) closed.records.items
       (has.order.records ∙ has.opened.rows.records.order) (λ thing. thing.object.state.facts)
       ∙ map_alike slips_found slips_named (filter (has_records routing) (range_with_len 0 count))
       (All-weaker (λ n. n < 32) (λ n. slips_found n ≡ slips_named n) slips_same (filter (has_records routing) (range_with_len 0 count)) (small (has_records routing)))
@@ -186,21 +186,21 @@ module _ (closed : Closed) (has : HasClosed closed) where
       omega (arith, sets, many, records, more, fall, all, long, room)
 
   -- and the disks
-  each_disk : (i : ℕ) (device : Device) → slice_get routing.stack.devices.items i ≡ Some device → is_disk (setup routing) (0 + i) ≡ kinds.is_disk device.kind
-  each_disk i device found = ap (is_disk (setup routing)) same ∙ disk_is routing good i device found
+  each_disk : (i : ℕ) (device : Device) → slice_get routing.stack.devices.items i ≡ Some device → is_disk (routing_setup routing) (0 + i) ≡ kinds.is_disk device.kind
+  each_disk i device found = ap (is_disk (routing_setup routing)) same ∙ disk_is routing good i device found
     where
       same : 0 + i ≡ i
       same = omega arith
 
   pub disks_are : map (λ disk. disk.thing.object) closed.disks.items ≡ map (λ (dev : DevId). (state_in closed).objects.disk dev.0) (disks_of (shared_scenario closed).stack)
   disks_are =
-      sym (map-map (λ thing. thing.object) (λ shut. state_of shut.thing) closed.disks.items)
+      sym (map-map (λ thing. thing.object) (λ shut. state_of_held shut.thing) closed.disks.items)
       ∙ ap (map (λ thing. thing.object))
-      (all_disks routing (λ shut. shut.thing.object.dev.0) (λ shut. state_of shut.thing) (λ n. unasked (no_disk plain.stage.value.stack n)) closed.disks.items
+      (all_disks routing (λ shut. shut.thing.object.dev.0) (λ shut. state_of_held shut.thing) (λ n. unasked (no_disk plain.stage.value.stack n)) closed.disks.items
       (has.order.disks ∙ has.opened.rows.disks.order))
-      ∙ map-map _ _ (filter (is_disk (setup routing)) (range_with_len 0 count))
-      ∙ sym (map-map (λ (dev : DevId). (state_in closed).objects.disk dev.0) at (filter (is_disk (setup routing)) (range_with_len 0 count)))
-      ∙ ap (map (λ (dev : DevId). (state_in closed).objects.disk dev.0)) (sym (disks_found (is_disk (setup routing)) 0 routing.stack.devices.items each_disk))
+      ∙ map-map _ _ (filter (is_disk (routing_setup routing)) (range_with_len 0 count))
+      ∙ sym (map-map (λ (dev : DevId). (state_in closed).objects.disk dev.0) at (filter (is_disk (routing_setup routing)) (range_with_len 0 count)))
+      ∙ ap (map (λ (dev : DevId). (state_in closed).objects.disk dev.0)) (sym (disks_found (is_disk (routing_setup routing)) 0 routing.stack.devices.items each_disk))
       ∙ ap (λ (stack : Stack). map (λ (dev : DevId). (state_in closed).objects.disk dev.0) (disks_of stack)) has.opened.stack
 
   pub disks_fit : length closed.disks.items ≤ vec_capacity closed.room.disks

@@ -5,7 +5,7 @@ use Rattle.std.specs.List.{range_with_len}
 use Rattle.std.specs.Option.{option_map_or}
 use Rattle.std.proofs.lemmas.Bool.{true≢false, eq-eqb, ne_eqb}
 use Rattle.std.proofs.lemmas.List.Elements.{All-nil, All-cons, All-head, All-tail}
-use Rattle.task_core.specs.Tables.{has_number, look_up}
+use Rattle.task_core.specs.Tables.{is_entry_of, look_up}
 
 abbrev pub AreDistinct : List ℕ → Type 0
 AreDistinct [] = Unit {0}
@@ -17,11 +17,11 @@ module _ {E X : Type 0} (key : E → ℕ) (value : E → X) (none : ℕ → X) w
 
   pub found_first : (entry : E) (entries : List E) (n : ℕ) → key entry ≡ n → look (entry ∷ entries) n ≡ value entry
   found_first entry entries n is =
-      ap (λ b. option_map_or value (if b then Some entry else find (has_number key n) entries) (none n)) (eq-eqb (key entry) n is)
+      ap (λ b. option_map_or value (if b then Some entry else find (is_entry_of key n) entries) (none n)) (eq-eqb (key entry) n is)
 
   found_later : (entry : E) (entries : List E) (n : ℕ) → key entry ≢ n → look (entry ∷ entries) n ≡ look entries n
   found_later entry entries n apart =
-      ap (λ b. option_map_or value (if b then Some entry else find (has_number key n) entries) (none n)) (ne_eqb (key entry) n apart)
+      ap (λ b. option_map_or value (if b then Some entry else find (is_entry_of key n) entries) (none n)) (ne_eqb (key entry) n apart)
 
   all_later : (entry : E) (entries : List E) (ns : List ℕ) → All (λ n. key entry ≢ n) ns → map (look (entry ∷ entries)) ns ≡ map (look entries) ns
   all_later entry entries [] apart = refl

@@ -12,14 +12,14 @@ use Rattle.run_machine.specs.Runs.{State}
 use Rattle.run_machine.specs.Scene.{Setup}
 use Rattle.run_machine.specs.Tasks.{TaskState}
 use Rattle.task_core.specs.Plains.{stage_of}
-use Rattle.task_steps.specs.Routed.{setup}
+use Rattle.task_steps.specs.Routed.{routing_setup}
 use Rattle.block_core.specs.Runnable.{IsRunnable}
 use Rattle.block_core.proofs.bound.Bounded.{runs_are_bounded}
 use Rattle.block_core.proofs.claim.Runnable.{accepted_texts_are_runnable, steps_are_few}
 use Rattle.object_things.specs.Histories.{Call, drawn_in}
 use Rattle.seat_lock.specs.History.{calls_by}
 use Rattle.shared_objects.specs.Calls.{calls_at, calls_to}
-use Rattle.shared_objects.specs.Closed.{history_in, left_in, names_in}
+use Rattle.shared_objects.specs.Closed.{history_in, object_left_in, names_in}
 use Rattle.shared_objects.specs.Closes.{Returned, ClosesAs}
 use Rattle.shared_objects.specs.Holding.{calls_of}
 use Rattle.shared_objects.specs.Desks.{DeskState}
@@ -63,23 +63,23 @@ abreast_weaker P Q xs ys weaker are = record { lens = are.lens; each = λ place 
 
 module _ (closed : Closed) (has : HasClosed closed) where
   abbrev now : Setup
-  now = setup (stage_of closed.told.value.objects).routing
+  now = routing_setup (stage_of closed.told.value.objects).routing
 
   -- the tasks are left as they were put back
-  state_is : state_left (left_in closed closed.told.value.objects) has.returned ≡ state_in closed
+  state_is : state_left (object_left_in closed closed.told.value.objects) has.returned ≡ state_in closed
   state_is =
       let same = maps_same (λ (task : ClosedTask). task.task.state) (λ (task : Returned). task.task) closed.tasks.items has.returned
       (abreast_weaker (IsReturned now) (λ (task : ClosedTask) (returned : Returned). task.task.state ≡ returned.task) closed.tasks.items has.returned (λ task returned is. is.task) has.tasks) in
       let state : List TaskState → State = λ tasks. record {
-        objects = made_of (λ name. seen_at name (left_in closed closed.told.value.objects name).object);
+        objects = made_of (λ name. seen_at name (object_left_in closed closed.told.value.objects name).object);
         task = λ place. slice_index_or tasks place no_task;
       } in
       ap state (sym same)
 
   -- and its closes are those of the scenario
-  closes_in : ClosesAs (setup_in (shared_scenario closed)) closed.told.value.objects (names_in closed) (history_in closed) (left_in closed closed.told.value.objects) has.returned closed.pass.value
+  closes_in : ClosesAs (setup_in (shared_scenario closed)) closed.told.value.objects (names_in closed) (history_in closed) (object_left_in closed closed.told.value.objects) has.returned closed.pass.value
   closes_in =
-      subst (λ setup. ClosesAs setup closed.told.value.objects (names_in closed) (history_in closed) (left_in closed closed.told.value.objects) has.returned closed.pass.value)
+      subst (λ setup. ClosesAs setup closed.told.value.objects (names_in closed) (history_in closed) (object_left_in closed closed.told.value.objects) has.returned closed.pass.value)
       has.opened.setup has.closes
 
   firsts_in : map (λ (task : Returned). task.first) has.returned ≡ opened.tasks (shared_scenario closed)
@@ -136,10 +136,10 @@ module _ (closed : Closed) (has : HasClosed closed) where
   runnable = (accepted_texts_are_runnable closed.told.value.accepted.value closed.told.value.work.value has.opened.read).0
 
   closes : MergeIsEndedRun (shared_scenario closed) (shared_ledger closed) (histories_in closed) (numbers_of closed.pass.value.drawn)
-      (state_left (left_in closed closed.told.value.objects) has.returned)
+      (state_left (object_left_in closed closed.told.value.objects) has.returned)
       × ((name : Object) → All DrewAsEvent (history_in closed name))
   closes =
-      closes_are_runs closed.told.value (names_in closed) (history_in closed) (left_in closed closed.told.value.objects) has.returned closed.pass.value
+      closes_are_runs closed.told.value (names_in closed) (history_in closed) (object_left_in closed closed.told.value.objects) has.returned closed.pass.value
       has.opened has.firsts has.closes has.found
 
   merged : MergeIsEndedRun (shared_scenario closed) (shared_ledger closed) (histories_in closed) (numbers_of closed.pass.value.drawn) (state_in closed)
@@ -149,7 +149,7 @@ module _ (closed : Closed) (has : HasClosed closed) where
   -- as many events as the tasks had together
   counted : min (sum_by (λ (task : ClosedTask). task.events) closed.tasks.items) (2 ^ 64 - 1) ≡ length merged.run.0
   counted =
-      let all = all_tasks (shared_scenario closed) closed.told.value.objects (names_in closed) (history_in closed) (left_in closed closed.told.value.objects) has.returned closed.pass.value closes_in firsts_in in
+      let all = all_tasks (shared_scenario closed) closed.told.value.objects (names_in closed) (history_in closed) (object_left_in closed closed.told.value.objects) has.returned closed.pass.value closes_in firsts_in in
       let same = ap (λ histories. length (all_of histories)) (histories_are (names_in closed) (history_in closed) closes.1) in
       let long = merge_length (shared_scenario closed) (shared_ledger closed) (all_of (histories_in closed)) (state_in closed) merged.run in
       let bounded = runs_are_bounded (shared_scenario closed) (shared_ledger closed) merged.run.0 (state_in closed) runnable.scenario has.opened.one.holds.numbered merged.run.1 in

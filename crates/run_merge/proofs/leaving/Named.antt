@@ -15,7 +15,7 @@ use Rattle.run_machine.specs.Scene.{Scene}
 use Rattle.run_machine.specs.Tasks.{TaskState, request, answered}
 use Rattle.run_machine.proofs.Frames.{upd_same, upd_other}
 use Rattle.task_steps.specs.Homes.{IsTaskOf, DutyFits}
-use Rattle.task_steps.specs.Routed.{setup}
+use Rattle.task_steps.specs.Routed.{routing_setup}
 use Rattle.task_steps.specs.Stage.{Stage}
 use Rattle.task_steps.specs.TaskViews.{TaskOf}
 use Rattle.task_steps.proofs.Named.{tasks_name_the_stack}
@@ -35,7 +35,7 @@ pub record IsKept (stage : Stage) (state : State) : Type 0 where
 
 module _ (stage : Stage) (good : IsStack stage.routing.stack) (numbered : AreNumbered stage) where
   abbrev scene_with : ℕ → ℕ → ℕ → Scene
-  scene_with tasks books writes = record { setup = setup stage.routing; tasks = tasks; books = books; writes = writes; ledger = stage.ledger }
+  scene_with tasks books writes = record { setup = routing_setup stage.routing; tasks = tasks; books = books; writes = writes; ledger = stage.ledger }
 
   module _ (tasks books writes : ℕ) where
     one_named : (old new : State) (place : ℕ) (event : Event) → IsKept stage old → Steps (scene_with tasks books writes) old place event new
@@ -45,7 +45,7 @@ module _ (stage : Stage) (good : IsStack stage.routing.stack) (numbered : AreNum
 
     one_kept : (old new : State) (place : ℕ) (event : Event) → IsKept stage old → Steps (scene_with tasks books writes) old place event new → IsKept stage new
     one_kept old new place event kept steps =
-        let asked = request (setup stage.routing) (old.task place) in
+        let asked = request (routing_setup stage.routing) (old.task place) in
         let fits = tasks_stay_home.asks stage (old.task place) good (kept.tasks place) in
         let owes = objects_owe stage old.objects new.objects asked steps.reply numbered fits kept.objects steps.serves in
         let now = tasks_stay_home.goes_on stage (old.task place) steps.reply good (kept.tasks place) owes in
@@ -54,12 +54,12 @@ module _ (stage : Stage) (good : IsStack stage.routing.stack) (numbered : AreNum
           tasks = λ other. at other now;
         }
       where
-        at : (other : ℕ) → IsTaskOf stage (answered (setup stage.routing) (old.task place) steps.reply) → IsTaskOf stage (new.task other)
+        at : (other : ℕ) → IsTaskOf stage (answered (routing_setup stage.routing) (old.task place) steps.reply) → IsTaskOf stage (new.task other)
         at other now = dite (ℕ_discrete other place)
             (λ same. subst (λ k. IsTaskOf stage (new.task k)) (sym same)
-            (subst (IsTaskOf stage) (sym (ap (λ (f : ℕ → TaskState). f place) steps.goes_on ∙ upd_same old.task place (answered (setup stage.routing) (old.task place) steps.reply))) now))
+            (subst (IsTaskOf stage) (sym (ap (λ (f : ℕ → TaskState). f place) steps.goes_on ∙ upd_same old.task place (answered (routing_setup stage.routing) (old.task place) steps.reply))) now))
             (λ apart. subst (IsTaskOf stage)
-            (sym (ap (λ (f : ℕ → TaskState). f other) steps.goes_on ∙ upd_other old.task place (answered (setup stage.routing) (old.task place) steps.reply) other apart))
+            (sym (ap (λ (f : ℕ → TaskState). f other) steps.goes_on ∙ upd_other old.task place (answered (routing_setup stage.routing) (old.task place) steps.reply) other apart))
             (kept.tasks other))
 
     all_named : (old : State) (events : List Event) (new : State) → IsKept stage old → IsRun (scene_with tasks books writes) old events new

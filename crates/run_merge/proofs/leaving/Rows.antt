@@ -10,10 +10,10 @@ use Rattle.stack_base.specs.declared.ids.SetId.{SetId}
 use Rattle.stack_base.specs.declared.ids.SetId.TheVariants.{Fs, Of}
 use Rattle.run_machine.specs.Opened.{at}
 use Rattle.run_machine.specs.Scene.{has_set, is_disk}
-use Rattle.task_core.specs.Plains.{is_of_set}
+use Rattle.task_core.specs.Plains.{is_bios_number}
 use Rattle.task_core.specs.Tables.{look_up}
 use Rattle.task_core.specs.opened.Openings.{itself, set_index, uses_set, slip_index, uses_slips}
-use Rattle.task_steps.specs.Routed.{Routing, setup}
+use Rattle.task_steps.specs.Routed.{Routing, routing_setup}
 use Rattle.shared_objects.specs.Holding.{by_pool, set_key, slip_key}
 use Rattle.run_merge.proofs.leaving.Devices.{has_records}
 use Rattle.run_merge.proofs.leaving.Looking.{AreDistinct, looked, numbers_apart, head_or, tail_of, has_some, pairs}
@@ -49,7 +49,7 @@ slip_named dev n is = ap at same
 module _ {Y : Type 0} (vecs : Y) (bios records : ℕ → Y) where
   pub of_bios : (n : ℕ) → n < 32 → by_pool vecs bios records (2 * n) ≡ bios (2 * n)
   of_bios n lt =
-      ap (λ b. cond b vecs (cond (is_of_set (2 * n)) (bios (2 * n)) (records (2 * n)))) (ne_eqb (2 * n) 64 (λ same. omega (arith, lt, same)))
+      ap (λ b. cond b vecs (cond (is_bios_number (2 * n)) (bios (2 * n)) (records (2 * n)))) (ne_eqb (2 * n) 64 (λ same. omega (arith, lt, same)))
       ∙ ap (λ b. cond ((2 * n == 65) || b) (bios (2 * n)) (records (2 * n))) (eq-eqb (2 * n % 2) 0 (omega arith))
       ∙ by_test (2 * n == 65)
     where
@@ -59,7 +59,7 @@ module _ {Y : Type 0} (vecs : Y) (bios records : ℕ → Y) where
 
   pub of_records : (n : ℕ) → n < 32 → by_pool vecs bios records (2 * n + 1) ≡ records (2 * n + 1)
   of_records n lt =
-      ap (λ b. cond b vecs (cond (is_of_set (2 * n + 1)) (bios (2 * n + 1)) (records (2 * n + 1)))) (ne_eqb (2 * n + 1) 64 (λ same. omega (arith, same)))
+      ap (λ b. cond b vecs (cond (is_bios_number (2 * n + 1)) (bios (2 * n + 1)) (records (2 * n + 1)))) (ne_eqb (2 * n + 1) 64 (λ same. omega (arith, same)))
       ∙ ap (λ b. cond ((2 * n + 1 == 65) || b) (bios (2 * n + 1)) (records (2 * n + 1))) (ne_eqb ((2 * n + 1) % 2) 0 (λ same. omega (arith, same)))
       ∙ ap (λ b. cond (b || false) (bios (2 * n + 1)) (records (2 * n + 1))) (ne_eqb (2 * n + 1) 65 (λ same. omega (arith, lt, same)))
 
@@ -73,9 +73,9 @@ module _ (r : Routing) where
   count = length r.stack.devices.items
 
   -- the sets behind that of the writers have the numbers of devices
-  shifted : (k n : ℕ) → map set_index (filter (uses_set r) (range_with_len (k + 1) n)) ≡ map (λ d. 2 * d) (filter (has_set (setup r)) (range_with_len k n))
+  shifted : (k n : ℕ) → map set_index (filter (uses_set r) (range_with_len (k + 1) n)) ≡ map (λ d. 2 * d) (filter (has_set (routing_setup r)) (range_with_len k n))
   shifted k zero = refl
-  shifted k (suc n) = by_test (uses_set r (k + 1)) (has_set (setup r) k) (ap (uses_set r) next) (shifted (k + 1) n)
+  shifted k (suc n) = by_test (uses_set r (k + 1)) (has_set (routing_setup r) k) (ap (uses_set r) next) (shifted (k + 1) n)
     where
       next : k + 1 ≡ suc k
       next = omega arith
@@ -84,7 +84,7 @@ module _ (r : Routing) where
       xs = filter (uses_set r) (range_with_len (k + 1 + 1) n)
 
       ys : List ℕ
-      ys = filter (has_set (setup r)) (range_with_len (k + 1) n)
+      ys = filter (has_set (routing_setup r)) (range_with_len (k + 1) n)
 
       with_test : (b c : Bool) → b ≡ c → {l : List ℕ} → map set_index (cond c ((k + 1) ∷ xs) xs) ≡ l → map set_index (cond b ((k + 1) ∷ xs) xs) ≡ l
       with_test b c is {l} same = ap (λ b. map set_index (cond b ((k + 1) ∷ xs) xs)) is ∙ same
@@ -101,13 +101,13 @@ module _ (r : Routing) where
     set_of = look_up (λ (e : SetId × X). set_key e.0) (λ (e : SetId × X). value e.1) none row
 
     abbrev devices : List ℕ
-    devices = filter (has_set (setup r)) (range_with_len 0 count)
+    devices = filter (has_set (routing_setup r)) (range_with_len 0 count)
 
     keys_are : map (λ (e : SetId × X). set_key e.0) row ≡ 65 ∷ map (λ d. 2 * d) devices
     keys_are = keys ∙ ap (λ l. 65 ∷ l) (shifted 0 count)
 
     apart : AreDistinct (map (λ (e : SetId × X). set_key e.0) row)
-    apart = subst AreDistinct (sym keys_are) (odd (has_set (setup r)) 0 count, numbers_apart (λ d. 2 * d) twice_apart (has_set (setup r)) 0 count)
+    apart = subst AreDistinct (sym keys_are) (odd (has_set (routing_setup r)) 0 count, numbers_apart (λ d. 2 * d) twice_apart (has_set (routing_setup r)) 0 count)
       where
         odd : (is : ℕ → Bool) (n c : ℕ) → All (λ m. 65 ≢ m) (map (λ d. 2 * d) (filter is (range_with_len n c)))
         odd is n zero = All-nil (λ m. 65 ≢ m)
@@ -172,9 +172,9 @@ module _ (r : Routing) where
 
   -- the row of disks
   module _ {E Y : Type 0} (key : E → ℕ) (value : E → Y) (none : ℕ → Y) (row : List E)
-      (keys : map key row ≡ map itself (filter (is_disk (setup r)) (range_with_len 0 count))) where
-    pub all_disks : map value row ≡ map (look_up key value none row) (filter (is_disk (setup r)) (range_with_len 0 count))
+      (keys : map key row ≡ map itself (filter (is_disk (routing_setup r)) (range_with_len 0 count))) where
+    pub all_disks : map value row ≡ map (look_up key value none row) (filter (is_disk (routing_setup r)) (range_with_len 0 count))
     all_disks =
-        looked key value none row (subst AreDistinct (sym keys) (numbers_apart itself itself_apart (is_disk (setup r)) 0 count))
+        looked key value none row (subst AreDistinct (sym keys) (numbers_apart itself itself_apart (is_disk (routing_setup r)) 0 count))
         ∙ ap (map (look_up key value none row)) keys
-        ∙ map-map (look_up key value none row) itself (filter (is_disk (setup r)) (range_with_len 0 count))
+        ∙ map-map (look_up key value none row) itself (filter (is_disk (routing_setup r)) (range_with_len 0 count))

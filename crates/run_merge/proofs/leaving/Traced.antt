@@ -9,8 +9,8 @@ use Rattle.run_machine.specs.Opened.{setup as setup_in}
 use Rattle.run_machine.specs.Runs.{State}
 use Rattle.run_machine.specs.Scene.{Setup}
 use Rattle.task_core.specs.Plains.{stage_of}
-use Rattle.task_steps.specs.Routed.{setup}
-use Rattle.shared_objects.specs.Closed.{history_in, left_in, names_in}
+use Rattle.task_steps.specs.Routed.{routing_setup}
+use Rattle.shared_objects.specs.Closed.{history_in, object_left_in, names_in}
 use Rattle.shared_objects.specs.Closes.{Returned, ClosesAs}
 use Rattle.shared_objects.specs.Left.{HasClosed}
 use Rattle.shared_objects.specs.Noting.{notes_of, AreNoted, HaveTickets}
@@ -46,11 +46,11 @@ list_is notes (Some noted) list are whole = whole.1 ∙ whole_notes notes noted 
 
 module _ (closed : Closed) (has : HasClosed closed) where
   abbrev now : Setup
-  now = setup (stage_of closed.told.value.objects).routing
+  now = routing_setup (stage_of closed.told.value.objects).routing
 
-  in_scenario : ClosesAs (setup_in (shared_scenario closed)) closed.told.value.objects (names_in closed) (history_in closed) (left_in closed closed.told.value.objects) has.returned closed.pass.value
+  in_scenario : ClosesAs (setup_in (shared_scenario closed)) closed.told.value.objects (names_in closed) (history_in closed) (object_left_in closed closed.told.value.objects) has.returned closed.pass.value
   in_scenario =
-      subst (λ setup. ClosesAs setup closed.told.value.objects (names_in closed) (history_in closed) (left_in closed closed.told.value.objects) has.returned closed.pass.value)
+      subst (λ setup. ClosesAs setup closed.told.value.objects (names_in closed) (history_in closed) (object_left_in closed closed.told.value.objects) has.returned closed.pass.value)
       has.opened.setup has.closes
 
   -- each event of a task drew a ticket
@@ -61,7 +61,7 @@ module _ (closed : Closed) (has : HasClosed closed) where
           ⊎ ((length has.returned ≤ place) × (slice_get has.returned place ≡ None)) → HaveTickets (get_or has.returned place task).log
       by_two (inl (x, lt, is, same)) =
           subst (λ (r : Returned). HaveTickets r.log) (sym (get_or_from_slice_get has.returned place x task is))
-          (log_drew (shared_scenario closed) closed.told.value.objects (names_in closed) (history_in closed) (left_in closed closed.told.value.objects) has.returned closed.pass.value
+          (log_drew (shared_scenario closed) closed.told.value.objects (names_in closed) (history_in closed) (object_left_in closed closed.told.value.objects) has.returned closed.pass.value
           in_scenario (has.firsts ∙ has.opened.tasks) place x is)
       by_two (inr (le, none)) = absurd (omega (arith, le, less))
 
@@ -77,7 +77,7 @@ module _ (closed : Closed) (has : HasClosed closed) where
           subst (IsNonDecreasingBy (λ (e : ℕ × Event). e.0)) (sym all)
           (subst (λ (r : Returned). IsNonDecreasingBy (λ (e : ℕ × Event). e.0) (notes_of now r.first r.log)) (sym same)
           (subst (λ setup. IsNonDecreasingBy (λ (e : ℕ × Event). e.0) (notes_of setup x.first x.log)) (sym has.opened.setup)
-          (notes_rise (shared_scenario closed) (shared_ledger closed) closed.told.value.objects (names_in closed) (history_in closed) (left_in closed closed.told.value.objects) has.returned closed.pass.value
+          (notes_rise (shared_scenario closed) (shared_ledger closed) closed.told.value.objects (names_in closed) (history_in closed) (object_left_in closed closed.told.value.objects) has.returned closed.pass.value
           in_scenario (has.firsts ∙ has.opened.tasks) place x is)))
       by_two (inr (le, none)) = let long = has.tasks.lens in absurd (omega (arith, le, less, long))
 
@@ -95,5 +95,5 @@ module _ (closed : Closed) (has : HasClosed closed) where
   pub trace_is : (joined : List Event) (last : State) → AreWhole closed.tasks.items → IsJoined (noted_in closed.tasks.items) joined
       → (run : AreOfRun (shared_scenario closed) (shared_ledger closed) (without_tickets (sorted (all_of (histories_in closed)))) last) → joined ≡ run.0
   trace_is joined last whole is run =
-      sym (notes_are_runs closed.told.value (names_in closed) (history_in closed) (left_in closed closed.told.value.objects) has.returned closed.pass.value
+      sym (notes_are_runs closed.told.value (names_in closed) (history_in closed) (object_left_in closed closed.told.value.objects) has.returned closed.pass.value
       has.opened has.firsts has.closes joined last (subst (λ all. IsJoined all joined) (noted_is whole) is) run)

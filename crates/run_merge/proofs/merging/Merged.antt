@@ -12,7 +12,7 @@ use Rattle.run_machine.specs.Requests.{Present, LeftOver}
 use Rattle.run_machine.specs.Runs.{State, IsLet}
 use Rattle.run_machine.specs.Tasks.{TaskState, Writer, Rescuer, Completer, Keeper, Keeps, Stops, Todo, Taken, NoBio, request, look_of, writer_look, later_of}
 use Rattle.block_core.specs.Scenarios.{IsScenario, IsNaming}
-use Rattle.shared_objects.specs.Calls.{is_same, struck}
+use Rattle.shared_objects.specs.Calls.{is_same_object, struck}
 use Rattle.shared_objects.specs.Logs.{is_event}
 use Rattle.run_merge.specs.Entries.{Entry, entries_in}
 use Rattle.run_merge.specs.Machines.{LeadsObject, entries_at}
@@ -44,7 +44,7 @@ module _ (s : Scenario) (ledger : ℕ → LedgerId) (good : IsScenario s) (namin
         let more = smaller_first ticket (filter (is_at OfTally) before) (filter (is_at OfTally) after) was.seen was.later history
         (ordered_filter (is_at OfTally) ticket after above) few in
         let own : entries_at OfTally (entries_in (scene s ledger) (start s) reached.0 state reached.1) ≡ without_tickets was.seen ++ without_tickets more.0 =
-        ap (entries_at OfTally) (reached.2 ∙ sym entries) ∙ entries_filter (λ (e : Entry). is_same OfTally (object_of e.asked)) before
+        ap (entries_at OfTally) (reached.2 ∙ sym entries) ∙ entries_filter (λ (e : Entry). is_same_object OfTally (object_of e.asked)) before
         ∙ ap without_tickets more.1 ∙ map-append (λ (n : Ticketed). n.entry) was.seen more.0 in
         let run = subst (λ l. LeadsObject ledger OfTally (start s).objects.tally l state.objects.tally) own
         (run_objects (scene s ledger) OfTally (start s) reached.0 state reached.1) in

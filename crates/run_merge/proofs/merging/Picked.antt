@@ -4,7 +4,7 @@ use Rattle.std.specs.Prelude.{All, filter}
 use Rattle.std.proofs.lemmas.List.{append-nil}
 use Rattle.std.proofs.lemmas.List.Elements.{All-head, All-tail, filter-append}
 use Rattle.run_machine.specs.Laws.{Object, object_of}
-use Rattle.shared_objects.specs.Calls.{is_same}
+use Rattle.shared_objects.specs.Calls.{is_same_object}
 use Rattle.run_merge.specs.Entries.{Entry}
 use Rattle.run_merge.specs.Machines.{entries_at}
 use Rattle.run_merge.specs.Products.{entries_by}
@@ -39,35 +39,35 @@ filter_swap p q (n ∷ ns) = by_tests (p n) (q n) refl refl (filter_swap p q ns)
     by_tests false false x y is = is
 
 abbrev pub is_at : Object → Ticketed → Bool
-is_at name n = is_same name (object_of n.entry.asked)
+is_at name n = is_same_object name (object_of n.entry.asked)
 
 abbrev pub is_by : ℕ → Ticketed → Bool
 is_by place n = place == n.entry.place
 
 -- of all entries, those at an object are its history
-pick_tagged : (name other : Object) (same : Bool) → is_same name other ≡ same → (ns : List Ticketed) → All (λ (n : Ticketed). object_of n.entry.asked ≡ other) ns
+pick_tagged : (name other : Object) (same : Bool) → is_same_object name other ≡ same → (ns : List Ticketed) → All (λ (n : Ticketed). object_of n.entry.asked ≡ other) ns
     → filter (is_at name) ns ≡ cond same ns []
 pick_tagged name other true same [] a = refl
 pick_tagged name other false same [] a = refl
 pick_tagged name other true same (n ∷ ns) a =
-    ap (λ b. cond b (n ∷ filter (is_at name) ns) (filter (is_at name) ns)) (ap (is_same name) (All-head (λ (x : Ticketed). object_of x.entry.asked ≡ other) n ns a) ∙ same)
+    ap (λ b. cond b (n ∷ filter (is_at name) ns) (filter (is_at name) ns)) (ap (is_same_object name) (All-head (λ (x : Ticketed). object_of x.entry.asked ≡ other) n ns a) ∙ same)
     ∙ ap (λ l. n ∷ l) (pick_tagged name other true same ns (All-tail (λ (x : Ticketed). object_of x.entry.asked ≡ other) n ns a))
 pick_tagged name other false same (n ∷ ns) a =
-    ap (λ b. cond b (n ∷ filter (is_at name) ns) (filter (is_at name) ns)) (ap (is_same name) (All-head (λ (x : Ticketed). object_of x.entry.asked ≡ other) n ns a) ∙ same)
+    ap (λ b. cond b (n ∷ filter (is_at name) ns) (filter (is_at name) ns)) (ap (is_same_object name) (All-head (λ (x : Ticketed). object_of x.entry.asked ≡ other) n ns a) ∙ same)
     ∙ pick_tagged name other false same ns (All-tail (λ (x : Ticketed). object_of x.entry.asked ≡ other) n ns a)
 
-none_among : (name : Object) (hs : Histories) → All (λ (other : Object × List Ticketed). is_same name other.0 ≡ false) hs → history_of name hs ≡ []
+none_among : (name : Object) (hs : Histories) → All (λ (other : Object × List Ticketed). is_same_object name other.0 ≡ false) hs → history_of name hs ≡ []
 none_among name [] apart = refl
 none_among name (h ∷ hs) apart =
-    ap (λ b. if b then h.1 else history_of name hs) (All-head (λ (other : Object × List Ticketed). is_same name other.0 ≡ false) h hs apart)
-    ∙ none_among name hs (All-tail (λ (other : Object × List Ticketed). is_same name other.0 ≡ false) h hs apart)
+    ap (λ b. if b then h.1 else history_of name hs) (All-head (λ (other : Object × List Ticketed). is_same_object name other.0 ≡ false) h hs apart)
+    ∙ none_among name hs (All-tail (λ (other : Object × List Ticketed). is_same_object name other.0 ≡ false) h hs apart)
 
 pub at_is : (name : Object) (hs : Histories) → AreOfDifferentObjects hs → AreTagged hs → filter (is_at name) (all_of hs) ≡ history_of name hs
 at_is name [] apart tagged = refl
 at_is name (h ∷ hs) apart tagged =
-    filter-append (is_at name) h.1 (all_of hs) ∙ ap (λ l. filter (is_at name) h.1 ++ l) (at_is name hs apart.1 tagged.1) ∙ by_test (is_same name h.0) refl
+    filter-append (is_at name) h.1 (all_of hs) ∙ ap (λ l. filter (is_at name) h.1 ++ l) (at_is name hs apart.1 tagged.1) ∙ by_test (is_same_object name h.0) refl
   where
-    by_test : (b : Bool) → is_same name h.0 ≡ b → filter (is_at name) h.1 ++ history_of name hs ≡ (if b then h.1 else history_of name hs)
+    by_test : (b : Bool) → is_same_object name h.0 ≡ b → filter (is_at name) h.1 ++ history_of name hs ≡ (if b then h.1 else history_of name hs)
     by_test true same =
         ap (λ l. l ++ history_of name hs) (pick_tagged name h.0 true same h.1 tagged.0)
         ∙ ap (λ l. h.1 ++ l) (ap (λ n. history_of n hs) (same_is name h.0 same) ∙ none_among h.0 hs apart.0) ∙ append-nil h.1
@@ -84,7 +84,7 @@ module _ (hs : Histories) where
   pub merge_entries_at : AreOfDifferentObjects hs → AreTagged hs → ((name : Object) → RiseFrom 0 (history_of name hs)) → (name : Object)
       → entries_at name (without_tickets (sorted (all_of hs))) ≡ without_tickets (history_of name hs)
   merge_entries_at apart tagged rises name =
-      entries_filter (λ (e : Entry). is_same name (object_of e.asked)) (sorted (all_of hs)) ∙ ap without_tickets (merge_at apart tagged rises name)
+      entries_filter (λ (e : Entry). is_same_object name (object_of e.asked)) (sorted (all_of hs)) ∙ ap without_tickets (merge_at apart tagged rises name)
 
   pub merge_entries_by : (place : ℕ) → entries_by place (without_tickets (sorted (all_of hs))) ≡ without_tickets (done_by place hs)
   merge_entries_by place = entries_filter (λ (e : Entry). place == e.place) (sorted (all_of hs)) ∙ ap without_tickets (merge_by place)

@@ -21,7 +21,7 @@ use Rattle.run_machine.specs.Tasks.{TaskState, request, answered}
 use Rattle.run_machine.proofs.Frames.{upd_same, upd_other}
 use Rattle.block_core.specs.Scenarios.{IsScenario, IsNaming}
 use Rattle.block_core.proofs.bound.EventCharges.{below_or}
-use Rattle.shared_objects.specs.Calls.{is_same, struck}
+use Rattle.shared_objects.specs.Calls.{is_same_object, struck}
 use Rattle.shared_objects.specs.Logs.{is_event}
 use Rattle.run_merge.specs.Entries.{Entry, AreEvents}
 use Rattle.run_merge.specs.Machines.{ServesAt, LeadsObject, entries_at}
@@ -126,9 +126,9 @@ module _ (s : Scenario) (ledger : ℕ → LedgerId) (good : IsScenario s) (namin
           (one_more s ledger before state b place event next steps)
 
       objects_rest : (other : Object) → LeadsObject ledger other (get next.objects other) (entries_at other es) (get last.objects other)
-      objects_rest other = by_test (is_same other name) refl
+      objects_rest other = by_test (is_same_object other name) refl
         where
-          by_test : (b : Bool) → is_same other name ≡ b → LeadsObject ledger other (get next.objects other) (entries_at other es) (get last.objects other)
+          by_test : (b : Bool) → is_same_object other name ≡ b → LeadsObject ledger other (get next.objects other) (entries_at other es) (get last.objects other)
           by_test true same =
               subst (λ k. LeadsObject ledger k (get next.objects k) (entries_at k es) (get last.objects k)) (sym (same_is other name same))
               (subst (λ v. LeadsObject ledger name v (entries_at name es) (get last.objects name)) (sym (get_put state.objects name o)) here.2)

@@ -13,7 +13,7 @@ use Rattle.run_machine.specs.Requests as requests
 use Rattle.run_machine.specs.Requests.{Request, Reply, Resize, NextRound, Did, Present, LeftOver}
 use Rattle.run_machine.specs.Runs.{State, IsLet}
 use Rattle.run_machine.specs.Tasks.{TaskState, Writer, Rescuer, Completer, Keeper, Keeps, Stops, Duty, Resizes, Starts, Todo, Taken, NoBio, request, look_of, writer_look, later_of}
-use Rattle.shared_objects.specs.Calls.{is_same, struck}
+use Rattle.shared_objects.specs.Calls.{is_same_object, struck}
 use Rattle.run_merge.specs.Entries.{Entry}
 use Rattle.run_merge.specs.ObjectsByName.{get}
 use Rattle.run_merge.specs.Products.{is_next_round, changes_reserve, rounds_started, AreDone, RoundHasCome, MayBegin}
@@ -25,13 +25,13 @@ use Rattle.run_merge.proofs.products.Served.{others_stay}
 -- the present round rises where a round starts
 pub round_after : (ledger : ℕ → LedgerId) (o : Objects) (request : Request) (reply : Reply) (new : Objects) → Serves ledger o request reply new
     → new.tally.round ≡ o.tally.round + (if is_next_round request then 1 else 0)
-round_after ledger o request reply new h = by_object (is_same OfTally (object_of request)) refl
+round_after ledger o request reply new h = by_object (is_same_object OfTally (object_of request)) refl
   where
-    none_starts : (request : Request) → is_same OfTally (object_of request) ≡ false → is_next_round request ≡ false
+    none_starts : (request : Request) → is_same_object OfTally (object_of request) ≡ false → is_next_round request ≡ false
     none_starts (NextRound round) off = absurd (true≢false off)
     none_starts request off = refl
 
-    at_tally : (request : Request) (reply : Reply) → Serves ledger o request reply new → is_same OfTally (object_of request) ≡ true
+    at_tally : (request : Request) (reply : Reply) → Serves ledger o request reply new → is_same_object OfTally (object_of request) ≡ true
         → new.tally.round ≡ o.tally.round + (if is_next_round request then 1 else 0)
     at_tally (requests.Done write status) Did h on = ap (λ (x : Objects). x.tally.round) h ∙ omega arith
     at_tally (requests.Done write status) reply h on = absurd h
@@ -43,7 +43,7 @@ round_after ledger o request reply new h = by_object (is_same OfTally (object_of
     at_tally requests.LookLeft reply h on = absurd h
     at_tally request reply h on = absurd (true≢false (sym on))
 
-    by_object : (b : Bool) → is_same OfTally (object_of request) ≡ b → new.tally.round ≡ o.tally.round + (if is_next_round request then 1 else 0)
+    by_object : (b : Bool) → is_same_object OfTally (object_of request) ≡ b → new.tally.round ≡ o.tally.round + (if is_next_round request then 1 else 0)
     by_object true on = at_tally request reply h on
     by_object false off =
         let same = ap (λ (x : Objects). x.tally.round) (others_stay ledger o request reply new h)

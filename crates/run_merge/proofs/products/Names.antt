@@ -5,10 +5,10 @@ use mathlib.Core.Path.{fun_ext}
 use Rattle.run_machine.specs.Laws.{Object, OfPool, OfRescuer, OfDisk, OfBook, OfTally, OfNone}
 use Rattle.run_machine.specs.Objects.{Objects}
 use Rattle.run_machine.proofs.Frames.{upd_same, upd_other, upd_own}
-use Rattle.shared_objects.specs.Calls.{is_same}
+use Rattle.shared_objects.specs.Calls.{is_same_object}
 use Rattle.run_merge.specs.ObjectsByName.{StateAt, get, put_object, made_of}
 
-pub same_self : (name : Object) → is_same name name ≡ true
+pub same_self : (name : Object) → is_same_object name name ≡ true
 same_self (OfPool a) = eq-eqb a a refl
 same_self (OfRescuer a) = eq-eqb a a refl
 same_self (OfDisk a) = eq-eqb a a refl
@@ -16,7 +16,7 @@ same_self (OfBook a) = eq-eqb a a refl
 same_self OfTally = refl
 same_self OfNone = refl
 
-pub same_is : (a b : Object) → is_same a b ≡ true → a ≡ b
+pub same_is : (a b : Object) → is_same_object a b ≡ true → a ≡ b
 same_is (OfPool a) (OfPool b) h = ap OfPool (eqb-true a b h)
 same_is (OfPool a) b h = absurd (true≢false (sym h))
 same_is (OfRescuer a) (OfRescuer b) h = ap OfRescuer (eqb-true a b h)
@@ -47,7 +47,7 @@ put_get o (OfBook writer) = ap (λ f. record o { book = f }) (upd_own o.book wri
 put_get o OfTally = refl
 put_get o OfNone = refl
 
-pub get_other : (o : Objects) (name other : Object) (v : StateAt name) → is_same other name ≡ false → get (put_object o name v) other ≡ get o other
+pub get_other : (o : Objects) (name other : Object) (v : StateAt name) → is_same_object other name ≡ false → get (put_object o name v) other ≡ get o other
 get_other o (OfPool a) (OfPool b) v h = upd_other o.pool a v b (eqb-false b a h)
 get_other o (OfPool a) other v h = refl
 get_other o (OfRescuer a) (OfRescuer b) v h = upd_other o.rescue a v b (eqb-false b a h)

@@ -14,7 +14,7 @@ use Rattle.run_machine.specs.Scene.{Scene}
 use Rattle.run_machine.specs.Tasks.{TaskState, request, answered}
 use Rattle.run_machine.proofs.Frames.{upd_same, upd_other}
 use Rattle.block_core.specs.Scenarios.{IsScenario, IsNaming}
-use Rattle.shared_objects.specs.Calls.{is_same, struck}
+use Rattle.shared_objects.specs.Calls.{is_same_object, struck}
 use Rattle.shared_objects.specs.Logs.{is_event}
 use Rattle.run_merge.specs.Entries.{Entry, AreEvents, entries_in}
 use Rattle.run_merge.specs.Machines.{ServesAt, LeadsObject, entries_at}
@@ -51,7 +51,7 @@ module _ (scene : Scene) where
   pub run_objects : (name : Object) (old : State) (events : List Event) (new : State) (run : IsRun scene old events new)
       → LeadsObject scene.ledger name (get old.objects name) (entries_at name (entries_in scene old events new run)) (get new.objects name)
   run_objects name old [] new run = ap (λ (x : State). get x.objects name) run
-  run_objects name old (event ∷ events) new (next, (place, steps), run) = by_test (is_same name own) refl (run_objects name next events new run)
+  run_objects name old (event ∷ events) new (next, (place, steps), run) = by_test (is_same_object name own) refl (run_objects name next events new run)
     where
       e : Entry
       e = entry_of scene old place event next steps
@@ -62,7 +62,7 @@ module _ (scene : Scene) where
       es : List Entry
       es = entries_at name (entries_in scene next events new run)
 
-      by_test : (b : Bool) → is_same name own ≡ b → LeadsObject scene.ledger name (get next.objects name) es (get new.objects name)
+      by_test : (b : Bool) → is_same_object name own ≡ b → LeadsObject scene.ledger name (get next.objects name) es (get new.objects name)
           → LeadsObject scene.ledger name (get old.objects name) (cond b (e ∷ es) es) (get new.objects name)
       by_test true same rest =
           let serves = serves_struck scene.ledger old.objects (request scene.setup (old.task place)) steps.reply next.objects steps.serves in

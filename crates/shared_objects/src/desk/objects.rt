@@ -4,8 +4,8 @@ ghost use Rattle.stack_base.specs.declared.ids.PoolId.TheVariants.{FsVecs, Recor
 ghost use Rattle.bioset_pools.specs.Sets.{bios_of};
 ghost use Rattle.run_machine.specs.Requests.{Complete, LeftOver, Resize};
 ghost use Rattle.task_steps.specs.declared.objects.Unmade.TheVariants as unmade;
-ghost use Rattle.task_steps.specs.Stage.{Fits};
-ghost use Rattle.task_steps.specs.Views.{completed, resized};
+ghost use Rattle.task_steps.specs.Stage.{RequestFits};
+ghost use Rattle.task_steps.specs.Views.{completed_reply, resized_reply};
 ghost use Rattle.object_things.specs.declared.disk.DiskAsk.TheVariants as asks;
 ghost use Rattle.object_things.specs.declared.disk.DiskSaid.TheVariants as says;
 ghost use Rattle.object_things.specs.Disks.{DiskSays};
@@ -39,7 +39,7 @@ impl<'a, R: Wait> Desk<'a, R> {
     // How many bios wait in a disk.
     fn look_at(&mut self, disk: DevId) -> u64
         requires holds { DeskHolds self.old.locks.now self.old.seats }
-        requires fits { Fits (stage_at self.old.locks.now) (Complete disk) }
+        requires fits { RequestFits (stage_at self.old.locks.now) (Complete disk) }
         ensures calls { HasCalled (desk_of self.old.seats) (Complete disk) (LeftOver result) (desk_of self.new.seats) }
         ensures kept { DeskHolds self.old.locks.now self.new.seats }
         ensures same { self.new.locks.now ≡ self.old.locks.now }
@@ -53,8 +53,8 @@ impl<'a, R: Wait> Desk<'a, R> {
     // Completes the bio at this place of those that wait, or the last one where there are fewer by now.
     fn complete_at(&mut self, disk: DevId, index: u64) -> Result<Option<(u64, Done)>, Unmade>
         requires holds { DeskHolds self.old.locks.now self.old.seats }
-        requires fits { Fits (stage_at self.old.locks.now) (Complete disk) }
-        ensures calls { HasCalled (desk_of self.old.seats) (Complete disk) (completed result) (desk_of self.new.seats) }
+        requires fits { RequestFits (stage_at self.old.locks.now) (Complete disk) }
+        ensures calls { HasCalled (desk_of self.old.seats) (Complete disk) (completed_reply result) (desk_of self.new.seats) }
         ensures says { DiskSays (stage_at self.old.locks.now) (asks.Complete disk index) (says.Completed result) }
         ensures kept { DeskHolds self.old.locks.now self.new.seats }
         ensures same { self.new.locks.now ≡ self.old.locks.now }
@@ -69,8 +69,8 @@ impl<'a, R: Wait> Desk<'a, R> {
     #[tactic(auto, using(crate::proofs::Takes::set_has_pool))]
     fn resize_bios(&mut self, set: SetId, min: u32) -> Result<u64, Unmade>
         requires holds { DeskHolds self.old.locks.now self.old.seats }
-        requires fits { Fits (stage_at self.old.locks.now) (Resize (bios_of set) min) }
-        ensures calls { HasCalled (desk_of self.old.seats) (Resize (bios_of set) min) (resized result) (desk_of self.new.seats) }
+        requires fits { RequestFits (stage_at self.old.locks.now) (Resize (bios_of set) min) }
+        ensures calls { HasCalled (desk_of self.old.seats) (Resize (bios_of set) min) (resized_reply result) (desk_of self.new.seats) }
         ensures back { IfErr result (λ back. back ≡ unmade.Nothing) }
         ensures kept { DeskHolds self.old.locks.now self.new.seats }
         ensures same { self.new.locks.now ≡ self.old.locks.now }
@@ -85,8 +85,8 @@ impl<'a, R: Wait> Desk<'a, R> {
     // The same of the pool of vectors.
     fn resize_vecs(&mut self, min: u32) -> Result<u64, Unmade>
         requires holds { DeskHolds self.old.locks.now self.old.seats }
-        requires fits { Fits (stage_at self.old.locks.now) (Resize FsVecs min) }
-        ensures calls { HasCalled (desk_of self.old.seats) (Resize FsVecs min) (resized result) (desk_of self.new.seats) }
+        requires fits { RequestFits (stage_at self.old.locks.now) (Resize FsVecs min) }
+        ensures calls { HasCalled (desk_of self.old.seats) (Resize FsVecs min) (resized_reply result) (desk_of self.new.seats) }
         ensures back { IfErr result (λ back. back ≡ unmade.Nothing) }
         ensures kept { DeskHolds self.old.locks.now self.new.seats }
         ensures same { self.new.locks.now ≡ self.old.locks.now }
@@ -102,8 +102,8 @@ impl<'a, R: Wait> Desk<'a, R> {
     #[tactic(auto, using(crate::proofs::Takes::mirror_is_pool))]
     fn resize_records(&mut self, dev: DevId, min: u32) -> Result<u64, Unmade>
         requires holds { DeskHolds self.old.locks.now self.old.seats }
-        requires fits { Fits (stage_at self.old.locks.now) (Resize (Records dev) min) }
-        ensures calls { HasCalled (desk_of self.old.seats) (Resize (Records dev) min) (resized result) (desk_of self.new.seats) }
+        requires fits { RequestFits (stage_at self.old.locks.now) (Resize (Records dev) min) }
+        ensures calls { HasCalled (desk_of self.old.seats) (Resize (Records dev) min) (resized_reply result) (desk_of self.new.seats) }
         ensures back { IfErr result (λ back. back ≡ unmade.Nothing) }
         ensures kept { DeskHolds self.old.locks.now self.new.seats }
         ensures same { self.new.locks.now ≡ self.old.locks.now }

@@ -1,7 +1,7 @@
 //! Steps of a task at its desk.
 ghost use Rattle.std.specs.Prelude.{◌≡◌};
 ghost use Rattle.task_steps.specs.Homes.{IsTaskOf};
-ghost use Rattle.task_steps.specs.Routed.{setup};
+ghost use Rattle.task_steps.specs.Routed.{routing_setup};
 ghost use Rattle.task_steps.specs.Stage.{Owes};
 ghost use Rattle.task_steps.specs.TaskViews.{ChosenBy};
 ghost use Rattle.task_steps.specs.Turns.{Turns};
@@ -18,7 +18,7 @@ impl<'a, R: Wait> Desk<'a, R> {
         requires holds { DeskHolds self.old.locks.now self.old.seats }
         requires routing { task.old.routing ≡ (stage_at self.old.locks.now).routing }
         requires task { IsTaskOf (stage_at self.old.locks.now) task.old.state }
-        ensures turns { Turns DeskServes (Owes (stage_at self.old.locks.now)) (setup task.old.routing) task.old.state (desk_of self.old.seats) task.new.state (desk_of self.new.seats) result }
+        ensures turns { Turns DeskServes (Owes (stage_at self.old.locks.now)) (routing_setup task.old.routing) task.old.state (desk_of self.old.seats) task.new.state (desk_of self.new.seats) result }
         ensures chosen { ChosenBy task.old.state C.chooses DeskPicks chooser.old result chooser.new }
         ensures kept { DeskHolds self.new.locks.now self.new.seats × (stage_at self.new.locks.now ≡ stage_at self.old.locks.now) }
         ensures same { task.new.routing ≡ task.old.routing }

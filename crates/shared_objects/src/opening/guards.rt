@@ -6,7 +6,7 @@ ghost use Rattle.task_core.specs.ObjectsOf.{IsBookOf, IsDiskOf};
 ghost use Rattle.task_steps.specs.Stage.{AreServed};
 ghost use Rattle.shared_objects.specs.Guards.{guarded, unused};
 ghost use Rattle.shared_objects.specs.Opening.{guarded_row};
-ghost use Rattle.shared_objects.specs.Sharing.{keyed};
+ghost use Rattle.shared_objects.specs.Sharing.{disks_by_device};
 
 use bio_books::Book;
 use bio_records::RescueList;
@@ -94,7 +94,7 @@ pub(crate) fn guard_disks(
     common: &Arc<Common, Global>,
 ) -> Result<Vec<(DevId, DiskThing)>, AllocError>
     requires { All (λ disk. IsDiskOf (stage_in common.now.value) disk.dev.0 disk) disks.items }
-    ensures { IfOk result (λ things. things.items ≡ guarded_row common.now.value (keyed disks.items)) }
+    ensures { IfOk result (λ things. things.items ≡ guarded_row common.now.value (disks_by_device disks.items)) }
 {
     let mut things = Vec::with_capacity(alloc, disks.len())?;
     'guarding: for disk in disks {

@@ -9,7 +9,7 @@ ghost use Rattle.shared_objects.specs.Guards.{guarded};
 ghost use Rattle.shared_objects.specs.Holding.{LocksHold};
 ghost use Rattle.shared_objects.specs.Opening.{AreFirst, CanShare, IsFirstAt};
 ghost use Rattle.shared_objects.specs.Rows.{Abreast};
-ghost use Rattle.shared_objects.specs.Sharing.{AreOfOpened, AreRound, keyed};
+ghost use Rattle.shared_objects.specs.Sharing.{AreOfOpened, AreRound, disks_by_device};
 
 use crate::locks::Locks;
 use crate::opening::guards::{
@@ -93,7 +93,7 @@ fn lock_disks(
     AllocError,
 >
     requires { All (λ disk. IsDiskOf (stage_in common.now.value) disk.dev.0 disk) disks.items }
-    ensures round { IfOk result (λ made. AreRound (guarded common.now.value) (keyed disks.items) made.0.items) }
+    ensures round { IfOk result (λ made. AreRound (guarded common.now.value) (disks_by_device disks.items) made.0.items) }
     ensures firsts { IfOk result (λ made. Abreast (IsFirstAt 0) made.0.items made.1.items) }
 {
     let things = guard_disks(alloc, disks, common)?;

@@ -8,7 +8,7 @@ use Rattle.task_core.specs.opened.OfOne.{run_state, scenario_in, states, IsOpene
 use Rattle.run_machine.specs.Objects.{Objects}
 use Rattle.run_machine.specs.Opened.{no_task, start, scene, most_writers}
 use Rattle.run_machine.specs.Opened as opened
-use Rattle.task_core.specs.PlainSteps.{scene_of}
+use Rattle.task_core.specs.PlainSteps.{scene_of_objects}
 use Rattle.task_core.specs.Plains.{stage_of}
 use Rattle.run_machine.specs.Runs.{State}
 use Rattle.run_machine.specs.Scene.{Scene, Setup}
@@ -28,7 +28,7 @@ run_begins o is =
     ap (λ objects. state_with objects (states o.tasks.items)) is.objects ∙ ap (state_with (opened.objects (scenario_in o))) is.tasks
 
 -- and all that stays is that of the scenario, with the ledgers of the pools that were opened
-pub scene_is : (o : Opened) → IsOpened o → scene_of o.objects (length o.tasks.items) ≡ scene (scenario_in o) (stage_of o.objects).ledger
+pub scene_is : (o : Opened) → IsOpened o → scene_of_objects o.objects (length o.tasks.items) ≡ scene (scenario_in o) (stage_of o.objects).ledger
 scene_is o is =
     let count : length o.tasks.items ≡ length (opened.tasks (scenario_in o)) =
     sym (length-map o.tasks.items (λ (task : TaskOf). task.state)) ∙ ap length is.tasks in

@@ -29,7 +29,7 @@ use Rattle.task_core.specs.opened.NewTasks.{AreShared, reserves_in}
 use Rattle.run_machine.specs.ReadBehind.{IsReadBehind}
 use Rattle.run_machine.specs.Opened.{at, records_of as records_at, reserve_of}
 use Rattle.task_core.specs.opened.Openings.{uses_set, uses_slips}
-use Rattle.task_steps.specs.Routed.{Routing, copies, keeps, setup}
+use Rattle.task_steps.specs.Routed.{Routing, copies_bios, keeps, routing_setup}
 use Rattle.run_machine.specs.Scene.{has_set, is_mirror, keeps_data}
 use Rattle.task_core.proofs.opened.Sharing.{few_writes}
 use Rattle.task_core.proofs.opened.PoolsBehind.{clash, bios_kept, slips_kept, disks_keep_none, others_have_none, is_below, below_by, data_by, mirror_by, bads_by, number_small}
@@ -70,7 +70,7 @@ module _ (routing : Routing) (good : IsStack routing.stack) (fit : IsFitStack ro
       (slips_kept device.0.kind device.0.reserve device.0.rescuer copies_all (fit.devices dev device.0 device.1).reserves)
 
   -- and what has no pool keeps nothing
-  pub no_set_keeps : (dev : ℕ) → has_set (setup routing) dev ≡ false → reserve_of routing.stack (Bios (at dev)) ≡ 0
+  pub no_set_keeps : (dev : ℕ) → has_set (routing_setup routing) dev ≡ false → reserve_of routing.stack (Bios (at dev)) ≡ 0
   no_set_keeps dev none = by_found (slice_get routing.stack.devices.items dev) refl
     where
       keeps_it : (device : Device) → slice_get routing.stack.devices.items dev ≡ Some device → (b : Bool) → keeps (shape_of device.kind) ≡ b → b ≡ true
@@ -78,7 +78,7 @@ module _ (routing : Routing) (good : IsStack routing.stack) (fit : IsFitStack ro
       keeps_it device q false e =
           let below = is_below dev (length routing.stack.devices.items) (slice_get_within routing.stack.devices.items dev device q) in
           let keeps_none = data_by routing.stack good dev device q (shape_of device.kind) refl ∙ e in
-          absurd (clash (has_set (setup routing) dev) (rw (below, keeps_none) refl) none)
+          absurd (clash (has_set (routing_setup routing) dev) (rw (below, keeps_none) refl) none)
 
       by_found : (o : Option Device) → slice_get routing.stack.devices.items dev ≡ o → reserve_of routing.stack (Bios (at dev)) ≡ 0
       by_found None q = ap (λ o. option_map_or (λ (d : Device). d.reserve) o 0) q
@@ -89,7 +89,7 @@ module _ (routing : Routing) (good : IsStack routing.stack) (fit : IsFitStack ro
   pub no_slips_keep : (dev : ℕ) → uses_slips routing dev ≡ false → reserve_of routing.stack (Records (at dev)) ≡ 0
   no_slips_keep dev none = by_found (slice_get routing.stack.devices.items dev) refl
     where
-      copies_none : (device : Device) → slice_get routing.stack.devices.items dev ≡ Some device → (b : Bool) → copies (shape_of device.kind) ≡ b → b ≡ false
+      copies_none : (device : Device) → slice_get routing.stack.devices.items dev ≡ Some device → (b : Bool) → copies_bios (shape_of device.kind) ≡ b → b ≡ false
       copies_none device q false e = refl
       copies_none device q true e =
           let below = is_below dev (length routing.stack.devices.items) (slice_get_within routing.stack.devices.items dev device q) in
@@ -100,7 +100,7 @@ module _ (routing : Routing) (good : IsStack routing.stack) (fit : IsFitStack ro
       by_found None q = ap (λ o. option_map_or (λ (d : Device). records_at d.kind) o 0) q
       by_found (Some device) q =
           ap (λ o. option_map_or (λ (d : Device). records_at d.kind) o 0) q
-          ∙ others_have_none device.kind (copies_none device q (copies (shape_of device.kind)) refl)
+          ∙ others_have_none device.kind (copies_none device q (copies_bios (shape_of device.kind)) refl)
 
 -- bad ranges
 pub bads_are : (stack : Stack) → IsStack stack → IsFitStack stack → (dev : ℕ) → All (IsBadRange (size (tree stack dev))) (bads_of stack dev)

@@ -8,7 +8,7 @@ use Rattle.std.proofs.lemmas.List.Elements.{filter-append}
 use Rattle.std.proofs.lemmas.List.FromFn.{map-range_with_len_more}
 use Rattle.std.proofs.lemmas.List.Folds.{find_at, find-append, position_or_len_push}
 use Rattle.std.proofs.lemmas.Option.{slice_get-get_or}
-use Rattle.task_core.specs.Tables.{has_number, IsAt}
+use Rattle.task_core.specs.Tables.{is_entry_of, IsAt}
 use Rattle.task_core.specs.opened.Filled.{AreMade, IsNext}
 
 is_itself : (a b : ℕ) → a ≡ b → (a == b) ≡ true
@@ -108,19 +108,19 @@ module _ {E : Type 0} (key : E → ℕ) (number : ℕ → ℕ) (is_used : ℕ �
   -- the next one is made
   module _ (entry : E) (made : IsMade n entry) (keyed : key entry ≡ number n) (used : is_used n ≡ true)
       (apart : (i : ℕ) → i < n → number i ≢ number n) (inside : number n < length table) where
-    nothing_yet : find (has_number key (number n)) entries ≡ None
+    nothing_yet : find (is_entry_of key (number n)) entries ≡ None
     nothing_yet = all.no_other (number n) (λ i lt used. apart i lt)
 
-    now_found : find (has_number key (number n)) (entries ++ entry ∷ []) ≡ Some entry
-    now_found = last_found (has_number key (number n)) entries entry nothing_yet (is_itself (key entry) (number n) keyed)
+    now_found : find (is_entry_of key (number n)) (entries ++ entry ∷ []) ≡ Some entry
+    now_found = last_found (is_entry_of key (number n)) entries entry nothing_yet (is_itself (key entry) (number n) keyed)
 
     made_at : (i : ℕ) → i < n + 1 → is_used i ≡ true
-        → (e : E) × (find (has_number key (number i)) (entries ++ entry ∷ []) ≡ Some e) × IsMade i e
+        → (e : E) × (find (is_entry_of key (number i)) (entries ++ entry ∷ []) ≡ Some e) × IsMade i e
     made_at i lt is = elim (below_or_last i n lt) [
       | inl before ↦
-          let old = all.made i before is in (old.0, still_found (has_number key (number i)) entries entry old.0 old.1, old.2)
+          let old = all.made i before is in (old.0, still_found (is_entry_of key (number i)) entries entry old.0 old.1, old.2)
       | inr last ↦
-          subst (λ j. (e : E) × (find (has_number key (number j)) (entries ++ entry ∷ []) ≡ Some e) × IsMade j e) (sym last) (entry, now_found, made)
+          subst (λ j. (e : E) × (find (is_entry_of key (number j)) (entries ++ entry ∷ []) ≡ Some e) × IsMade j e) (sym last) (entry, now_found, made)
     ]
 
     old_at : (i : ℕ) → i < n → is_used i ≡ true → IsAt key (set table (number n) (length entries)) (entries ++ entry ∷ []) (number i)
@@ -132,7 +132,7 @@ module _ {E : Type 0} (key : E → ℕ) (number : ℕ → ℕ) (is_used : ℕ �
         let long : length (entries ++ entry ∷ []) ≡ length entries + 1 = length-append entries (entry ∷ []) in
         record {
           there = omega (arith, stays, there, long);
-          first = stays ∙ old.first ∙ sym (place_stays (has_number key (number i)) entries entry (subst (λ k. k < length entries) old.first old.there));
+          first = stays ∙ old.first ∙ sym (place_stays (is_entry_of key (number i)) entries entry (subst (λ k. k < length entries) old.first old.there));
         }
 
     new_at : IsAt key (set table (number n) (length entries)) (entries ++ entry ∷ []) (number n)
@@ -142,7 +142,7 @@ module _ {E : Type 0} (key : E → ℕ) (number : ℕ → ℕ) (is_used : ℕ �
         let long : length (entries ++ entry ∷ []) ≡ length entries + 1 = length-append entries (entry ∷ []) in
         record {
           there = omega (arith, now, long);
-          first = now ∙ sym (place_last (has_number key (number n)) entries entry nothing_yet (is_itself (key entry) (number n) keyed));
+          first = now ∙ sym (place_last (is_entry_of key (number n)) entries entry nothing_yet (is_itself (key entry) (number n) keyed));
         }
 
     added : AreMade key number is_used IsMade (n + 1) (entries ++ entry ∷ []) (set table (number n) (length entries))
@@ -157,7 +157,7 @@ module _ {E : Type 0} (key : E → ℕ) (number : ℕ → ℕ) (is_used : ℕ �
             | inr last ↦ subst (λ j. IsAt key (set table (number n) (length entries)) (entries ++ entry ∷ []) (number j)) (sym last) new_at
           ];
           no_other = λ k none.
-              not_found (has_number key k) entries entry (all.no_other k (λ i lt is. none i (omega (arith, lt)) is))
+              not_found (is_entry_of key k) entries entry (all.no_other k (λ i lt is. none i (omega (arith, lt)) is))
               (is_apart (key entry) k (λ e. none n (omega arith) used (sym keyed ∙ e)));
           order = ordered_more (entries ++ entry ∷ []) (rw (used) (map-append key entries (entry ∷ []) ∙ ap (λ k. map key entries ++ k ∷ []) keyed));
         }

@@ -33,7 +33,7 @@ use Rattle.task_core.specs.ObjectsOf.{AreObjectsOf, IsNodeOf}
 use Rattle.run_machine.specs.Opened.{at, reserve_of, script_at}
 use Rattle.task_core.specs.opened.Openings.{has_pool, opened_objects, widest, AreOpened, IsNewPool, set_at, set_index, uses_set, IsNewSet, AreSets, slip_index, uses_slips, IsNewRecords, AreRecords, itself, uses_disk, IsNewDisk, AreDisks, uses_list, IsNewList, AreLists, uses_book, IsNewBook, AreBooks}
 use Rattle.task_core.specs.Plains.{set_number, records_number, no_pool, list_number, disk_number, book_number, no_disk, no_book, by_kind, pool_at, tally_of, objects_of, stage_of, AreSeated}
-use Rattle.task_steps.specs.Routed.{Routing, places_at, setup}
+use Rattle.task_steps.specs.Routed.{Routing, places_at, routing_setup}
 use Rattle.run_machine.specs.Scene.{has_set}
 use Rattle.task_steps.specs.Stage.{Stage, IsServed}
 use Rattle.task_core.specs.Tables.{look_up, IsAt, AreAt}
@@ -151,7 +151,7 @@ module _ (routing : Routing) (good : IsStack routing.stack) (scripts : List (Poo
       clash : (b : Bool) → b ≡ true → b ≡ false → ⊥
       clash b p q = cc
 
-  set_below : (dev : ℕ) → has_set (setup routing) dev ≡ true → dev < length routing.stack.devices.items
+  set_below : (dev : ℕ) → has_set (routing_setup routing) dev ≡ true → dev < length routing.stack.devices.items
   set_below dev used = below_by dev (length routing.stack.devices.items) (is_left (nat_lt dev (length routing.stack.devices.items)) _ used)
 
   slips_below : (dev : ℕ) → uses_slips routing dev ≡ true → dev < length routing.stack.devices.items
@@ -171,13 +171,13 @@ module _ (routing : Routing) (good : IsStack routing.stack) (scripts : List (Poo
         (IsPoolOf routing scripts reserves (set_index index)) (λ entry. entry.1) (no_pool routing.stack some) index lt used
         (λ entry made. made_is (bios_of (set_at index)) entry.1 known made)
 
-    device_set : (number dev : ℕ) → 2 * dev ≡ number → has_set (setup routing) dev ≡ true → IsPoolOf routing scripts reserves number (bios_found bios number)
+    device_set : (number dev : ℕ) → 2 * dev ≡ number → has_set (routing_setup routing) dev ≡ true → IsPoolOf routing scripts reserves number (bios_found bios number)
     device_set number dev is used =
         let lt = set_below dev used in
         let few = good.few in
         subst (λ n. IsPoolOf routing scripts reserves n (bios_found bios n)) is (set_is (suc dev) (omega (arith, lt)) used (omega (arith, lt, few)))
 
-    unused_set : (number : ℕ) → number ≢ 65 → has_set (setup routing) (number / 2) ≡ false → has_pool routing number ≡ false
+    unused_set : (number : ℕ) → number ≢ 65 → has_set (routing_setup routing) (number / 2) ≡ false → has_pool routing number ≡ false
         → IsPoolOf routing scripts reserves number (bios_found bios number)
     unused_set number apart none no_pool_is =
         look_other set_number set_index (uses_set routing) (IsNewSet routing scripts reserves) (suc (length routing.stack.devices.items)) bios table all
@@ -188,10 +188,10 @@ module _ (routing : Routing) (good : IsStack routing.stack) (scripts : List (Poo
         clash zero e used = apart (sym e)
         clash (suc dev) e used =
             let half : number / 2 ≡ dev = omega (arith, e) in
-            let is : has_set (setup routing) (number / 2) ≡ true = ap (has_set (setup routing)) half ∙ used in cc
+            let is : has_set (routing_setup routing) (number / 2) ≡ true = ap (has_set (routing_setup routing)) half ∙ used in cc
 
     sets_seated : (number : ℕ) (fs even : Bool) → (number == 65) ≡ fs → (number % 2 == 0) ≡ even
-        → (fs || even && has_set (setup routing) (number / 2)) ≡ true → IsAt set_number table bios number
+        → (fs || even && has_set (routing_setup routing) (number / 2)) ≡ true → IsAt set_number table bios number
     sets_seated number true even q r is = subst (IsAt set_number table bios) (sym (same_by number 65 q)) (all.seated 0 (omega arith) refl)
     sets_seated number false true q r is =
         let zero_left = same_by (number % 2) 0 r in
@@ -253,7 +253,7 @@ module _ (routing : Routing) (good : IsStack routing.stack) (scripts : List (Poo
         is_one n e = grind (e, arith, nat_tests)
 
     pool_by : (number : ℕ) (vec fs even set slips : Bool) → (number == 64) ≡ vec → (number == 65) ≡ fs → (number % 2 == 0) ≡ even
-        → has_set (setup routing) (number / 2) ≡ set → uses_slips routing (number / 2) ≡ slips
+        → has_set (routing_setup routing) (number / 2) ≡ set → uses_slips routing (number / 2) ≡ slips
         → IsPoolOf routing scripts reserves number (if vec then vecs else if fs || even then bios_found bios number else records_found records number)
     pool_by number true fs even set slips q r s t u =
         subst (λ n. IsPoolOf routing scripts reserves n vecs) (sym (same_by number 64 q)) (made_is FsVecs vecs tt vecs_made)
@@ -274,7 +274,7 @@ module _ (routing : Routing) (good : IsStack routing.stack) (scripts : List (Poo
 
     pub pool_is : (number : ℕ) → IsPoolOf routing scripts reserves number (by_kind vecs (bios_found bios) (records_found records) number)
     pool_is number =
-        pool_by number (number == 64) (number == 65) (number % 2 == 0) (has_set (setup routing) (number / 2)) (uses_slips routing (number / 2)) refl refl refl refl refl
+        pool_by number (number == 64) (number == 65) (number % 2 == 0) (has_set (routing_setup routing) (number / 2)) (uses_slips routing (number / 2)) refl refl refl refl refl
 
 abbrev objects_with : (ℕ → PoolState) → (ℕ → List (Item Pad)) → (ℕ → DiskState) → (ℕ → BookState) → TallyState → Objects
 objects_with pool rescue disk book tally = record { pool = pool; rescue = rescue; disk = disk; book = book; tally = tally }

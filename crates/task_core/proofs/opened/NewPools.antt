@@ -11,7 +11,7 @@ use Rattle.stack_base.specs.declared.stack.Stack.{Stack}
 use Rattle.stack_base.specs.PoolId.{pool_number}
 use Rattle.run_machine.specs.Opened.{reserve_of}
 use Rattle.task_core.specs.opened.Openings.{widest, set_index, slip_index, uses_set, uses_slips}
-use Rattle.task_steps.specs.Routed.{Routing, setup}
+use Rattle.task_steps.specs.Routed.{Routing, routing_setup}
 use Rattle.run_machine.specs.Scene.{keeps_data, is_mirror}
 
 -- a pool is never narrower than it begins
@@ -27,11 +27,11 @@ widest_least (reserve ∷ reserves) number most = by_case (widest_least reserves
 is_below : (a b : ℕ) → a < b → nat_lt a b ≡ true
 is_below a b lt = grind (lt, arith, nat_tests)
 
-pub set_used : (routing : Routing) (dev : ℕ) → dev < length routing.stack.devices.items → keeps_data ((setup routing).tree dev) ≡ false
+pub set_used : (routing : Routing) (dev : ℕ) → dev < length routing.stack.devices.items → keeps_data ((routing_setup routing).tree dev) ≡ false
     → uses_set routing (suc dev) ≡ true
 set_used routing dev lt keeps = rw (is_below dev (length routing.stack.devices.items) lt, keeps) refl
 
-pub slips_used : (routing : Routing) (dev : ℕ) → dev < length routing.stack.devices.items → is_mirror ((setup routing).tree dev) ≡ true
+pub slips_used : (routing : Routing) (dev : ℕ) → dev < length routing.stack.devices.items → is_mirror ((routing_setup routing).tree dev) ≡ true
     → uses_slips routing dev ≡ true
 slips_used routing dev lt mirror = rw (is_below dev (length routing.stack.devices.items) lt, mirror) refl
 

@@ -28,9 +28,9 @@ use Rattle.task_core.specs.declared.opening.Opened.{Opened}
 use Rattle.task_steps.specs.declared.task.Kind.{Kind}
 use Rattle.run_machine.specs.Events.{pool_of}
 use Rattle.task_steps.specs.Homes.{TodoFits, IsLineOf, IsOwned, DutyFits, IsTaskOf}
-use Rattle.task_core.specs.Leaving.{HasRoom}
+use Rattle.task_core.specs.Leaving.{IsReservedForRun}
 use Rattle.run_machine.specs.Lines.{rests}
-use Rattle.task_core.specs.opened.NewTasks.{AreShared, ArePlaced, writers_of, others_in, tally_in, reserves_in, shown, with_routing}
+use Rattle.task_core.specs.opened.NewTasks.{AreShared, ArePlaced, writers_of, others_in, tally_in, reserves_in, shown_tasks, with_routing}
 use Rattle.run_machine.specs.Objects.{Objects, TallyState}
 use Rattle.task_core.specs.opened.OfOne.{states, AreOfOne, IsOpened, scenario_in}
 use Rattle.run_machine.specs.ReadBehind.{IsReadBehind}
@@ -38,7 +38,7 @@ use Rattle.run_machine.specs.Opened.{Change, Scenario, at, is_by, todos, todos_o
 use Rattle.run_machine.specs.Opened as opened
 use Rattle.task_core.specs.opened.Openings.{widest, AreOpened, AreRows}
 use Rattle.task_core.specs.Plains.{objects_of, stage_of}
-use Rattle.task_steps.specs.Routed.{Routing, places_at, setup}
+use Rattle.task_steps.specs.Routed.{Routing, places_at, routing_setup}
 use Rattle.run_machine.specs.Scenario.{change_of}
 use Rattle.run_machine.specs.Scene.{Setup, setup_of, is_disk}
 use Rattle.task_steps.specs.Stage.{Stage, has_book, is_pool}
@@ -98,7 +98,7 @@ range_below n = λ k d lt.
     let is = get_or-range_with_len 0 n k d within in omega (arith, is, within)
 
 -- the tasks of a scenario are at home in objects of it
-module _ (s : Scenario) (stage : Stage) (stacks : stage.routing.stack ≡ s.stack) (setups : setup stage.routing ≡ opened.setup s)
+module _ (s : Scenario) (stage : Stage) (stacks : stage.routing.stack ≡ s.stack) (setups : routing_setup stage.routing ≡ opened.setup s)
     (many : stage.writes ≡ length s.writes) (paired : length s.rounds ≡ length s.writes) (served : All (IsWrite s.stack) s.writes)
     (segments : All (λ (write : Write). write.count ≤ 2048) s.writes) (changes : All (λ (change : Change). IsTrue (is_pool stage change.pool) × (1 ≤ change.min) × (change.min ≤ stage.most (pool_number change.pool))) s.changes) where
   new_line : IsLineOf stage rests
@@ -195,11 +195,11 @@ module _ (o : Opened) (kinds : List Kind) (routing : Routing) (read : IsReadBehi
     (placed : ArePlaced o.accepted.value.stack o.work.value.rounds.items o.work.value.writes.items 8 routing.places)
     (objects : AreOpened routing o.accepted.value.scripts.items (reserves_in o.work.value.resizes.items)
     (tally_in o.work.value.rounds.items o.work.value.writes.items) o.objects)
-    (tasks_are : o.tasks.items ≡ with_routing routing (shown kinds))
+    (tasks_are : o.tasks.items ≡ with_routing routing (shown_tasks kinds))
     (shared_are : o.routes.value ≡ routing)
-    (kinds_are : shown kinds ≡ writers_of o.work.value.rounds.items o.work.value.writes.items (range_with_len 0 8)
-    ++ others_in (setup routing) o.work.value.rounds.items o.work.value.resizes.items)
-    (room : HasRoom o.accepted.value.stack (length o.work.value.writes.items) o.room) where
+    (kinds_are : shown_tasks kinds ≡ writers_of o.work.value.rounds.items o.work.value.writes.items (range_with_len 0 8)
+    ++ others_in (routing_setup routing) o.work.value.rounds.items o.work.value.resizes.items)
+    (room : IsReservedForRun o.accepted.value.stack (length o.work.value.writes.items) o.room) where
   abbrev s : Scenario
   s = scenario_in o
 
@@ -233,11 +233,11 @@ module _ (o : Opened) (kinds : List Kind) (routing : Routing) (read : IsReadBehi
   all_places : ◌≡◌ {A = ℕ → ℕ} (places_at routing.places) (places_of s)
   all_places = λ i writer. places_are writer i
 
-  setup_is : setup routing ≡ opened.setup s
+  setup_is : routing_setup routing ≡ opened.setup s
   setup_is = ap (λ (st : Stack). setup_of st (places_at routing.places)) same ∙ ap (setup_of s.stack) all_places
 
-  setup_here : setup stage.routing ≡ opened.setup s
-  setup_here = ap setup objects.routing_is ∙ setup_is
+  setup_here : routing_setup stage.routing ≡ opened.setup s
+  setup_here = ap routing_setup objects.routing_is ∙ setup_is
 
   stack_here : stage.routing.stack ≡ s.stack
   stack_here = ap (λ (r : Routing). r.stack) objects.routing_is ∙ same
@@ -252,7 +252,7 @@ module _ (o : Opened) (kinds : List Kind) (routing : Routing) (read : IsReadBehi
 
   states_are : states o.tasks.items ≡ tasks s
   states_are =
-      ap states tasks_are ∙ shown_states routing (shown kinds) ∙ kinds_are
+      ap states tasks_are ∙ shown_states routing (shown_tasks kinds) ∙ kinds_are
       ∙ ap (λ su. writers_of s.rounds s.writes (range_with_len 0 8) ++ others_in su s.rounds o.work.value.resizes.items) setup_is
 
   -- the changes of reserves
@@ -283,7 +283,7 @@ module _ (o : Opened) (kinds : List Kind) (routing : Routing) (read : IsReadBehi
   of_one = record {
     holds = objects.holds;
     routing = subst (All (λ (task : TaskOf). task.routing ≡ stage.routing)) (sym tasks_are)
-        (All-map (λ (task : TaskOf). task.routing ≡ stage.routing) (λ (task : TaskState). record { routing = routing; state = task }) (shown kinds)
+        (All-map (λ (task : TaskOf). task.routing ≡ stage.routing) (λ (task : TaskState). record { routing = routing; state = task }) (shown_tasks kinds)
         (λ k d lt. sym objects.routing_is));
     home = unmapped (IsTaskOf stage) (λ (task : TaskOf). task.state) o.tasks.items (subst (All (IsTaskOf stage)) (sym states_are)
         (tasks_home s stage stack_here setup_here many sharing.paired sharing.served (fit_work o.accepted.value o.work.value read).segments changes_fit));
@@ -310,10 +310,10 @@ module _ (o : Opened) (kinds : List Kind) (routing : Routing) where
   Facts accepted work =
       IsReadBehind accepted work × HasRescuers accepted.stack × (routing.stack ≡ accepted.stack) × ArePlaced accepted.stack work.rounds.items work.writes.items 8 routing.places
       × AreOpened routing accepted.scripts.items (reserves_in work.resizes.items) (tally_in work.rounds.items work.writes.items) o.objects
-      × (shown kinds ≡ writers_of work.rounds.items work.writes.items (range_with_len 0 8) ++ others_in (setup routing) work.rounds.items work.resizes.items)
-      × HasRoom accepted.stack (length work.writes.items) o.room
+      × (shown_tasks kinds ≡ writers_of work.rounds.items work.writes.items (range_with_len 0 8) ++ others_in (routing_setup routing) work.rounds.items work.resizes.items)
+      × IsReservedForRun accepted.stack (length work.writes.items) o.room
 
-  pub opened_of : (accepted : Accepted) (work : Work) → o.accepted.value ≡ accepted → o.work.value ≡ work → o.tasks.items ≡ with_routing routing (shown kinds)
+  pub opened_of : (accepted : Accepted) (work : Work) → o.accepted.value ≡ accepted → o.work.value ≡ work → o.tasks.items ≡ with_routing routing (shown_tasks kinds)
       → o.routes.value ≡ routing → Facts accepted work → IsOpened o
   opened_of accepted work is also tasks_are shared_are given =
       let facts : Facts o.accepted.value o.work.value = subst (λ a. Facts a o.work.value) (sym is) (subst (Facts accepted) (sym also) given) in

@@ -25,7 +25,7 @@ use Rattle.decl_text.specs.declared.item.What.{What}
 use Rattle.work_text.specs.Fit.{IsPoolIn}
 use Rattle.run_machine.specs.Opened.{records_of as records_at}
 use Rattle.task_core.specs.opened.Openings.{has_pool, uses_slips}
-use Rattle.task_steps.specs.Routed.{Routing, copies, keeps, setup}
+use Rattle.task_steps.specs.Routed.{Routing, copies_bios, keeps, routing_setup}
 use Rattle.run_machine.specs.Scene.{has_set, is_mirror, keeps_data}
 use Rattle.task_steps.specs.Stage.{Stage, is_pool}
 
@@ -41,7 +41,7 @@ kind_sets (Zoned chunk) number pool e = refl
 kind_sets (Limit longest chunk) number pool e = refl
 kind_sets (Mirror records) number pool e = refl
 
-pub kind_slips : (kind : Kind) (number : ℕ) (pool : PoolId) → records_of number (what_of kind) ≡ Some pool → copies (shape_of kind) ≡ true
+pub kind_slips : (kind : Kind) (number : ℕ) (pool : PoolId) → records_of number (what_of kind) ≡ Some pool → copies_bios (shape_of kind) ≡ true
 kind_slips (Disk sectors bad) number pool e = absurd (none-some pool e)
 kind_slips Linear number pool e = absurd (none-some pool e)
 kind_slips (Stripe chunk) number pool e = absurd (none-some pool e)
@@ -57,7 +57,7 @@ bios_kept (Zoned chunk) reserve rescuer e fit = fit.0
 bios_kept (Limit longest chunk) reserve rescuer e fit = fit.0
 bios_kept (Mirror records) reserve rescuer e fit = fit.1.0
 
-pub slips_kept : (kind : Kind) (reserve : ℕ) (rescuer : Bool) → copies (shape_of kind) ≡ true → HasReserves (what_of kind) reserve rescuer → 1 ≤ records_at kind
+pub slips_kept : (kind : Kind) (reserve : ℕ) (rescuer : Bool) → copies_bios (shape_of kind) ≡ true → HasReserves (what_of kind) reserve rescuer → 1 ≤ records_at kind
 slips_kept (Disk sectors bad) reserve rescuer e fit = absurd (true≢false (sym e))
 slips_kept Linear reserve rescuer e fit = absurd (true≢false (sym e))
 slips_kept (Stripe chunk) reserve rescuer e fit = absurd (true≢false (sym e))
@@ -73,7 +73,7 @@ disks_keep_none (Zoned chunk) reserve rescuer e fit = absurd (true≢false (sym 
 disks_keep_none (Limit longest chunk) reserve rescuer e fit = absurd (true≢false (sym e))
 disks_keep_none (Mirror records) reserve rescuer e fit = absurd (true≢false (sym e))
 
-pub others_have_none : (kind : Kind) → copies (shape_of kind) ≡ false → records_at kind ≡ 0
+pub others_have_none : (kind : Kind) → copies_bios (shape_of kind) ≡ false → records_at kind ≡ 0
 others_have_none (Disk sectors bad) e = refl
 others_have_none Linear e = refl
 others_have_none (Stripe chunk) e = refl
@@ -94,7 +94,7 @@ module _ (stack : Stack) (good : IsStack stack) (number : ℕ) (device : Device)
   data_by Cuts e = ap keeps_data (cuts_is stack good number device found e)
   data_by Copies e = ap keeps_data (copies_is stack good number device found e)
 
-  pub mirror_by : (shape : Shape) → shape_of device.kind ≡ shape → is_mirror (tree stack number) ≡ copies shape
+  pub mirror_by : (shape : Shape) → shape_of device.kind ≡ shape → is_mirror (tree stack number) ≡ copies_bios shape
   mirror_by (Keeps sectors) e = ap is_mirror (keeps_is stack good number device found sectors e)
   mirror_by Cuts e = ap is_mirror (cuts_is stack good number device found e)
   mirror_by Copies e = ap is_mirror (copies_is stack good number device found e)
@@ -126,7 +126,7 @@ told_device own stack number pool is = by_found (slice_get stack.devices.items n
     by_found (Some device) q = (device, q, at_found (Some device) q)
 
 module _ (routing : Routing) (good : IsStack routing.stack) where
-  set_in : (dev : DevId) → IsPoolIn (shown_devices routing.stack) (Bios dev) → has_set (setup routing) dev.0 ≡ true
+  set_in : (dev : DevId) → IsPoolIn (shown_devices routing.stack) (Bios dev) → has_set (routing_setup routing) dev.0 ≡ true
   set_in dev is =
       let told = told_device bios_of routing.stack dev.0 (Bios dev) is in
       let lt = slice_get_within routing.stack.devices.items dev.0 told.0 told.1 in
@@ -168,17 +168,17 @@ module _ (routing : Routing) (good : IsStack routing.stack) where
   pool_there FsVecs is = refl
   pool_there (Bios dev) is =
       let half : 2 * dev.0 / 2 ≡ dev.0 = omega arith in
-      let set : has_set (setup routing) (2 * dev.0 / 2) ≡ true = ap (has_set (setup routing)) half ∙ set_in dev is in
+      let set : has_set (routing_setup routing) (2 * dev.0 / 2) ≡ true = ap (has_set (routing_setup routing)) half ∙ set_in dev is in
       let even = even_is dev.0 in
-      let both : (2 * dev.0 % 2 == 0 && has_set (setup routing) (2 * dev.0 / 2)) ≡ true = rw (even, set) refl in
-      or_middle (2 * dev.0 == 64) (2 * dev.0 == 65) (2 * dev.0 % 2 == 0 && has_set (setup routing) (2 * dev.0 / 2))
+      let both : (2 * dev.0 % 2 == 0 && has_set (routing_setup routing) (2 * dev.0 / 2)) ≡ true = rw (even, set) refl in
+      or_middle (2 * dev.0 == 64) (2 * dev.0 == 65) (2 * dev.0 % 2 == 0 && has_set (routing_setup routing) (2 * dev.0 / 2))
       (2 * dev.0 % 2 == 1 && uses_slips routing (2 * dev.0 / 2)) both
   pool_there (Records dev) is =
       let half : (2 * dev.0 + 1) / 2 ≡ dev.0 = omega arith in
       let slips : uses_slips routing ((2 * dev.0 + 1) / 2) ≡ true = ap (uses_slips routing) half ∙ slips_in dev is in
       let odd = odd_is dev.0 in
       let both : ((2 * dev.0 + 1) % 2 == 1 && uses_slips routing ((2 * dev.0 + 1) / 2)) ≡ true = rw (odd, slips) refl in
-      or_last (2 * dev.0 + 1 == 64 || (2 * dev.0 + 1 == 65 || (2 * dev.0 + 1) % 2 == 0 && has_set (setup routing) ((2 * dev.0 + 1) / 2)))
+      or_last (2 * dev.0 + 1 == 64 || (2 * dev.0 + 1 == 65 || (2 * dev.0 + 1) % 2 == 0 && has_set (routing_setup routing) ((2 * dev.0 + 1) / 2)))
       ((2 * dev.0 + 1) % 2 == 1 && uses_slips routing ((2 * dev.0 + 1) / 2)) both
 
 -- one that objects of the stack have

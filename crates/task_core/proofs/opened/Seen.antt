@@ -22,9 +22,9 @@ use Rattle.run_machine.specs.Tasks.{TaskState, Writer, Rescuer, Completer, Keepe
 use Rattle.run_machine.specs.Objects.{Objects, Serves}
 use Rattle.run_machine.specs.Events.{id_of, what_of}
 use Rattle.run_machine.specs.Runs.{IsLet, Steps}
-use Rattle.task_core.specs.Plains.{objects_of, stage_of, Tells, StaysLast}
-use Rattle.task_core.specs.PlainSteps.{state_of, scene_of, HasRound, IsStill, IsPassedOver, StepsAreEvents}
-use Rattle.task_steps.specs.Routed.{setup}
+use Rattle.task_core.specs.Plains.{objects_of, stage_of, PlainServes, StaysLast}
+use Rattle.task_core.specs.PlainSteps.{state_of_objects, scene_of_objects, HasRound, IsStill, IsPassedOver, StepsAreEvents}
+use Rattle.task_steps.specs.Routed.{routing_setup}
 use Rattle.task_steps.specs.Stage.{Stage, Owes}
 use Rattle.task_steps.specs.Turns.{silent_step, step_by, step_of, resting_step, breach_of, idle_step, Follows, Asks, Acts, ActsIf, TurnsBy}
 use Rattle.run_machine.proofs.Idle.{IsFair, fair_task, task_stays}
@@ -90,7 +90,7 @@ round_is_there old new (requests.NextRound round) requests.Did there last = absu
 round_is_there old new (requests.NextRound round) _ there last = absurd last
 round_is_there old new _ reply there last = absurd last
 
-pub told_serves : (old new : Plain) (request : Request) (reply : Reply) → HasRound (objects_of old) request → Tells old request reply new
+pub told_serves : (old new : Plain) (request : Request) (reply : Reply) → HasRound (objects_of old) request → PlainServes old request reply new
     → Serves (stage_of old).ledger (objects_of old) request reply (objects_of new)
 told_serves old new request reply there (inl serves) = serves
 told_serves old new request reply there (inr last) = absurd (round_is_there (objects_of old) (objects_of new) request reply there last)
@@ -101,12 +101,12 @@ untold_is old new (requests.NextRound round) requests.Did untold last = none_is 
 untold_is old new (requests.NextRound round) _ untold last = absurd last
 untold_is old new _ reply untold last = absurd last
 
-untold_serves : (old new : Plain) (request : Request) (reply : Reply) → what_of request reply ≡ None → Tells old request reply new
+untold_serves : (old new : Plain) (request : Request) (reply : Reply) → what_of request reply ≡ None → PlainServes old request reply new
     → Serves (stage_of old).ledger (objects_of old) request reply (objects_of new)
 untold_serves old new request reply untold (inl serves) = serves
 untold_serves old new request reply untold (inr last) = absurd (untold_is (objects_of old) (objects_of new) request reply untold last)
 
-left_stays : (middle new : Plain) (left : ℕ) → Tells middle requests.LookLeft (requests.LeftOver left) new → objects_of new ≡ objects_of middle
+left_stays : (middle new : Plain) (left : ℕ) → PlainServes middle requests.LookLeft (requests.LeftOver left) new → objects_of new ≡ objects_of middle
 left_stays middle new left told =
     (looked (stage_of middle).ledger (objects_of middle) (objects_of new) requests.LookLeft (requests.LeftOver left) tt
     (told_serves middle new requests.LookLeft (requests.LeftOver left) tt told)).0
@@ -208,7 +208,7 @@ module _ (old new : Plain) (tasks : ℕ → TaskState) (count place : ℕ) (next
   task = tasks place
 
   abbrev asked : Request
-  asked = request (setup stage.routing) task
+  asked = request (routing_setup stage.routing) task
 
   -- what was replied is what the machine has of the objects as they were
   pub served : (between middle : Plain) → objects_of between ≡ objects_of old → (reply : Reply)
@@ -220,21 +220,21 @@ module _ (old new : Plain) (tasks : ℕ → TaskState) (count place : ℕ) (next
 
   -- a task that may ask, and is told of
   asks_stepped : place < count → (event : Event) (between : Plain) → objects_of between ≡ objects_of old → HasRound (objects_of old) asked
-      → IsLet stage.ledger (objects_of old) task (look_of task) → Acts Tells (Owes stage) (setup stage.routing) task between next new (Stepped event)
-      → Steps (scene_of old count) (state_of old tasks) place event (state_of new (upd tasks place next))
+      → IsLet stage.ledger (objects_of old) task (look_of task) → Acts PlainServes (Owes stage) (routing_setup stage.routing) task between next new (Stepped event)
+      → Steps (scene_of_objects old count) (state_of_objects old tasks) place event (state_of_objects new (upd tasks place next))
   asks_stepped here event between same there lets is =
-      elim (acts Tells (Owes stage) (setup stage.routing) asked task between next new (Stepped event) is) [
+      elim (acts PlainServes (Owes stage) (routing_setup stage.routing) asked task between next new (Stepped event) is) [
         | inl rests ↦ no_event event (resting_step (breach_of task)) rests.1.2 (rest_is_none (breach_of task))
         | inr asks ↦ by_reply asks
       ]
     where
-      by_reply : Asks Tells (Owes stage) (setup stage.routing) asked task between next new (Stepped event)
-          → Steps (scene_of old count) (state_of old tasks) place event (state_of new (upd tasks place next))
+      by_reply : Asks PlainServes (Owes stage) (routing_setup stage.routing) asked task between next new (Stepped event)
+          → Steps (scene_of_objects old count) (state_of_objects old tasks) place event (state_of_objects new (upd tasks place next))
       by_reply asks =
-          elim (followed Tells (setup stage.routing) (id_of task) asked asks.middle new (Stepped event) asks.reply asks.follows) [
+          elim (followed PlainServes (routing_setup stage.routing) (id_of task) asked asks.middle new (Stepped event) asks.reply asks.follows) [
             | inl told ↦
-                let is_told = told_by (id_of task) (what_of asked asks.reply) (silent_step (setup stage.routing) asked asks.reply) event
-                (silent_is_none (setup stage.routing) asked asks.reply) told.1 in
+                let is_told = told_by (id_of task) (what_of asked asks.reply) (silent_step (routing_setup stage.routing) asked asks.reply) event
+                (silent_is_none (routing_setup stage.routing) asked asks.reply) told.1 in
                 record {
                   here = here;
                   by = is_told.by;
@@ -250,13 +250,13 @@ module _ (old new : Plain) (tasks : ℕ → TaskState) (count place : ℕ) (next
           ]
 
   abbrev IsUnchanged : Type 0
-  IsUnchanged = (objects_of new ≡ objects_of old) × (next ≡ task) × IsPassedOver (scene_of old count) (state_of old tasks) place
+  IsUnchanged = (objects_of new ≡ objects_of old) × (next ≡ task) × IsPassedOver (scene_of_objects old count) (state_of_objects old tasks) place
 
   -- a task that may ask, and nothing has happened
   asks_still : (step : Step) → IsStill step → (between : Plain) → objects_of between ≡ objects_of old
-      → Acts Tells (Owes stage) (setup stage.routing) task between next new step → IsUnchanged
+      → Acts PlainServes (Owes stage) (routing_setup stage.routing) task between next new step → IsUnchanged
   asks_still step still between same is =
-      elim (acts Tells (Owes stage) (setup stage.routing) asked task between next new step is) [
+      elim (acts PlainServes (Owes stage) (routing_setup stage.routing) asked task between next new step is) [
         | inl rests ↦ (
           ap objects_of rests.1.1 ∙ same,
           rests.1.0,
@@ -266,39 +266,39 @@ module _ (old new : Plain) (tasks : ℕ → TaskState) (count place : ℕ) (next
       ]
     where
       fair : IsFair (calm (objects_of old)) asked
-      fair = fair_task (setup stage.routing) (calm (objects_of old)) task (λ pool min later duties e. refl)
+      fair = fair_task (routing_setup stage.routing) (calm (objects_of old)) task (λ pool min later duties e. refl)
 
       -- a reply that is not told of
       by_quiet : (middle : Plain) (reply : Reply) → Serves stage.ledger (objects_of old) asked reply (objects_of middle) → what_of asked reply ≡ None
-          → IsStill (silent_step (setup stage.routing) asked reply) → next ≡ answered (setup stage.routing) task reply → objects_of new ≡ objects_of middle
+          → IsStill (silent_step (routing_setup stage.routing) asked reply) → next ≡ answered (routing_setup stage.routing) task reply → objects_of new ≡ objects_of middle
           → IsUnchanged
       by_quiet middle reply serves untold silent goes_on stays =
-          let found = quiet stage.ledger (setup stage.routing) (calm (objects_of old)) (objects_of old) (objects_of middle) asked reply fair serves untold silent in (
+          let found = quiet stage.ledger (routing_setup stage.routing) (calm (objects_of old)) (objects_of old) (objects_of middle) asked reply fair serves untold silent in (
             stays ∙ found.1,
-            goes_on ∙ task_stays (setup stage.routing) task reply found.0,
+            goes_on ∙ task_stays (routing_setup stage.routing) task reply found.0,
             λ event other steps.
                 passed stage.ledger (objects_of old) (objects_of middle) other.objects asked reply steps.reply event.what found.0 untold serves steps.serves steps.told,
           )
 
-      answers : (asks : Asks Tells (Owes stage) (setup stage.routing) asked task between next new step) → what_of asked asks.reply ≡ None
+      answers : (asks : Asks PlainServes (Owes stage) (routing_setup stage.routing) asked task between next new step) → what_of asked asks.reply ≡ None
           → Serves stage.ledger (objects_of old) asked asks.reply (objects_of asks.middle)
       answers asks untold = served between asks.middle same asks.reply (untold_serves between asks.middle asked asks.reply untold asks.replied) asks.owed
 
-      by_reply : Asks Tells (Owes stage) (setup stage.routing) asked task between next new step → IsUnchanged
+      by_reply : Asks PlainServes (Owes stage) (routing_setup stage.routing) asked task between next new step → IsUnchanged
       by_reply asks =
-          elim (followed Tells (setup stage.routing) (id_of task) asked asks.middle new step asks.reply asks.follows) [
+          elim (followed PlainServes (routing_setup stage.routing) (id_of task) asked asks.middle new step asks.reply asks.follows) [
             | inl told ↦
-                let is = still_untold (id_of task) (what_of asked asks.reply) (silent_step (setup stage.routing) asked asks.reply) step still told.1 in
+                let is = still_untold (id_of task) (what_of asked asks.reply) (silent_step (routing_setup stage.routing) asked asks.reply) step still told.1 in
                 by_quiet asks.middle asks.reply (answers asks is.0) is.0 is.1 asks.goes_on (ap objects_of told.0)
             | inr nothing ↦
                 let untold : what_of asked asks.reply ≡ None = subst (λ r. what_of asked r ≡ None) (sym nothing.0) (nothing_untold asked) in
                 by_quiet asks.middle asks.reply (answers asks untold) untold
-                (subst (λ r. IsStill (silent_step (setup stage.routing) asked r)) (sym nothing.0) (nothing_is_still (setup stage.routing) asked))
+                (subst (λ r. IsStill (silent_step (routing_setup stage.routing) asked r)) (sym nothing.0) (nothing_is_still (routing_setup stage.routing) asked))
                 asks.goes_on (left_stays asks.middle new nothing.1.0 nothing.1.1)
           ]
 
   -- what a task saw
-  module _ (look : Request) (e : look_of task ≡ Some look) (seen : Reply) (between : Plain) (saw : Tells old look seen between) where
+  module _ (look : Request) (e : look_of task ≡ Some look) (seen : Reply) (between : Plain) (saw : PlainServes old look seen between) where
     sees : Serves stage.ledger (objects_of old) look seen (objects_of between)
     sees = told_serves old between look seen (looks_any (objects_of old) look (task_looks task look e)) saw
 
@@ -322,12 +322,12 @@ module _ (old new : Plain) (tasks : ℕ → TaskState) (count place : ℕ) (next
             not_true (lets task other) (ap (lets task) (again.1 ∙ sym has_seen.1) ∙ not) asks
 
     stepped_if : (b : Bool) → lets task seen ≡ b → place < count → HasRound (objects_of old) asked → (event : Event)
-        → ActsIf b Tells (Owes stage) (setup stage.routing) task between next new (Stepped event)
-        → Steps (scene_of old count) (state_of old tasks) place event (state_of new (upd tasks place next))
+        → ActsIf b PlainServes (Owes stage) (routing_setup stage.routing) task between next new (Stepped event)
+        → Steps (scene_of_objects old count) (state_of_objects old tasks) place event (state_of_objects new (upd tasks place next))
     stepped_if true q here there event is = asks_stepped here event between has_seen.0 there (lets_ask q) is
     stepped_if false q here there event is = no_event event Waiting is.2 refl
 
-    still_if : (b : Bool) → lets task seen ≡ b → (step : Step) → IsStill step → ActsIf b Tells (Owes stage) (setup stage.routing) task between next new step
+    still_if : (b : Bool) → lets task seen ≡ b → (step : Step) → IsStill step → ActsIf b PlainServes (Owes stage) (routing_setup stage.routing) task between next new step
         → IsUnchanged
     still_if true q step still is = asks_still step still between has_seen.0 is
     still_if false q step still is = (
@@ -337,14 +337,14 @@ module _ (old new : Plain) (tasks : ℕ → TaskState) (count place : ℕ) (next
     )
 
   stepped_by : (o : Option Request) → look_of task ≡ o → place < count → HasRound (objects_of old) asked → (event : Event)
-      → TurnsBy o Tells (Owes stage) (setup stage.routing) task old next new (Stepped event)
-      → Steps (scene_of old count) (state_of old tasks) place event (state_of new (upd tasks place next))
+      → TurnsBy o PlainServes (Owes stage) (routing_setup stage.routing) task old next new (Stepped event)
+      → Steps (scene_of_objects old count) (state_of_objects old tasks) place event (state_of_objects new (upd tasks place next))
   stepped_by None e here there event is =
       asks_stepped here event old refl there (subst (IsLet stage.ledger (objects_of old) task) (sym e) tt) is
   stepped_by (Some look) e here there event (seen, between, saw, is) = stepped_if look e seen between saw (lets task seen) refl here there event is
 
   still_by : (o : Option Request) → look_of task ≡ o → (step : Step) → IsStill step
-      → TurnsBy o Tells (Owes stage) (setup stage.routing) task old next new step → IsUnchanged
+      → TurnsBy o PlainServes (Owes stage) (routing_setup stage.routing) task old next new step → IsUnchanged
   still_by None e step still is = asks_still step still old refl is
   still_by (Some look) e step still (seen, between, saw, is) = still_if look e seen between saw (lets task seen) refl step still is
 

@@ -13,7 +13,7 @@ use Rattle.layout_model.specs.Needs.{nodes}
 use Rattle.layout_model.specs.Writes.{IsWrite}
 use Rattle.task_steps.specs.declared.task.Kind.{Kind}
 use Rattle.run_machine.specs.Lines.{rests}
-use Rattle.task_core.specs.opened.NewTasks.{numbered, numbered_from, share_of, nodes_of, is_writer, writer_with, writers_of, shown, Adds, AreShared, ArePlaced}
+use Rattle.task_core.specs.opened.NewTasks.{numbered, numbered_from, share_of, nodes_of, is_writer, writer_with, writers_of, shown_tasks, AddsTasks, AreShared, ArePlaced}
 use Rattle.run_machine.specs.Opened.{is_by}
 use Rattle.run_machine.specs.Tasks.{Todo, TaskState, NoBio, Writer}
 use Rattle.task_core.proofs.opened.Filling as fill
@@ -143,10 +143,10 @@ module _ (stack : Stack) (rounds : List ℕ) (writes : List Write) (shared : Are
 
 -- the tasks of one more number are added
 pub adds_more : (F : List ℕ → List TaskState) (n : ℕ) (start old new : List Kind) → F (range_with_len 0 (n + 1)) ≡ F (range_with_len 0 n) ++ F (n ∷ [])
-    → Adds start (F (range_with_len 0 n)) old → Adds old (F (n ∷ [])) new → Adds start (F (range_with_len 0 (n + 1))) new
+    → AddsTasks start (F (range_with_len 0 n)) old → AddsTasks old (F (n ∷ [])) new → AddsTasks start (F (range_with_len 0 (n + 1))) new
 adds_more F n start old new split so is =
-    is ∙ ap (λ tasks. tasks ++ F (n ∷ [])) so ∙ append_assoc (shown start) (F (range_with_len 0 n)) (F (n ∷ []))
-    ∙ ap (λ tasks. shown start ++ tasks) (sym split)
+    is ∙ ap (λ tasks. tasks ++ F (n ∷ [])) so ∙ append_assoc (shown_tasks start) (F (range_with_len 0 n)) (F (n ∷ []))
+    ∙ ap (λ tasks. shown_tasks start ++ tasks) (sym split)
 
 pub kept_split : {Y : Type 0} (f : ℕ → Y) (p : ℕ → Bool) (n : ℕ)
     → map f (filter p (range_with_len 0 (n + 1))) ≡ map f (filter p (range_with_len 0 n)) ++ map f (filter p (n ∷ []))

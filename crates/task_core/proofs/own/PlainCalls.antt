@@ -19,7 +19,7 @@ use Rattle.run_machine.specs.Maps.{upd}
 use Rattle.run_machine.specs.Requests.{Opening, Punt, Pop, Push, Complete, Link, Drop, Did, Completed, LinkedTo, DroppedTo, Nothing}
 use Rattle.run_machine.specs.Objects.{Opened, Serves}
 use Rattle.task_steps.specs.Stage.{has_rescuer, has_disk, has_book, IsServed, AreServed, IsBioHome, OpeningFits, Owes}
-use Rattle.task_steps.specs.Views.{popped}
+use Rattle.task_steps.specs.Views.{popped_reply}
 use Rattle.task_core.specs.Plains.{objects_of, stage_of, Holds}
 use Rattle.run_machine.proofs.Frames.{upd_own}
 use Rattle.task_core.proofs.own.PlainLemmas.{kept_by, owed_by, with_lists, with_disks, with_books, list_there, list_changes, list_now, lists_seated, disk_there, disk_changes, disk_now, disks_seated, book_there, book_changes, book_now, books_seated}
@@ -40,7 +40,7 @@ module _ (plain : Plain) (holds : Holds plain) (dev : DevId) (is : IsTrue (has_r
 
   pops : (result : Option (Element (BioBody Pad)))
       → MatchOption result ((entry.1.bios ≡ []) × (x.bios ≡ [])) (λ element. (entry.1.bios ≡ item_of element ∷ x.bios) × IsAlone element)
-      → Serves (stage_of plain).ledger (objects_of plain) (Pop dev) (popped (Ok result)) (objects_of (with_lists plain i entry.0 x))
+      → Serves (stage_of plain).ledger (objects_of plain) (Pop dev) (popped_reply (Ok result)) (objects_of (with_lists plain i entry.0 x))
   pops None pop =
       let none : (objects_of plain).rescue dev.0 ≡ [] = list_there plain holds dev.0 i is place entry value ∙ pop.0 in (
         none,
@@ -57,15 +57,15 @@ module _ (plain : Plain) (holds : Holds plain) (dev : DevId) (is : IsTrue (has_r
 
   module _ (result : Option (Element (BioBody Pad)))
       (pop : MatchOption result ((entry.1.bios ≡ []) × (x.bios ≡ [])) (λ element. (entry.1.bios ≡ item_of element ∷ x.bios) × IsAlone element)) where
-    pub popped_served : Serves (stage_of plain).ledger (objects_of plain) (Pop dev) (popped (Ok result)) (objects_of (with_lists plain i entry.0 x))
+    pub popped_served : Serves (stage_of plain).ledger (objects_of plain) (Pop dev) (popped_reply (Ok result)) (objects_of (with_lists plain i entry.0 x))
     popped_served = pops result pop
 
-    pub popped_owed : Owes (stage_of plain) (Pop dev) (popped (Ok result))
-    popped_owed = owed_by plain (with_lists plain i entry.0 x) (Pop dev) (popped (Ok result)) holds is popped_served
+    pub popped_owed : Owes (stage_of plain) (Pop dev) (popped_reply (Ok result))
+    popped_owed = owed_by plain (with_lists plain i entry.0 x) (Pop dev) (popped_reply (Ok result)) holds is popped_served
 
     pub popped_kept : Holds (with_lists plain i entry.0 x) × (stage_of (with_lists plain i entry.0 x) ≡ stage_of plain)
     popped_kept =
-        kept_by plain (with_lists plain i entry.0 x) (Pop dev) (popped (Ok result)) holds is refl
+        kept_by plain (with_lists plain i entry.0 x) (Pop dev) (popped_reply (Ok result)) holds is refl
         (lists_seated plain holds dev.0 i is place entry value x) popped_served
 
 -- disks

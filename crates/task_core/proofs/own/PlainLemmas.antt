@@ -22,9 +22,9 @@ use Rattle.task_core.specs.Tables.{look_up}
 use Rattle.run_machine.specs.Requests.{Request, Reply}
 use Rattle.run_machine.specs.Objects.{Objects, PoolMoves, Serves}
 use Rattle.run_machine.specs.Opened.{at}
-use Rattle.task_steps.specs.Stage.{Stage, has_rescuer, has_disk, has_book, is_bios, is_slips, Fits, Owes}
+use Rattle.task_steps.specs.Stage.{Stage, has_rescuer, has_disk, has_book, is_bios, is_slips, RequestFits, Owes}
 use Rattle.task_core.specs.ObjectsOf.{AreObjectsOf, AreNumbered}
-use Rattle.task_core.specs.Plains.{set_number, records_number, list_number, disk_number, book_number, no_pool, no_disk, no_book, is_of_set, by_kind, bios_at, records_at, pool_at, objects_of, stage_of, AreSeated, Holds}
+use Rattle.task_core.specs.Plains.{set_number, records_number, list_number, disk_number, book_number, no_pool, no_disk, no_book, is_bios_number, by_kind, bios_at, records_at, pool_at, objects_of, stage_of, AreSeated, Holds}
 use Rattle.run_machine.proofs.Frames.{upd_same}
 use Rattle.task_core.proofs.Keeping.{objects_stay, objects_owe}
 use Rattle.task_core.proofs.TableLemmas.{looked, changed, places_stay, numbers_stay}
@@ -50,7 +50,7 @@ abbrev pub with_books : Plain → ℕ → ℕ → BookState → Plain
 with_books plain i writer x = record plain { books = with_item plain.books i (writer, x) }
 
 -- what holds of the objects holds behind a call that is served, and what is owed for it
-pub kept_by : (old new : Plain) (request : Request) (reply : Reply) → Holds old → Fits (stage_of old) request → stage_of new ≡ stage_of old
+pub kept_by : (old new : Plain) (request : Request) (reply : Reply) → Holds old → RequestFits (stage_of old) request → stage_of new ≡ stage_of old
     → AreSeated new → Serves (stage_of old).ledger (objects_of old) request reply (objects_of new) → Holds new × (stage_of new ≡ stage_of old)
 kept_by old new request reply holds fits stage seated serves = (
   record {
@@ -63,7 +63,7 @@ kept_by old new request reply holds fits stage seated serves = (
   stage,
 )
 
-pub owed_by : (old new : Plain) (request : Request) (reply : Reply) → Holds old → Fits (stage_of old) request
+pub owed_by : (old new : Plain) (request : Request) (reply : Reply) → Holds old → RequestFits (stage_of old) request
     → Serves (stage_of old).ledger (objects_of old) request reply (objects_of new) → Owes (stage_of old) request reply
 owed_by old new request reply holds fits serves =
     objects_owe (stage_of old) (objects_of old) (objects_of new) request reply holds.numbered fits holds.objects serves
@@ -82,7 +82,7 @@ bios_not_64 plain n holds is e =
     let at_64 : IsTrue (is_bios (stage_of plain) 64) = subst (λ k. IsTrue (is_bios (stage_of plain) k)) e is in
     absurd (grind (at_64, few, arith, nat_tests))
 
-bios_of_set : (plain : Plain) (n : ℕ) → IsTrue (is_bios (stage_of plain) n) → is_of_set n ≡ true
+bios_of_set : (plain : Plain) (n : ℕ) → IsTrue (is_bios (stage_of plain) n) → is_bios_number n ≡ true
 bios_of_set plain n is = by_cases (n == 65) (n % 2 == 0) _ is
   where
     by_cases : (a b c : Bool) → (a || b && c) ≡ true → (a || b) ≡ true
@@ -107,7 +107,7 @@ slips_not_65 plain n holds is e =
     let at_65 : IsTrue (is_slips (stage_of plain) 65) = subst (λ k. IsTrue (is_slips (stage_of plain) k)) e is in
     absurd (grind (at_65, few, arith, nat_tests))
 
-slips_of_set : (plain : Plain) (n : ℕ) → Holds plain → IsTrue (is_slips (stage_of plain) n) → is_of_set n ≡ false
+slips_of_set : (plain : Plain) (n : ℕ) → Holds plain → IsTrue (is_slips (stage_of plain) n) → is_bios_number n ≡ false
 slips_of_set plain n holds is = neither n (slips_odd plain n is) (slips_not_65 plain n holds is)
   where
     neither : (n : ℕ) → n % 2 ≡ 1 → n ≢ 65 → (n == 65 || n % 2 == 0) ≡ false

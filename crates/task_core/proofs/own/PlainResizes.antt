@@ -18,7 +18,7 @@ use Rattle.run_machine.specs.Maps.{upd}
 use Rattle.task_core.specs.Tables.{look_up}
 use Rattle.run_machine.specs.Requests.{Resize, OutIs}
 use Rattle.run_machine.specs.Objects.{Objects, PoolMoves, Serves}
-use Rattle.task_steps.specs.Stage.{Stage, is_set, is_pool, is_bios, is_slips, Fits}
+use Rattle.task_steps.specs.Stage.{Stage, is_set, is_pool, is_bios, is_slips, RequestFits}
 use Rattle.task_core.specs.Resizing.{Resizes}
 use Rattle.task_core.specs.Plains.{set_number, records_number, no_pool, by_kind, bios_at, records_at, pool_at, objects_of, stage_of, Holds}
 use Rattle.task_core.proofs.Keeping.{set_is_bios, mirror_is_slips}
@@ -53,7 +53,7 @@ set_is : (stage : Stage) (of : SetId) → IsTrue (is_pool stage (bios_of of)) �
 set_is stage Fs is = is
 set_is stage (Of dev) is = is
 
-module _ (plain : Plain) (holds : Holds plain) (of : SetId) (min : ℕ) (fits : Fits (stage_of plain) (Resize (bios_of of) min)) (i : ℕ)
+module _ (plain : Plain) (holds : Holds plain) (of : SetId) (min : ℕ) (fits : RequestFits (stage_of plain) (Resize (bios_of of) min)) (i : ℕ)
     (place : i ≡ slice_index_or plain.index.bios (pool_number (bios_of of)) 0) (entry : SetId × LedgerPool) (value : entry ≡ get_or plain.bios.items i entry) where
   abbrev number : ℕ
   number = pool_number (bios_of of)
@@ -109,7 +109,7 @@ module _ (plain : Plain) (holds : Holds plain) (of : SetId) (min : ℕ) (fits : 
     pub bios_resized_kept : Holds (with_bios plain i entry.0 x) × (stage_of (with_bios plain i entry.0 x) ≡ stage_of plain)
     bios_resized_kept = kept_so did.1
 
-module _ (plain : Plain) (holds : Holds plain) (dev : DevId) (min : ℕ) (fits : Fits (stage_of plain) (Resize (Records dev) min)) (i : ℕ)
+module _ (plain : Plain) (holds : Holds plain) (dev : DevId) (min : ℕ) (fits : RequestFits (stage_of plain) (Resize (Records dev) min)) (i : ℕ)
     (place : i ≡ slice_index_or plain.index.records (pool_number (Records dev)) 0) (entry : DevId × LedgerPool) (value : entry ≡ get_or plain.records.items i entry) where
   abbrev slip_number : ℕ
   slip_number = pool_number (Records dev)
@@ -166,7 +166,7 @@ module _ (plain : Plain) (holds : Holds plain) (dev : DevId) (min : ℕ) (fits :
     pub records_resized_kept : Holds (with_records plain i entry.0 x) × (stage_of (with_records plain i entry.0 x) ≡ stage_of plain)
     records_resized_kept = slips_keep did.1
 
-module _ (plain : Plain) (holds : Holds plain) (min : ℕ) (fits : Fits (stage_of plain) (Resize FsVecs min)) (out : ℕ) (x : LedgerPool)
+module _ (plain : Plain) (holds : Holds plain) (min : ℕ) (fits : RequestFits (stage_of plain) (Resize FsVecs min)) (out : ℕ) (x : LedgerPool)
     (did : Resizes plain.vecs min out x) where
   vecs_serve : ((out ≡ 0) × pool.PoolMoves plain.vecs (resizes min) x) ⊎ ((0 < out) × (x ≡ plain.vecs))
       → Serves (stage_of plain).ledger (objects_of plain) (Resize FsVecs min) (OutIs out) (objects_of (with_vecs plain x))

@@ -47,11 +47,11 @@ pub record ArePlaced (stack : Stack) (rounds : List ℕ) (writes : List Write) (
   pub each : (writer : ℕ) → writer < bound → slice_index_or places writer 0 ≡ nodes_of stack (share_of rounds writes writer)
 
 -- tasks that were added to others
-abbrev pub shown : List Kind → List TaskState
-shown kinds = map task_of kinds
+abbrev pub shown_tasks : List Kind → List TaskState
+shown_tasks kinds = map task_of kinds
 
-abbrev pub Adds : List Kind → List TaskState → List Kind → Type 0
-Adds old tasks new = shown new ≡ shown old ++ tasks
+abbrev pub AddsTasks : List Kind → List TaskState → List Kind → Type 0
+AddsTasks old tasks new = shown_tasks new ≡ shown_tasks old ++ tasks
 
 -- the writer of these writes, if there is one
 abbrev pub writer_with : ℕ → List Todo → List TaskState

@@ -4,14 +4,14 @@ use Rattle.stack_base.specs.Stack.{HasRescuers}
 use Rattle.task_core.specs.declared.opening.Opened.{Opened}
 use Rattle.task_core.specs.declared.plain.Plain.{Plain}
 use Rattle.task_steps.specs.Homes.{IsTaskOf}
-use Rattle.task_core.specs.Leaving.{HasRoom}
+use Rattle.task_core.specs.Leaving.{IsReservedForRun}
 use Rattle.task_core.specs.opened.NewTasks.{reserves_in}
 use Rattle.task_core.specs.opened.Openings.{AreRows}
 use Rattle.run_machine.specs.Opened.{Scenario, objects, tasks, no_task}
 use Rattle.run_machine.specs.Opened as opened
 use Rattle.task_core.specs.Plains.{objects_of, stage_of, Holds}
-use Rattle.task_core.specs.PlainSteps.{state_of}
-use Rattle.task_steps.specs.Routed.{setup}
+use Rattle.task_core.specs.PlainSteps.{state_of_objects}
+use Rattle.task_steps.specs.Routed.{routing_setup}
 use Rattle.run_machine.specs.Runs.{State}
 use Rattle.run_machine.specs.ReadBehind.{IsReadBehind}
 use Rattle.run_machine.specs.Scenario.{scenario_of}
@@ -26,7 +26,7 @@ tasks_at tasks place = slice_index_or (states tasks) place no_task
 
 -- tasks and objects, as a state of the machine
 abbrev pub run_state : Plain → List TaskOf → State
-run_state plain tasks = state_of plain (tasks_at tasks)
+run_state plain tasks = state_of_objects plain (tasks_at tasks)
 
 -- each of these tasks is one of the scenario that these objects are of
 pub record AreOfOne (plain : Plain) (tasks : List TaskOf) : Type 0 where
@@ -45,9 +45,9 @@ pub record IsOpened (o : Opened) : Type 0 where
   pub one : AreOfOne o.objects o.tasks.items
   pub routes : o.routes.value ≡ (stage_of o.objects).routing
   pub stack : (stage_of o.objects).routing.stack ≡ (scenario_in o).stack
-  pub setup : setup (stage_of o.objects).routing ≡ opened.setup (scenario_in o)
+  pub setup : routing_setup (stage_of o.objects).routing ≡ opened.setup (scenario_in o)
   pub writes : (stage_of o.objects).writes ≡ length (scenario_in o).writes
   pub objects : objects_of o.objects ≡ objects (scenario_in o)
   pub tasks : states o.tasks.items ≡ tasks (scenario_in o)
   pub rows : AreRows (stage_of o.objects).routing o.accepted.value.scripts.items (reserves_in o.work.value.resizes.items) o.objects
-  pub room : HasRoom (scenario_in o).stack (length (scenario_in o).writes) o.room
+  pub room : IsReservedForRun (scenario_in o).stack (length (scenario_in o).writes) o.room

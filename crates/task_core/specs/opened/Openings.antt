@@ -20,7 +20,7 @@ use Rattle.task_core.specs.opened.Filled.{AreMade, IsNext}
 use Rattle.run_machine.specs.Objects.{TallyState, Objects}
 use Rattle.run_machine.specs.Opened.{at, reserve_of, script_at}
 use Rattle.task_core.specs.Plains.{set_number, records_number, list_number, disk_number, book_number, no_disk, objects_of, stage_of, Holds}
-use Rattle.task_steps.specs.Routed.{Routing, places_at, setup}
+use Rattle.task_steps.specs.Routed.{Routing, places_at, routing_setup}
 use Rattle.run_machine.specs.Scene.{is_device, is_disk, is_mirror, has_set}
 
 -- indices are numbers
@@ -29,7 +29,7 @@ itself number = number
 
 -- disks, as the stack has them
 abbrev pub uses_disk : Routing → ℕ → Bool
-uses_disk routing = is_disk (setup routing)
+uses_disk routing = is_disk (routing_setup routing)
 
 abbrev pub IsNewDisk : Routing → ℕ → DiskState → Type 0
 IsNewDisk routing dev disk = disk ≡ no_disk routing.stack dev
@@ -42,7 +42,7 @@ NextDisk routing dev disks table more after = IsNext disk_number itself (uses_di
 
 -- the lists of rescuers, which are empty
 abbrev pub uses_list : Routing → ℕ → Bool
-uses_list routing dev = is_device (setup routing) dev && (setup routing).rescuer dev
+uses_list routing dev = is_device (routing_setup routing) dev && (routing_setup routing).rescuer dev
 
 abbrev pub IsNewList : ℕ → DevId × Rescue → Type 0
 IsNewList dev entry = entry ≡ (at dev, record { dev = at dev; bios = [] })
@@ -89,7 +89,7 @@ set_index index = pool_number (bios_of (set_at index))
 
 abbrev pub uses_set : Routing → ℕ → Bool
 uses_set routing zero = true
-uses_set routing (suc dev) = has_set (setup routing) dev
+uses_set routing (suc dev) = has_set (routing_setup routing) dev
 
 abbrev pub IsNewSet : Routing → List (PoolId × Answers) → List (PoolId × ℕ) → ℕ → SetId × LedgerPool → Type 0
 IsNewSet routing scripts reserves index entry = IsNewPool routing.stack scripts reserves (bios_of (set_at index)) entry.1
@@ -107,7 +107,7 @@ abbrev pub slip_index : ℕ → ℕ
 slip_index dev = pool_number (Records (at dev))
 
 abbrev pub uses_slips : Routing → ℕ → Bool
-uses_slips routing dev = is_device (setup routing) dev && is_mirror ((setup routing).tree dev)
+uses_slips routing dev = is_device (routing_setup routing) dev && is_mirror ((routing_setup routing).tree dev)
 
 abbrev pub IsNewRecords : Routing → List (PoolId × Answers) → List (PoolId × ℕ) → ℕ → DevId × LedgerPool → Type 0
 IsNewRecords routing scripts reserves dev entry = IsNewPool routing.stack scripts reserves (Records (at dev)) entry.1
@@ -124,7 +124,7 @@ NextRecords routing scripts reserves dev records table more after =
 -- whether a number is that of a pool of the stack
 abbrev pub has_pool : Routing → ℕ → Bool
 has_pool routing number =
-    number == 64 || (number == 65 || number % 2 == 0 && has_set (setup routing) (number / 2)) || number % 2 == 1 && uses_slips routing (number / 2)
+    number == 64 || (number == 65 || number % 2 == 0 && has_set (routing_setup routing) (number / 2)) || number % 2 == 1 && uses_slips routing (number / 2)
 
 -- all objects as they are opened, with this tally
 abbrev pub opened_objects : Routing → List (PoolId × Answers) → TallyState → Objects

@@ -10,7 +10,7 @@ ghost use Rattle.run_machine.specs.Opened.{at, reserve_of, script_at};
 ghost use Rattle.fail_script.specs.Script.{only_tail};
 ghost use Rattle.task_core.specs.Plains.{tally_of};
 ghost use Rattle.task_core.specs.opened.Openings.{has_pool, AreOpened, uses_set, uses_slips, AreDisks, NextDisk, AreLists, NextList, AreBooks, NextBook};
-ghost use Rattle.task_steps.specs.Routed.{setup};
+ghost use Rattle.task_steps.specs.Routed.{routing_setup};
 ghost use Rattle.run_machine.specs.Scene.{keeps_data};
 
 use crate::opening::pools::{open_pool, open_records, open_sets};
@@ -45,7 +45,7 @@ pub(crate) fn seat<T: Drop>(
 // Whether the device keeps data itself.
 pub(crate) fn is_disk(routes: &Routes, dev: DevId) -> bool
     requires { dev.0 < length routes.now.stack.devices.items }
-    ensures { result ≡ keeps_data ((setup routes.now).tree dev.0) }
+    ensures { result ≡ keeps_data ((routing_setup routes.now).tree dev.0) }
 {
     match routes.manner(dev) {
         Manner::Keeps => true,

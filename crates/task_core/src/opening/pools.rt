@@ -6,7 +6,7 @@ ghost use Rattle.stack_base.specs.PoolId.{pool_number};
 ghost use Rattle.stack_base.specs.declared.ids.PoolId.TheVariants.{Bios, Records};
 ghost use Rattle.run_machine.specs.Opened.{at, reserve_of, script_at};
 ghost use Rattle.task_core.specs.opened.Openings.{widest, IsOpenPool, uses_set, AreSets, NextSet, uses_slips, AreRecords, NextRecords};
-ghost use Rattle.task_steps.specs.Routed.{setup};
+ghost use Rattle.task_steps.specs.Routed.{routing_setup};
 ghost use Rattle.run_machine.specs.Scene.{is_mirror};
 
 use crate::opening::objects::{is_disk, seat};
@@ -143,7 +143,7 @@ pub(crate) fn open_sets(
 // Whether the device is a mirror.
 fn is_mirror(routes: &Routes, dev: DevId) -> bool
     requires { dev.0 < length routes.now.stack.devices.items }
-    ensures { result ≡ is_mirror ((setup routes.now).tree dev.0) }
+    ensures { result ≡ is_mirror ((routing_setup routes.now).tree dev.0) }
 {
     match routes.manner(dev) {
         Manner::Keeps => false,

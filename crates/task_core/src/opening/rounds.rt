@@ -6,7 +6,7 @@ ghost use Rattle.task_steps.specs.KeeperViews.{duty_of};
 ghost use Rattle.task_core.specs.Plains.{tally_of};
 ghost use Rattle.run_machine.specs.Scenario.{change_of};
 ghost use Rattle.run_machine.specs.Opened.{keepers};
-ghost use Rattle.task_core.specs.opened.NewTasks.{left_in, rounds_in, changes_at, duties_in, Adds};
+ghost use Rattle.task_core.specs.opened.NewTasks.{left_in, rounds_in, changes_at, duties_in, AddsTasks};
 
 use crate::plain::tally::Tally;
 use stack_base::Status;
@@ -117,7 +117,7 @@ pub(crate) fn open_keeper(
     requires few { length rounds.now < 2 ^ 32 }
     requires short { rounds_in rounds.now ≤ 2 ^ 32 }
     requires left { left.now ≡ left_in rounds.now }
-    ensures { OnOk result (Adds kinds.old.items (keepers (duties_in rounds.now resizes.now (rounds_in rounds.now - 1))) kinds.new.items) }
+    ensures { OnOk result (AddsTasks kinds.old.items (keepers (duties_in rounds.now resizes.now (rounds_in rounds.now - 1))) kinds.new.items) }
 {
     let duties = duties_of(alloc, rounds, resizes, left)?;
     if !duties.is_empty() {

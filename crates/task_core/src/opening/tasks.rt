@@ -2,9 +2,9 @@
 ghost use Rattle.std.specs.Prelude.{◌≡◌, ◌<◌, [], ◌∷◌, ◌++◌, IfOk, OnOk, length};
 ghost use Rattle.std.specs.List.{range_with_len};
 ghost use Rattle.stack_base.specs.Stack.{IsStack};
-ghost use Rattle.task_steps.specs.Routed.{setup};
+ghost use Rattle.task_steps.specs.Routed.{routing_setup};
 ghost use Rattle.task_steps.specs.TaskViews.{task_of};
-ghost use Rattle.task_core.specs.opened.NewTasks.{rescuers_of, completers_of, shown, with_routing, Adds};
+ghost use Rattle.task_core.specs.opened.NewTasks.{rescuers_of, completers_of, shown_tasks, with_routing, AddsTasks};
 
 use crate::opening::objects::is_disk;
 use stack_base::{DevId, Stack};
@@ -15,7 +15,7 @@ use task_steps::{Carried, Kind, Rescuer, Routes, Task};
 // Adds the rescuer of a device's set, if it has one.
 fn add_rescuer(routes: &Routes, dev: DevId, kinds: &mut Vec<Kind>) -> Result<(), AllocError>
     requires { dev.0 < length routes.now.stack.devices.items }
-    ensures { OnOk result (Adds kinds.old.items (rescuers_of (setup routes.now) (dev.0 ∷ [])) kinds.new.items) }
+    ensures { OnOk result (AddsTasks kinds.old.items (rescuers_of (routing_setup routes.now) (dev.0 ∷ [])) kinds.new.items) }
 {
     if routes.rescuer(dev) {
         kinds.push(Kind::Rescuer(Rescuer::new(dev)))?;
@@ -31,7 +31,7 @@ pub(crate) fn open_rescuers(
 ) -> Result<(), AllocError>
     requires same { routes.now.stack ≡ stack.now }
     requires stack { IsStack stack.now }
-    ensures { OnOk result (Adds kinds.old.items (rescuers_of (setup routes.now) (range_with_len 0 (length stack.now.devices.items))) kinds.new.items) }
+    ensures { OnOk result (AddsTasks kinds.old.items (rescuers_of (routing_setup routes.now) (range_with_len 0 (length stack.now.devices.items))) kinds.new.items) }
 {
     'opening: for number in 0..stack.devices.len() {
         add_rescuer(routes, DevId(number as u32), kinds)?;
@@ -42,7 +42,7 @@ pub(crate) fn open_rescuers(
 // Adds the completer of a device, if it is a disk.
 fn add_completer(routes: &Routes, dev: DevId, kinds: &mut Vec<Kind>) -> Result<(), AllocError>
     requires { dev.0 < length routes.now.stack.devices.items }
-    ensures { OnOk result (Adds kinds.old.items (completers_of (setup routes.now) (dev.0 ∷ [])) kinds.new.items) }
+    ensures { OnOk result (AddsTasks kinds.old.items (completers_of (routing_setup routes.now) (dev.0 ∷ [])) kinds.new.items) }
 {
     if is_disk(routes, dev) {
         kinds.push(Kind::Completer {
@@ -61,7 +61,7 @@ pub(crate) fn open_completers(
 ) -> Result<(), AllocError>
     requires same { routes.now.stack ≡ stack.now }
     requires stack { IsStack stack.now }
-    ensures { OnOk result (Adds kinds.old.items (completers_of (setup routes.now) (range_with_len 0 (length stack.now.devices.items))) kinds.new.items) }
+    ensures { OnOk result (AddsTasks kinds.old.items (completers_of (routing_setup routes.now) (range_with_len 0 (length stack.now.devices.items))) kinds.new.items) }
 {
     'opening: for number in 0..stack.devices.len() {
         add_completer(routes, DevId(number as u32), kinds)?;
@@ -91,7 +91,7 @@ pub(crate) fn tasks_of(
     kinds: Vec<Kind>,
     routes: &Arc<Routes>,
 ) -> Result<Vec<Task>, AllocError>
-    ensures { IfOk result (λ tasks. tasks.items ≡ with_routing routes.now.value (shown kinds.items)) }
+    ensures { IfOk result (λ tasks. tasks.items ≡ with_routing routes.now.value (shown_tasks kinds.items)) }
 {
     let mut tasks = Vec::with_capacity(alloc, kinds.len())?;
     'sharing: for kind in kinds {

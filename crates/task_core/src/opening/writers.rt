@@ -4,7 +4,7 @@ ghost use Rattle.std.specs.List.{range_with_len};
 ghost use Rattle.stack_base.specs.Stack.{IsStack};
 ghost use Rattle.layout_model.specs.Writes.{IsWrite};
 ghost use Rattle.run_machine.specs.Opened.{is_by};
-ghost use Rattle.task_core.specs.opened.NewTasks.{share_of, nodes_of, writer_with, writers_of, Adds, AreShared, ArePlaced};
+ghost use Rattle.task_core.specs.opened.NewTasks.{share_of, nodes_of, writer_with, writers_of, AddsTasks, AreShared, ArePlaced};
 
 use layout_model::need;
 use stack_base::Stack;
@@ -57,7 +57,7 @@ fn nodes_of(stack: &Stack, todos: &[Todo]) -> u32
 
 // Adds the writer of these writes, if there is one.
 fn add_writer(writer: u32, todos: Vec<Todo>, kinds: &mut Vec<Kind>) -> Result<(), AllocError>
-    ensures { OnOk result (Adds kinds.old.items (writer_with writer todos.items) kinds.new.items) }
+    ensures { OnOk result (AddsTasks kinds.old.items (writer_with writer todos.items) kinds.new.items) }
 {
     if !todos.is_empty() {
         kinds.push(Kind::Writer(Writer::new(writer, Todos::new(todos))))?;
@@ -77,7 +77,7 @@ fn open_writer(
     requires stack { IsStack stack.now }
     requires shared { AreShared stack.now work.now.rounds.items work.now.writes.items }
     requires small { writer < 8 }
-    ensures kinds { OnOk result (Adds kinds.old.items (writers_of work.now.rounds.items work.now.writes.items (writer ∷ [])) kinds.new.items) }
+    ensures kinds { OnOk result (AddsTasks kinds.old.items (writers_of work.now.rounds.items work.now.writes.items (writer ∷ [])) kinds.new.items) }
     ensures places { OnOk result (places.new ≡ slice_set places.old writer (nodes_of stack.now (share_of work.now.rounds.items work.now.writes.items writer))) }
 {
     let todos = share_of(alloc, work, writer)?;
@@ -96,7 +96,7 @@ pub(crate) fn open_writers(
 ) -> Result<(), AllocError>
     requires stack { IsStack stack.now }
     requires shared { AreShared stack.now work.now.rounds.items work.now.writes.items }
-    ensures kinds { OnOk result (Adds kinds.old.items (writers_of work.now.rounds.items work.now.writes.items (range_with_len 0 8)) kinds.new.items) }
+    ensures kinds { OnOk result (AddsTasks kinds.old.items (writers_of work.now.rounds.items work.now.writes.items (range_with_len 0 8)) kinds.new.items) }
     ensures places { OnOk result (ArePlaced stack.now work.now.rounds.items work.now.writes.items 8 places.new) }
 {
     'opening: for writer in 0..8 {

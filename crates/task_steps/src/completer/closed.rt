@@ -3,7 +3,7 @@ ghost use Rattle.std.specs.Prelude.{◌≡◌, None, Some};
 ghost use Rattle.bio_books.specs.Books.{nothing_held};
 ghost use Rattle.bio_books.specs.Views.{closed_node_of, IsAlonePart};
 ghost use Rattle.run_machine.specs.Tasks.{Carries, Completer as Completes, Empty};
-ghost use Rattle.task_steps.specs.Routed.{setup};
+ghost use Rattle.task_steps.specs.Routed.{routing_setup};
 ghost use Rattle.task_steps.specs.Stage.{Owes};
 ghost use Rattle.task_steps.specs.Homes.{IsTaskOf};
 ghost use Rattle.task_steps.specs.Turns.{Turns};

@@ -12,7 +12,7 @@ ghost use Rattle.run_machine.specs.Scene.{Setup};
 ghost use Rattle.run_machine.specs.Kept.{bio_kept};
 ghost use Rattle.run_machine.specs.Requests.{Drop as DropOf, DroppedTo};
 ghost use Rattle.run_machine.specs.Tasks.{Brings, Carries, Completer as Completes, Empty, Fails, after_drop};
-ghost use Rattle.task_steps.specs.Routed.{setup};
+ghost use Rattle.task_steps.specs.Routed.{routing_setup};
 ghost use Rattle.task_steps.specs.Stage.{Owes};
 ghost use Rattle.task_steps.specs.Homes.{IsTaskOf};
 ghost use Rattle.task_steps.specs.Turns.{Turns, step_of};

@@ -7,11 +7,11 @@ ghost use Rattle.run_machine.specs.declared.event.What.TheVariants as What';
 ghost use Rattle.task_steps.specs.declared.step.Step.TheVariants as Step';
 ghost use Rattle.run_machine.specs.Events.{pool_of};
 ghost use Rattle.run_machine.specs.Tasks.{Carries, Completer as Completes};
-ghost use Rattle.task_steps.specs.Routed.{setup};
+ghost use Rattle.task_steps.specs.Routed.{routing_setup};
 ghost use Rattle.task_steps.specs.Stage.{Owes};
 ghost use Rattle.task_steps.specs.Homes.{IsTaskOf};
 ghost use Rattle.task_steps.specs.Turns.{Turns};
-ghost use Rattle.task_steps.specs.CarriedViews.{with_bio, with_slip, with_vector, HoldsNothing};
+ghost use Rattle.task_steps.specs.CarriedViews.{with_bio_held, with_slip, with_vector, HoldsNothing};
 ghost use Rattle.task_steps.specs.TaskSteps.{CompleterDoes, TaskReady};
 
 use crate::completer::{Carried, carrying, spent};
@@ -77,8 +77,8 @@ pub(crate) fn give_bio<O: Objects>(
 ) -> (Carried, Step)
     requires alone { IsAlone bio }
     requires rest { (rest.held.vector ≡ None) × (rest.held.bio ≡ None) }
-    requires ready { TaskReady O.Objects objects.old (Completes disk (Carries writer (with_bio bio rest))) }
-    ensures does { CompleterDoes O.Objects disk (Carries writer (with_bio bio rest)) objects.old result objects.new }
+    requires ready { TaskReady O.Objects objects.old (Completes disk (Carries writer (with_bio_held bio rest))) }
+    ensures does { CompleterDoes O.Objects disk (Carries writer (with_bio_held bio rest)) objects.old result objects.new }
 {
     let pool = pool_of(bio.no());
     match objects.give_bio(bio) {

@@ -6,11 +6,11 @@ ghost use Rattle.bio_split.specs.Split.{split_front, split_rest};
 ghost use Rattle.run_machine.specs.Scene.{Setup, tree_at};
 ghost use Rattle.run_machine.specs.Requests.{Punt, Link as LinkOf, Chain};
 ghost use Rattle.run_machine.specs.Lines.{Drives, ToCut, Punts, Links, punted};
-ghost use Rattle.task_steps.specs.Within.{IsWithin, ListsAreWithin, is_cut};
-ghost use Rattle.task_steps.specs.Routed.{setup, sent, Routing};
-ghost use Rattle.task_steps.specs.Stage.{Fits, Owes};
-ghost use Rattle.task_steps.specs.LineViews.{line_of, IsDoingAlone};
-ghost use Rattle.task_steps.specs.Answers.{Answers, Ready, Does};
+ghost use Rattle.task_steps.specs.Within.{IsWithinDevice, ListsAreWithin, is_cut};
+ghost use Rattle.task_steps.specs.Routed.{routing_setup, sent, Routing};
+ghost use Rattle.task_steps.specs.Stage.{RequestFits, Owes};
+ghost use Rattle.task_steps.specs.LineViews.{submission_of, IsDoingAlone};
+ghost use Rattle.task_steps.specs.Answers.{AnswersSubmission, Ready, Does};
 
 use crate::calls::{open_node, punt_all};
 use crate::objects::{Ask, Objects};
@@ -75,8 +75,8 @@ pub(crate) fn chain<O: Objects>(
 ) -> (Doing, Step)
     requires ready { Ready O.Objects objects.old (LinkOf (item_of bio).bio.writer (Chain (item_of bio).bio.node)) }
     requires alone { IsAlone bio × IsAlone hand }
-    requires within { IsWithin routes.now.stack (item_of bio).bio }
-    requires cut { is_cut (tree_at (setup routes.now) (item_of bio).bio.dev) (item_of bio).bio.range ≡ true }
+    requires within { IsWithinDevice routes.now.stack (item_of bio).bio }
+    requires cut { is_cut (tree_at (routing_setup routes.now) (item_of bio).bio.dev) (item_of bio).bio.range ≡ true }
     requires lists { ListsAreWithin routes.now.stack lists.old }
     ensures does { Does O.Objects routes.now task (Drives (item_of bio) (ToCut (Links (item_of hand)))) lists.old objects.old result lists.new objects.new }
     ensures alone { IsDoingAlone result.0 }

@@ -4,11 +4,11 @@ ghost use Rattle.bio_records.specs.declared.bio.Pad.{Pad};
 ghost use Rattle.bio_records.specs.Items.{Item, item_of, IsAlone};
 ghost use Rattle.run_machine.specs.Scene.{tree_at};
 ghost use Rattle.run_machine.specs.Lines.{Rests, Drives, Copies as Copies', ToCut, asks_at, driven, goes_on, line_request};
-ghost use Rattle.task_steps.specs.Within.{IsWithin, ListsAreWithin, is_cut, DoingFits, LineFits};
-ghost use Rattle.task_steps.specs.Routed.{setup};
-ghost use Rattle.task_steps.specs.Stage.{Fits, Owes};
-ghost use Rattle.task_steps.specs.LineViews.{want_of, attempt_of, ask_of, doing_of, line_of, IsWantAlone, IsAskOfAlone, IsDoingAlone, is_asking};
-ghost use Rattle.task_steps.specs.Answers.{Answers, AsksFirst, Does, LineReady};
+ghost use Rattle.task_steps.specs.Within.{IsWithinDevice, ListsAreWithin, is_cut, DoingFits, LineFits};
+ghost use Rattle.task_steps.specs.Routed.{routing_setup};
+ghost use Rattle.task_steps.specs.Stage.{RequestFits, Owes};
+ghost use Rattle.task_steps.specs.LineViews.{want_of, attempt_of, ask_of, doing_of, submission_of, IsWantAlone, IsAskOfAlone, IsDoingAlone, is_asking};
+ghost use Rattle.task_steps.specs.Answers.{AnswersSubmission, AsksFirst, Does, LineReady};
 
 use crate::objects::Objects;
 use crate::routes::Routes;
@@ -40,9 +40,9 @@ fn asked(routes: &Routes, dev: DevId, lists: &TaskLists) -> DriverAsk
 
 // The bio goes to its driver, while these wait.
 pub(crate) fn serve(routes: &Routes, mut bio: BioElement, lists: &TaskLists) -> Doing
-    requires within { IsWithin routes.now.stack (item_of bio).bio }
+    requires within { IsWithinDevice routes.now.stack (item_of bio).bio }
     requires alone { IsAlone bio }
-    ensures line { line_of result lists.now ≡ record { doing = driven (setup routes.now) lists.now (item_of bio); lists = lists.now } }
+    ensures line { submission_of result lists.now ≡ record { doing = driven (routing_setup routes.now) lists.now (item_of bio); lists = lists.now } }
     ensures alone { IsDoingAlone result }
 {
     bio.body.bio = routes.land(bio.body.bio);
@@ -53,7 +53,7 @@ pub(crate) fn serve(routes: &Routes, mut bio: BioElement, lists: &TaskLists) -> 
 // The driver of a device has returned: the next bio goes to its driver, if one waits.
 pub(crate) fn go_on(routes: &Routes, lists: &mut TaskLists, served: DevId) -> Doing
     requires { ListsAreWithin routes.now.stack lists.old }
-    ensures line { line_of result lists.new ≡ goes_on (setup routes.now) served lists.old }
+    ensures line { submission_of result lists.new ≡ goes_on (routing_setup routes.now) served lists.old }
     ensures alone { IsDoingAlone result }
 {
     match lists.next(served) {
@@ -74,8 +74,8 @@ fn cut<O: Objects>(
     requires ready { LineReady O.Objects objects.old routes.now (Drives (item_of bio) (ToCut (want_of want))) lists.old }
     requires alone { IsAlone bio × IsWantAlone want }
     requires no_attempt { attempt_of (Drives (item_of bio) (ToCut (want_of want))) ≡ None }
-    requires within { IsWithin routes.now.stack (item_of bio).bio }
-    requires cut { is_cut (tree_at (setup routes.now) (item_of bio).bio.dev) (item_of bio).bio.range ≡ true }
+    requires within { IsWithinDevice routes.now.stack (item_of bio).bio }
+    requires cut { is_cut (tree_at (routing_setup routes.now) (item_of bio).bio.dev) (item_of bio).bio.range ≡ true }
     requires lists { ListsAreWithin routes.now.stack lists.old }
     ensures does { Does O.Objects routes.now task (Drives (item_of bio) (ToCut (want_of want))) lists.old objects.old result lists.new objects.new }
     ensures alone { IsDoingAlone result.0 }
@@ -148,7 +148,7 @@ pub(crate) fn turn<O: Objects>(
     requires alone { IsDoingAlone doing }
     requires asks { is_asking (doing_of doing) ≡ true }
     requires no_attempt { attempt_of (doing_of doing) ≡ None }
-    requires within { LineFits routes.now.stack (line_of doing lists.old) }
+    requires within { LineFits routes.now.stack (submission_of doing lists.old) }
     ensures does { Does O.Objects routes.now task (doing_of doing) lists.old objects.old result lists.new objects.new }
     ensures alone { IsDoingAlone result.0 }
 {

@@ -6,11 +6,11 @@ ghost use Rattle.bio_books.specs.Views.{slip_item};
 ghost use Rattle.run_machine.specs.Scene.{Setup, tree_at};
 ghost use Rattle.run_machine.specs.Requests.{TakeSlip, Punt, Link as LinkOf, Master, Leg};
 ghost use Rattle.run_machine.specs.Lines.{Drives, ToRecord, ToMaster, Punts, Links, punted, legs_of, Copies, leg_at, copies};
-ghost use Rattle.task_steps.specs.Within.{IsWithin, ListsAreWithin};
-ghost use Rattle.task_steps.specs.Routed.{setup, Routing};
-ghost use Rattle.task_steps.specs.Stage.{Fits, Owes};
-ghost use Rattle.task_steps.specs.LineViews.{line_of, IsDoingAlone};
-ghost use Rattle.task_steps.specs.Answers.{Answers, Ready, Does, LineReady};
+ghost use Rattle.task_steps.specs.Within.{IsWithinDevice, ListsAreWithin};
+ghost use Rattle.task_steps.specs.Routed.{routing_setup, Routing};
+ghost use Rattle.task_steps.specs.Stage.{RequestFits, Owes};
+ghost use Rattle.task_steps.specs.LineViews.{submission_of, IsDoingAlone};
+ghost use Rattle.task_steps.specs.Answers.{AnswersSubmission, Ready, Does, LineReady};
 
 use crate::calls::{had, missed, open_node, punt_all};
 use crate::objects::{Ask, Objects};
@@ -71,7 +71,7 @@ pub(crate) fn master<O: Objects>(
 ) -> (Doing, Step)
     requires ready { LineReady O.Objects objects.old routes.now (Drives (item_of bio) (ToMaster (slip_item slip))) lists.old }
     requires alone { IsAlone bio }
-    requires within { IsWithin routes.now.stack (item_of bio).bio }
+    requires within { IsWithinDevice routes.now.stack (item_of bio).bio }
     requires lists { ListsAreWithin routes.now.stack lists.old }
     ensures does { Does O.Objects routes.now task (Drives (item_of bio) (ToMaster (slip_item slip))) lists.old objects.old result lists.new objects.new }
     ensures alone { IsDoingAlone result.0 }
@@ -123,10 +123,10 @@ pub(crate) struct Copying {
 
 /// The next leg is made, or the driver of the mirror returns behind the last of so many.
 pub(crate) fn copy_on(routes: &Routes, run: Copying, legs: u32, lists: &mut TaskLists) -> Doing
-    requires bio { IsWithin routes.now.stack run.bio }
-    requires legs { legs ≡ legs_of (tree_at (setup routes.now) run.bio.dev) }
+    requires bio { IsWithinDevice routes.now.stack run.bio }
+    requires legs { legs ≡ legs_of (tree_at (routing_setup routes.now) run.bio.dev) }
     requires lists { ListsAreWithin routes.now.stack lists.old }
-    ensures line { line_of result lists.new ≡ copies (setup routes.now) lists.old run.bio run.master run.leg }
+    ensures line { submission_of result lists.new ≡ copies (routing_setup routes.now) lists.old run.bio run.master run.leg }
     ensures alone { IsDoingAlone result }
 {
     let Copying { bio, master, leg } = run;
@@ -173,11 +173,11 @@ pub(crate) fn punt_to_copy<O: Objects>(
 // A leg of a bio, in an element at hand (`bio_alloc_clone`, `drivers/md/raid1.c`).
 fn copy_of(routes: &Routes, bio: &Bio, leg: u32, node: u32, mut hand: BioElement) -> BioElement
     requires alone { IsAlone hand }
-    requires within { IsWithin routes.now.stack bio.now }
-    requires leg { leg < legs_of (tree_at (setup routes.now) bio.now.dev) }
-    ensures copy { item_of result ≡ leg_at bio.now (item_of hand) leg node (tree_at (setup routes.now) bio.now.dev) }
+    requires within { IsWithinDevice routes.now.stack bio.now }
+    requires leg { leg < legs_of (tree_at (routing_setup routes.now) bio.now.dev) }
+    ensures copy { item_of result ≡ leg_at bio.now (item_of hand) leg node (tree_at (routing_setup routes.now) bio.now.dev) }
     ensures alone { IsAlone result }
-    ensures within { IsWithin routes.now.stack (item_of result).bio }
+    ensures within { IsWithinDevice routes.now.stack (item_of result).bio }
 {
     let (copy, pad) = routes.leg(bio, leg, node);
     fill_bio(&mut hand, copy, pad);
@@ -195,8 +195,8 @@ pub(crate) fn leg<O: Objects>(
 ) -> (Doing, Step)
     requires ready { Ready O.Objects objects.old (LinkOf run.bio.writer (Leg run.master)) }
     requires alone { IsAlone hand }
-    requires within { IsWithin routes.now.stack run.bio }
-    requires leg { run.leg < legs_of (tree_at (setup routes.now) run.bio.dev) }
+    requires within { IsWithinDevice routes.now.stack run.bio }
+    requires leg { run.leg < legs_of (tree_at (routing_setup routes.now) run.bio.dev) }
     requires lists { ListsAreWithin routes.now.stack lists.old }
     ensures does { Does O.Objects routes.now task (Copies run.bio run.master run.leg (Links (item_of hand))) lists.old objects.old result lists.new objects.new }
     ensures alone { IsDoingAlone result.0 }

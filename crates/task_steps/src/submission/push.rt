@@ -4,7 +4,7 @@ ghost use Rattle.bio_records.specs.Items.{item_of, IsAlone};
 ghost use Rattle.run_machine.specs.Requests.{Push};
 ghost use Rattle.run_machine.specs.Lines.{Drives, ToPush};
 ghost use Rattle.task_steps.specs.Within.{ListsAreWithin};
-ghost use Rattle.task_steps.specs.LineViews.{line_of, IsDoingAlone};
+ghost use Rattle.task_steps.specs.LineViews.{submission_of, IsDoingAlone};
 ghost use Rattle.task_steps.specs.Answers.{Ready, Does};
 
 use crate::objects::Objects;

@@ -8,9 +8,9 @@ ghost use Rattle.run_machine.specs.Kept.{bio_kept};
 ghost use Rattle.run_machine.specs.Lines.{Breaks as Breaks', at_hand};
 ghost use Rattle.task_steps.specs.declared.objects.Unmade.TheVariants as unmade;
 ghost use Rattle.bio_books.specs.Views.{bio_of};
-ghost use Rattle.task_steps.specs.Stage.{Fits, Owes};
+ghost use Rattle.task_steps.specs.Stage.{RequestFits, Owes};
 ghost use Rattle.task_steps.specs.LineViews.{want_of, attempt_of, wanting, doing_of, is_asking, IsWantAlone};
-ghost use Rattle.task_steps.specs.Answers.{Answers, LineDoes, Ready};
+ghost use Rattle.task_steps.specs.Answers.{AnswersSubmission, LineDoes, Ready};
 ghost use Rattle.task_steps.specs.Routed.{Routing};
 
 use crate::calls::attempt;

@@ -13,7 +13,7 @@ use Rattle.run_machine.specs.Maps.{upd}
 use Rattle.run_machine.specs.Scene.{Scene}
 use Rattle.run_machine.specs.Opened.{scene, start, setup as setup_in}
 use Rattle.run_machine.specs.Runs.{State, Steps, IsRun}
-use Rattle.block_core.specs.Rooms.{HasRoom}
+use Rattle.block_core.specs.Rooms.{HasRoomInBooks}
 use Rattle.block_core.specs.Touches.{Touch, Opens, Shuts, Passes, touch_of}
 use Rattle.block_core.specs.Weights.{total}
 use Rattle.block_core.proofs.moves.Devices.{ground}
@@ -28,7 +28,7 @@ use Rattle.block_core.proofs.start.FactsAtStart.{start_opened}
 use Rattle.block_core.proofs.start.PlacesAtStart.{start_roomy}
 use Rattle.block_core.proofs.unrefused.NodeNeeds.{Needs, needs_known}
 use Rattle.block_core.proofs.unrefused.RoomKept.{runs_roomy}
-use Rattle.trace_replay.specs.Names.{Names, no_names, after as names_after, event_placed, placed}
+use Rattle.trace_replay.specs.Names.{Names, no_names, names_after, event_placed, placed}
 use Rattle.trace_replay.specs.Traces.{AreRead, NextPlacesAreVacant}
 use Rattle.trace_replay.proofs.renaming.Books.{elsewhere}
 use Rattle.trace_replay.proofs.renaming.Room.{HasLeft, to_open, opens, opens_of_those, opened_after, finds_next, room_left}
@@ -185,7 +185,7 @@ module _ (scene : Scene) (f : Fair scene) (g : Ground scene.setup) (n : Needs sc
   -- what stays of a run that is read by names
   record IsUnused (names : Names) (s : State) : Type 0 where
     pub whole : Whole scene s
-    pub roomy : HasRoom scene s
+    pub roomy : HasRoomInBooks scene s
     pub left : HasLeft scene names s
     pub none : (w place : ℕ) → names.opened w ≤ place → node_at (s.objects.book w) place ≡ None
 

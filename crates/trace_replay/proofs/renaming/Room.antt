@@ -21,7 +21,7 @@ use Rattle.run_machine.specs.Tasks.{TaskState, Writer, Todo}
 use Rattle.run_machine.specs.Runs.{State, Steps}
 use Rattle.block_core.specs.Touches.{Touch, Opens, Shuts, Passes, touch_of}
 use Rattle.block_core.specs.Weights.{Weight, Lined, line_weight, one, total}
-use Rattle.block_core.specs.Rooms.{need_at, todo_need, legs_need, room, HasRoom}
+use Rattle.block_core.specs.Rooms.{need_at, todo_need, legs_need, room, HasRoomInBooks}
 use Rattle.block_core.proofs.moves.Moves.{Move, Can, after, lost, gained, limit_of, HasLine, taken_of, filled_of, cut_lists, touch_by}
 use Rattle.block_core.proofs.moves.Moves as moves
 use Rattle.block_core.proofs.moves.Sums.{upd-same, upd-other, same_or_not, one-same, one-other}
@@ -36,7 +36,7 @@ use Rattle.block_core.proofs.unrefused.NodeNeeds.{Needs, mirror_need, legs_on}
 use Rattle.block_core.proofs.unrefused.NodesOpened.{landed_room}
 use Rattle.block_core.proofs.moves.StepMoves.{step_is_move}
 use Rattle.block_core.proofs.moves.SumsCompared.{under_in_all}
-use Rattle.trace_replay.specs.Names.{Names, after as names_after}
+use Rattle.trace_replay.specs.Names.{Names, names_after}
 
 -- the nodes that a writer's writes have still to open
 abbrev pub to_open : Setup → ℕ → Weight
@@ -255,7 +255,7 @@ module _ (scene : Scene) (f : Fair scene) (g : Ground scene.setup) (n : Needs sc
       (finds_vacant scene s writer key moved.move moved.can touch, omega (arith, spent, one_more, one-same writer, had))
 
 -- where no node was opened, all that are to be opened have places
-pub room_left : (scene : Scene) (s : State) → Kept scene s → HasRoom scene s → (w : ℕ) → 0 + total scene (to_open scene.setup w) s ≤ scene.setup.places w
+pub room_left : (scene : Scene) (s : State) → Kept scene s → HasRoomInBooks scene s → (w : ℕ) → 0 + total scene (to_open scene.setup w) s ≤ scene.setup.places w
 room_left scene s i roomy w =
     let has = roomy.room w in
     omega (

@@ -12,7 +12,7 @@ use Rattle.run_machine.specs.Opened.{Scenario, scene, start, setup as setup_in}
 use Rattle.run_machine.specs.Runs.{State, Steps, Happens, IsRun}
 use Rattle.block_core.specs.Scenarios.{IsScenario, IsNaming}
 use Rattle.block_core.specs.Touches.{touch_of}
-use Rattle.block_core.specs.Rooms.{HasRoom}
+use Rattle.block_core.specs.Rooms.{HasRoomInBooks}
 use Rattle.block_core.proofs.moves.Devices.{ground}
 use Rattle.block_core.proofs.moves.Marked.{with_mark, mark_here}
 use Rattle.block_core.proofs.sound.Facts.{Fair}
@@ -22,7 +22,7 @@ use Rattle.block_core.proofs.start.FactsAtStart.{Begins, start_opened}
 use Rattle.block_core.proofs.start.PlacesAtStart.{start_roomy}
 use Rattle.block_core.proofs.unrefused.NodeNeeds.{Needs, needs_known}
 use Rattle.block_core.proofs.unrefused.RoomKept.{runs_roomy}
-use Rattle.trace_replay.specs.Names.{Names, no_names, after, event_placed}
+use Rattle.trace_replay.specs.Names.{Names, no_names, names_after, event_placed}
 use Rattle.trace_replay.specs.Traces.{AreRead, IsReadAsRun, RunsAreReadByNames}
 use Rattle.trace_replay.proofs.renaming.Renaming.{Places, task_to, event_to}
 use Rattle.trace_replay.proofs.renaming.Serving.{IsNext}
@@ -34,7 +34,7 @@ module _ (scene : Scene) (naming : (number : ℕ) → (scene.ledger number).no �
   -- what stays while the run is read: the other state is alike
   pub record Beside (names : Names) (one other : State) : Type 0 where
     pub whole : Whole scene one
-    pub roomy : HasRoom scene one
+    pub roomy : HasRoomInBooks scene one
     pub left : HasLeft scene names one
     pub to : Places
     pub alike : StatesAlike scene to names one other
@@ -45,7 +45,7 @@ module _ (scene : Scene) (naming : (number : ℕ) → (scene.ledger number).no �
     pub placed : event_placed names event ≡ Some read
     pub like : State
     pub happens : Happens (plain scene) other read like
-    pub beside : Beside (after names event.what) new like
+    pub beside : Beside (names_after names event.what) new like
 
   module _ (names : Names) (one other new : State) (place : ℕ) (event : Event) (b : Beside names one other) (steps : Steps scene one place event new) where
     taken : (to : Places) → StatesAlike scene to names one other → IsNext to names one.objects event.what → IsReadAt names event new other
@@ -105,7 +105,7 @@ module _ (scene : Scene) (naming : (number : ℕ) → (scene.ledger number).no �
       record { events = []; last = names; read = refl; final = other; run = refl; beside = subst (λ state. Beside names state other) (sym run) b }
   read_from names one other (event ∷ told) new b (next, (place, steps), run) =
       let first = read_at names one other next place event b steps in
-      let rest = read_from (after names event.what) next first.like told new first.beside run in
+      let rest = read_from (names_after names event.what) next first.like told new first.beside run in
       record {
         events = first.read ∷ rest.events;
         last = rest.last;

@@ -35,7 +35,7 @@ use Rattle.run_machine.proofs.OneObject.{one_object_decides}
 use Rattle.block_core.proofs.moves.Sums.{upd-same}
 use Rattle.block_core.proofs.moves.Deltas.{vacant_at}
 use Rattle.plain_core.specs.Ledgers.{ledger_of}
-use Rattle.trace_replay.specs.Names.{Names, after, placed}
+use Rattle.trace_replay.specs.Names.{Names, names_after, placed}
 use Rattle.trace_replay.proofs.renaming.Renaming.{Places, bio_to, item_to, hand_to, vector_to, slip_to, disk_to, opening_to, request_to, writer_in, ended_to, reply_to, what_to}
 use Rattle.trace_replay.proofs.renaming.Books.{BookAlike, left_to, up_to, top_to, opened_to}
 use Rattle.trace_replay.proofs.renaming.Objects.{ObjectsAlike, same_pool, same_tally, same_rescue, same_disk, same_book}
@@ -121,11 +121,11 @@ module _ (ledger : ℕ → LedgerId) (naming : (number : ℕ) → (ledger number
   abbrev Served : Request → Reply → What → Type 0
   Served asked reply event =
       (like : Objects) × (fresh : ℕ) × Serves ledger_of other (request_to to gone asked) (reply_to to (writer_in asked) fresh reply) like
-      × ObjectsAlike count to (after names event) now like × IsPlaced to names event
+      × ObjectsAlike count to (names_after names event) now like × IsPlaced to names event
 
   -- an event that names no node leaves the names
   abbrev Passes : What → Type 0
-  Passes event = (after names event ≡ names) × IsPlaced to names event
+  Passes event = (names_after names event ≡ names) × IsPlaced to names event
 
   passes : (what event : What) → Passes what → Some what ≡ Some event → Passes event
   passes what event stays is = subst Passes (ap (λ o. unwrap_or o event) is) stays
@@ -155,7 +155,7 @@ module _ (ledger : ℕ → LedgerId) (naming : (number : ℕ) → (ledger number
 
   -- a pool, or the tally, does the same in both
   by_pool : (asked : Request) (reply : Reply) (number : ℕ) (event : What) → object_of asked ≡ OfPool number → Serves ledger one asked reply now → Passes event
-      → (like : Objects) × Serves ledger other asked reply like × ObjectsAlike count to (after names event) now like × IsPlaced to names event
+      → (like : Objects) × Serves ledger other asked reply like × ObjectsAlike count to (names_after names event) now like × IsPlaced to names event
   by_pool asked reply number event at serves stays =
       let like = with_object other now (OfPool number) in
       let changes = one_object_changes ledger one now asked reply serves ∙ ap (with_object one now) at in
@@ -167,7 +167,7 @@ module _ (ledger : ℕ → LedgerId) (naming : (number : ℕ) → (ledger number
       )
 
   by_tally : (asked : Request) (reply : Reply) (event : What) → object_of asked ≡ OfTally → Serves ledger one asked reply now → Passes event
-      → (like : Objects) × Serves ledger other asked reply like × ObjectsAlike count to (after names event) now like × IsPlaced to names event
+      → (like : Objects) × Serves ledger other asked reply like × ObjectsAlike count to (names_after names event) now like × IsPlaced to names event
   by_tally asked reply event at serves stays =
       let like = with_object other now OfTally in
       let changes = one_object_changes ledger one now asked reply serves ∙ ap (with_object one now) at in
@@ -267,7 +267,7 @@ module _ (ledger : ℕ → LedgerId) (naming : (number : ℕ) → (ledger number
       → now ≡ record one { book = upd one.book writer (now.book writer) }
       → (like : BookState) × (fresh : ℕ) × Drops (other.book writer) (to writer key) status (option_map (item_to to) part) (ended_to (to writer) fresh ended) like
       × BookAlike (to writer) named (names.opened writer) (now.book writer) like
-      → after names event ≡ record names { place = upd names.place writer named } → IsPlaced to names event
+      → names_after names event ≡ record names { place = upd names.place writer named } → IsPlaced to names event
       → Served (Drop writer key status part) (DroppedTo ended) event
   dropped writer key status part ended event named changed (book, fresh, drops, books) stays is_placed =
       let like = record other { book = upd other.book writer book } in
@@ -297,24 +297,24 @@ module _ (ledger : ℕ → LedgerId) (naming : (number : ℕ) → (ledger number
   drops writer key status part end.Left event serves told =
       dropped writer key status part end.Left event (names.place writer) serves.1
       (left_to to writer (names.place writer) (names.opened writer) (one.book writer) (other.book writer) (alike.books writer) key (node_at (one.book writer) key) refl status part (now.book writer) serves.0)
-      (ap (λ o. after names (unwrap_or o event)) (sym told) ∙ ap (λ f. record names { place = f }) (sym (upd_own names.place writer)))
+      (ap (λ o. names_after names (unwrap_or o event)) (sym told) ∙ ap (λ f. record names { place = f }) (sym (upd_own names.place writer)))
       (let open_node = left_open (one.book writer) key (node_at (one.book writer) key) refl status part (now.book writer) serves.0 in
       named_open writer key status told_end.Left event open_node.0 open_node.1 told)
   drops writer key status part (end.Up closed) event serves told =
       dropped writer key status part (end.Up closed) event (upd (names.place writer) key None) serves.1
       (up_to to writer (names.place writer) (names.opened writer) (one.book writer) (other.book writer) (alike.books writer) key (node_at (one.book writer) key) refl status part closed (now.book writer) serves.0)
-      (ap (λ o. after names (unwrap_or o event)) (sym told))
+      (ap (λ o. names_after names (unwrap_or o event)) (sym told))
       (let open_node = up_open (one.book writer) key (node_at (one.book writer) key) refl status part closed (now.book writer) serves.0 in
       named_open writer key status told_end.Up event open_node.0 open_node.1 told)
   drops writer key status part (end.Top closed) event serves told =
       dropped writer key status part (end.Top closed) event (upd (names.place writer) key None) serves.1
       (top_to to writer (names.place writer) (names.opened writer) (one.book writer) (other.book writer) (alike.books writer) key (node_at (one.book writer) key) refl status part closed (now.book writer) serves.0)
-      (ap (λ o. after names (unwrap_or o event)) (sym told))
+      (ap (λ o. names_after names (unwrap_or o event)) (sym told))
       (let open_node = top_open (one.book writer) key (node_at (one.book writer) key) refl status part closed (now.book writer) serves.0 in
       named_open writer key status told_end.Top event open_node.0 open_node.1 told)
   drops writer key status part (end.Stray back) event serves told = absurd cc
 
-  plain : (asked : Request) (reply : Reply) (event : What) → ((like : Objects) × Serves ledger other asked reply like × ObjectsAlike count to (after names event) now like × IsPlaced to names event)
+  plain : (asked : Request) (reply : Reply) (event : What) → ((like : Objects) × Serves ledger other asked reply like × ObjectsAlike count to (names_after names event) now like × IsPlaced to names event)
       → ((o : Objects) → Serves ledger other asked reply o → Serves ledger_of other (request_to to gone asked) (reply_to to (writer_in asked) 0 reply) o) → Served asked reply event
   plain asked reply event (like, serves, stay, is_placed) alike_too = (like, 0, alike_too like serves, stay, is_placed)
 

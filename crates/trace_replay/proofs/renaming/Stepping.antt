@@ -21,7 +21,7 @@ use Rattle.run_machine.specs.Runs.{State, IsLet, Steps}
 use Rattle.block_core.proofs.moves.Sums.{upd-same, upd-other, same_or_not}
 use Rattle.block_core.proofs.sound.Facts.{DoingFits, TaskFits}
 use Rattle.plain_core.specs.Ledgers.{ledger_of}
-use Rattle.trace_replay.specs.Names.{Names, after}
+use Rattle.trace_replay.specs.Names.{Names, names_after}
 use Rattle.trace_replay.proofs.renaming.Renaming.{Places, task_to, request_to, writer_in, reply_to, what_to, event_to}
 use Rattle.trace_replay.proofs.renaming.Requests.{asks, looks}
 use Rattle.trace_replay.proofs.renaming.Replies.{HasLeg, TaskHasLeg, goes}
@@ -153,7 +153,7 @@ plain scene = record scene { ledger = ledger_of }
 pub record TakenToo (scene : Scene) (to : Places) (names : Names) (other : State) (place : ℕ) (event : Event) (new : State) : Type 0 where
   pub like : State
   pub steps : Steps (plain scene) other place (event_to to event) like
-  pub alike : StatesAlike scene to (after names event.what) new like
+  pub alike : StatesAlike scene to (names_after names event.what) new like
   pub placed : IsPlaced to names event.what
 
 pub step_to : (scene : Scene) (to : Places) (names : Names) (one other new : State) (place : ℕ) (event : Event) → ((number : ℕ) → (scene.ledger number).no ≡ number) → TaskFits scene (one.task place) → StatesAlike scene to names one other

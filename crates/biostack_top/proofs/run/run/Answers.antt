@@ -2,7 +2,7 @@
 use Rattle.std.proofs.Common.{◌++◌, subst}
 use Rattle.work_text.specs.Whole.{text_refusal}
 use Rattle.run_machine.specs.Opened.{Scenario}
-use Rattle.report_text.specs.CheckText.{most_steps}
+use Rattle.report_text.specs.CheckText.{steps_bound}
 use Rattle.report_text.specs.Report.{report}
 use Rattle.report_text.specs.Views.{told_of}
 use Rattle.biostack_top.specs.Running.{ByNumber, HasRun}
@@ -34,7 +34,7 @@ returns g c =
     let ended = c.run_opened-ended.result.0 in
     let has = subst (λ (s : Scenario). HasRun s maker by.0 ended) c.in-Ok.ensures.of by.1 in
     let lines = traced c.args.trace scene.accepted.stack by.0 in
-    let left = report scene.accepted.stack (told_of ended (most_steps scene.work.bound)) in
+    let left = report scene.accepted.stack (told_of ended (steps_bound scene.work.bound)) in
     ends_written c.report_behind.result (text_refusal scene.text.now) (TellsRun maker c.args.trace scene.text.now) (lines ++ left) (all_well ended.statuses.items)
     (stream g.K.Sink.held g.K.Sink.faults c.args.out.now c.report_behind.new.out) c.requires.fine
     (tells_run scene.text.now scene.accepted scene.work c.requires maker by.0 ended has c.args.trace (λ is. has.made.1))

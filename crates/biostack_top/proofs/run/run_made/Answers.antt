@@ -2,7 +2,7 @@
 use Rattle.std.proofs.Common.{◌^◌, ◌<◌, List, length, true, sym, subst, ap, ◌∙◌, arith}
 use Rattle.layout_model.specs.declared.write.Write.{Write}
 use Rattle.run_machine.specs.Opened.{Scenario}
-use Rattle.report_text.specs.CheckText.{most_steps}
+use Rattle.report_text.specs.CheckText.{steps_bound}
 use Rattle.report_text.specs.Report.{gen_text}
 use Rattle.report_text.specs.Views.{told_of}
 use Rattle.biostack_top.specs.Running.{ByNumber, HasRun, sectors}
@@ -36,7 +36,7 @@ returns-in-Ok-write_gen g c =
       written.cause.quiet,
       c.requires.fine,
       (
-        gen_text c.args.number c.len.result c.sectors.result scene.accepted.stack (told_of ended (most_steps scene.work.bound)),
+        gen_text c.args.number c.len.result c.sectors.result scene.accepted.stack (told_of ended (steps_bound scene.work.bound)),
         tells_made scene.text.now scene.accepted scene.work c.requires c.args.number by.0 ended has c.len.result c.sectors.result
             (omega (arith, c.len.ensures, c.deref.ensures.len, ap length c.deref.ensures.value)) (c.sectors.ensures ∙ ap sectors c.deref.ensures.value),
         written.whole,
@@ -54,7 +54,7 @@ returns g c =
       written.stops,
       c.requires.fine,
       (
-        gen_text c.args.number c.len.result c.sectors.result scene.accepted.stack (told_of ended (most_steps scene.work.bound)),
+        gen_text c.args.number c.len.result c.sectors.result scene.accepted.stack (told_of ended (steps_bound scene.work.bound)),
         true,
         tells_made scene.text.now scene.accepted scene.work c.requires c.args.number by.0 ended has c.len.result c.sectors.result
             (omega (arith, c.len.ensures, c.deref.ensures.len, ap length c.deref.ensures.value)) (c.sectors.ensures ∙ ap sectors c.deref.ensures.value),

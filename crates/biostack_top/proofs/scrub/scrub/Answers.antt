@@ -6,10 +6,10 @@ use Rattle.model_disks.specs.Disks.{DiskState}
 use Rattle.run_machine.specs.Opened.{Scenario}
 use Rattle.mirror_scrub.specs.Seen.{AreDisksOf, held}
 use Rattle.mirror_scrub.specs.Text.{all_alike, scrub_text}
-use Rattle.report_text.specs.CheckText.{most_steps}
+use Rattle.report_text.specs.CheckText.{steps_bound}
 use Rattle.report_text.specs.Report.{steps_line}
 use Rattle.biostack_words.specs.declared.order.Order.TheVariants.{Scrub}
-use Rattle.biostack_top.specs.Ending.{Tells}
+use Rattle.biostack_top.specs.Ending.{IsOutputOf}
 use Rattle.biostack_top.specs.Running.{ByNumber, HasRun}
 use Rattle.biostack_top.proofs.RunningLemmas.{few_steps}
 use Rattle.biostack_top.proofs.ScrubLemmas.{are_disks, tells_scrub}
@@ -44,7 +44,7 @@ returns-in-Err g c =
     let ended = c.run_quiet-ended.result in
     let has = subst (λ (s : Scenario). HasRun s (ByNumber c.args.number) by.0 ended) c.in-Ok.ensures.of by.1 in
     let lines = λ (disks : List DiskState). scrub_text scene.accepted.stack (held disks) in
-    let steps = steps_line ended.steps (most_steps scene.work.bound) in
+    let steps = steps_line ended.steps (steps_bound scene.work.bound) in
     let all = writes_then (lines c.deref.result.now) steps c.scrub-told.result c.steps_behind.result c.scrub-told.ensures c.steps_behind.ensures.ok c.steps_behind.ensures.err in
     let said = written_front c.in-Err.is all in (
       said.0,
@@ -66,7 +66,7 @@ returns-then-all_alike g c =
     let ended = c.run_quiet-ended.result in
     let has = subst (λ (s : Scenario). HasRun s (ByNumber c.args.number) by.0 ended) c.in-Ok.ensures.of by.1 in
     let lines = λ (disks : List DiskState). scrub_text scene.accepted.stack (held disks) in
-    let steps = steps_line ended.steps (most_steps scene.work.bound) in
+    let steps = steps_line ended.steps (steps_bound scene.work.bound) in
     let all = writes_then (lines c.deref.result.now) steps c.scrub-told.result c.steps_behind.result c.scrub-told.ensures c.steps_behind.ensures.ok c.steps_behind.ensures.err in
     let said = written_whole c.in-Ok-steps_behind.is all in
     let tells = tells_scrub scene.text.now scene.accepted scene.work c.requires c.args.number by.0 ended has in
@@ -75,7 +75,7 @@ returns-then-all_alike g c =
       c.requires.fine,
       (
         lines ended.disks.items ++ steps,
-        subst (Tells (Scrub c.args.number) scene.text.now (lines ended.disks.items ++ steps)) well tells,
+        subst (IsOutputOf (Scrub c.args.number) scene.text.now (lines ended.disks.items ++ steps)) well tells,
         subst (λ (disks : List DiskState). Appends (g.K.Sink.held c.args.out.now) (g.K.Sink.held c.steps_behind.new.out) (lines disks ++ steps))
             c.deref.ensures.value said.1,
       ),
@@ -88,7 +88,7 @@ returns g c =
     let ended = c.run_quiet-ended.result in
     let has = subst (λ (s : Scenario). HasRun s (ByNumber c.args.number) by.0 ended) c.in-Ok.ensures.of by.1 in
     let lines = λ (disks : List DiskState). scrub_text scene.accepted.stack (held disks) in
-    let steps = steps_line ended.steps (most_steps scene.work.bound) in
+    let steps = steps_line ended.steps (steps_bound scene.work.bound) in
     let all = writes_then (lines c.deref.result.now) steps c.scrub-told.result c.steps_behind.result c.scrub-told.ensures c.steps_behind.ensures.ok c.steps_behind.ensures.err in
     let said = written_whole c.in-Ok-steps_behind.is all in
     let tells = tells_scrub scene.text.now scene.accepted scene.work c.requires c.args.number by.0 ended has in
@@ -97,7 +97,7 @@ returns g c =
       c.requires.fine,
       (
         lines ended.disks.items ++ steps,
-        subst (Tells (Scrub c.args.number) scene.text.now (lines ended.disks.items ++ steps)) well tells,
+        subst (IsOutputOf (Scrub c.args.number) scene.text.now (lines ended.disks.items ++ steps)) well tells,
         subst (λ (disks : List DiskState). Appends (g.K.Sink.held c.args.out.now) (g.K.Sink.held c.steps_behind.new.out) (lines disks ++ steps))
             c.deref.ensures.value said.1,
       ),

@@ -4,7 +4,7 @@ use Rattle.std.proofs.KnownBytes.{Keeps-refl}
 use Rattle.run_machine.specs.Opened.{Scenario}
 use Rattle.task_core.specs.declared.opening.Opened.{Opened}
 use Rattle.task_core.specs.opened.OfOne.{scenario_in}
-use Rattle.report_text.specs.CheckText.{most_steps}
+use Rattle.report_text.specs.CheckText.{steps_bound}
 use Rattle.report_text.specs.Report.{report}
 use Rattle.report_text.specs.Views.{told_of}
 use Rattle.bio_workers.specs.Gates.{Showing}
@@ -54,7 +54,7 @@ returns g c =
     (subst (λ (o : Opened). HasRun (scenario_in o) maker events outcome.ended) c.in-Ok-share.ensures.told by.3.1) in
     let kept = subst (λ (b : Bool). IsTraceOf b events outcome.events) c.in-Ok-share.ensures.trace by.3.2 in
     let lines = traced trace scene.accepted.stack events in
-    let left = report scene.accepted.stack (told_of outcome.ended (most_steps scene.work.bound)) in
+    let left = report scene.accepted.stack (told_of outcome.ended (steps_bound scene.work.bound)) in
     let well = all_well outcome.ended.statuses.items in
     let told = tells_run text scene.accepted scene.work c.requires.said maker events outcome.ended has trace (c.write_trace-traced.ensures.fits trace events kept) in
     ends_shared c.report_behind.result trace (g.G.Gate.shown c.run_shown.new.gate) text (lines ++ left) well

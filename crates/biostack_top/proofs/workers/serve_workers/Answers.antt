@@ -2,13 +2,13 @@
 use Rattle.std.proofs.Common.{ℕ, List, refl, subst}
 use Rattle.std.proofs.KnownBytes.{Keeps-refl}
 use Rattle.biostack_top.specs.Ending.{SharedEndsBy}
-use Rattle.biostack_top.specs.Streams.{Call, stream}
+use Rattle.biostack_top.specs.Streams.{CallStreams, stream}
 use Rattle.biostack_top.proofs.EndingLemmas.{over_shared_text, without_text}
 use Rattle.biostack_top.proofs.workers.serve_workers.Goals as goal
 
 pub returns-in-Ok : goal.returns-in-Ok
 returns-in-Ok g c =
-    let call : Call g.row.S.Denot g.row.K.Denot = record {
+    let call : CallStreams g.row.S.Denot g.row.K.Denot = record {
       source = stream g.S.Source.left g.S.Source.faults c.args.source.now c.read.new.source;
       out = stream g.K.Sink.held g.K.Sink.faults c.args.out.now c.serve_text.new.out;
     } in
@@ -18,7 +18,7 @@ returns-in-Ok g c =
 
 pub returns-in-Err : goal.returns-in-Err
 returns-in-Err g c =
-    let call : Call g.row.S.Denot g.row.K.Denot = record {
+    let call : CallStreams g.row.S.Denot g.row.K.Denot = record {
       source = stream g.S.Source.left g.S.Source.faults c.args.source.now c.read.new.source;
       out = stream g.K.Sink.held g.K.Sink.faults c.args.out.now c.args.out.now;
     } in

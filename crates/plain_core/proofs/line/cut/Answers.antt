@@ -2,7 +2,7 @@ use Rattle.std.proofs.Common.{ap, ◌∙◌}
 use Rattle.bio_records.specs.declared.bio.Bio.{Bio}
 use Rattle.bio_records.specs.declared.bio.Pad.{Pad}
 use Rattle.bio_records.specs.Items.{Item}
-use Rattle.task_steps.specs.Within.{IsWithin}
+use Rattle.task_steps.specs.Within.{IsWithinDevice}
 use Rattle.plain_core.specs.Lists.{lists_of}
 use Rattle.plain_core.proofs.Places.{both_within, same_place}
 use Rattle.plain_core.proofs.line.cut.Goals as goal
@@ -16,9 +16,9 @@ returns-clause-room c = c.submit-2.ensures.room 0 (c.submit.ensures.room 1 c.req
 pub returns-clause-within : goal.returns-clause-within
 returns-clause-within c =
     let stack = c.args.routes.now.stack in
-    let front : IsWithin stack c.with.result.bio =
+    let front : IsWithinDevice stack c.with.result.bio =
     same_place stack _ c.with.result.bio c.cut-first.ensures.within (ap (λ (i : Item Pad). i.bio.dev) c.with.ensures) (ap (λ (i : Item Pad). i.bio.range) c.with.ensures) in
-    let rest : IsWithin stack c.with-2.result.bio =
+    let rest : IsWithinDevice stack c.with-2.result.bio =
     same_place stack _ c.with-2.result.bio c.cut-first.ensures.rest
     (ap (λ (i : Item Pad). i.bio.dev) c.with-2.ensures ∙ ap (λ (b : Bio). b.dev) c.advance.ensures)
     (ap (λ (i : Item Pad). i.bio.range) c.with-2.ensures ∙ ap (λ (b : Bio). b.range) c.advance.ensures) in

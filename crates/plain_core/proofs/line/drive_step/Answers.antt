@@ -2,7 +2,7 @@ use Rattle.std.proofs.Common.{ap, ◌∙◌, subst, Ok}
 use Rattle.bio_records.specs.declared.bio.Bio.{Bio}
 use Rattle.run_machine.specs.Lines.{legs_of}
 use Rattle.stack_base.specs.Tree.{tree}
-use Rattle.plain_core.specs.Views.{ask_of}
+use Rattle.plain_core.specs.Views.{ask_of_plain}
 use Rattle.plain_core.specs.Lists.{lists_of}
 use Rattle.plain_core.specs.Steps.{drives_for, TakesSlip}
 use Rattle.plain_core.proofs.Steps.{drive_pushed, drive_not_pushed, drive_missed, drive_recorded, drive_mastered, drive_not_mastered}
@@ -11,7 +11,7 @@ use Rattle.plain_core.proofs.line.drive_step.Goals as goal
 pub returns-in-Ok-clause-steps : goal.returns-in-Ok-clause-steps
 returns-in-Ok-clause-steps c =
     drive_pushed c.args.routes.now c.args.objects.now c.push.new.self c.args.part.now c.args.ask.now (lists_of c.args.lists.now) (lists_of c.push.new.lists) c.args.what.now
-    (drives_for c.args.part.now (ask_of c.args.ask.now)) c.bio-bio.result.dev
+    (drives_for c.args.part.now (ask_of_plain c.args.ask.now)) c.bio-bio.result.dev
     c.in-ToPush.is (ap (λ (b : Bio). b.dev) c.bio-bio.ensures) c.push.ensures.same c.in-Ok.ensures.pushes
 
 pub returns-in-Err-clause-steps : goal.returns-in-Err-clause-steps
@@ -34,7 +34,7 @@ returns-in-Ok-Some-clause-steps c =
 pub returns-in-Ok-open_master-clause-steps : goal.returns-in-Ok-open_master-clause-steps
 returns-in-Ok-open_master-clause-steps c =
     drive_mastered c.args.routes.now c.args.objects.now c.open_master.new.self c.args.part.now c.in-ToMaster.slip c.args.ask.now (lists_of c.args.lists.now) (lists_of c.open_master.new.lists) c.args.what.now
-    (drives_for c.args.part.now (ask_of c.args.ask.now)) c.bio-bio.result c.legs.result c.in-Ok-open_master.node
+    (drives_for c.args.part.now (ask_of_plain c.args.ask.now)) c.bio-bio.result c.legs.result c.in-Ok-open_master.node
     c.in-ToMaster.is c.bio-bio.ensures (c.legs.ensures ∙ ap (λ (b : Bio). legs_of (tree c.args.routes.now.stack b.dev.0)) c.bio-bio.ensures) c.open_master.ensures.same c.in-Ok-open_master.ensures.joins
 
 pub returns-in-Err-open_master-clause-steps : goal.returns-in-Err-open_master-clause-steps

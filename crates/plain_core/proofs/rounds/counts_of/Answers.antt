@@ -1,7 +1,7 @@
 use Rattle.std.proofs.Common.{◌+◌, ◌==◌, ap, ◌∙◌, take, get_or, arith}
 use Rattle.std.proofs.lemmas.List.{get_or_read, length-take}
 use Rattle.std.proofs.lemmas.List.FromFn.{fill_by_all}
-use Rattle.plain_core.specs.Opening.{count_in, last_of}
+use Rattle.plain_core.specs.Opening.{writes_in_round, last_round_of}
 use Rattle.plain_core.proofs.Counted.{all_taken, filter_le, round_le}
 use Rattle.plain_core.proofs.rounds.counts_of.Goals as goal
 
@@ -23,5 +23,5 @@ overflow_add-index_mut c =
 pub returns : goal.returns
 returns c =
     let all = all_taken c.args.rounds.now c.counting.round-index c.counting-test.false in
-    fill_by_all (count_in c.args.rounds.now) c.counting.counts.items (1 + last_of c.args.rounds.now) 0 c.counting.invariant.long
-    (λ k lt. c.counting.invariant.counted k lt ∙ ap (λ rs. count_in rs k) all)
+    fill_by_all (writes_in_round c.args.rounds.now) c.counting.counts.items (1 + last_round_of c.args.rounds.now) 0 c.counting.invariant.long
+    (λ k lt. c.counting.invariant.counted k lt ∙ ap (λ rs. writes_in_round rs k) all)

@@ -1,5 +1,5 @@
 use Rattle.std.proofs.Common.{◌≡◌, ◌+◌, ◌-◌, ◌∙◌, ap, get_or, arith}
-use Rattle.plain_core.specs.Opening.{count_from, duties_up_to}
+use Rattle.plain_core.specs.Opening.{writes_from_round, duties_up_to}
 use Rattle.plain_core.proofs.Counted.{count_at, count_rounds, duties_step, from_none, from_split}
 use Rattle.plain_core.proofs.rounds.duties_of.Goals as goal
 
@@ -41,7 +41,7 @@ keeping-preserved c =
     let here = count_at rounds c.args.counts.now c.keeping.before c.requires.counts (omega (arith, long, test)) in
     let split = from_split rounds c.keeping.before in
     let later = c.keeping.invariant.later in
-    let left : c.keeping.later - get_or c.args.counts.now c.keeping.before 0 ≡ count_from rounds (c.keeping.before + 1) = omega (arith, here, split, later) in
+    let left : c.keeping.later - get_or c.args.counts.now c.keeping.before 0 ≡ writes_from_round rounds (c.keeping.before + 1) = omega (arith, here, split, later) in
     record {
       later = left;
       kept = duties_step c.args.work.now c.keeping.before c.keeping.duties.items c.push_changes.new.duties.items c.push.new.self.items c.deref.result.now _

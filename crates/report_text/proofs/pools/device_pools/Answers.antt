@@ -1,7 +1,7 @@
 -- The lines of one more device's pools are said, and the pools of the devices behind it are left.
 use Rattle.std.proofs.Common.{◌<◌, ◌-◌, ◌+◌, length, take, drop, sym, ap, ◌∙◌, subst, arith}
 use Rattle.std.specs.Prelude.{All}
-use Rattle.report_text.specs.Pools.{HasPool, falling_from}
+use Rattle.report_text.specs.Pools.{HasDeviceOfPool, falling_from}
 use Rattle.report_text.proofs.PoolLemmas.{ids, first_behind, behind_place, front_ids, own_ids, device_has, pools_on, pools_end}
 use Rattle.report_text.proofs.pools.device_pools.Goals as goal
 
@@ -27,7 +27,7 @@ lines_of-requires g c =
     let own_is = c.split_at.ensures.back ∙ ap (λ n. drop (length rest - n) rest) c.pool_count.ensures in
     let own = ap ids own_is ∙ own_ids number device more rest are in
     let within : number < length devices = omega (arith, c.devices-test.true, ap length c.deref-device-items.ensures.value) in
-    subst (All (HasPool c.args.stack.now)) (sym own) (device_has c.args.stack.now number device.kind within)
+    subst (All (HasDeviceOfPool c.args.stack.now)) (sym own) (device_has c.args.stack.now number device.kind within)
 
 pub devices-preserved : goal.devices-preserved
 devices-preserved g c =

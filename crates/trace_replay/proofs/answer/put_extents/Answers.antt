@@ -1,6 +1,6 @@
 -- The line of one more pool is said behind those of the pools before it.
 use Rattle.outside_io.proofs.SaysLemmas.{says_more, says_silence}
-use Rattle.report_text.specs.Pools.{HasPool}
+use Rattle.report_text.specs.Pools.{HasDeviceOfPool}
 use Rattle.report_text.proofs.PoolLemmas.{each_of}
 use Rattle.trace_replay.specs.Answer.{extent_line}
 use Rattle.trace_replay.specs.declared.extents.Extent.{Extent}
@@ -8,7 +8,7 @@ use Rattle.trace_replay.proofs.answer.put_extents.Goals as goal
 
 pub put_extent-requires : goal.put_extent-requires
 put_extent-requires g c =
-    each_of (HasPool c.args.stack.now) (λ (e : Extent). e.pool) c.args.extents.now c.pools.extent-index _ c.requires c.pools-test.true
+    each_of (HasDeviceOfPool c.args.stack.now) (λ (e : Extent). e.pool) c.args.extents.now c.pools.extent-index _ c.requires c.pools-test.true
 
 pub pools-init : goal.pools-init
 pools-init g c = says_silence g.K.Sink.held g.K.Sink.faults c.args.out.now c.args.pen.now

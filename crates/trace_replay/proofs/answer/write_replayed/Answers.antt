@@ -4,7 +4,7 @@ use Rattle.std.specs.Prelude.{All}
 use Rattle.std.specs.List.{flat_map}
 use Rattle.outside_io.specs.Saying.{Says}
 use Rattle.outside_io.proofs.SaysLemmas.{says_then, finished}
-use Rattle.report_text.specs.Pools.{HasPool}
+use Rattle.report_text.specs.Pools.{HasDeviceOfPool}
 use Rattle.trace_replay.specs.Answer.{extent_line}
 use Rattle.trace_replay.specs.declared.extents.Extent.{Extent}
 use Rattle.trace_replay.proofs.AnswerLemmas.{told_have}
@@ -13,8 +13,8 @@ use Rattle.trace_replay.proofs.answer.write_replayed.Goals as goal
 pub put_extents-requires : goal.put_extents-requires
 put_extents-requires g c =
     let stack = c.args.stack.now in
-    subst (λ (es : List Extent). All (HasPool stack) (map (λ (e : Extent). e.pool) es)) (sym c.deref.ensures.value)
-    (subst (All (HasPool stack)) (sym c.requires) (told_have stack))
+    subst (λ (es : List Extent). All (HasDeviceOfPool stack) (map (λ (e : Extent). e.pool) es)) (sym c.deref.ensures.value)
+    (subst (All (HasDeviceOfPool stack)) (sym c.requires) (told_have stack))
 
 pub returns : goal.returns
 returns g c =

@@ -1,5 +1,5 @@
 use Rattle.std.proofs.Common.{◌≡◌, ◌-◌, ◌≤◌, length}
-use Rattle.trace_replay.specs.Parts.{IsBehind}
+use Rattle.trace_replay.specs.Parts.{HasNoEventBefore}
 use Rattle.trace_replay.proofs.cut.first_told.Given as goal
 
 abbrev pub invariant-loop-line : goal.invariant-loop-line
@@ -7,7 +7,7 @@ invariant-loop-line l = record {
   text : l.lines.text ≡ l.text;
   place : l.lines.place ≡ l.place;
   within : l.place ≤ length l.text;
-  behind : IsBehind l.text l.place l.number;
+  behind : HasNoEventBefore l.text l.place l.number;
 }
 
 abbrev pub decreases-loop-line : goal.decreases-loop-line

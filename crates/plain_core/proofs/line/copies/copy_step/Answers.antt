@@ -1,4 +1,4 @@
-use Rattle.plain_core.specs.Views.{want_of}
+use Rattle.plain_core.specs.Views.{want_of_plain}
 use Rattle.plain_core.specs.Lists.{lists_of}
 use Rattle.plain_core.specs.Steps.{copies_for}
 use Rattle.plain_core.proofs.Steps.{copy_punted, copy_not_punted, copy_linked, copy_not_linked}
@@ -7,7 +7,7 @@ use Rattle.plain_core.proofs.line.copies.copy_step.Goals as goal
 pub returns-in-Ok-punt-clause-steps : goal.returns-in-Ok-punt-clause-steps
 returns-in-Ok-punt-clause-steps c =
     copy_punted c.args.routes.now c.args.objects.now c.punt.new.self c.args.copying.now c.args.want.now (lists_of c.args.lists.now) (lists_of c.punt.new.lists) c.args.what.now
-    c.stay-in-Ok-punt.result (want_of c.stay-in-Ok-punt.new.want)
+    c.stay-in-Ok-punt.result (want_of_plain c.stay-in-Ok-punt.new.want)
     c.in-Punts.is c.in-Ok-punt.ensures c.stay-in-Ok-punt.ensures.stays c.stay-in-Ok-punt.ensures.want
 
 pub returns-in-Err-punt-clause-steps : goal.returns-in-Err-punt-clause-steps
@@ -23,5 +23,5 @@ returns-in-Err-open_leg-clause-steps c =
 pub returns-in-Ok-open_leg-clause-steps : goal.returns-in-Ok-open_leg-clause-steps
 returns-in-Ok-open_leg-clause-steps c =
     copy_linked c.args.routes.now c.args.objects.now c.open_leg.new.self c.args.copying.now c.in-Links.hand c.args.want.now (lists_of c.args.lists.now) (lists_of c.open_leg.new.lists) (lists_of c.copy.new.lists) c.args.what.now
-    c.copy_on.result (copies_for c.copy_on.new.copying (want_of c.copy_on.new.want)) c.in-Ok-open_leg.node
+    c.copy_on.result (copies_for c.copy_on.new.copying (want_of_plain c.copy_on.new.want)) c.in-Ok-open_leg.node
     c.in-Links.is c.open_leg.ensures.same c.copy.ensures.copied c.copy_on.ensures.copies c.in-Ok-open_leg.ensures.joins

@@ -2,8 +2,8 @@ use Rattle.std.proofs.Common.{◌≡◌, ◌∙◌, ap, replicate, [], length, m
 use Rattle.stack_base.specs.declared.ids.Status.TheVariants as status
 use Rattle.task_steps.specs.Routed.{Routing}
 use Rattle.plain_core.specs.Opening.{counts_of, new_books, new_disks, new_pools, tasks_of}
-use Rattle.plain_core.specs.Plain.{Plain}
-use Rattle.plain_core.specs.Views.{task_of}
+use Rattle.plain_core.specs.Plain.{CoreObjects}
+use Rattle.plain_core.specs.Views.{task_of_plain}
 use Rattle.plain_core.proofs.Counted.{count_rounds, last_le}
 use Rattle.plain_core.proofs.Listed.{few_writes}
 use Rattle.plain_core.proofs.Opened.{is_core, opened_so}
@@ -37,8 +37,8 @@ open_objects-requires-clause-rounds c =
 pub invariant_of-result : goal.invariant_of-result
 invariant_of-result c =
     is_core c.args.stack.now c.args.scripts.now c.args.work.now c.in_ok-duties.duties.items c.in_ok-new.field-0.value c.in_ok-objects.objects
-    (map task_of c.in_ok-tasks.tasks.items) c.in_ok-tasks.slots.items c.requires (ap (λ (r : Routing). r.stack) (c.in_ok-new.ensures.ok ∙ c.in_ok-routes.ensures))
-    (ap (λ (o : Plain). o.stack) c.in_ok-objects.ensures) c.in_ok-tasks.ensures.0 c.in_ok-tasks.ensures.1
+    (map task_of_plain c.in_ok-tasks.tasks.items) c.in_ok-tasks.slots.items c.requires (ap (λ (r : Routing). r.stack) (c.in_ok-new.ensures.ok ∙ c.in_ok-routes.ensures))
+    (ap (λ (o : CoreObjects). o.stack) c.in_ok-objects.ensures) c.in_ok-tasks.ensures.0 c.in_ok-tasks.ensures.1
 
 pub returns : goal.returns
 returns c =
@@ -49,7 +49,7 @@ returns c =
     let counts = c.in_ok-counts.ensures ∙ ap counts_of c.deref.ensures.value in
     let kept = ap (λ (r : Routing). r.places) c.in_ok-routes.ensures in
     opened_so stack c.args.scripts.now work c.requires places c.in_ok-places.ensures
-    (record { routing = c.in_ok-new.field-0.value; objects = c.in_ok-objects.objects; tasks = map task_of c.in_ok-tasks.tasks.items })
+    (record { routing = c.in_ok-new.field-0.value; objects = c.in_ok-objects.objects; tasks = map task_of_plain c.in_ok-tasks.tasks.items })
     (c.in_ok-new.ensures.ok ∙ c.in_ok-routes.ensures)
     (c.in_ok-objects.ensures ∙ (λ k. record {
       stack = stack;

@@ -6,7 +6,7 @@ use Rattle.task_core.specs.ObjectsOf.{IsDiskOf}
 use Rattle.object_things.specs.Stamps.{stage_in}
 use Rattle.shared_objects.specs.Guards.{guarded}
 use Rattle.shared_objects.specs.Opening.{guarded_row}
-use Rattle.shared_objects.specs.Sharing.{keyed}
+use Rattle.shared_objects.specs.Sharing.{disks_by_device}
 use Rattle.shared_objects.proofs.Guarding.{next_of, others_of, one_made}
 use Rattle.shared_objects.proofs.opening.guards.guard_disks.Goals as goal
 
@@ -22,7 +22,7 @@ pub guarding-preserved : goal.guarding-preserved
 guarding-preserved c =
     let common = c.args.common.now.value in
     let now : c.push.new.self.items ≡ c.guarding.things.items ++ (c.dev-dev.result, c.in_ok-thing.thing) ∷ [] = search rules in (
-      one_made (λ (entry : DevId × DiskState). (entry.0, guarded common entry.1)) (keyed c.guarding.yielded) (c.in-Some.disk.dev, c.in-Some.disk) c.guarding.things.items c.push.new.self.items
+      one_made (λ (entry : DevId × DiskState). (entry.0, guarded common entry.1)) (disks_by_device c.guarding.yielded) (c.in-Some.disk.dev, c.in-Some.disk) c.guarding.things.items c.push.new.self.items
           (c.dev-dev.result, c.in_ok-thing.thing) c.guarding.invariant.0 now (ap (λ d. (d, c.in_ok-thing.thing)) c.dev-dev.ensures ∙ ap (λ t. (c.in-Some.disk.dev, t)) c.in_ok-thing.ensures)
           ∙ ap (guarded_row common) (sym (map-append (λ (disk : DiskState). (disk.dev, disk)) c.guarding.yielded (c.in-Some.disk ∷ []))),
       others_of (λ disk. IsDiskOf (stage_in common) disk.dev.0 disk) c.in-Some.disk c.next.new.self.rest.items c.in-Some.ensures.steps.0 c.guarding.invariant.1,

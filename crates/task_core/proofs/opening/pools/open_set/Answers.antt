@@ -4,7 +4,7 @@ use Rattle.stack_base.specs.declared.ids.SetId.TheVariants.{Of}
 use Rattle.stack_base.specs.declared.stack.Stack.{Stack}
 use Rattle.run_machine.specs.Opened.{reserve_of}
 use Rattle.task_core.specs.opened.Openings.{IsOpenPool}
-use Rattle.task_steps.specs.Routed.{setup}
+use Rattle.task_steps.specs.Routed.{routing_setup}
 use Rattle.run_machine.specs.Scene.{keeps_data}
 use Rattle.task_core.proofs.opened.NewPools.{set_used, reserve_is}
 use Rattle.task_core.proofs.opening.pools.open_set.Goals as goal
@@ -13,7 +13,7 @@ pub returns-in_ok-seat : goal.returns-in_ok-seat
 returns-in_ok-seat c =
     let routing = c.args.routes.now in
     let dev = c.args.dev in
-    let keeps : keeps_data ((setup routing).tree dev.0) ≡ false = sym c.is_disk.ensures ∙ c.if-not-is_disk.true in
+    let keeps : keeps_data ((routing_setup routing).tree dev.0) ≡ false = sym c.is_disk.ensures ∙ c.if-not-is_disk.true in
     let reserve = reserve_is c.args.stack.now dev c.device.result.now c.device.ensures.found ∙ ap (λ (s : Stack). reserve_of s (Bios dev)) (sym c.requires.same) in
     inl (
       set_used routing dev.0 (subst (λ (s : Stack). dev.0 < length s.devices.items) (sym c.requires.same) c.requires.device) keeps,

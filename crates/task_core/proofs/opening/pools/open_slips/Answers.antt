@@ -3,7 +3,7 @@ use Rattle.stack_base.specs.declared.ids.PoolId.TheVariants.{Records}
 use Rattle.stack_base.specs.declared.stack.Stack.{Stack}
 use Rattle.run_machine.specs.Opened.{reserve_of}
 use Rattle.task_core.specs.opened.Openings.{IsOpenPool}
-use Rattle.task_steps.specs.Routed.{setup}
+use Rattle.task_steps.specs.Routed.{routing_setup}
 use Rattle.run_machine.specs.Scene.{is_mirror}
 use Rattle.task_core.proofs.opened.NewPools.{slips_used}
 use Rattle.task_core.proofs.opening.pools.open_slips.Goals as goal
@@ -12,7 +12,7 @@ pub returns-in_ok-seat : goal.returns-in_ok-seat
 returns-in_ok-seat c =
     let routing = c.args.routes.now in
     let dev = c.args.dev in
-    let mirror : is_mirror ((setup routing).tree dev.0) ≡ true = sym c.is_mirror.ensures ∙ c.if-is_mirror.true in
+    let mirror : is_mirror ((routing_setup routing).tree dev.0) ≡ true = sym c.is_mirror.ensures ∙ c.if-is_mirror.true in
     let reserve = c.records_of.ensures ∙ ap (λ (s : Stack). reserve_of s (Records dev)) (sym c.requires.same) in
     inl (
       slips_used routing dev.0 (subst (λ (s : Stack). dev.0 < length s.devices.items) (sym c.requires.same) c.requires.device) mirror,

@@ -2,7 +2,7 @@ use Rattle.std.proofs.Common.{◌++◌, ◌∷◌, [], ◌∙◌, Bool, ap, cond
 use Rattle.std.proofs.lemmas.List.{map-append}
 use Rattle.task_steps.specs.declared.task.Kind.TheVariants as kind
 use Rattle.run_machine.specs.Lines.{rests}
-use Rattle.task_core.specs.opened.NewTasks.{shown}
+use Rattle.task_core.specs.opened.NewTasks.{shown_tasks}
 use Rattle.run_machine.specs.Opened.{at}
 use Rattle.task_steps.specs.RescuerViews.{RescuerState, rescuer_task}
 use Rattle.task_steps.specs.TaskViews.{task_of}
@@ -14,6 +14,6 @@ returns-in_ok-push c =
     let old = c.args.kinds.now.items in
     let dev = c.args.dev in
     let yes = sym c.rescuer.ensures ∙ c.if-rescuer.true in
-    ap shown c.in_ok-push.ensures.items ∙ map-append task_of old (kind.Rescuer c.new.result ∷ [])
-    ∙ ap (λ (r : RescuerState). shown old ++ rescuer_task r ∷ []) c.new.ensures
-    ∙ ap (λ (b : Bool). shown old ++ map (λ number. Rescuer (at number) rests) (cond b (dev.0 ∷ []) [])) (sym yes)
+    ap shown_tasks c.in_ok-push.ensures.items ∙ map-append task_of old (kind.Rescuer c.new.result ∷ [])
+    ∙ ap (λ (r : RescuerState). shown_tasks old ++ rescuer_task r ∷ []) c.new.ensures
+    ∙ ap (λ (b : Bool). shown_tasks old ++ map (λ number. Rescuer (at number) rests) (cond b (dev.0 ∷ []) [])) (sym yes)

@@ -1,7 +1,7 @@
 use Rattle.std.specs.List.{range_with_len}
-use Rattle.task_core.specs.opened.NewTasks.{completers_of, Adds}
-use Rattle.task_steps.specs.Routed.{setup}
+use Rattle.task_core.specs.opened.NewTasks.{completers_of, AddsTasks}
+use Rattle.task_steps.specs.Routed.{routing_setup}
 use Rattle.task_core.proofs.opening.tasks.open_completers.Given as goal
 
 abbrev pub invariant-opening : goal.invariant-opening
-invariant-opening l = Adds l.initial.kinds.items (completers_of (setup l.routes) (range_with_len 0 l.number)) l.kinds.items
+invariant-opening l = AddsTasks l.initial.kinds.items (completers_of (routing_setup l.routes) (range_with_len 0 l.number)) l.kinds.items

@@ -1,6 +1,6 @@
 use Rattle.std.proofs.Common.{◌<◌, ◌^◌, All, List, ap, subst, sym, ◌∙◌}
 use Rattle.layout_model.specs.Writes.{IsWrite}
-use Rattle.task_core.specs.opened.NewTasks.{nodes_of, writer_with, Adds}
+use Rattle.task_core.specs.opened.NewTasks.{nodes_of, writer_with, AddsTasks}
 use Rattle.run_machine.specs.Tasks.{Todo}
 use Rattle.task_core.proofs.opened.Sharing.{few_writes, share_few, share_served, writer_there}
 use Rattle.task_core.proofs.opening.writers.open_writer.Goals as goal
@@ -22,5 +22,5 @@ pub returns-clause-kinds : goal.returns-clause-kinds
 returns-clause-kinds c =
     let rounds = c.args.work.now.rounds.items in
     let writes = c.args.work.now.writes.items in
-    subst (λ tasks. Adds c.args.kinds.now.items tasks c.add_writer.new.kinds.items)
+    subst (λ tasks. AddsTasks c.args.kinds.now.items tasks c.add_writer.new.kinds.items)
     (ap (writer_with c.args.writer) c.in_ok-todos.ensures ∙ writer_there rounds writes c.args.writer) c.in_ok-add_writer.ensures

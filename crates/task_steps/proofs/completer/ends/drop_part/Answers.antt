@@ -6,7 +6,7 @@ use Rattle.bio_books.specs.Views.{ended_of}
 use Rattle.run_machine.specs.declared.event.TaskId.TheVariants.{Completer as Completer'}
 use Rattle.run_machine.specs.Requests.{Request, Drop, DroppedTo}
 use Rattle.run_machine.specs.Tasks.{Carried, Completer, after_drop}
-use Rattle.task_steps.specs.Routed.{setup}
+use Rattle.task_steps.specs.Routed.{routing_setup}
 use Rattle.task_steps.specs.Stage.{Owes}
 use Rattle.task_steps.specs.Turns.{step_of}
 use Rattle.task_steps.proofs.completer.ends.drop_part.Goals as goal
@@ -29,8 +29,8 @@ returns-in-Ok g c =
           goes_on = ap (Completer c.args.disk) (subst (λ body. c.told.result.0 ≡ told body) c.deref.ensures c.told.ensures.carried);
           follows = (
             refl,
-            subst (λ body. c.told.result.1 ≡ step_of (setup stage.routing) (Completer' c.args.disk) (asked body) (DroppedTo (ended_of c.in-Ok.dropped)))
-                c.deref.ensures (c.told.ensures.step (Some (item_of c.args.bio)) (setup stage.routing)),
+            subst (λ body. c.told.result.1 ≡ step_of (routing_setup stage.routing) (Completer' c.args.disk) (asked body) (DroppedTo (ended_of c.in-Ok.dropped)))
+                c.deref.ensures (c.told.ensures.step (Some (item_of c.args.bio)) (routing_setup stage.routing)),
           );
         };
         held = search rules;

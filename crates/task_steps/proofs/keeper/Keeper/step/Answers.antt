@@ -1,7 +1,7 @@
 use Rattle.std.proofs.Common.{◌+◌, ◌∷◌, ◌∙◌, map, drop, sym, subst, rules}
 use Rattle.std.proofs.lemmas.List.Elements.{All-head}
 use Rattle.run_machine.specs.Tasks.{Keeps, Keeper}
-use Rattle.task_steps.specs.Routed.{setup}
+use Rattle.task_steps.specs.Routed.{routing_setup}
 use Rattle.task_steps.specs.Stage.{Stage, Owes}
 use Rattle.task_steps.specs.Turns.{Acts}
 use Rattle.task_steps.specs.Homes.{DutyFits, KeepingFits}
@@ -33,10 +33,10 @@ returns g c =
     c.in-Some-duty_at.ensures in
     record {
       does = record {
-        turns = attends g.O.Objects.serves (Owes stage) (setup stage.routing) c.args.self.now duty rest c.attend-broken.result.0 c.args.objects.now
+        turns = attends g.O.Objects.serves (Owes stage) (routing_setup stage.routing) c.args.self.now duty rest c.attend-broken.result.0 c.args.objects.now
             c.left.new.self c.attend-broken.new.objects c.attend-broken.result.1 c.left.result is c.left.ensures.serves
             (c.if-left-later.false ∙ c.later.ensures)
-            (subst (λ (stage : Stage). Acts g.O.Objects.serves (Owes stage) (setup stage.routing) (Keeper (Keeps (duty_of duty ∷ rest))) c.left.new.self
+            (subst (λ (stage : Stage). Acts g.O.Objects.serves (Owes stage) (routing_setup stage.routing) (Keeper (Keeps (duty_of duty ∷ rest))) c.left.new.self
             (Keeper (keeping_of c.attend-broken.result.0 rest)) c.attend-broken.new.objects c.attend-broken.result.1)
             c.left.ensures.kept.1 (c.attend-broken.ensures.acts rest));
         held = search rules;

@@ -1,5 +1,5 @@
 use Rattle.std.proofs.Common.{◌∙◌, sym, subst}
-use Rattle.task_steps.specs.Routed.{setup}
+use Rattle.task_steps.specs.Routed.{routing_setup}
 use Rattle.task_steps.specs.Stage.{Owes}
 use Rattle.task_steps.specs.Turns.{Turns}
 use Rattle.task_steps.specs.RescuerViews.{RescuerState, rescuer_task}
@@ -11,7 +11,7 @@ pub returns-then-asks : goal.returns-then-asks
 returns-then-asks g c =
     let serves = g.O.Objects.serves in
     let owes = Owes (g.O.Objects.stage c.args.objects.now) in
-    let known = setup c.args.routes.now in
+    let known = routing_setup c.args.routes.now in
     let dev = c.self.inside.dev in
     let next = c.step.new.self in
     record {

@@ -1,7 +1,7 @@
 use Rattle.std.proofs.Common.{length, sym, ap, subst, arith}
 use Rattle.std.specs.Prelude.{List, slice_index_or}
 use Rattle.stack_base.specs.declared.ids.DevId.{DevId}
-use Rattle.task_steps.specs.Routed.{IsFirst}
+use Rattle.task_steps.specs.Routed.{IsFirstCut}
 use Rattle.task_steps.proofs.RouteOf.{map_has, first_none, first_there, first_some}
 use Rattle.task_steps.proofs.routes.Routes.first.Goals as goal
 
@@ -25,7 +25,7 @@ bounds-deref-piece c =
 
 pub returns : goal.returns
 returns c =
-    subst (λ (items : List DevId). IsFirst c.args.self.now.stack c.args.bio.now
+    subst (λ (items : List DevId). IsFirstCut c.args.self.now.stack c.args.bio.now
     (record { sectors = c.in_ok-piece.piece.len; dev = slice_index_or items c.in_ok-piece.piece.member (record { 0 = 0 }); start = c.in_ok-piece.piece.at }))
     (sym c.deref.ensures.0)
     (first_some c.args.self.now.stack c.args.bio.now c.route-route.result.now c.route-route.ensures c.requires c.in_ok-piece.piece c.in_ok-piece.ensures

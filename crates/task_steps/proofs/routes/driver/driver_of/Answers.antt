@@ -7,7 +7,7 @@ use Rattle.stack_base.specs.declared.stack.Device.{Device}
 use Rattle.stack_base.specs.Mapping.{smallest}
 use Rattle.stack_base.proofs.MemberSizes.{members_small}
 use Rattle.mirror_map.specs.Legs.{MirrorState}
-use Rattle.task_steps.specs.Routed.{copies}
+use Rattle.task_steps.specs.Routed.{copies_bios}
 use Rattle.task_steps.proofs.Opening.{stripe_small, limit_sizes, mirror_size}
 use Rattle.task_steps.proofs.routes.driver.driver_of.Goals as goal
 
@@ -69,7 +69,7 @@ pub returns-in-Mirror : goal.returns-in-Mirror
 returns-in-Mirror c device found =
     let same : c.device-device.result.now ≡ device = cc in
     let kind = sym (ap (λ (d : Device). d.kind) same) ∙ c.in-Mirror.is in (
-      ap (λ k. copies (shape_of k)) kind,
+      ap (λ k. copies_bios (shape_of k)) kind,
       ap (λ (m : MirrorState). m.members) c.new-in-Mirror.ensures ∙ c.members_of.ensures ∙ ap (λ (d : Device). d.members.items) same,
       ap (λ (m : MirrorState). m.size) c.new-in-Mirror.ensures ∙ c.size-in-Mirror.ensures
           ∙ mirror_size c.args.stack.now c.requires.stack c.args.dev.0 device found c.in-Mirror.records kind,

@@ -2,9 +2,9 @@ use Rattle.std.proofs.Common.{sym, subst, rules}
 use Rattle.run_machine.specs.declared.event.Breach.TheVariants as breach
 use Rattle.task_steps.specs.declared.step.Step.TheVariants.{Broken}
 use Rattle.run_machine.specs.Lines.{Line}
-use Rattle.task_steps.specs.Routed.{setup}
+use Rattle.task_steps.specs.Routed.{routing_setup}
 use Rattle.task_steps.specs.Stage.{Owes}
-use Rattle.task_steps.specs.Answers.{Answers}
+use Rattle.task_steps.specs.Answers.{AnswersSubmission}
 use Rattle.task_steps.proofs.Attempting.{attempt_spent}
 use Rattle.task_steps.proofs.submission.Line.attempt.Goals as goal
 
@@ -13,12 +13,12 @@ returns-in-Err g c = record {
   does = λ routing.
       let serves = g.O.Objects.serves in
       let owes = Owes (g.O.Objects.stage c.args.objects.now) in
-      let known = setup routing in
+      let known = routing_setup routing in
       let line = c.args.self.now in
       let old = c.args.objects.now in
       let new = c.attempt.new.objects in
       record {
-        answers = subst (λ (next : Line). Answers serves owes known c.args.task line.doing line.lists old next new (Broken breach.Spent)) (sym c.spend.ensures)
+        answers = subst (λ (next : Line). AnswersSubmission serves owes known c.args.task line.doing line.lists old next new (Broken breach.Spent)) (sym c.spend.ensures)
             (attempt_spent serves owes known c.args.task line.doing line.lists c.args.dev c.args.waits old new c.requires.attempts c.in-Err.ensures.step.0);
         held = search rules;
         same = search rules;

@@ -3,7 +3,7 @@ use Rattle.std.specs.Prelude.{All}
 use Rattle.task_steps.specs.declared.writer.begin.Taken.{Taken}
 use Rattle.run_machine.specs.Lines.{Rests}
 use Rattle.run_machine.specs.Tasks.{Todo, TaskState, write_request}
-use Rattle.task_steps.specs.Routed.{setup}
+use Rattle.task_steps.specs.Routed.{routing_setup}
 use Rattle.task_steps.specs.Stage.{Owes}
 use Rattle.task_steps.specs.Homes.{TodoFits}
 use Rattle.task_steps.specs.Turns.{Acts}
@@ -16,7 +16,7 @@ pub returns-clause-acts : goal.returns-clause-acts
 returns-clause-acts g c =
     let serves = g.O.Objects.serves in
     let owes = Owes (g.O.Objects.stage c.args.objects.now) in
-    let known = setup c.args.routes.now in
+    let known = routing_setup c.args.routes.now in
     let w = c.self.inside in
     let todo = c.args.todo.now in
     let later = drop 1 w.todo in
