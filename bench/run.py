@@ -116,7 +116,7 @@ def steps_of(output):
 def main():
     program = sys.argv[1] if len(sys.argv) > 1 else os.path.join(TOP, "crates", "biostack", "out", "biostack")
     if not os.access(program, os.X_OK):
-        sys.exit("no program at " + program + ": run ./biostack once, which builds it")
+        sys.exit("no program at " + program + ": run ./biostack prove, which builds it")
     print(f"{'input':40} {'seconds':>8} {'peak MiB':>9} {'steps/s':>9} {'of half':>8}")
     for name, words, text, *half in CASES:
         runs = [once(program, words, text) for _ in range(ROUNDS)]

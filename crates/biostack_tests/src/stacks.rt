@@ -5,6 +5,7 @@ use crate::texts::{
     COUNTS, FIRST_SECTOR, MIRRORED, MIRRORED_REPORT, ONE_SECTOR, STRIPED, STRIPED_CHECK,
     STRIPED_LAYOUT, STRIPED_REPORT,
 };
+use crate::workers::{NESTED, NESTED_REPORT};
 
 /// Runs over whole stacks, each with its report.
 const STACKS: &[Call] = &[
@@ -25,6 +26,7 @@ const STACKS: &[Call] = &[
     ),
     // The second clone waits for the first one, which the rescuer submits.
     Call::Ended(MIRRORED, 0, MIRRORED_REPORT),
+    Call::Ended(NESTED, 0, NESTED_REPORT),
     // One copy is enough, and none is not.
     Call::Ended(
         "disk a 8\ndisk b 8\nbad a 0 1 medium\nmirror m a b\nwrite 0 m 0 1 0\n",

@@ -58,7 +58,7 @@ same_parent : (parent : Option ℕ) → top_parent parent ≡ tops_left parent
 same_parent None = refl
 same_parent (Some parent) = refl
 
-stage_is : (w : ℕ) → stage w ≡ unfinished_write w
+pub stage_is : (w : ℕ) → stage w ≡ unfinished_write w
 stage_is w = λ i. record {
   todo = λ writer todos taken. begins_worth w todos i;
   bio = λ spot bio. 0;

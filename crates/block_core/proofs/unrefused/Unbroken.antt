@@ -51,6 +51,11 @@ unbroken scene (Completer disk carried) fits on = on
 unbroken scene (Keeper (Keeps duties)) fits on = refl
 unbroken scene (Keeper (Stops breach)) fits on = absurd fits
 
+-- there is one keeper at most
+pub one_keeper : (ds : List Duty) → length (keepers ds) ≤ 1
+one_keeper [] = omega arith
+one_keeper (duty ∷ ds) = omega arith
+
 module _ (s : Scenario) (ledger : ℕ → LedgerId) (good : IsScenario s) (allowed : ElementsAreAllowed s) (naming : IsNaming ledger) where
   -- a book has no more places than all writes need elements
   places_few : (w : ℕ) → places_of s w ≤ most_elements
@@ -95,10 +100,6 @@ module _ (s : Scenario) (ledger : ℕ → LedgerId) (good : IsScenario s) (allow
         fewer (is_disk (setup_in s)) count,
         one_keeper (duties s),
       )
-    where
-      one_keeper : (ds : List Duty) → length (keepers ds) ≤ 1
-      one_keeper [] = omega arith
-      one_keeper (duty ∷ ds) = omega arith
 
   pub small : IsSmall (scene s ledger)
   small w = omega (arith, places_few w, tasks_few)

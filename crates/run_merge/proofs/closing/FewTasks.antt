@@ -7,8 +7,9 @@ use Rattle.std.proofs.lemmas.List.FromFn.{length-range_with_len}
 use Rattle.run_machine.specs.Lines.{rests}
 use Rattle.run_machine.specs.Opened.{Scenario, at, duties, is_by, keepers, most_writers, setup, tasks, todos, todos_of, writers}
 use Rattle.run_machine.specs.Scene.{is_disk}
-use Rattle.run_machine.specs.Tasks.{NoBio, Empty, Duty, Writer, Rescuer, Completer}
+use Rattle.run_machine.specs.Tasks.{NoBio, Empty, Writer, Rescuer, Completer}
 use Rattle.block_core.specs.Scenarios.{IsScenario}
+use Rattle.block_core.proofs.unrefused.Unbroken.{one_keeper}
 
 pub few_of : {X : Type 0} (p : X → Bool) (xs : List X) → length (filter p xs) ≤ length xs
 few_of p [] = omega arith
@@ -17,10 +18,6 @@ few_of p (x ∷ xs) = by_test (p x) (few_of p xs)
     by_test : (b : Bool) → length (filter p xs) ≤ length xs → length (cond b (x ∷ filter p xs) (filter p xs)) ≤ length (x ∷ xs)
     by_test true le = omega (arith, le)
     by_test false le = omega (arith, le)
-
-one_keeper : (ds : List Duty) → length (keepers ds) ≤ 1
-one_keeper [] = omega arith
-one_keeper (duty ∷ ds) = omega arith
 
 pub few_tasks : (s : Scenario) → IsScenario s → length (tasks s) ≤ 2 ^ 24
 few_tasks s good =

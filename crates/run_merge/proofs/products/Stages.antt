@@ -1,10 +1,8 @@
 -- Each write of a scenario is in stage once at the start, and no other: it is to be begun.
-use Rattle.std.proofs.Common.{◌≡◌, ◌≢◌, ◌+◌, ◌*◌, ◌<◌, ◌≤◌, ◌⊎◌, ℕ, zero, suc, List, [], ◌∷◌, length, map, Option, None, Some, inl, inr, refl, ◌∙◌, ap, arith}
+use Rattle.std.proofs.Common.{◌≡◌, ◌≢◌, ◌+◌, ◌*◌, ◌<◌, ◌≤◌, ◌⊎◌, ℕ, zero, suc, List, [], ◌∷◌, length, map, inl, inr, refl, ◌∙◌, ap, arith}
 use Rattle.std.specs.Prelude.{zip}
 use Rattle.std.specs.List.{range_with_len}
 use Rattle.elem_ledger.specs.Ledger.{LedgerId}
-use Rattle.bio_books.specs.declared.node.Role.{Role}
-use Rattle.bio_books.specs.declared.node.Role.TheVariants as role
 use Rattle.layout_model.specs.declared.write.Write.{Write}
 use Rattle.run_machine.specs.Scene.{Scene}
 use Rattle.run_machine.specs.Tasks.{Todo}
@@ -15,37 +13,11 @@ use Rattle.block_core.specs.Scenarios.{IsScenario}
 use Rattle.block_core.specs.Weights.{total, one}
 use Rattle.block_core.proofs.stuck.NothingWaits.{zero_or}
 use Rattle.block_core.proofs.sound.DoneOnce.{to_begin, top_role, top_parent, stage}
+use Rattle.block_core.proofs.sound.Dones.{stage_is}
 use Rattle.block_core.proofs.sound.Facts.{Kept}
 use Rattle.block_core.proofs.moves.SumsCompared.{under_in_all}
 use Rattle.block_core.proofs.start.TallyAtStart.{numbered, unfinished_at_start}
 use Rattle.block_core.proofs.moves.Sums.{one-same, one-other, same_or_not}
-
--- what is in stage is unfinished: two words for one weight
-begin_is : (w : ℕ) (ts : List Todo) → to_begin w ts ≡ all_worth (λ n. one n w) ts
-begin_is w [] = refl
-begin_is w (todo ∷ ts) = ap (λ n. one todo.number w + n) (begin_is w ts)
-
-role_is : (r : Role) → top_role r ≡ tops r
-role_is role.Top = refl
-role_is (role.Chain parent) = refl
-role_is (role.Master parent) = refl
-role_is (role.Leg parent) = refl
-
-parent_is : (p : Option ℕ) → top_parent p ≡ tops_left p
-parent_is None = refl
-parent_is (Some parent) = refl
-
-stage_is : (w : ℕ) → stage w ≡ unfinished_of (λ n. one n w)
-stage_is w = λ k. record {
-  todo = λ writer todos taken. begin_is w todos k;
-  bio = λ spot bio. 0;
-  copy = λ bio master leg. 0;
-  hand = λ bio. 0;
-  vector = λ vector. 0;
-  slip = λ slip. 0;
-  node = λ writer place node. role_is node.role k * one node.write w;
-  closed = λ task writer closed. parent_is closed.parent k * one closed.write w;
-}
 
 -- at the start
 none_numbered : (w a n : ℕ) (rs : List ℕ) (ws : List Write) → a + n ≤ w → all_worth (λ k. one k w) (map numbered (zip (range_with_len a n) (zip rs ws))) ≡ 0
