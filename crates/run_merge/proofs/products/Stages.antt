@@ -1,8 +1,10 @@
 -- Each write of a scenario is in stage once at the start, and no other: it is to be begun.
-use Rattle.std.proofs.Common.{◌≡◌, ◌≢◌, ◌+◌, ◌*◌, ◌<◌, ◌≤◌, ◌⊎◌, ℕ, zero, suc, List, [], ◌∷◌, length, map, inl, inr, refl, ◌∙◌, ap, arith}
+use Rattle.std.proofs.Common.{◌≡◌, ◌≢◌, ◌+◌, ◌*◌, ◌<◌, ◌≤◌, ◌⊎◌, ℕ, zero, suc, List, [], ◌∷◌, length, map, Option, None, Some, inl, inr, refl, ◌∙◌, ap, arith}
 use Rattle.std.specs.Prelude.{zip}
 use Rattle.std.specs.List.{range_with_len}
 use Rattle.elem_ledger.specs.Ledger.{LedgerId}
+use Rattle.bio_books.specs.declared.node.Role.{Role}
+use Rattle.bio_books.specs.declared.node.Role.TheVariants as role
 use Rattle.layout_model.specs.declared.write.Write.{Write}
 use Rattle.run_machine.specs.Scene.{Scene}
 use Rattle.run_machine.specs.Tasks.{Todo}
@@ -18,6 +20,17 @@ use Rattle.block_core.proofs.sound.Facts.{Kept}
 use Rattle.block_core.proofs.moves.SumsCompared.{under_in_all}
 use Rattle.block_core.proofs.start.TallyAtStart.{numbered, unfinished_at_start}
 use Rattle.block_core.proofs.moves.Sums.{one-same, one-other, same_or_not}
+
+-- what is in stage of a node, and of what is left of one, is unfinished
+role_is : (r : Role) → top_role r ≡ tops r
+role_is role.Top = refl
+role_is (role.Chain parent) = refl
+role_is (role.Master parent) = refl
+role_is (role.Leg parent) = refl
+
+parent_is : (p : Option ℕ) → top_parent p ≡ tops_left p
+parent_is None = refl
+parent_is (Some parent) = refl
 
 -- at the start
 none_numbered : (w a n : ℕ) (rs : List ℕ) (ws : List Write) → a + n ≤ w → all_worth (λ k. one k w) (map numbered (zip (range_with_len a n) (zip rs ws))) ≡ 0
