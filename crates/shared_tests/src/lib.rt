@@ -1,0 +1,12 @@
+//! Tests of tasks at their desks: runs on one thread, and the order in which tasks are handed out.
+#![tactic(auto)]
+
+#[cfg(test)]
+mod handed;
+#[cfg(test)]
+mod opened;
+#[cfg(test)]
+mod reports;
+#[cfg(test)]
+mod storage;
+pub mod turns;
