@@ -12,7 +12,7 @@ abbrev pub RunsEndWithTheirWrites : Type 0
 RunsEndWithTheirWrites = (s : Scenario) (ledger : ℕ → LedgerId) (events : List Event) (state : State) → IsScenario s → IsNaming ledger
     → IsRun (scene s ledger) (start s) events state → unfinished state ≡ 0 → HasEnded state
 
--- where the keeper is to start a round next, there is one behind the present one: where each pool keeps an element and the rounds go up
+-- where the keeper is to start a round next, there is one behind the present one: where each pool keeps an element and the rounds do not fall
 abbrev pub StartedRoundsAreThere : Type 0
 StartedRoundsAreThere = (s : Scenario) (ledger : ℕ → LedgerId) (events : List Event) (state : State) → IsScenario s → EveryPoolKeepsSome s → AreInOrder s.rounds
     → IsNaming ledger → IsRun (scene s ledger) (start s) events state → (place round later : ℕ) (duties : List Duty)

@@ -89,7 +89,7 @@ abbrev pub LaidIsOne : Type 0
 LaidIsOne = (s : Scenario) → IsScenario s → (disk at : ℕ) (one other : List ℕ) → IsLaid s.stack s.writes s.rounds disk at one → IsLaid s.stack s.writes s.rounds disk at other
     → one ≡ other
 
--- So all runs of a scenario that have ended leave the same images, whatever came first and whichever attempts at memory succeeded.
+-- So all runs of such a scenario that have ended leave the same images, whatever came first and whichever attempts at memory succeeded.
 abbrev pub EndedRunsLeaveTheSame : Type 0
 EndedRunsLeaveTheSame = (s : Scenario) (ledger other : ℕ → LedgerId) (events others : List Event) (state end : State) → IsScenario s → AreApartByRounds s.stack s.writes s.rounds
     → IsNaming ledger → IsNaming other → IsRun (scene s ledger) (start s) events state → IsRun (scene s other) (start s) others end → HasEnded state → HasEnded end

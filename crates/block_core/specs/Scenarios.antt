@@ -20,7 +20,7 @@ pub record IsScenario (s : Scenario) : Type 0 where
 abbrev pub IsNaming : (ℕ → LedgerId) → Type 0
 IsNaming ledger = (number : ℕ) → (ledger number).no ≡ number
 
--- the rounds of writes go up
+-- the rounds of writes do not fall: each is at most any later one
 abbrev pub AreInOrder : List ℕ → Type 0
 AreInOrder [] = Unit {0}
 AreInOrder (round ∷ rounds) = All (λ later. round ≤ later) rounds × AreInOrder rounds

@@ -9,14 +9,14 @@ use Rattle.block_core.specs.Scenarios.{IsScenario, IsNaming, EveryPoolKeepsSome,
 use Rattle.block_core.specs.Breaks.{ElementsAreAllowed}
 
 -- While a write is unfinished, an event can come next that needs no ordinary memory, so memory may fail from any moment on: where each mirror of
--- two members or more has a rescuer, each pool keeps an element and the rounds go up, as long as fewer events came than a counter of 64 bits
+-- two members or more has a rescuer, each pool keeps an element and the rounds do not fall, as long as fewer events came than a counter of 64 bits
 -- holds.
 abbrev pub NoStateIsStuck : Type 0
 NoStateIsStuck = (s : Scenario) (ledger : ℕ → LedgerId) (events : List Event) (state : State) → IsScenario s → HasRescuers s.stack → EveryPoolKeepsSome s → AreInOrder s.rounds
     → IsNaming ledger → IsRun (scene s ledger) (start s) events state → length events + 9 < 2 ^ 64 → 1 ≤ unfinished state → HasFree (scene s ledger) state
 
 -- While a write of a scenario that is allowed is unfinished, an event can come next that needs no ordinary memory: where each mirror of two
--- members or more has a rescuer, each pool keeps an element and the rounds go up.
+-- members or more has a rescuer, each pool keeps an element and the rounds do not fall.
 abbrev pub NoAllowedStateIsStuck : Type 0
 NoAllowedStateIsStuck = (s : Scenario) (ledger : ℕ → LedgerId) (events : List Event) (state : State) → IsScenario s → ElementsAreAllowed s → HasRescuers s.stack
     → EveryPoolKeepsSome s → AreInOrder s.rounds → IsNaming ledger → IsRun (scene s ledger) (start s) events state → 1 ≤ unfinished state

@@ -64,7 +64,7 @@ pub fn none_waits_for_itself()
 {}
 
 /// While a write of a run is unfinished, an event can come next that needs no ordinary memory, whatever came before: where each mirror of two
-/// or more members has a rescuer, each pool keeps an element, the rounds of writes go up, and fewer than 2^64 - 9 events came. In a
+/// or more members has a rescuer, each pool keeps an element, the rounds of writes do not fall, and fewer than 2^64 - 9 events came. In a
 /// scenario that is allowed it does not matter how many came.
 pub fn no_state_is_stuck()
     ensures few { NoStateIsStuck }
@@ -110,8 +110,8 @@ pub fn books_have_room()
     ensures { BooksHaveRoom }
 {}
 
-/// No task of any run of any scenario that is allowed meets a refusal: whatever a book answers to what a task asks it for next, it has a vacant
-/// place, and each node that is named is open there; and where the keeper may change a reserve, every element is at home. So no task breaks off,
+/// No task of any run of any scenario that is allowed meets a refusal. Where it asks a book next, the book has a vacant place for a new node, and
+/// each node that the task names is open; and where the keeper may change a reserve, every element is at home. So no task breaks off,
 /// and whatever is answered to a task is an event that comes next, or changes neither the task nor an object.
 pub fn no_task_breaks()
     ensures unrefused { NoTaskBreaks }
@@ -138,7 +138,7 @@ pub fn runs_end_with_their_writes()
 {}
 
 /// Where the keeper of a run is to start a round next, there is one behind the present one: where each pool keeps an element and the rounds of writes
-/// go up.
+/// do not fall.
 pub fn started_rounds_are_there()
     ensures { StartedRoundsAreThere }
 {}
@@ -199,13 +199,14 @@ pub fn one_fragment_a_round()
     ensures { OneFragmentARound }
 {}
 
-/// So every run of such a scenario that has ended leaves exactly the laid-out images: each disk has its sectors, and each of them holds what is
-/// laid out there, in whatever order events came and bios were completed.
+/// So every run of a scenario with such writes that has ended leaves exactly the laid-out images: each disk has its sectors, and each of them holds
+/// what is laid out there, in whatever order events came and bios were completed.
 pub fn images_are_laid_out()
     ensures { ImagesAreLaidOut }
 {}
 
-/// What is laid out in a sector is one thing. So all runs of such a scenario that have ended leave the same images.
+/// What is laid out in a sector is one thing. So all runs of a scenario that have ended leave the same images, where no two writes of a round have
+/// a sector in common, and each goes to a device that is no member.
 pub fn ended_runs_leave_the_same()
     ensures laid { LaidIsOne }
     ensures same { EndedRunsLeaveTheSame }

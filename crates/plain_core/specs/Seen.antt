@@ -11,7 +11,8 @@ abbrev pub IsOfPool : Duty → Type 0
 IsOfPool (Resizes pool min later) = IsOfStack pool
 IsOfPool (Starts round later) = Unit {0}
 
--- it has nothing at hand
+-- It has nothing at hand, no element and no submission, as each task that has not begun. Of the keeper, which never has an element, this says that
+-- it has not broken off, and that its changes of reserves name pools that a stack can have.
 abbrev pub HasNothingAtHand : TaskState → Type 0
 HasNothingAtHand (Writer number todo taken line) = (taken ≡ NoBio) × (line ≡ rests)
 HasNothingAtHand (Rescuer dev line) = line ≡ rests

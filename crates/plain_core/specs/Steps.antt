@@ -189,11 +189,11 @@ closed_asks writer closed = task.closed_request writer closed closed.held.vector
 abbrev pub closed_becomes : ℕ → Closed → Reply → task.Carried
 closed_becomes writer closed reply = task.carried_answered (task.Carries writer closed) reply
 
--- one that holds nothing
+-- the same node with nothing held
 abbrev pub bare : Closed → Closed
 bare closed = record closed { held = record { vector = None; bio = None; slip = None } }
 
--- it is passed on
+-- a closed node is told to its parent, or its write is done, as one that holds nothing: whatever it holds does not count
 abbrev pub PassesOn : CoreObjects → ℕ → Closed → What → Result Carried CoreFault → CoreObjects → Type 0
 PassesOn old writer closed what (Ok after) new =
     (reply : Reply)

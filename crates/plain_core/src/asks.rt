@@ -1,4 +1,5 @@
-//! Requests of tasks to objects.
+//! Requests of tasks to objects, a call each. The object does what the event tells, and the call answers with what came of it. Where the
+//! object can't do so, or the event is none of this request, the answer is `NotEnabled`, and nothing is changed. No call here takes memory.
 ghost use Rattle.std.specs.Prelude.{◌<◌};
 ghost use Rattle.run_machine.specs.Requests.{GiveBio, GiveVec, GiveSlip, Pop, Complete, Drop, Done, Resize, NextRound, Link, Write, LinkedTo, Did, Popped, Completed, DroppedTo, OutIs};
 ghost use Rattle.bio_books.specs.Links.{Made};

@@ -88,7 +88,10 @@ fn bios_of(set: SetId) -> PoolId
     }
 }
 
-/// An attempt at a bio of this set: the bio, or none where it missed.
+/// An attempt at a bio of this set, as the event tells it: the bio, with nothing in it yet, or none where the event tells a miss.
+///
+/// # Errors
+/// `NotEnabled` where the event is another one, or the pool can't do what it tells. Then nothing is changed. It takes no memory.
 pub fn take_part(
     objects: &mut Objects,
     set: SetId,

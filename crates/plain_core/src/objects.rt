@@ -107,7 +107,7 @@ impl Objects {
         self.tally.round()
     }
 
-    /// Whether so many writes are unfinished.
+    /// Whether exactly so many writes are unfinished, of all rounds together.
     pub fn leaves(&self, count: u64) -> bool
         ensures { result ≡ (sum self.now.tally.left == count) }
     {

@@ -75,7 +75,7 @@ fn pool_seen(
     Ok(Pool::of(script, opened.objects.facts(pool)))
 }
 
-// All pools, by their numbers.
+// All 66 pools that a stack may have, by their numbers, each as a run begins with it: full.
 fn pools_seen(alloc: Global, opened: &Opened, routes: &Routes) -> Result<Vec<Pool>, AllocError>
     requires opened { AreTheFirst opened.now }
     requires routes { routes.now ≡ (stage_of opened.now.objects).routing }

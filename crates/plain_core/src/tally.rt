@@ -80,7 +80,7 @@ impl Tally {
         self.all
     }
 
-    /// Whether so many writes are unfinished.
+    /// Whether exactly so many writes are unfinished, of all rounds together.
     pub fn leaves(&self, count: u64) -> bool
         ensures { result ≡ (sum self.now.left == count) }
     {

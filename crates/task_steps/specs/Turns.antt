@@ -122,7 +122,8 @@ completes (Stepped event) = is_completion event.what
     is_completion what = false
 completes step = false
 
--- The chooser was asked where a bio was completed. Else it stays, but for the completer of a disk in which, once it had chosen, no bio was left.
+-- The chooser was asked where a bio was completed. It stays where any other event came, and where the task waits at a pool. Behind all else it
+-- stays too, but for the completer of a disk in which, once it had chosen, no bio was left. Of a step that breaks off nothing is said.
 abbrev pub Chosen : {C : Type 0} → (C → ℕ → ℕ → C → Type 0) → (DevId → ℕ → ℕ → Option ℕ → Type 0) → DevId → C → Step → C → Type 0
 Chosen chooses picks own old (Stepped event) new = chosen_by event.what
   where

@@ -200,7 +200,10 @@ impl Carried {
         }
     }
 
-    /// A step of the completer of a disk.
+    /// A step of the completer of a disk, which carries this. With nothing it asks its disk for a bio that this is done with, of which the
+    /// chooser says which, and looks whether any write is unfinished where none waits. With a bio it tells the bio's node of the end. Of a
+    /// closed node it gives back what that held, an element a step, and then tells the parent, or that the write is done. The chooser is asked
+    /// in the first case alone.
     pub fn step<O: Objects, C: Chooser>(
         &mut self,
         objects: &mut O,

@@ -24,7 +24,8 @@ impl Model for Todo {
     ghost inverse = { λ t. record { number = t.number; round = t.round; write = t.write } };
 }
 
-/// The writes of a writer that it has still to begin, seen as the list of these. The others stay in memory, and no call takes any.
+/// The writes of a writer that it has still to begin, seen as the list of these. Those that are begun stay in the
+/// vector, so that a step moves and frees nothing; no call takes memory.
 #[derive(Drop)]
 pub struct Todos {
     writes: Vec<Todo>,

@@ -99,7 +99,8 @@ impl Writer {
         step
     }
 
-    // What came of an attempt at the bio of its next write. Where there was none yet, nothing moves.
+    // What came of an attempt at the bio of its next write: it has taken it, or is as before where there was no bio, or breaks off where there
+    // was no ticket.
     fn have(&mut self, attempt: Attempt)
         requires rests { self.old.line.doing ≡ Rests }
         requires none { self.old.taken ≡ NoBio }

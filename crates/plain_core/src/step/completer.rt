@@ -27,7 +27,7 @@ fn after_drop(writer: u32, ended: Ended) -> Carried
     }
 }
 
-// A closed node that holds nothing is told to its parent, or its write is done.
+// A closed node that holds nothing any more is told to its parent, or its write is done. What `closed` may still hold is not looked at.
 fn pass_on(
     objects: &mut Objects,
     writer: u32,

@@ -27,7 +27,7 @@ use bio_records::{Bio, BioElement};
 use run_machine::{Breach, End, Event, TaskId, What};
 use stack_base::{DevId, Status};
 
-// A node that was named was not open. It keeps the part that came back.
+// The node that was to be told of an end is not open. The completer breaks off, and keeps the part that the book handed back.
 #[tactic(auto, using(crate::proofs::KeptLemmas::part_alone))]
 fn stray(writer: u32, node: u32, part: Option<BioElement>) -> (Carried, Step)
     ensures carried { result.0 ≡ Fails (Breach'.Stray writer node) (bio_kept (bio_of part)) }

@@ -108,7 +108,7 @@ fn least(sizes: &[u64]) -> u64
     sizes.iter().copied().reduce(|a, b| a.min(b)).unwrap_or(0)
 }
 
-// The members of a device once more.
+// A copy of a device's members: what is made of a stack borrows nothing of it.
 pub(crate) fn members_of(device: &Device) -> ArrayVec<DevId, 8>
     ensures { result.items ≡ device.now.members.items }
 {
