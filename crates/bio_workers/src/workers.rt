@@ -18,7 +18,8 @@ use std::thread::Threads;
 use task_core::Task;
 use task_steps::{Oldest, Step};
 
-/// What stays of a task with its seats, whatever steps it makes. No value of it is made.
+/// What stays of a task with its seats, whatever steps it makes. `Work` names the type of a key, so this has the key as its model, and no value
+/// of it is made.
 pub struct Identity {
     first: Snapshot<Task>,
     home: Snapshot<Locks>,

@@ -1,4 +1,5 @@
--- Which events are paid for by what: the table behind the charges.
+-- Which events are paid for by what: the table behind the charges. Charges are told apart by its rows, not from bio to bio: an event tells its row,
+-- with what its task has of a bio or of a closed node. Which bio of a row pays is not said.
 use Rattle.std.specs.Prelude.{ℕ, List, [], ◌∷◌, sum_by}
 use Rattle.stack_base.specs.declared.ids.PoolId.{PoolId}
 use Rattle.stack_base.specs.declared.ids.PoolId.TheVariants.{FsBios, FsVecs, Bios, Records}

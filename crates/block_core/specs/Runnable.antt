@@ -10,7 +10,8 @@ use Rattle.block_core.specs.Bounded.{waits, most_steps}
 use Rattle.block_core.specs.Breaks.{ElementsAreAllowed}
 use Rattle.block_core.specs.Scenarios.{IsScenario, EveryPoolKeepsSome, AreInOrder}
 
--- 65,536 entries in each of 66 scripts, 1,024 rounds behind the first and 4,096 changes of reserves
+-- 65,536 entries in each of 66 scripts, 1,024 rounds behind the first and 4,096 changes of reserves. A text has no more entries than those of one
+-- script here; the bound is for the number of tickets alone, which it keeps small enough
 abbrev pub most_waits : ℕ
 most_waits = 4330496
 

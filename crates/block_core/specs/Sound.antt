@@ -29,6 +29,8 @@ use Rattle.block_core.specs.NodeBios.{node_bios, no_bios}
 use Rattle.block_core.specs.Values.{IsValued}
 use Rattle.block_core.specs.Waits.{NoneWaitsForItself}
 
+-- The parts of a state of a run. What a node keeps and what a disk holds are said by the run's events, and whether a closed node was a master by the
+-- event that closed it (`were_masters`), since what is left of it does not tell.
 pub record IsSound (s : Scenario) (ledger : ℕ → LedgerId) (events : List Event) (state : State) (run : IsRun (scene s ledger) (start s) events state) : Type 0 where
   -- each pool adds up, and is not past the entries of its script
   pub pools : (number : ℕ) → AddsUp (state.objects.pool number).facts

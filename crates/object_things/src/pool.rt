@@ -23,7 +23,7 @@ pub enum PoolAsk<P> {
     Resize { pool: PoolId, min: u32 },
 }
 
-/// What a pool says.
+/// What a pool says. A pool is of any body here, so what a take had goes with the name of the pool, by which the machine's reply is known.
 #[derive(Drop)]
 pub enum PoolSaid<P> {
     Took {

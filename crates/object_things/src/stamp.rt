@@ -31,6 +31,7 @@ impl Model for Common {
 pub struct Stamp {
     note: Note,
     common: Arc<Common, Global>,
+    // No ticket is drawn any more behind a draw that found none.
     spent: bool,
 }
 
@@ -42,7 +43,8 @@ impl Model for Stamp {
     ghost view = { λ s. record { note = s.note; spent = s.spent; common = s.common.value } };
 }
 
-/// The mark of a thing: which object it holds, and what it has in common with others. No value of it is ever made, nor of the next two.
+/// The mark of a thing: which object it holds, and what it has in common with others. No value of it is ever made, nor of the next two: the trait
+/// `Thing` names what its contracts speak of by types, and these stand there for their models.
 pub struct Mark {
     common: Common,
 }
@@ -80,7 +82,8 @@ impl Model for Told {
     ghost view = { λ _. record { reply = Spent; note = 0; drew = false; ticket = None } };
 }
 
-/// What is asked of a thing, with the pass of the task that asks.
+/// What is asked of a thing, with the pass of the task that asks. Of a kind that has several objects it names the one, since what the history
+/// keeps is made of the request alone.
 pub struct Asking<Q> {
     pub pass: Pass,
     pub ask: Q,

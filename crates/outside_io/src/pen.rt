@@ -31,7 +31,8 @@ fn put_all<K: Sink>(sink: &mut K, text: &[u8]) -> Result<(), Failed>
 /// Writes to a sink until the sink fails, and says nothing from then on.
 ///
 /// So what has many parts is written straight through, with no exit at each of them. What the pen is told waits in a buffer of 8,192 bytes,
-/// which takes no memory, and goes on to the sink where that is full. Whoever ends a text calls [`Pen::finish`], which hands on the rest.
+/// which takes no memory, and goes on to the sink where that is full: a put for each line of a trace would be a call of the system for
+/// each event. So a line leaves later than its event. Whoever ends a text calls [`Pen::finish`], which hands on the rest.
 /// All calls of one text name the same sink.
 #[derive(Drop)]
 pub struct Pen {

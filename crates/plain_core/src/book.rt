@@ -33,7 +33,7 @@ pub enum Ended {
 pub struct Book {
     writer: u32,
     nodes: Vec<Option<Node>>,
-    // At how many places no node is open.
+    // At how many places no node is open, so that whether there is one is no search (`has_place`).
     vacant: usize,
 }
 

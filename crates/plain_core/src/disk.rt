@@ -117,7 +117,7 @@ fn unwritten(alloc: Global, sectors: u64) -> Result<Vec<Option<u64>>, AllocError
 pub struct Disk {
     dev: DevId,
     bad: Vec<Bad>,
-    // The first word of each sector that was written.
+    // The first word of each sector that was written, from which its other words follow. What was not is all zeros, as no written sector is.
     firsts: Vec<Option<u64>>,
     pending: VecDeque<Part>,
 }

@@ -33,7 +33,8 @@ pub(crate) fn first_waits(routes: &Routes, dev: DevId, lists: &Lists) -> bool
     !routes.rescuer(dev) || !lists.busy()
 }
 
-/// What comes behind an answer to what a submission asked for.
+/// What comes behind an answer to what a submission asked for. A step changes what the submission does in its place, as long as it goes on with
+/// that, and answers this for `turn` to do.
 #[derive(Drop)]
 pub enum Next {
     /// It goes on with what it does.

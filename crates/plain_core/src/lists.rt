@@ -11,7 +11,8 @@ use std::alloc::{AllocError, Global};
 use std::collections::VecDeque;
 use std::marker::Model;
 
-/// What a task has submitted and not served yet (`current->bio_list`, `block/blk-core.c`).
+/// What a task has submitted and not served yet (`current->bio_list`, `block/blk-core.c`): list 0 has what the driver that is served now
+/// submits, and list 1 what was there before it.
 #[derive(Drop)]
 pub struct Lists {
     list0: VecDeque<Part>,

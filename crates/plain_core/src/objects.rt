@@ -41,6 +41,7 @@ pub struct Objects {
     stage: Snapshot<Routes>,
     pools: Vec<Pool>,
     rescues: Vec<Rescue>,
+    // By devices, of which those that are no disks have none.
     disks: Vec<Option<Disk>>,
     books: Vec<Book>,
     tally: Tally,

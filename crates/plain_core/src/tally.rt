@@ -9,7 +9,8 @@ use std::marker::Model;
 #[derive(Drop)]
 pub struct Tally {
     round: u32,
-    // How many writes of each round are unfinished, and how many of all.
+    // How many writes of each round are unfinished, and how many of all: a look then adds up nothing. The sum has 128 bits, since no more is kept
+    // of the numbers than that there are fewer than 2^32.
     left: Vec<u64>,
     all: u128,
     statuses: Vec<Status>,

@@ -107,7 +107,8 @@ abbrev pub goes_on : Setup → DevId → TaskLists → Line
 goes_on setup dev lists = settled setup (order dev lists)
 
 -- a bio is split: its first piece goes to its member, as a bio with a node of its own, and the rest comes again (`bio_split`, block/bio.c,
--- and `submit_bio_noacct` of both)
+-- and `submit_bio_noacct` of both). The kernel submits the rest first. No order of service tells the two apart: the piece is for another device
+-- than the rest, and those come first behind the call
 abbrev pub cut_at : Setup → TaskLists → Item Pad → Item Pad → ℕ → Tree → Line
 cut_at setup lists item hand node (Split number kind sizes members) =
     let n = first_length kind sizes item.bio.range in

@@ -41,7 +41,8 @@ pub data Carried : Type 0 where
   Fails : Breach → (kept : List Kept) → Carried
 
 -- what the keeper does next: a pool gets another reserve, or the round of this number starts. `later` is how many writes there are of that
--- round and of those behind it: none but these is unfinished when it may be done
+-- round and of those behind it: none but these is unfinished when it may be done. Only the duty tells a round's number. That it is the next one
+-- is a law (`rounds_go_by_their_numbers` of block_core)
 pub data Duty : Type 0 where
   Resizes : (pool : PoolId) (min later : ℕ) → Duty
   Starts : (round later : ℕ) → Duty

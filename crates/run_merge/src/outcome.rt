@@ -23,6 +23,9 @@ pub struct Outcome {
 ///
 /// Without a trace it takes no memory. No image is copied.
 ///
+/// What a close answers (`HasClosed`) is asked for as a condition and not by the type: what is closed is handed on by its fields, and a reader sees
+/// in the clause what this rests on.
+///
 /// # Errors
 ///
 /// With a trace: where there was no memory for a task to note one of its events, or there is none to join what all tasks noted.

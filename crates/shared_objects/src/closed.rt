@@ -11,7 +11,8 @@ use std::snapshot::Snapshot;
 use task_core::{Ended, Opened, Task};
 use tick_clock::Pass;
 
-/// A task that was put back.
+/// A task that was put back. What it noted stands with it, and not in a list beside all tasks: it comes back with the task, and no memory is
+/// wanted for it at the close.
 #[derive(Drop)]
 pub struct ClosedTask {
     pub task: Task,
@@ -46,11 +47,12 @@ pub struct Closed {
     pub(crate) tasks: Vec<ClosedTask>,
     // Whether each task noted its events.
     pub(crate) trace: bool,
+    // The first pass of the clock, into which all others were joined.
     pub(crate) pass: Snapshot<Pass>,
     pub(crate) room: Ended,
 }
 
-/// What is left of shared objects, each part by itself.
+/// What is left of shared objects, each part by itself. A crate above cannot take a `Closed` apart, since some of its fields are of this crate.
 #[derive(Drop)]
 pub struct ClosedParts {
     pub bios: Vec<(SetId, Shut<PoolThing<BioBody<Pad>>>)>,

@@ -18,7 +18,7 @@ use task_core::{Chooser, Kind, Step, Task, TaskId};
 use tick_clock::Pass;
 
 /// A task with its seats of shared objects, as it goes from thread to thread. Whatever steps it has made, its seats show the calls that led it
-/// from where it was opened to where it is.
+/// from where it was opened to where it is. Only since it steps itself, at a desk, can its type keep that.
 pub struct Ran {
     pub task: Task,
     pub seats: TaskSeats,

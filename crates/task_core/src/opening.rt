@@ -36,7 +36,7 @@ pub struct Opened {
     pub objects: Plain,
     /// Writers first, then rescuers, completers and the keeper.
     pub tasks: Vec<Task>,
-    /// Empty lists, with room for all that a run leaves.
+    /// Empty lists, with room for all that a run leaves, so that its end takes no memory.
     pub room: Ended,
     // What all tasks know of devices, which they share.
     pub(crate) routes: Arc<Routes>,
@@ -160,7 +160,8 @@ pub fn drop_tasks(tasks: Vec<Task>) {
 }
 
 /// The objects and the tasks of an accepted text, as its runs begin, and room for what a run leaves. Its mirrors of two members or more have
-/// rescuers, without which a run may hang.
+/// rescuers, without which a run may hang: that is asked here and kept by what is answered (`IsOpened`), so that whoever runs it asks no more.
+/// A scenario whose runs may hang is looked at as a plain state alone (`Core::plain` of `plain_core`, which asks for no rescuers).
 ///
 /// # Errors
 /// Where there is no memory for all of them.

@@ -22,6 +22,9 @@ use std::snapshot::Snapshot;
 use task_steps::{Ask, Chooser, Objects, Routes, Unmade};
 
 /// The objects of a run, where one thread has them all. They always answer, and tell what they are.
+///
+/// Not every device has a pool, a list or a disk. So the objects of a kind stand in a row, each with its key but for the disks, and `index` says
+/// where. A run's end moves the disks out as they are.
 #[derive(Drop)]
 pub struct Plain {
     /// The pools of bios, of the writers' set first and then of devices.

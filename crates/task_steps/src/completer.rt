@@ -42,7 +42,7 @@ pub enum Load {
     Fails { breach: Breach, held: Back },
 }
 
-/// What a completer carries, seen without its boxes.
+/// What a completer carries, seen without its boxes. Round the enum, which anyone may match, it keeps that a bio in it is in no list.
 #[derive(Drop)]
 pub struct Carried {
     load: Load,

@@ -33,7 +33,7 @@ pub enum Duty {
 #[derive(Drop)]
 pub struct Keeper {
     duties: Vec<Duty>,
-    // The place of the next one.
+    // The place of the next one. Those that are done stay, so that a step moves and frees nothing.
     next: usize,
     broken: Option<Breach>,
 }

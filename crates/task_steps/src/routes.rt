@@ -32,6 +32,7 @@ pub struct Cut {
 #[derive(Drop)]
 pub struct Route {
     driver: Driver,
+    // By the index that a piece has: a driver that cuts knows its members by that alone.
     members: ArrayVec<DevId, 8>,
     rescuer: bool,
 }

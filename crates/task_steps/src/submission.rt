@@ -66,9 +66,9 @@ pub enum HandedBack {
 /// What a task that cannot go on keeps of what it was at.
 #[derive(Drop)]
 pub struct Kept {
-    /// The bio that its driver had.
+    /// The bio that its driver had, if it had one.
     pub bio: Option<BioElement>,
-    /// The bio that it had taken.
+    /// The bio that it had taken, if it had one besides.
     pub hand: Option<BioElement>,
     /// What the object handed back.
     pub back: HandedBack,

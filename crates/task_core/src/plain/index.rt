@@ -2,7 +2,7 @@
 ghost use Rattle.std.specs.Prelude.{◌≡◌, slice_index_or};
 
 /// The place of each object among those of its kind: of pools by the pool's number (`PoolId::no`), of lists and disks by the device's, of
-/// books by the writer's.
+/// books by the writer's. A call finds its object by one look, and takes no memory for it. The place is 0 where there is no such object.
 #[derive(Clone, Copy)]
 pub struct ObjectIndex {
     /// Of the pools of bios.

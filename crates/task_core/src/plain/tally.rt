@@ -14,7 +14,7 @@ pub struct Tally {
     pub left: Vec<u32>,
     /// The status of each write that is done, by the write's number, and `Status::Ok` of each other.
     pub statuses: Vec<Status>,
-    // How many writes are unfinished.
+    // How many writes are unfinished, kept beside `left`, so that a look adds up nothing.
     all: u32,
     ghost is_round: { round < length left.items },
     ghost few: { length left.items ≤ 2 ^ 32 },
