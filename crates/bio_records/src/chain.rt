@@ -25,7 +25,7 @@ pub fn attach<F: Drop>(link: &mut Link<F>, element: Element<BioBody<F>>)
     requires { IsAlone element }
     ensures { items link.new ≡ item_of element ∷ items link.old }
 {
-    let Element { mut body, share } = element;
+    let (mut body, share) = element.parts();
     if let Some((next, of)) = link.take() {
         put(&mut body.next, Some((next, of)));
     }

@@ -9,10 +9,17 @@ use std::marker::Model;
 ///
 /// There is no way to make one but `Ledger::issue`, none to have one twice, and none to bring one to another ledger. It may be
 /// dropped; it then stays counted for good.
-#[derive(Drop)]
 pub struct Share {
     pub(crate) badge: Badge<View>,
     pub(crate) no: u32,
+}
+
+// A drop by hand is proved here, once. A derived one every crate above would prove anew that lets a share go. The same holds of elements.
+impl Drop for Share {
+    fn drop(self) {
+        let Share { badge, no: _ } = self;
+        drop(badge);
+    }
 }
 
 impl Model for Share {
@@ -28,6 +35,18 @@ impl Model for Share {
 }
 
 impl Share {
+    ghost use Rattle.std.specs.Prelude.{[], ◌∷◌};
+    ghost use Rattle.elem_ledger.specs.declared.balance.View.TheVariants.{Out};
+
+    // Its badge.
+    pub(crate) fn into_badge(self) -> Badge<View>
+        ensures table { result.table_id ≡ self.table }
+        ensures views { result.views ≡ Out ∷ [] }
+    {
+        let Share { badge, no: _ } = self;
+        badge
+    }
+
     /// The number of the share's ledger.
     pub fn no(&self) -> u32
         ensures { result ≡ self.now.no }
@@ -37,13 +56,28 @@ impl Share {
 }
 
 /// A body in memory of its own, with a share of the ledger of the pool that it is given back to.
-#[derive(Drop)]
 pub struct Element<P> {
     pub body: Box<P>,
     pub share: Share,
 }
 
+impl<P: Drop> Drop for Element<P> {
+    fn drop(self) {
+        let Element { body, share } = self;
+        drop(body);
+        drop(share);
+    }
+}
+
 impl<P> Element<P> {
+    /// The body and the share, each by itself.
+    pub fn parts(self) -> (Box<P>, Share)
+        ensures { result ≡ (self.body, self.share) }
+    {
+        let Element { body, share } = self;
+        (body, share)
+    }
+
     /// The number of the element's pool.
     pub fn no(&self) -> u32
         ensures { result ≡ self.now.share.no }

@@ -87,12 +87,10 @@ impl Ledger {
         ensures total { self.old ≡ record self.new { total = self.new.total + 1 } }
         ensures fits { self.old.total < 2 ^ 64 }
     {
-        let Element { body, share } = element;
+        let (body, share) = element.parts();
         let table = &self.table;
-        let Share { badge, no: _ } = share;
-        table
-            .shared
-            .join_seat::<Redeem>(&mut self.keeper, badge.into_seat());
+        let seat = share.into_badge().into_seat();
+        table.shared.join_seat::<Redeem>(&mut self.keeper, seat);
         let _word = table.shared.load::<Look>(&mut self.keeper, 0);
         self.total -= 1;
         body

@@ -9,17 +9,17 @@ use Rattle.elem_ledger.proofs.ledger.Ledger.redeem.Goals as goal
 pub join_seat-requires : goal.join_seat-requires
 join_seat-requires g c =
     let kept = c.self.invariant in
-    let seat = c.into_seat.result in
+    let seat = c.into_seat-seat.result in
     let id : ℕ = c.self.inside.keeper.id in
     let redeemed : ℕ = redeemed_by c.self.inside.keeper.me.0 in
     let issued : ℕ = redeemed + c.self.inside.total in
-    let of_share = ap (λ s. s.table) c.share.view_is ∙ ap (λ s. s.table) c.requires ∙ sym (ap (λ l. l.id.table) c.self.view_is) in
+    let of_share = c.into_badge.ensures.table ∙ ap (λ s. s.table) (ap (λ p. p.1) c.parts-body.ensures) ∙ ap (λ s. s.table) c.requires ∙ sym (ap (λ l. l.id.table) c.self.view_is) in
     let out : Out ≡ seat.me.0 = cc in
     let keeper_first : (view : View) → Type 0 = λ view. Joins IsBalanced id view seat.id Out (one_more_redeemed view) Spent in
     let out_second : (view : View) → Type 0 = λ view. Joins IsBalanced id c.self.inside.keeper.me.0 seat.id view (one_more_redeemed c.self.inside.keeper.me.0) Spent in (
       kept.seated,
-      c.into_seat.ensures.0 ∙ of_share,
-      c.into_seat.ensures.3,
+      c.into_seat-seat.ensures.0 ∙ of_share,
+      c.into_seat-seat.ensures.3,
       omega (arith, kept.word),
       subst out_second out (subst keeper_first (sym kept.keeper) (redeem_keeps id seat.id issued redeemed)),
     )
