@@ -14,9 +14,16 @@ pub struct Segment {
 }
 
 /// The segments of a write that has more than a bio keeps itself (`bi_io_vec` of the pool of `BIO_MAX_VECS`).
-#[derive(Drop)]
 pub struct Vector {
     pub segments: ArrayVec<Segment, 256>,
+}
+
+// By hand, as that of `BioList`.
+impl Drop for Vector {
+    fn drop(self) {
+        let Vector { segments } = self;
+        drop(segments);
+    }
 }
 
 /// How many segments a write of `count` sectors has: one for each page of eight sectors, and one for what is left. A write has a sector,

@@ -12,10 +12,17 @@ use stack_base::DevId;
 use std::marker::Model;
 
 /// The bios of a device's set that wait for its rescuer (`rescue_list` of `struct bio_set`), in the order in which they came.
-#[derive(Drop)]
 pub struct RescueList {
     dev: DevId,
     bios: BioList,
+}
+
+// By hand, as that of `BioList`.
+impl Drop for RescueList {
+    fn drop(self) {
+        let RescueList { dev: _, bios } = self;
+        drop(bios);
+    }
 }
 
 impl Model for RescueList {
