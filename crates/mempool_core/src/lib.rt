@@ -94,7 +94,6 @@ struct Counts {
 /// A pool of elements with bodies of one type. It keeps the allocator that it was made with.
 ///
 /// What is out of it is the total of its ledger, whoever has the elements.
-#[derive(Drop)]
 pub struct Pool<P: Fresh + Drop> {
     alloc: Global,
     ledger: Ledger,
@@ -102,6 +101,22 @@ pub struct Pool<P: Fresh + Drop> {
     // Those laid aside, and the spares behind them: a take has the last one, where that is a spare.
     bodies: Vec<Box<P>>,
     counts: Counts,
+}
+
+// A drop by hand is proved here, once. A derived one every crate above would prove anew that lets a pool go, with that of its ledger.
+impl<P: Fresh + Drop> Drop for Pool<P> {
+    fn drop(self) {
+        let Pool {
+            alloc: _,
+            ledger,
+            script,
+            bodies,
+            counts: _,
+        } = self;
+        drop(ledger);
+        drop(script);
+        drop(bodies);
+    }
 }
 
 impl<P: Fresh + Drop> Model for Pool<P> {
