@@ -39,12 +39,24 @@ pub struct Route {
 
 /// A stack with its drivers, and how many places the book of each writer has: what tasks know of devices, seen as the stack and these
 /// numbers. Each call goes by the number of the device, and takes no memory.
-#[derive(Drop)]
 pub struct Routes {
     routes: Vec<Route>,
     places: [u32; 8],
     // The stack that they are of, which has no bytes here.
     stack: Snapshot<Stack>,
+}
+
+// By hand, as that of `Kind`.
+impl Drop for Routes {
+    fn drop(self) {
+        let Routes {
+            routes,
+            places: _,
+            stack,
+        } = self;
+        drop(routes);
+        drop(stack);
+    }
 }
 
 impl Model for Routes {

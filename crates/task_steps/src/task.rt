@@ -22,7 +22,6 @@ use std::marker::Model;
 use std::sync::Arc;
 
 /// What a task does.
-#[derive(Drop)]
 pub enum Kind {
     /// Begins writes, and submits their bios.
     Writer(Writer),
@@ -34,12 +33,33 @@ pub enum Kind {
     Keeper(Keeper),
 }
 
+// A drop by hand is proved here, once. A derived one every crate above would prove anew that lets a task go, with that of all that a task may have
+// at hand.
+impl Drop for Kind {
+    fn drop(self) {
+        match self {
+            Kind::Writer(writer) => drop(writer),
+            Kind::Rescuer(rescuer) => drop(rescuer),
+            Kind::Completer { disk: _, carried } => drop(carried),
+            Kind::Keeper(keeper) => drop(keeper),
+        }
+    }
+}
+
 /// A task of a run, with what it knows of devices, which all tasks share. It takes no memory of its own: what it has at hand are elements, and
 /// what waits is linked through the bios' own boxes.
-#[derive(Drop)]
 pub struct Task {
     routes: Arc<Routes>,
     kind: Kind,
+}
+
+// By hand, as that of `Kind`.
+impl Drop for Task {
+    fn drop(self) {
+        let Task { routes, kind } = self;
+        drop(routes);
+        drop(kind);
+    }
 }
 
 impl Model for Task {
