@@ -8,7 +8,7 @@ use Rattle.bio_records.specs.Items.{Item}
 use Rattle.model_disks.specs.Kept.{IsWithin, IsKept}
 
 -- what holds of all holds of those that are left
-all_but_one : {X : Type 0} (P : X → Type 0) (xs : List X) (index : ℕ) → All P xs → All P (remove xs index)
+pub all_but_one : {X : Type 0} (P : X → Type 0) (xs : List X) (index : ℕ) → All P xs → All P (remove xs index)
 all_but_one P xs index all = All-append P (take index xs) (drop (suc index) xs) (All-take P index xs all) (All-drop P (suc index) xs all)
 
 -- a disk with one bio less

@@ -5,5 +5,6 @@ pub mod FlagLemmas
 pub mod FrontLemmas
 pub mod ImageLemmas
 pub mod KeptLemmas
+pub mod PendingLemmas
 pub mod MoveLemmas
 pub mod MaximalLemmas

@@ -1,12 +1,14 @@
 -- How a disk is kept. No contract of its public calls speaks of this.
-use Rattle.std.specs.Prelude.{◌≡◌, ◌+◌, ◌-◌, ◌*◌, ◌^◌, ◌<◌, ◌≤◌, ◌++◌, ℕ, Bool, true, List, map, length, take, drop, replicate, All}
+use Rattle.std.specs.Prelude.{◌≡◌, ◌+◌, ◌-◌, ◌*◌, ◌^◌, ◌<◌, ◌≤◌, ◌++◌, ℕ, Bool, true, List, [], map, length, take, drop, replicate, All}
 use Rattle.stack_base.specs.declared.ids.Range.{Range}
 use Rattle.stack_base.specs.declared.ids.Bad.{Bad}
 use Rattle.stack_base.specs.Words.{is_written}
 use Rattle.image_lanes.specs.Lanes.{counting, sectors}
 use Rattle.bio_records.specs.declared.bio.Bio.{Bio}
+use Rattle.elem_ledger.specs.declared.element.Element.{Element}
 use Rattle.bio_records.specs.declared.bio.Pad.{Pad}
-use Rattle.bio_records.specs.Items.{Item}
+use Rattle.bio_records.specs.declared.body.BioBody.{BioBody}
+use Rattle.bio_records.specs.Items.{Item, IsAlone}
 use Rattle.model_disks.specs.Disks.{IsBadRange}
 
 -- the words are those of so many sectors as there are flags, and the flag of a sector says whether it is written
@@ -53,3 +55,11 @@ pub record IsKept (sectors : ℕ) (bads : List Bad) (items : List (Item Pad)) : 
   pub size : sectors < 2 ^ 64
   pub bad : All (IsBadRange sectors) bads
   pub pending : All (IsWithin sectors) items
+
+-- the first bios that wait, side by side in a window of this size, and the list of those behind them
+pub record IsWindow (size room : ℕ) (window : List (Element (BioBody Pad))) (rest : List (Item Pad)) : Type 0 where
+  pub alone : All IsAlone window
+  pub few : length window ≤ size
+  pub fits : size ≤ room
+  -- the list is empty unless the window is full
+  pub full : length window < size → rest ≡ []

@@ -1,7 +1,9 @@
 //! A disk: its image, its bad ranges and the bios that wait in it.
 use crate::fault::fault;
 use crate::image::Image;
-use bio_records::{BioElement, BioList, Bios};
+use crate::pending::Pending;
+use crate::walk::Waiting;
+use bio_records::{BioElement, Bios};
 use stack_base::{Bad, DevId, Range, Status};
 use std::alloc::{AllocError, Global};
 use std::marker::Model;
@@ -10,12 +12,26 @@ use std::marker::Model;
 /// `drivers/block/brd.c` does).
 ///
 /// Contracts see its device, its bad ranges, its sectors and the bios that wait in it (`DiskState`).
-#[derive(Drop)]
 pub struct Disk {
     dev: DevId,
     bad: Vec<Bad>,
     image: Image,
-    pending: BioList,
+    pending: Pending,
+}
+
+// A drop by hand is proved here, once. A derived one every crate above would prove anew that drops a disk.
+impl Drop for Disk {
+    fn drop(self) {
+        let Disk {
+            dev: _,
+            bad,
+            image,
+            pending,
+        } = self;
+        drop(bad);
+        drop(image);
+        drop(pending);
+    }
 }
 
 impl Model for Disk {
@@ -56,7 +72,7 @@ impl Disk {
     ///
     /// # Errors
     ///
-    /// Where there is no memory for the image or for the bad ranges.
+    /// Where there is no memory for the image, for the bad ranges or for the first bios that wait.
     pub fn open(alloc: Global, dev: DevId, sectors: u64, bad: &[Bad]) -> Result<Disk, AllocError>
         requires { All (IsBadRange sectors) bad.now }
         ensures { IfOk result (λ disk. disk ≡ opened dev sectors bad.now) }
@@ -65,7 +81,7 @@ impl Disk {
             dev,
             bad: bad.to_vec(alloc)?,
             image: Image::zeros(alloc, sectors)?,
-            pending: BioList::new(),
+            pending: Pending::new(alloc)?,
         })
     }
 
@@ -147,9 +163,9 @@ impl Disk {
         self.pending.len()
     }
 
-    /// The bios that wait, to be looked at, in the two parts that `BioList::walk` shows: the first of them in order, and then the others
+    /// The bios that wait, to be looked at, in two parts as `BioList::walk` shows them: the first of them in order, and then the others
     /// with the last one first. It takes no memory.
-    pub fn waiting(&self) -> (Bios<'_>, Bios<'_>)
+    pub fn waiting(&self) -> (Waiting<'_>, Bios<'_>)
         ensures { result.0 ++ reverse result.1 ≡ map plain_of self.now.pending }
     {
         self.pending.walk()

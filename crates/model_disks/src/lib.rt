@@ -11,5 +11,8 @@ mod fault;
 mod flags;
 mod image;
 pub mod laws;
+mod pending;
+mod walk;
 
 pub use disk::{Disk, Done};
+pub use walk::Waiting;

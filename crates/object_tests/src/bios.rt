@@ -1,5 +1,6 @@
 //! Elements, bios and lists of them as a test makes them.
 ghost use Rattle.std.specs.Prelude.{◌≡◌};
+ghost use Rattle.std.specs.Iterator.{IsFinite};
 ghost use Rattle.bio_records.specs.Items.{item_of, IsAlone};
 
 use bio_records::{Bio, BioBody, BioElement, BioList, Bios, Iter, Pad};
@@ -96,7 +97,14 @@ fn pops(list: &mut BioList, writes: &[u32]) -> bool {
 }
 
 /// Whether the two walks over a list show the bios of these writes: the first one in order, and the second one with the last one first.
-pub fn shows((front, back): (Bios<'_>, Bios<'_>), writes: &[u32]) -> bool {
+pub fn shows<'a, I: Iterator<Item = &'a BioBody<Pad>> + Drop>(
+    walks: (I, Bios<'_>),
+    writes: &[u32],
+) -> bool
+    requires can { I.can_next walks.0 }
+    requires ends { IsFinite (I.remaining walks.0) }
+{
+    let (front, back) = walks;
     let mut left = writes;
     for body in front {
         match left.split_first() {

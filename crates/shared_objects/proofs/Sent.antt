@@ -52,7 +52,19 @@ rescue_list_send : IsSend rescue_list.the_row
 rescue_list_send = search (sendable, crosses, list_send, dev.the_field_send) depth 40
 
 disk_send : IsSend disk.the_row
-disk_send = search (sendable, crosses, list_send, bad.the_send, dev.the_field_send) depth 40
+disk_send = search (
+  sendable,
+  crosses,
+  list_send,
+  bad.the_send,
+  dev.the_field_send,
+  segment.the_send,
+  pad.the_send,
+  bio.the_field_send,
+  share.the_send,
+  array_vec.the_send,
+  knot.send-BioBody,
+) depth 40
 
 node_send : IsSend node.the_row
 node_send = search (

@@ -51,7 +51,19 @@ book_send : IsSend book.the_row
 book_send = search (sendable, crosses, places.the_send, node_send) depth 40
 
 disk_send : IsSend disk.the_row
-disk_send = search (sendable, crosses, list_send, bad.the_send, dev.the_field_send) depth 40
+disk_send = search (
+  sendable,
+  crosses,
+  list_send,
+  bad.the_send,
+  dev.the_field_send,
+  segment.the_send,
+  pad.the_send,
+  bio.the_field_send,
+  share.the_send,
+  array_vec.the_send,
+  knot.send-BioBody,
+) depth 40
 
 pub crosses-requires-8-send-X : goal.crosses-requires-8-send-X
 crosses-requires-8-send-X c κs = search (sendable, rescue_list_send) depth 40

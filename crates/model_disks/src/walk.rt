@@ -1,0 +1,51 @@
+//! A walk over the bios that wait in a disk.
+ghost use Rattle.std.specs.Prelude.{◌≡◌, ◌++◌, map};
+ghost use Rattle.std.specs.Iterator.{YieldsFirstBy, item_count};
+ghost use Rattle.bio_records.specs.Items.{item_of, plain_body, plain_of};
+
+use bio_records::{BioBody, BioElement, Bios, Pad};
+use std::marker::Model;
+
+/// Some of the bios that wait in a disk, one after the other, seen as the list of those that are left: first those that stand side by side, and
+/// then those of a list.
+#[derive(Drop)]
+pub struct Waiting<'a> {
+    window: &'a [BioElement],
+    rest: Bios<'a>,
+}
+
+impl<'a> Model for Waiting<'a> {
+    ghost use Rattle.std.specs.Prelude.{◌++◌, List, map};
+    ghost use Rattle.bio_records.specs.Items.{item_of, plain_of, Plain};
+
+    ghost Value = { List Plain };
+
+    ghost view = { λ w. map plain_of (map item_of w.window.now) ++ w.rest };
+}
+
+impl<'a> Waiting<'a> {
+    /// The bios of a window, and then those of a list.
+    pub(crate) fn new(window: &'a [BioElement], rest: Bios<'a>) -> Waiting<'a>
+        ensures { result ≡ map plain_of (map item_of window.now) ++ rest.entry }
+    {
+        Waiting { window, rest }
+    }
+}
+
+impl<'a> Iterator for Waiting<'a> {
+    type Item = &'a BioBody<Pad>;
+
+    ghost next_gives = { YieldsFirstBy (λ body. plain_body body.now) (λ rest. rest) };
+
+    ghost remaining = { item_count (λ rest. rest) };
+
+    fn next(&mut self) -> Option<&'a BioBody<Pad>> {
+        match self.window.split_first() {
+            Some((first, others)) => {
+                self.window = others;
+                Some(&first.body)
+            }
+            None => self.rest.next(),
+        }
+    }
+}
