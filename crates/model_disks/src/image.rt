@@ -24,7 +24,6 @@ fn zeros<'a>() -> &'a [u64]
 /// Contracts see the list of the sectors, each of 64 words. Only a front is kept, up to the last sector that was ever written: all words behind
 /// it are zeros. Room for all sectors is reserved at the opening, so the front grows without taking memory, and what is behind it costs nothing.
 /// Sums and runs go by a flag for each sector of the front, and read no word of a sector that is not written.
-#[derive(Drop)]
 pub struct Image {
     // How many sectors there are.
     count: u64,
@@ -32,6 +31,19 @@ pub struct Image {
     front: Vec<u64>,
     // For each sector of the front whether it is written, as one of its words is not 0.
     flags: Vec<bool>,
+}
+
+// By hand, as that of `Disk`.
+impl Drop for Image {
+    fn drop(self) {
+        let Image {
+            count: _,
+            front,
+            flags,
+        } = self;
+        drop(front);
+        drop(flags);
+    }
 }
 
 impl Model for Image {
