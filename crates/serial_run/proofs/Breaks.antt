@@ -23,10 +23,9 @@ use Rattle.run_machine.specs.Scene.{Setup}
 use Rattle.task_steps.specs.Routed.{routing_setup}
 use Rattle.task_steps.specs.Stage.{Stage, Owes}
 use Rattle.run_machine.specs.Tasks.{TaskState, Writer, Rescuer, Completer, Keeper, Empty, Brings, Carries, Fails, Keeps, Stops, request, look_of, lets}
-use Rattle.task_steps.specs.Turns.{step_by, step_of, resting_step, idle_step, breach_of, doing_breach, Acts, ActsIf, TurnsBy, Asks}
-use Rattle.task_steps.proofs.Turned.{acts}
+use Rattle.task_steps.specs.Turns.{step_by, step_of, resting_step, idle_step, breach_of, doing_breach, Asks, Rested, Waited, Asked, Saw}
 use Rattle.run_machine.proofs.Idle.{IsFair, fair_task}
-use Rattle.task_core.proofs.opened.Seen.{followed, has_seen, lets_ask, served, told_serves}
+use Rattle.task_core.proofs.opened.Seen.{has_seen, lets_ask, served, told_serves}
 use Rattle.block_core.specs.Breaks.{GoesUnrefused, is_refusal, is_broken, broke_in}
 
 no_end : {breach : Breach} → Broken breach ≢ Ended
@@ -135,39 +134,27 @@ module _ (old new : Plain) (tasks : ℕ → TaskState) (count place : ℕ) (next
   abbrev asked : Request
   asked = request (routing_setup stage.routing) task
 
-  asks_unbroken : (between : Plain) → objects_of between ≡ objects_of old → IsLet stage.ledger (objects_of old) task (look_of task)
-      → Acts PlainServes (Owes stage) (routing_setup stage.routing) task between next new (Broken breach) → ⊥
-  asks_unbroken between same lets is =
-      elim (acts PlainServes (Owes stage) (routing_setup stage.routing) asked task between next new (Broken breach) is) [
-        | inl rests ↦ no_end (rests.1.2 ∙ ap resting_step (whole task (well.tasks place)))
-        | inr asks ↦ by_reply asks
-      ]
-    where
-      fair : IsFair (objects_of old) asked
-      fair = fair_task (routing_setup stage.routing) (objects_of old) task (λ pool min later duties e. well.resizes place pool min later duties e lets (pool_number pool))
+  fair : IsLet stage.ledger (objects_of old) task (look_of task) → IsFair (objects_of old) asked
+  fair lets = fair_task (routing_setup stage.routing) (objects_of old) task (λ pool min later duties e. well.resizes place pool min later duties e lets (pool_number pool))
 
-      by_reply : Asks PlainServes (Owes stage) (routing_setup stage.routing) asked task between next new (Broken breach) → ⊥
-      by_reply asks =
-          elim (followed PlainServes (routing_setup stage.routing) (id_of task) asked asks.middle new (Broken breach) asks.reply asks.follows) [
-            | inl told ↦
-                let serves = served old new tasks count place next between asks.middle same asks.reply
-                (told_serves between asks.middle asked asks.reply (subst (λ o. HasRound o asked) (sym same) there) asks.replied) asks.owed in
-                found_breaks (routing_setup stage.routing) (id_of task) (objects_of old) (objects_of asks.middle) stage.ledger breach asked asks.reply fair serves
-                (well.answers place here asks.reply (objects_of asks.middle) serves) told.1
-            | inr nothing ↦ never_idle nothing.1.0 breach nothing.1.2
-          ]
+  asks_unbroken : (between : Plain) → objects_of between ≡ objects_of old → IsLet stage.ledger (objects_of old) task (look_of task)
+      → Asks PlainServes (Owes stage) (routing_setup stage.routing) task between next new (Broken breach) → ⊥
+  asks_unbroken between same lets asks =
+      elim asks.follows [
+        | inl told ↦
+            let serves = served old new tasks count place next between asks.middle same asks.reply
+            (told_serves between asks.middle asked asks.reply (subst (λ o. HasRound o asked) (sym same) there) asks.replied) asks.owed in
+            found_breaks (routing_setup stage.routing) (id_of task) (objects_of old) (objects_of asks.middle) stage.ledger breach asked asks.reply (fair lets) serves
+            (well.answers place here asks.reply (objects_of asks.middle) serves) told.2
+        | inr nothing ↦ never_idle nothing.1.0 breach nothing.1.2
+      ]
 
   no_breach : Waiting ≢ Broken breach
   no_breach e = cc
 
   pub unbroken : TakesStep old tasks place next new (Broken breach) → ⊥
-  unbroken is = by_look (look_of task) refl is
-    where
-      by_look : (o : Option Request) → look_of task ≡ o → TurnsBy o PlainServes (Owes stage) (routing_setup stage.routing) task old next new (Broken breach) → ⊥
-      by_look None e is = asks_unbroken old refl (subst (IsLet stage.ledger (objects_of old) task) (sym e) tt) is
-      by_look (Some look) e (seen, between, saw, is) = by_let (lets task seen) refl is
-        where
-          by_let : (b : Bool) → lets task seen ≡ b → ActsIf b PlainServes (Owes stage) (routing_setup stage.routing) task between next new (Broken breach) → ⊥
-          by_let true q is =
-              asks_unbroken between (has_seen old new tasks count place next look e seen between saw).0 (lets_ask old new tasks count place next look e seen between saw q) is
-          by_let false q is = no_breach (sym is.2)
+  unbroken (Rested rests same stays tells) = no_end (tells ∙ ap resting_step (whole task (well.tasks place)))
+  unbroken (Waited look seen looks saw early same tells) = no_breach (sym tells)
+  unbroken (Asked none asks) = asks_unbroken old refl (subst (IsLet stage.ledger (objects_of old) task) (sym none) tt) asks
+  unbroken (Saw look seen between looks saw due asks) =
+      asks_unbroken between (has_seen old new tasks count place next look looks seen between saw).0 (lets_ask old new tasks count place next look looks seen between saw due) asks

@@ -9,11 +9,11 @@ use Rattle.task_steps.specs.declared.step.Step.{Step}
 use Rattle.task_steps.specs.declared.step.Step.TheVariants.{Stepped, Blocked, Waiting, Ended, Broken}
 use Rattle.run_machine.specs.Requests.{Request, Reply, Rest}
 use Rattle.run_machine.specs.Scene.{Setup}
-use Rattle.run_machine.specs.Tasks.{TaskState, request, look_of, lets}
+use Rattle.run_machine.specs.Tasks.{TaskState, request}
 use Rattle.task_steps.specs.Routed.{Routing, routing_setup}
 use Rattle.task_steps.specs.Stage.{Stage, Owes}
 use Rattle.task_steps.specs.TaskViews.{TaskOf}
-use Rattle.task_steps.specs.Turns.{Turns, TurnsBy, ActsIf, AsksFor}
+use Rattle.task_steps.specs.Turns.{Turns, Rested, Waited, Asked, Saw}
 use Rattle.object_things.specs.Histories.{Call}
 use Rattle.shared_objects.specs.Desks.{DeskState, DeskServes}
 use Rattle.shared_objects.specs.Logs.{is_event, events_in, IsMet, IsSeenIn, FoundNone, KnowsLast, WentThrough, HasPass, IsLogged, HasStopped, seen_by, ShowsStep}
@@ -47,25 +47,18 @@ counts setup task next seen log more (Blocked pool) events shows is = is ∙ ap 
 
 module _ (owes : Request → Reply → Type 0) (setup : Setup) where
   -- a task that asks for nothing stays as it is
-  rest_acts : (task next : TaskState) (old new : DeskState) (step : Step) (asked : Request) → asked ≡ Rest → AsksFor DeskServes owes setup asked task old next new step
+  rest_turns : (task next : TaskState) (old new : DeskState) (step : Step) → request setup task ≡ Rest → Turns DeskServes owes setup task old next new step
       → next ≡ task
-  rest_acts task next old new step Rest is a = a.0
-  rest_acts task next old new step asked is a = absurd (cc is)
-
-  rest_if : (b : Bool) (task next : TaskState) (old new : DeskState) (step : Step) → request setup task ≡ Rest → ActsIf b DeskServes owes setup task old next new step → next ≡ task
-  rest_if true task next old new step is a = rest_acts task next old new step (request setup task) is a
-  rest_if false task next old new step is a = a.0
-
-  rest_turns : (look : Option Request) (task next : TaskState) (old new : DeskState) (step : Step) → request setup task ≡ Rest
-      → TurnsBy look DeskServes owes setup task old next new step → next ≡ task
-  rest_turns None task next old new step is t = rest_acts task next old new step (request setup task) is t
-  rest_turns (Some look) task next old new step is t = rest_if (lets task t.0) task next t.1 new step is t.3
+  rest_turns task next old new step is (Rested rests same stays tells) = same
+  rest_turns task next old new step is (Waited look seen looks saw early same tells) = same
+  rest_turns task next old new step is (Asked none asks) = absurd (asks.any is)
+  rest_turns task next old new step is (Saw look seen between looks saw due asks) = absurd (asks.any is)
 
   -- a task that has stopped has stopped later
   still : (task next : TaskState) (log more : List Call) (old new : DeskState) (step : Step) → Turns DeskServes owes setup task old next new step
       → HasStopped setup log task → HasStopped setup (log ++ more) next
   still task next log more old new step t stopped = elim stopped [
-    | inl rests ↦ inl (ap (request setup) (rest_turns (look_of task) task next old new step rests t) ∙ rests)
+    | inl rests ↦ inl (ap (request setup) (rest_turns task next old new step rests t) ∙ rests)
     | inr saw ↦ inr (saw.0, Contains-append_left log more saw.0 saw.1, saw.2, saw.3)
   ]
 

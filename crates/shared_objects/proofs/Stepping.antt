@@ -22,7 +22,7 @@ use Rattle.run_machine.specs.Laws.{Object, OfNone, object_of}
 use Rattle.run_machine.specs.Scene.{Setup}
 use Rattle.task_steps.specs.Stage.{Stage, Owes}
 use Rattle.run_machine.specs.Tasks.{Todo, Taken, NoBio, HasBio, HasBoth, Carried, Empty, Brings, Carries, Fails, Duty, Keeping, Keeps, carried_answered, carried_request, Stops, TaskState, Writer, Rescuer, Completer, Keeper, writer_look, request, look_of, lets, answered}
-use Rattle.task_steps.specs.Turns.{Turns, TurnsBy, ActsIf, AsksFor, Asks, Follows, silent_step, step_by, step_of, resting_step, breach_of, idle_step}
+use Rattle.task_steps.specs.Turns.{Turns, Rested, Waited, Asked, Saw, Asks, silent_step, step_by, step_of, resting_step, breach_of, idle_step}
 use Rattle.object_things.specs.Stamps.{is_spent, PassBy}
 use Rattle.object_things.specs.Histories.{Call}
 use Rattle.shared_objects.specs.Calls.{struck}
@@ -143,10 +143,6 @@ module _ (setup : Setup) (first : TaskState) where
   one_ask stage log task old new (Complete disk) reply same is l serves idle owed = completes stage log task old new disk reply same is l serves idle owed
   one_ask stage log task old new asked reply same is l serves idle owed = plain stage log task old new asked reply same is l serves (λ e. cc) owed
 
-  not_rest : (old new : DeskState) (asked : Request) (reply : Reply) → DeskServes old asked reply new → asked ≡ Rest → ⊥
-  not_rest old new Rest reply serves is = serves
-  not_rest old new asked reply serves is = absurd (cc is)
-
   looks_left : (log : List Call) (task next : TaskState) (asked : Request) (middle new : DeskState) (left : ℕ) (step : Step) → IsLogged setup first log next middle
       → HasCalled middle LookLeft (LeftOver left) new → step ≡ idle_step left → Goes log next new (λ calls. ShowsStep setup task next (seen_by new.pass) calls step)
   looks_left log task next asked middle new left step is calls tells =
@@ -157,11 +153,12 @@ module _ (setup : Setup) (first : TaskState) where
             (idle_shows setup task next (seen_by new.pass) (look.0 ∷ []) look.0 left (left == 0) refl (quiet_first look.0 [] look.3) look.1.asks look.1.replies (Contains-push [] look.0)),
       )
 
-  followed : (log : List Call) (task next : TaskState) (asked : Request) (reply : Reply) (middle new : DeskState) (step : Step) → asked ≡ request setup task
-      → (asked ≡ Rest → ⊥) → next ≡ answered setup task reply → Goes log next middle (Tells (what_of asked reply) asked reply (seen_by middle.pass))
-      → Follows DeskServes setup (id_of task) asked reply middle new step → Goes log next new (λ calls. ShowsStep setup task next (seen_by new.pass) calls step)
-  followed log task next asked Nothing middle new step same apart goes_on g f =
-      let look = looks_left (log ++ g.0) task next asked middle new f.0 step g.1 f.1 f.2 in
+  -- there was nothing, and what it has looked at stands behind
+  in_vain : (log : List Call) (task next : TaskState) (asked : Request) (middle new : DeskState) (step : Step) (left : ℕ)
+      → Goes log next middle (Tells (what_of asked Nothing) asked Nothing (seen_by middle.pass)) → HasCalled middle LookLeft (LeftOver left) new → step ≡ idle_step left
+      → Goes log next new (λ calls. ShowsStep setup task next (seen_by new.pass) calls step)
+  in_vain log task next asked middle new step left g looked tells =
+      let look = looks_left (log ++ g.0) task next asked middle new left step g.1 looked tells in
       let quiet : events_in g.0 ≡ [] = subst (λ told. Tells told asked Nothing (seen_by middle.pass) g.0) (nothing_none asked) g.2 in (
         g.0 ++ look.0,
         subst (λ l. IsLogged setup first l next new) (append_assoc log g.0 look.0) look.1,
@@ -179,41 +176,37 @@ module _ (setup : Setup) (first : TaskState) where
           quiet_parts call calls true is quiet =
               absurd (cc (sym (ap (λ (e : Bool). cond e (call ∷ events_in calls) (events_in calls)) is) ∙ quiet))
           quiet_parts call calls false is quiet = (is, sym (ap (λ (e : Bool). cond e (call ∷ events_in calls) (events_in calls)) is) ∙ quiet)
-  followed log task next asked reply middle new step same apart goes_on g f =
+
+  -- there was a reply that the step tells
+  told_of : (log : List Call) (task next : TaskState) (asked : Request) (reply : Reply) (middle new : DeskState) (step : Step) → asked ≡ request setup task
+      → (asked ≡ Rest → ⊥) → next ≡ answered setup task reply → Goes log next middle (Tells (what_of asked reply) asked reply (seen_by middle.pass))
+      → new ≡ middle → step ≡ step_of setup (id_of task) asked reply → Goes log next new (λ calls. ShowsStep setup task next (seen_by new.pass) calls step)
+  told_of log task next asked reply middle new step same apart goes_on g stays tells =
       let apart_task : request setup task ≡ Rest → ⊥ = λ rests. apart (same ∙ rests) in
       let rests : is_some (breach_of (answered setup task reply)) ≡ true → request setup next ≡ Rest =
       λ broke. subst (λ t. request setup t ≡ Rest) (sym goes_on) (broken_rests setup (answered setup task reply) broke) in (
         g.0,
-        subst (λ n. IsLogged setup first (log ++ g.0) next n) (sym f.0) g.1,
-        subst (ShowsStep setup task next (seen_by new.pass) g.0) (sym f.1)
+        subst (λ n. IsLogged setup first (log ++ g.0) next n) (sym stays) g.1,
+        subst (ShowsStep setup task next (seen_by new.pass) g.0) (sym tells)
             (shows_step setup task next (seen_by new.pass) g.0 (what_of asked reply) asked reply same refl
-            (subst (λ d. Tells (what_of asked reply) asked reply (seen_by d.pass) g.0) (sym f.0) g.2)
+            (subst (λ d. Tells (what_of asked reply) asked reply (seen_by d.pass) g.0) (sym stays) g.2)
             (λ spent. rests (subst (λ r. is_some (breach_of (answered setup task r)) ≡ true) (sym spent) (spent_breaks_off setup task apart_task)))
             (λ stop. rests (stop_breaks setup task reply apart_task (subst (λ a. is_stop a reply ≡ true) same stop)))),
       )
 
-  asks : (stage : Stage) (log : List Call) (task next : TaskState) (old new : DeskState) (step : Step) (asked : Request) → asked ≡ request setup task
+  asks : (stage : Stage) (log : List Call) (task next : TaskState) (old new : DeskState) (step : Step)
       → IsLogged setup first log task old → Let log task (look_of task) → answered setup task Nothing ≡ task
-      → Asks DeskServes (Owes stage) setup asked task old next new step → Goes log next new (λ calls. ShowsStep setup task next (seen_by new.pass) calls step)
-  asks stage log task next old new step asked same is l idle a =
-      let g = one_ask stage log task old a.middle asked a.reply same is l a.replied idle a.owed in
-      followed log task next asked a.reply a.middle new step same (not_rest old a.middle asked a.reply a.replied) a.goes_on
-      (g.0, subst (λ t. IsLogged setup first (log ++ g.0) t a.middle) (sym a.goes_on) g.1, g.2) a.follows
-
-  asks_for : (stage : Stage) (log : List Call) (task next : TaskState) (old new : DeskState) (step : Step) (asked : Request) → asked ≡ request setup task
-      → IsLogged setup first log task old → Let log task (look_of task) → answered setup task Nothing ≡ task
-      → AsksFor DeskServes (Owes stage) setup asked task old next new step → Goes log next new (λ calls. ShowsStep setup task next (seen_by new.pass) calls step)
-  asks_for stage log task next old new step Rest same is l idle a =
-      stays log task next old new (λ calls. ShowsStep setup task next (seen_by new.pass) calls step) is a.0 a.1
-      (subst (ShowsStep setup task next (seen_by new.pass) []) (sym a.2) (rests_shows setup task next (seen_by new.pass) (breach_of task) (ap (request setup) a.0 ∙ sym same)))
-  asks_for stage log task next old new step asked same is l idle a = asks stage log task next old new step asked same is l idle a
-
-  acts_if : (stage : Stage) (log : List Call) (task next : TaskState) (old new : DeskState) (step : Step) (b : Bool)
-      → IsLogged setup first log task old → (b ≡ true → Let log task (look_of task)) → answered setup task Nothing ≡ task
-      → ActsIf b DeskServes (Owes stage) setup task old next new step → Goes log next new (λ calls. ShowsStep setup task next (seen_by new.pass) calls step)
-  acts_if stage log task next old new step true is l idle a = asks_for stage log task next old new step (request setup task) refl is (l refl) idle a
-  acts_if stage log task next old new step false is l idle a =
-      stays log task next old new (λ calls. ShowsStep setup task next (seen_by new.pass) calls step) is a.0 a.1 (subst (ShowsStep setup task next (seen_by new.pass) []) (sym a.2) refl)
+      → Asks DeskServes (Owes stage) setup task old next new step → Goes log next new (λ calls. ShowsStep setup task next (seen_by new.pass) calls step)
+  asks stage log task next old new step is l idle a =
+      let asked = request setup task in
+      let g = one_ask stage log task old a.middle asked a.reply refl is l a.replied idle a.owed in
+      let to : Goes log next a.middle (Tells (what_of asked a.reply) asked a.reply (seen_by a.middle.pass)) =
+      (g.0, subst (λ t. IsLogged setup first (log ++ g.0) t a.middle) (sym a.goes_on) g.1, g.2) in
+      elim a.follows [
+        | inl told ↦ told_of log task next asked a.reply a.middle new step refl a.any a.goes_on to told.1 told.2
+        | inr nothing ↦ in_vain log task next asked a.middle new step nothing.1.0
+            (subst (λ r. Goes log next a.middle (Tells (what_of asked r) asked r (seen_by a.middle.pass))) nothing.0 to) nothing.1.1 nothing.1.2
+      ]
 
   look_call : (look : Request) → (look ≡ LookRound) ⊎ (look ≡ LookLeft) → (old new : DeskState) (reply : Reply) → DeskServes old look reply new
       → HasCalled old look reply new × (object_of look ≡ OfNone → ⊥) × (is_glance look reply ≡ true)
@@ -230,19 +223,36 @@ module _ (setup : Setup) (first : TaskState) where
   looks (Keeper (Keeps (duty ∷ duties))) look e = inr (cc e)
   looks task look e = absurd (cc e)
 
-  turns : (stage : Stage) (log : List Call) (task next : TaskState) (old new : DeskState) (step : Step) (look : Option Request) → look_of task ≡ look
-      → IsLogged setup first log task old → answered setup task Nothing ≡ task → TurnsBy look DeskServes (Owes stage) setup task old next new step
+  -- with a look before them
+  saw : (log : List Call) (task next : TaskState) (old between new : DeskState) (step : Step) (look : Request) (seen : Reply) → look_of task ≡ Some look
+      → IsLogged setup first log task old → DeskServes old look seen between
+      → ((call : Call) → call.asked ≡ look → call.told.reply ≡ seen → IsLogged setup first (log ++ call ∷ []) task between
+      → Goes (log ++ call ∷ []) next new (λ calls. ShowsStep setup task next (seen_by new.pass) calls step))
       → Goes log next new (λ calls. ShowsStep setup task next (seen_by new.pass) calls step)
-  turns stage log task next old new step None same is idle t =
-      asks_for stage log task next old new step (request setup task) refl is (subst (Let log task) (sym same) tt) idle t
-  turns stage log task next old new step (Some look) same is idle t =
-      let called_look = look_call look (looks task look same) old t.1 t.0 t.2 in
-      let seen = glanced log task old t.1 look t.0 is called_look.0 called_look.1 called_look.2 in
-      further log seen.0 next new (λ calls. ShowsStep setup task next (seen_by new.pass) calls step) (λ calls. ShowsStep setup task next (seen_by new.pass) calls step)
-      (λ calls shows. shows_further setup task next (seen_by new.pass) seen.0 calls step seen.3 shows)
-      (acts_if stage (log ++ seen.0 ∷ []) task next t.1 new step (lets task t.0) seen.2
-      (λ ok. subst (Let (log ++ seen.0 ∷ []) task) (sym same)
-      (seen.0, Contains-push log seen.0, seen.1.asks, subst (λ r. IsTrue (lets task r)) (sym seen.1.replies) (subst IsTrue (sym ok) refl))) idle t.3)
+  saw log task next old between new step look seen same is served on =
+      let called_look = look_call look (looks task look same) old between seen served in
+      let made = glanced log task old between look seen is called_look.0 called_look.1 called_look.2 in
+      further log made.0 next new (λ calls. ShowsStep setup task next (seen_by new.pass) calls step) (λ calls. ShowsStep setup task next (seen_by new.pass) calls step)
+      (λ calls shows. shows_further setup task next (seen_by new.pass) made.0 calls step made.3 shows)
+      (on made.0 made.1.asks made.1.replies made.2)
+
+  turns : (stage : Stage) (log : List Call) (task next : TaskState) (old new : DeskState) (step : Step)
+      → IsLogged setup first log task old → answered setup task Nothing ≡ task → Turns DeskServes (Owes stage) setup task old next new step
+      → Goes log next new (λ calls. ShowsStep setup task next (seen_by new.pass) calls step)
+  turns stage log task next old new step is idle (Rested rests same same_desk tells) =
+      stays log task next old new (λ calls. ShowsStep setup task next (seen_by new.pass) calls step) is same same_desk
+      (subst (ShowsStep setup task next (seen_by new.pass) []) (sym tells) (rests_shows setup task next (seen_by new.pass) (breach_of task) (ap (request setup) same ∙ rests)))
+  turns stage log task next old new step is idle (Waited look seen looks_at served early same tells) =
+      saw log task next old new new step look seen looks_at is served
+      (λ call asks_it replies logged. stays (log ++ call ∷ []) task next new new (λ calls. ShowsStep setup task next (seen_by new.pass) calls step) logged same refl
+      (subst (ShowsStep setup task next (seen_by new.pass) []) (sym tells) refl))
+  turns stage log task next old new step is idle (Asked none a) =
+      asks stage log task next old new step is (subst (Let log task) (sym none) tt) idle a
+  turns stage log task next old new step is idle (Saw look seen between looks_at served due a) =
+      saw log task next old between new step look seen looks_at is served
+      (λ call asks_it replies logged. asks stage (log ++ call ∷ []) task next between new step logged
+      (subst (Let (log ++ call ∷ []) task) (sym looks_at)
+      (call, Contains-push log call, asks_it, subst (λ r. IsTrue (lets task r)) (sym replies) (subst IsTrue (sym due) refl))) idle a)
 
 pub steps_are_logged : StepsAreLogged
-steps_are_logged stage setup first task next log old new step is t = turns setup first stage log task next old new step (look_of task) refl is (idle setup task) t
+steps_are_logged stage setup first task next log old new step is t = turns setup first stage log task next old new step is (idle setup task) t

@@ -1,16 +1,17 @@
 -- What the keeper has still to do, from a place on.
-use Rattle.std.proofs.Common.{◌≡◌, ◌≢◌, inl, inr, ◌+◌, ℕ, List, [], ◌∷◌, Option, Some, None, map, drop, slice_get, sym, ap, ◌∙◌, subst}
+use Rattle.std.proofs.Common.{◌≡◌, ◌≢◌, inl, inr, ◌+◌, ℕ, List, [], ◌∷◌, Option, Some, None, map, drop, slice_get, refl, sym, ap, ◌∙◌, subst}
 use Rattle.std.proofs.lemmas.List.{drop_more, drop_all}
 use Rattle.std.proofs.lemmas.Option.{slice_get_cases, slice_get_within, get_or_from_slice_get}
 use Rattle.task_steps.specs.declared.keeper.Duty.{Duty}
 use Rattle.run_machine.specs.declared.event.Breach.{Breach}
 use Rattle.task_steps.specs.declared.step.Step.{Step}
+use Rattle.task_steps.specs.declared.step.Step.TheVariants.{Waiting}
 use Rattle.run_machine.specs.Scene.{Setup}
 use Rattle.run_machine.specs.Requests.{Request, Reply, LookLeft, LeftOver}
 use Rattle.run_machine.specs.Tasks.{Duty as DutyState, Keeping, Keeps, Keeper, later_of}
-use Rattle.task_steps.specs.Turns.{Acts, ActsIf, Turns}
+use Rattle.task_steps.specs.Turns.{Asks, Turns, Saw, Waited}
 use Rattle.task_steps.specs.KeeperViews.{duty_of, keeping_of}
-use Rattle.task_steps.proofs.Landing.{same_is_true}
+use Rattle.task_steps.proofs.Landing.{same_is_true, other_is_false}
 
 -- the duty at a place comes before those behind it
 pub duty_there : (duties : List Duty) (next : ℕ) (duty : Duty) → slice_get duties next ≡ Some duty
@@ -39,17 +40,18 @@ has_next items read next broken now duty view whole same next_is =
     sym view ∙ ap (λ b. keeping_of b (map duty_of (drop next items))) whole
     ∙ ap Keeps (subst (λ xs. map duty_of (drop next xs) ≡ duty_of duty ∷ map duty_of (drop (next + 1) xs)) same next_is)
 
--- and may do it where none is unfinished but the writes of the rounds behind
-pub attends : {S : Type 0} (serves : S → Request → Reply → S → Type 0) (owes : Request → Reply → Type 0) (setup : Setup) (now : Keeping)
-    (duty : Duty) (rest : List DutyState) (broken : Option Breach) (old between new : S) (step : Step) (left : ℕ)
-    → now ≡ Keeps (duty_of duty ∷ rest) → serves old LookLeft (LeftOver left) between → left ≡ later_of (duty_of duty)
-    → Acts serves owes setup (Keeper (Keeps (duty_of duty ∷ rest))) between (Keeper (keeping_of broken rest)) new step
-    → Turns serves owes setup (Keeper now) old (Keeper (keeping_of broken rest)) new step
-attends serves owes setup now duty rest broken old between new step left is looked same acts =
-    subst (λ keeping. Turns serves owes setup (Keeper keeping) old (Keeper (keeping_of broken rest)) new step) (sym is) (
-      LeftOver left,
-      between,
-      looked,
-      subst (λ b. ActsIf b serves owes setup (Keeper (Keeps (duty_of duty ∷ rest))) between (Keeper (keeping_of broken rest)) new step)
-          (sym (same_is_true left (later_of (duty_of duty)) same)) acts,
-    )
+module _ {S : Type 0} (serves : S → Request → Reply → S → Type 0) (owes : Request → Reply → Type 0) (setup : Setup) (now : Keeping)
+    (duty : Duty) (rest : List DutyState) (is : now ≡ Keeps (duty_of duty ∷ rest)) (old between : S) (left : ℕ)
+    (looked : serves old LookLeft (LeftOver left) between) where
+  -- and may do it where none is unfinished but the writes of the rounds behind
+  pub attends : (broken : Option Breach) (new : S) (step : Step) → left ≡ later_of (duty_of duty)
+      → Asks serves owes setup (Keeper (Keeps (duty_of duty ∷ rest))) between (Keeper (keeping_of broken rest)) new step
+      → Turns serves owes setup (Keeper now) old (Keeper (keeping_of broken rest)) new step
+  attends broken new step same asks =
+      subst (λ keeping. Turns serves owes setup (Keeper keeping) old (Keeper (keeping_of broken rest)) new step) (sym is)
+      (Saw LookLeft (LeftOver left) between refl looked (same_is_true left (later_of (duty_of duty)) same) asks)
+
+  pub keeper_waits : left ≢ later_of (duty_of duty) → Turns serves owes setup (Keeper now) old (Keeper now) between Waiting
+  keeper_waits other =
+      subst (λ keeping. Turns serves owes setup (Keeper keeping) old (Keeper keeping) between Waiting) (sym is)
+      (Waited LookLeft (LeftOver left) refl looked (other_is_false left (later_of (duty_of duty)) other) refl refl)

@@ -12,6 +12,7 @@ pub mod Parts
 pub mod LineHomes
 pub mod TaskHomes
 pub mod KeeperLemmas
+pub mod Asking
 pub mod Turned
 pub mod TurnLemmas
 pub mod Attempting

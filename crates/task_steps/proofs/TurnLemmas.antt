@@ -8,64 +8,19 @@ use Rattle.run_machine.specs.declared.event.Breach.{Breach}
 use Rattle.run_machine.specs.declared.event.TaskId.{TaskId}
 use Rattle.run_machine.specs.declared.event.TaskId.TheVariants as id
 use Rattle.task_steps.specs.declared.step.Step.{Step}
-use Rattle.task_steps.specs.declared.step.Step.TheVariants.{Broken, Ended}
+use Rattle.task_steps.specs.declared.step.Step.TheVariants.{Waiting, Broken, Ended}
 use Rattle.task_steps.specs.declared.writer.begin.Attempt.{Attempt}
 use Rattle.run_machine.specs.Scene.{Setup}
 use Rattle.run_machine.specs.Requests.{Request, Reply, TakeBio, TakeVec, TakeSlip, GiveBio, GiveVec, GiveSlip, Punt, Pop, Push, Complete, Link, Drop, Done, Resize, NextRound, LookRound, LookLeft, Rest, HadBio, HadVec, HadSlip, Missed, Did, Popped, Completed, LinkedTo, DroppedTo, OutIs, Present, LeftOver, Nothing, Spent}
 use Rattle.run_machine.specs.Lines.{Takes, Punts, Links, ToPush, ToCut, ToRecord, ToMaster, Doing, Rests, Drives, Copies, Breaks, Line, line_request, line_answered}
 use Rattle.run_machine.specs.Tasks.{Todo, Taken, NoBio, HasBio, HasBoth, TaskState, Writer, Rescuer, needs_vector, with_bio, write_request, writer_request, writer_look, lets, rescuer_request, writer_answered, rescuer_answered, request}
-use Rattle.task_steps.specs.Turns.{step_of, Follows, Asks, AsksFor, Acts, ActsIf, TurnsBy, Turns, doing_breach, resting_step}
+use Rattle.task_steps.specs.Turns.{Asks, Turns, Rested, Waited, Asked, Saw, doing_breach, resting_step}
 use Rattle.task_steps.specs.LineViews.{is_asking, is_over}
-use Rattle.task_steps.specs.Answers.{finds, AnswersSubmission}
+use Rattle.task_steps.specs.Answers.{AnswersSubmission}
 use Rattle.task_steps.specs.WriterViews.{WriteAnswers, is_taken, tried}
-use Rattle.task_steps.specs.RescuerViews.{PopAnswers}
-
--- a request that asks for something
-abbrev pub asks_any : Request → Bool
-asks_any Rest = false
-asks_any request = true
+use Rattle.task_steps.proofs.Asking.{asks_any, asks_once}
 
 module _ {S : Type 0} (serves : S → Request → Reply → S → Type 0) (owes : Request → Reply → Type 0) (setup : Setup) where
-  -- nothing follows a reply that found something
-  pub follows_it : (task : TaskId) (asked : Request) (reply : Reply) (new : S) (step : Step) → finds reply ≡ true
-      → step ≡ step_of setup task asked reply → Follows serves setup task asked reply new new step
-  follows_it task asked (HadBio got bio) new step found tells = (refl, tells)
-  follows_it task asked (HadVec got vector) new step found tells = (refl, tells)
-  follows_it task asked (HadSlip got slip) new step found tells = (refl, tells)
-  follows_it task asked (Missed used) new step found tells = (refl, tells)
-  follows_it task asked Did new step found tells = (refl, tells)
-  follows_it task asked (Popped bio) new step found tells = (refl, tells)
-  follows_it task asked (Completed index bio status) new step found tells = (refl, tells)
-  follows_it task asked (LinkedTo answer) new step found tells = (refl, tells)
-  follows_it task asked (DroppedTo ended) new step found tells = (refl, tells)
-  follows_it task asked (OutIs out) new step found tells = (refl, tells)
-  follows_it task asked (Present round) new step found tells = (refl, tells)
-  follows_it task asked (LeftOver count) new step found tells = (refl, tells)
-  follows_it task asked Nothing new step found tells = absurd (true≢false (sym found))
-  follows_it task asked Spent new step found tells = (refl, tells)
-
-  -- a task that asks for something has asked
-  pub asks_for : (asked : Request) (task : TaskState) (old : S) (next : TaskState) (new : S) (step : Step) → asks_any asked ≡ true
-      → Asks serves owes setup asked task old next new step → AsksFor serves owes setup asked task old next new step
-  asks_for (TakeBio set waits) task old next new step any asks = asks
-  asks_for TakeVec task old next new step any asks = asks
-  asks_for (TakeSlip dev) task old next new step any asks = asks
-  asks_for (GiveBio bio) task old next new step any asks = asks
-  asks_for (GiveVec vector) task old next new step any asks = asks
-  asks_for (GiveSlip slip) task old next new step any asks = asks
-  asks_for (Punt dev moved) task old next new step any asks = asks
-  asks_for (Pop dev) task old next new step any asks = asks
-  asks_for (Push bio) task old next new step any asks = asks
-  asks_for (Complete disk) task old next new step any asks = asks
-  asks_for (Link writer opening) task old next new step any asks = asks
-  asks_for (Drop writer node status part) task old next new step any asks = asks
-  asks_for (Done write status) task old next new step any asks = asks
-  asks_for (Resize pool min) task old next new step any asks = asks
-  asks_for (NextRound round) task old next new step any asks = asks
-  asks_for LookRound task old next new step any asks = asks
-  asks_for LookLeft task old next new step any asks = asks
-  asks_for Rest task old next new step any asks = absurd (true≢false (sym any))
-
   -- a submission that has something to ask for
   line_asks_any : (doing : Doing) (lists : TaskLists) → is_asking doing ≡ true → asks_any (line_request setup doing lists) ≡ true
   line_asks_any Rests lists asking = asking
@@ -122,20 +77,11 @@ module _ {S : Type 0} (serves : S → Request → Reply → S → Type 0) (owes 
       → AnswersSubmission serves owes setup (id.Writer number) line.doing line.lists old next new step
       → Turns serves owes setup (Writer number todo taken line) old (Writer number todo taken next) new step
   line_turns_writer number todo taken line next old new step asking answers =
-      let asked = line_request setup line.doing line.lists in
-      let task = Writer number todo taken line in
-      let after = Writer number todo taken next in
-      let asks : Asks serves owes setup asked task old after new step = record {
-        reply = answers.reply;
-        middle = new;
-        replied = answers.replied;
-        owed = answers.owed;
-        goes_on = ap (λ (l : Line). Writer number todo taken l) answers.goes_on ∙ writer_goes_on number todo taken line.doing line answers.reply (asking_is line.doing asking);
-        follows = follows_it (id.Writer number) asked answers.reply new step answers.found answers.tells;
-      } in
-      subst (λ (look : Option Request). TurnsBy look serves owes setup task old after new step) (sym (no_look todo taken line.doing (asking_is line.doing asking)))
-      (subst (λ (asked : Request). AsksFor serves owes setup asked task old after new step) (sym (writer_asks number todo taken line.doing line (asking_is line.doing asking)))
-      (asks_for asked task old after new step (line_asks_any line.doing line.lists asking) asks))
+      let over = asking_is line.doing asking in
+      Asked (no_look todo taken line.doing over)
+      (asks_once serves owes setup (Writer number todo taken line) (line_request setup line.doing line.lists) old (Writer number todo taken next) new step answers.reply
+      (writer_asks number todo taken line.doing line over) (line_asks_any line.doing line.lists asking) answers.replied answers.owed answers.found
+      (ap (λ (l : Line). Writer number todo taken l) answers.goes_on ∙ writer_goes_on number todo taken line.doing line answers.reply over) answers.tells)
 
   -- one that has broken off says so
   broken_asks : (doing : Doing) (lists : TaskLists) (breach : Breach) → doing_breach doing ≡ Some breach → line_request setup doing lists ≡ Rest
@@ -153,22 +99,16 @@ module _ {S : Type 0} (serves : S → Request → Reply → S → Type 0) (owes 
   pub writer_broken : (number : ℕ) (todo : List Todo) (taken : Taken) (line : Line) (old : S) (breach : Breach) → doing_breach line.doing ≡ Some breach
       → Turns serves owes setup (Writer number todo taken line) old (Writer number todo taken line) old (Broken breach)
   writer_broken number todo taken line old breach broken =
-      let task = Writer number todo taken line in
-      let over = broken_is line.doing breach broken in
-      subst (λ (look : Option Request). TurnsBy look serves owes setup task old task old (Broken breach)) (sym (no_look todo taken line.doing over))
-      (subst (λ (asked : Request). AsksFor serves owes setup asked task old task old (Broken breach))
-      (sym (writer_asks number todo taken line.doing line over ∙ broken_asks line.doing line.lists breach broken))
-      (refl, refl, ap resting_step (sym broken)))
+      Rested (writer_asks number todo taken line.doing line (broken_is line.doing breach broken) ∙ broken_asks line.doing line.lists breach broken)
+      refl refl (ap resting_step (sym broken))
 
   -- one with no write left has ended
   pub writer_ended : (number : ℕ) (todo : List Todo) (taken : Taken) (line : Line) (old : S) → line.doing ≡ Rests → todo ≡ []
       → Turns serves owes setup (Writer number todo taken line) old (Writer number todo taken line) old Ended
   writer_ended number todo taken line old rests none =
-      subst (λ (todo : List Todo). Turns serves owes setup (Writer number todo taken line) old (Writer number todo taken line) old Ended) (sym none)
-      (let task = Writer number [] taken line in
-      subst (λ (asked : Request). AsksFor serves owes setup asked task old task old Ended)
-      (ap (λ (doing : Doing). writer_request setup number [] taken doing line) (sym rests))
-      (refl, refl, ap (λ (doing : Doing). resting_step (doing_breach doing)) (sym rests)))
+      Rested (ap (λ (todo : List Todo). writer_request setup number todo taken line.doing line) none
+      ∙ ap (λ (doing : Doing). writer_request setup number [] taken doing line) rests)
+      refl refl (ap (λ (doing : Doing). resting_step (doing_breach doing)) (sym rests))
 
   -- what a writer does for its next write
   with_bio_any : (number : ℕ) (needs : Bool) (todo : Todo) → asks_any (with_bio number needs todo) ≡ true
@@ -180,35 +120,26 @@ module _ {S : Type 0} (serves : S → Request → Reply → S → Type 0) (owes 
   write_asks_any number todo later (HasBio bio) = with_bio_any number (needs_vector todo.write) todo
   write_asks_any number todo later (HasBoth bio vector) = refl
 
-  pub write_acts : (number : ℕ) (todos : List Todo) (taken : Taken) (line : Line) (todo : Todo) (later : List Todo) (old : S) (next : TaskState) (new : S)
+  pub write_asks : (number : ℕ) (todos : List Todo) (taken : Taken) (line : Line) (todo : Todo) (later : List Todo) (old : S) (next : TaskState) (new : S)
       (step : Step) → line.doing ≡ Rests → todos ≡ todo ∷ later
       → WriteAnswers serves owes setup number (write_request number (todo ∷ later) taken) (todo ∷ later) taken line old next new step
-      → Acts serves owes setup (Writer number todos taken line) old next new step
-  write_acts number todos taken line todo later old next new step rests first answers =
-      let asked = write_request number (todo ∷ later) taken in
-      let task = Writer number (todo ∷ later) taken line in
-      let asks : Asks serves owes setup asked task old next new step = record {
-        reply = answers.reply;
-        middle = new;
-        replied = answers.replied;
-        owed = answers.owed;
-        goes_on = answers.goes_on ∙ ap (λ (doing : Doing). writer_answered setup number (todo ∷ later) taken doing line answers.reply) (sym rests);
-        follows = follows_it (id.Writer number) asked answers.reply new step answers.found answers.tells;
-      } in
-      subst (λ (ts : List Todo). Acts serves owes setup (Writer number ts taken line) old next new step) (sym first)
-      (subst (λ (asked : Request). AsksFor serves owes setup asked task old next new step)
-      (ap (λ (doing : Doing). writer_request setup number (todo ∷ later) taken doing line) (sym rests))
-      (asks_for asked task old next new step (write_asks_any number todo later taken) asks))
+      → Asks serves owes setup (Writer number todos taken line) old next new step
+  write_asks number todos taken line todo later old next new step rests first answers =
+      subst (λ (ts : List Todo). Asks serves owes setup (Writer number ts taken line) old next new step) (sym first)
+      (asks_once serves owes setup (Writer number (todo ∷ later) taken line) (write_request number (todo ∷ later) taken) old next new step answers.reply
+      (ap (λ (doing : Doing). writer_request setup number (todo ∷ later) taken doing line) rests) (write_asks_any number todo later taken)
+      answers.replied answers.owed answers.found
+      (answers.goes_on ∙ ap (λ (doing : Doing). writer_answered setup number (todo ∷ later) taken doing line answers.reply) (sym rests)) answers.tells)
 
   -- a writer without a bio for its next write asks for one
-  pub bio_acts : (number : ℕ) (todos : List Todo) (taken : Taken) (line : Line) (came : Attempt) (old new : S) (step : Step) → line.doing ≡ Rests
+  pub bio_asks : (number : ℕ) (todos : List Todo) (taken : Taken) (line : Line) (came : Attempt) (old new : S) (step : Step) → line.doing ≡ Rests
       → taken ≡ NoBio → todos ≢ []
       → ((todo : Todo) (later : List Todo) → WriteAnswers serves owes setup number (TakeBio Fs true) (todo ∷ later) NoBio line old (tried came number (todo ∷ later) line) new step)
-      → Acts serves owes setup (Writer number todos taken line) old (tried came number todos line) new step
-  bio_acts number [] taken line came old new step rests none some answers = absurd (some refl)
-  bio_acts number (todo ∷ later) taken line came old new step rests none some answers =
-      subst (λ (taken : Taken). Acts serves owes setup (Writer number (todo ∷ later) taken line) old (tried came number (todo ∷ later) line) new step) (sym none)
-      (write_acts number (todo ∷ later) NoBio line todo later old (tried came number (todo ∷ later) line) new step rests refl (answers todo later))
+      → Asks serves owes setup (Writer number todos taken line) old (tried came number todos line) new step
+  bio_asks number [] taken line came old new step rests none some answers = absurd (some refl)
+  bio_asks number (todo ∷ later) taken line came old new step rests none some answers =
+      subst (λ (taken : Taken). Asks serves owes setup (Writer number (todo ∷ later) taken line) old (tried came number (todo ∷ later) line) new step) (sym none)
+      (write_asks number (todo ∷ later) NoBio line todo later old (tried came number (todo ∷ later) line) new step rests refl (answers todo later))
 
   -- with a bio it looks at nothing
   taken_look : (todos : List Todo) (taken : Taken) (doing : Doing) → is_taken taken ≡ true → writer_look todos taken doing ≡ None
@@ -218,11 +149,9 @@ module _ {S : Type 0} (serves : S → Request → Reply → S → Type 0) (owes 
   taken_look (todo ∷ later) (HasBoth bio vector) doing has = refl
 
   pub taken_turns : (number : ℕ) (todos : List Todo) (taken : Taken) (line : Line) (old : S) (next : TaskState) (new : S) (step : Step)
-      → is_taken taken ≡ true → Acts serves owes setup (Writer number todos taken line) old next new step
+      → is_taken taken ≡ true → Asks serves owes setup (Writer number todos taken line) old next new step
       → Turns serves owes setup (Writer number todos taken line) old next new step
-  taken_turns number todos taken line old next new step has acts =
-      subst (λ (look : Option Request). TurnsBy look serves owes setup (Writer number todos taken line) old next new step)
-      (sym (taken_look todos taken line.doing has)) acts
+  taken_turns number todos taken line old next new step has asks = Asked (taken_look todos taken line.doing has) asks
 
   -- without one it looks at the round
   no_taken : (taken : Taken) → is_taken taken ≡ false → taken ≡ NoBio
@@ -231,20 +160,24 @@ module _ {S : Type 0} (serves : S → Request → Reply → S → Type 0) (owes 
   no_taken (HasBoth bio vector) has = absurd (true≢false has)
 
   looks : (todos : List Todo) (taken : Taken) (doing : Doing) (todo : Todo) (later : List Todo) → doing ≡ Rests → taken ≡ NoBio → todos ≡ todo ∷ later
-      → Some LookRound ≡ writer_look todos taken doing
-  looks todos taken doing todo later rests none first = λ k. writer_look (sym first k) (sym none k) (sym rests k)
+      → writer_look todos taken doing ≡ Some LookRound
+  looks todos taken doing todo later rests none first = λ k. writer_look (first k) (none k) (rests k)
 
-  pub look_turns : (number : ℕ) (todos : List Todo) (taken : Taken) (line : Line) (todo : Todo) (later : List Todo) (old : S) (round : ℕ) (between : S)
-      (next : TaskState) (new : S) (step : Step) (due : Bool) → line.doing ≡ Rests → is_taken taken ≡ false → todos ≡ todo ∷ later
-      → serves old LookRound (Present round) between → nat_le todo.round round ≡ due
-      → ActsIf due serves owes setup (Writer number todos taken line) between next new step
+  pub look_waits : (number : ℕ) (todos : List Todo) (taken : Taken) (line : Line) (todo : Todo) (later : List Todo) (old : S) (round : ℕ) (new : S)
+      → line.doing ≡ Rests → is_taken taken ≡ false → todos ≡ todo ∷ later → serves old LookRound (Present round) new → nat_le todo.round round ≡ false
+      → Turns serves owes setup (Writer number todos taken line) old (Writer number todos taken line) new Waiting
+  look_waits number todos taken line todo later old round new rests has first served early =
+      Waited LookRound (Present round) (looks todos taken line.doing todo later rests (no_taken taken has) first) served
+      (ap (λ (ts : List Todo). lets (Writer number ts taken line) (Present round)) first ∙ early) refl refl
+
+  pub look_asks : (number : ℕ) (todos : List Todo) (taken : Taken) (line : Line) (todo : Todo) (later : List Todo) (old : S) (round : ℕ) (between : S)
+      (next : TaskState) (new : S) (step : Step) → line.doing ≡ Rests → is_taken taken ≡ false → todos ≡ todo ∷ later
+      → serves old LookRound (Present round) between → nat_le todo.round round ≡ true
+      → Asks serves owes setup (Writer number todos taken line) between next new step
       → Turns serves owes setup (Writer number todos taken line) old next new step
-  look_turns number todos taken line todo later old round between next new step due rests has first served is acts =
-      let task = Writer number todos taken line in
-      let lets_is : lets task (Present round) ≡ due = ap (λ (ts : List Todo). lets (Writer number ts taken line) (Present round)) first ∙ is in
-      subst (λ (look : Option Request). TurnsBy look serves owes setup task old next new step)
-      (looks todos taken line.doing todo later rests (no_taken taken has) first)
-      (Present round, between, served, subst (λ (b : Bool). ActsIf b serves owes setup task between next new step) (sym lets_is) acts)
+  look_asks number todos taken line todo later old round between next new step rests has first served due asks =
+      Saw LookRound (Present round) between (looks todos taken line.doing todo later rests (no_taken taken has) first) served
+      (ap (λ (ts : List Todo). lets (Writer number ts taken line) (Present round)) first ∙ due) asks
 
   -- the same of rescuers
   rescuer_asks : (dev : DevId) (doing : Doing) (line : Line) → is_over doing ≡ false → rescuer_request setup dev doing line ≡ line_request setup doing line.lists
@@ -264,41 +197,14 @@ module _ {S : Type 0} (serves : S → Request → Reply → S → Type 0) (owes 
       → AnswersSubmission serves owes setup (id.Rescuer dev) line.doing line.lists old next new step
       → Turns serves owes setup (Rescuer dev line) old (Rescuer dev next) new step
   line_turns_rescuer dev line next old new step asking answers =
-      let asked = line_request setup line.doing line.lists in
-      let task = Rescuer dev line in
-      let after = Rescuer dev next in
       let over = asking_is line.doing asking in
-      let asks : Asks serves owes setup asked task old after new step = record {
-        reply = answers.reply;
-        middle = new;
-        replied = answers.replied;
-        owed = answers.owed;
-        goes_on = ap (λ (l : Line). Rescuer dev l) answers.goes_on ∙ rescuer_goes_on dev line.doing line answers.reply over;
-        follows = follows_it (id.Rescuer dev) asked answers.reply new step answers.found answers.tells;
-      } in
-      subst (λ (asked : Request). AsksFor serves owes setup asked task old after new step) (sym (rescuer_asks dev line.doing line over))
-      (asks_for asked task old after new step (line_asks_any line.doing line.lists asking) asks)
+      Asked refl
+      (asks_once serves owes setup (Rescuer dev line) (line_request setup line.doing line.lists) old (Rescuer dev next) new step answers.reply
+      (rescuer_asks dev line.doing line over) (line_asks_any line.doing line.lists asking) answers.replied answers.owed answers.found
+      (ap (λ (l : Line). Rescuer dev l) answers.goes_on ∙ rescuer_goes_on dev line.doing line answers.reply over) answers.tells)
 
   pub rescuer_broken : (dev : DevId) (line : Line) (old : S) (breach : Breach) → doing_breach line.doing ≡ Some breach
       → Turns serves owes setup (Rescuer dev line) old (Rescuer dev line) old (Broken breach)
   rescuer_broken dev line old breach broken =
-      let task = Rescuer dev line in
-      subst (λ (asked : Request). AsksFor serves owes setup asked task old task old (Broken breach))
-      (sym (rescuer_asks dev line.doing line (broken_is line.doing breach broken) ∙ broken_asks line.doing line.lists breach broken))
-      (refl, refl, ap resting_step (sym broken))
-
-  pub pop_turns : (dev : DevId) (line next : Line) (old new : S) (step : Step) → line.doing ≡ Rests
-      → PopAnswers serves owes setup dev line old next new step → Turns serves owes setup (Rescuer dev line) old (Rescuer dev next) new step
-  pop_turns dev line next old new step rests answers =
-      let task = Rescuer dev line in
-      let after = Rescuer dev next in
-      let asks : Asks serves owes setup (Pop dev) task old after new step = record {
-        reply = answers.reply;
-        middle = answers.middle;
-        replied = answers.replied;
-        owed = answers.owed;
-        goes_on = answers.goes_on ∙ ap (λ (doing : Doing). rescuer_answered setup dev doing line answers.reply) (sym rests);
-        follows = answers.follows;
-      } in
-      subst (λ (asked : Request). AsksFor serves owes setup asked task old after new step)
-      (ap (λ (doing : Doing). rescuer_request setup dev doing line) (sym rests)) asks
+      Rested (rescuer_asks dev line.doing line (broken_is line.doing breach broken) ∙ broken_asks line.doing line.lists breach broken)
+      refl refl (ap resting_step (sym broken))

@@ -9,30 +9,32 @@ use Rattle.run_machine.specs.declared.event.Breach.{Breach}
 use Rattle.run_machine.specs.declared.event.TaskId.TheVariants as id
 use Rattle.task_steps.specs.declared.objects.Objects.{Ghosts}
 use Rattle.task_steps.specs.declared.step.Step.{Step}
-use Rattle.run_machine.specs.Requests.{Request, Drop, DroppedTo}
+use Rattle.run_machine.specs.Requests.{Drop, DroppedTo}
 use Rattle.run_machine.specs.Scene.{Setup}
 use Rattle.run_machine.specs.Tasks.{TaskState, Carried, Completer, Duty, Keeper, Keeps}
 use Rattle.task_steps.specs.Homes.{IsTaskOf}
 use Rattle.task_steps.specs.KeeperViews.{keeping_of}
 use Rattle.task_steps.specs.Routed.{Routing, routing_setup}
 use Rattle.task_steps.specs.Stage.{Owes}
-use Rattle.task_steps.specs.Turns.{Acts, Asks, Turns, step_of}
+use Rattle.task_steps.specs.Turns.{Asks, Turns, step_of}
 
 -- objects that hold together, with a task that is one of theirs
 abbrev pub TaskReady : {S : Type 0} → Ghosts S → S → TaskState → Type 0
 TaskReady words objects task = words.holds objects × IsTaskOf (words.stage objects) task
 
--- a task over these objects has asked for what it asks for next
-abbrev pub TaskActs : {S : Type 0} → Ghosts S → Setup → TaskState → S → TaskState → S → Step → Type 0
-TaskActs words setup task old next new step = Acts words.serves (Owes (words.stage old)) setup task old next new step
-
--- the same where it looks at something first
-abbrev pub TaskTurns : {S : Type 0} → Ghosts S → Setup → TaskState → S → TaskState → S → Step → Type 0
-TaskTurns words setup task old next new step = Turns words.serves (Owes (words.stage old)) setup task old next new step
-
 -- a step of a task over these objects, which hold together behind it too
-pub record TaskDoes {S : Type 0} (words : Ghosts S) (routing : Routing) (task : TaskState) (old : S) (next : TaskState) (new : S) (step : Step) : Type 0 where
-  pub turns : TaskTurns words (routing_setup routing) task old next new step
+pub record TaskTurns {S : Type 0} (words : Ghosts S) (setup : Setup) (task : TaskState) (old : S) (next : TaskState) (new : S) (step : Step) : Type 0 where
+  pub turns : Turns words.serves (Owes (words.stage old)) setup task old next new step
+  pub held : words.holds new
+  pub same : words.stage new ≡ words.stage old
+
+-- the same where this is known of the devices
+abbrev pub TaskDoes : {S : Type 0} → Ghosts S → Routing → TaskState → S → TaskState → S → Step → Type 0
+TaskDoes words routing task old next new step = TaskTurns words (routing_setup routing) task old next new step
+
+-- a task that has nothing to look at any more has asked for what it asks for next, whatever is known of the devices
+pub record TaskAsks {S : Type 0} (words : Ghosts S) (task : TaskState) (old : S) (next : TaskState) (new : S) (step : Step) : Type 0 where
+  pub asks : (setup : Setup) → Asks words.serves (Owes (words.stage old)) setup task old next new step
   pub held : words.holds new
   pub same : words.stage new ≡ words.stage old
 
@@ -45,14 +47,7 @@ abbrev pub TellsDrop : DevId → ℕ → ℕ → Status → Ended → Step → T
 TellsDrop disk writer node status ended step =
     (part : Option (Item Pad)) → (s : Setup) → step ≡ step_of s (id.Completer disk) (Drop writer node status part) (DroppedTo ended)
 
--- the keeper has asked this for its next duty, whatever there is behind it, and goes on with the reply
-abbrev pub KeeperAsks : {S : Type 0} → Ghosts S → Request → Duty → S → Option Breach × Step → S → Type 0
-KeeperAsks words asked duty old done new =
-    (duties : List Duty) → Asks words.serves (Owes (words.stage old)) (routing_setup (words.stage old).routing) asked (Keeper (Keeps (duty ∷ duties))) old
-    (Keeper (keeping_of done.0 duties)) new done.1
-
--- it has asked what this duty is
-abbrev pub KeeperActs : {S : Type 0} → Ghosts S → Duty → S → Option Breach × Step → S → Type 0
-KeeperActs words duty old done new =
-    (duties : List Duty) → Acts words.serves (Owes (words.stage old)) (routing_setup (words.stage old).routing) (Keeper (Keeps (duty ∷ duties))) old
-    (Keeper (keeping_of done.0 duties)) new done.1
+-- the keeper has asked for what this duty is, whatever duties there are behind it
+abbrev pub KeeperAsks : {S : Type 0} → Ghosts S → Duty → S → Option Breach × Step → S → Type 0
+KeeperAsks words duty old done new =
+    (duties : List Duty) → TaskAsks words (Keeper (Keeps (duty ∷ duties))) old (Keeper (keeping_of done.0 duties)) new done.1

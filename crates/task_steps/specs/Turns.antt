@@ -1,5 +1,5 @@
 -- What a step of a task does, whatever objects it asks: the task's half of an event, with the reply that they gave.
-use Rattle.std.specs.Prelude.{◌≡◌, ◌⊎◌, ◌==◌, if◌then◌else◌, ℕ, Bool, true, false, Option, None, Some}
+use Rattle.std.specs.Prelude.{◌≡◌, ◌≢◌, ◌⊎◌, ◌==◌, if◌then◌else◌, ℕ, Bool, true, false, Option, None, Some}
 use Rattle.stack_base.specs.declared.ids.PoolId.TheVariants.{FsVecs, Records}
 use Rattle.bioset_pools.specs.Sets.{bios_of}
 use Rattle.bio_books.specs.Drops as end
@@ -76,42 +76,33 @@ resting_step (Some breach) = Broken breach
 abbrev pub idle_step : ℕ → Step
 idle_step left = if left == 0 then Ended else Waiting
 
--- what follows a reply: nothing, but where a look found nothing the task looks at the number of unfinished writes
-abbrev pub Follows : {S : Type 0} → (S → Request → Reply → S → Type 0) → Setup → TaskId → Request → Reply → S → S → Step → Type 0
-Follows serves setup task request Nothing middle new step = (left : ℕ) × serves middle LookLeft (LeftOver left) new × (step ≡ idle_step left)
-Follows serves setup task request reply middle new step = (new ≡ middle) × (step ≡ step_of setup task request reply)
-
--- the objects were asked for this, and the task goes on with their reply, for which they owe what they do
-pub record Asks {S : Type 0} (serves : S → Request → Reply → S → Type 0) (owes : Request → Reply → Type 0) (setup : Setup) (asked : Request)
+-- A task has asked one object for what it asks for next, and goes on with the reply, for which the objects owe what they do. The step tells this;
+-- but where there was nothing, the task has looked at the number of unfinished writes too.
+pub record Asks {S : Type 0} (serves : S → Request → Reply → S → Type 0) (owes : Request → Reply → Type 0) (setup : Setup)
     (task : TaskState) (old : S) (next : TaskState) (new : S) (step : Step) : Type 0 where
   pub reply : Reply
   pub middle : S
-  pub replied : serves old asked reply middle
-  pub owed : owes asked reply
+  pub any : request setup task ≢ Rest
+  pub replied : serves old (request setup task) reply middle
+  pub owed : owes (request setup task) reply
   pub goes_on : next ≡ answered setup task reply
-  pub follows : Follows serves setup (id_of task) asked reply middle new step
-
--- the same for what a task asks for next, which may be nothing
-abbrev pub AsksFor : {S : Type 0} → (S → Request → Reply → S → Type 0) → (Request → Reply → Type 0) → Setup → Request → TaskState → S → TaskState → S → Step → Type 0
-AsksFor serves owes setup Rest task old next new step = (next ≡ task) × (new ≡ old) × (step ≡ resting_step (breach_of task))
-AsksFor serves owes setup asked task old next new step = Asks serves owes setup asked task old next new step
-
-abbrev pub Acts : {S : Type 0} → (S → Request → Reply → S → Type 0) → (Request → Reply → Type 0) → Setup → TaskState → S → TaskState → S → Step → Type 0
-Acts serves owes setup task old next new step = AsksFor serves owes setup (request setup task) task old next new step
-
--- what a task saw lets it ask, or it waits
-abbrev pub ActsIf : {S : Type 0} → Bool → (S → Request → Reply → S → Type 0) → (Request → Reply → Type 0) → Setup → TaskState → S → TaskState → S → Step → Type 0
-ActsIf true serves owes setup task old next new step = Acts serves owes setup task old next new step
-ActsIf false serves owes setup task old next new step = (next ≡ task) × (new ≡ old) × (step ≡ Waiting)
-
-abbrev pub TurnsBy : {S : Type 0} → Option Request → (S → Request → Reply → S → Type 0) → (Request → Reply → Type 0) → Setup → TaskState → S → TaskState → S → Step → Type 0
-TurnsBy None serves owes setup task old next new step = Acts serves owes setup task old next new step
-TurnsBy {S = S} (Some look) serves owes setup task old next new step =
-    (seen : Reply) × (between : S) × serves old look seen between × ActsIf (lets task seen) serves owes setup task between next new step
+  pub follows : ((reply ≢ Nothing) × (new ≡ middle) × (step ≡ step_of setup (id_of task) (request setup task) reply))
+      ⊎ ((reply ≡ Nothing) × ((left : ℕ) × serves middle LookLeft (LeftOver left) new × (step ≡ idle_step left)))
 
 -- A step of a task: it looks where it has to, asks one object for what it asks for next, and goes on with the reply.
-abbrev pub Turns : {S : Type 0} → (S → Request → Reply → S → Type 0) → (Request → Reply → Type 0) → Setup → TaskState → S → TaskState → S → Step → Type 0
-Turns serves owes setup task old next new step = TurnsBy (look_of task) serves owes setup task old next new step
+pub data Turns {S : Type 0} (serves : S → Request → Reply → S → Type 0) (owes : Request → Reply → Type 0) (setup : Setup)
+    (task : TaskState) (old : S) (next : TaskState) (new : S) (step : Step) : Type 0 where
+  -- it asks for nothing: it has ended, or has broken off
+  Rested : request setup task ≡ Rest → next ≡ task → new ≡ old → step ≡ resting_step (breach_of task)
+      → Turns serves owes setup task old next new step
+  -- what it saw does not let it ask, and it waits
+  Waited : (look : Request) (seen : Reply) → look_of task ≡ Some look → serves old look seen new → lets task seen ≡ false
+      → next ≡ task → step ≡ Waiting → Turns serves owes setup task old next new step
+  -- it has nothing to look at, and has asked
+  Asked : look_of task ≡ None → Asks serves owes setup task old next new step → Turns serves owes setup task old next new step
+  -- what it saw lets it ask, and it has asked
+  Saw : (look : Request) (seen : Reply) (between : S) → look_of task ≡ Some look → serves old look seen between → lets task seen ≡ true
+      → Asks serves owes setup task between next new step → Turns serves owes setup task old next new step
 
 -- whether a step tells that a bio was completed
 abbrev pub completes : Step → Bool

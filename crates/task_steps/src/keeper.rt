@@ -3,14 +3,14 @@ ghost use Rattle.std.specs.Prelude.{◌≡◌, ◌+◌, [], ◌∷◌, ℕ, List
 ghost use Rattle.run_machine.specs.declared.event.Breach.TheVariants as Breach';
 ghost use Rattle.run_machine.specs.declared.event.TaskId.TheVariants as TaskId';
 ghost use Rattle.task_steps.specs.declared.step.Step.TheVariants as Step';
-ghost use Rattle.run_machine.specs.Requests.{NextRound, Resize};
+ghost use Rattle.run_machine.specs.Requests.{Resize};
 ghost use Rattle.run_machine.specs.Tasks.{Duty as DutyState, Keeper as Keeping', Keeps, Resizes, Starts, later_of};
 ghost use Rattle.task_steps.specs.Routed.{routing_setup};
 ghost use Rattle.task_steps.specs.Stage.{RequestFits, Owes};
 ghost use Rattle.task_steps.specs.Homes.{DutyFits, IsTaskOf};
-ghost use Rattle.task_steps.specs.Turns.{Acts, Asks, Turns};
+ghost use Rattle.task_steps.specs.Turns.{Asks, Turns};
 ghost use Rattle.task_steps.specs.KeeperViews.{duty_of, keeping_of, duties_from};
-ghost use Rattle.task_steps.specs.TaskSteps.{KeeperActs, KeeperAsks, TaskDoes, TaskReady};
+ghost use Rattle.task_steps.specs.TaskSteps.{KeeperAsks, TaskAsks, TaskDoes, TaskTurns, TaskReady};
 ghost use Rattle.task_steps.specs.Answers.{Ready};
 
 use crate::objects::{Objects, Unmade};
@@ -69,8 +69,7 @@ fn spent(nothing: Unmade) -> (Option<Breach>, Step)
 // Sets the reserve of a pool. It answers why the keeper cannot go on, where it cannot.
 fn resize<O: Objects>(objects: &mut O, pool: PoolId, min: u32) -> (Option<Breach>, Step)
     requires ready { Ready O.Objects objects.old (Resize pool min) }
-    ensures asks { (later : ℕ) → KeeperAsks O.Objects (Resize pool min) (Resizes pool min later) objects.old result objects.new }
-    ensures kept { O.holds objects.new × (O.stage objects.new ≡ O.stage objects.old) }
+    ensures does { (later : ℕ) → KeeperAsks O.Objects (Resizes pool min later) objects.old result objects.new }
 {
     match objects.resize(pool, min) {
         Ok(0) => (None, keeps(What::Resize { pool, min })),
@@ -85,8 +84,7 @@ fn resize<O: Objects>(objects: &mut O, pool: PoolId, min: u32) -> (Option<Breach
 // Starts the round of this number. It answers why the keeper cannot go on, where it cannot.
 fn start<O: Objects>(objects: &mut O, round: u32) -> (Option<Breach>, Step)
     requires holds { O.holds objects.old }
-    ensures asks { (later : ℕ) → KeeperAsks O.Objects (NextRound round) (Starts round later) objects.old result objects.new }
-    ensures kept { O.holds objects.new × (O.stage objects.new ≡ O.stage objects.old) }
+    ensures does { (later : ℕ) → KeeperAsks O.Objects (Starts round later) objects.old result objects.new }
 {
     match objects.next_round() {
         Ok(()) => (None, keeps(What::Round { round })),
@@ -108,8 +106,7 @@ impl Duty {
     fn attend<O: Objects>(self, objects: &mut O) -> (Option<Breach>, Step)
         requires holds { O.holds objects.old }
         requires fits { DutyFits (O.stage objects.old) (duty_of self) }
-        ensures acts { KeeperActs O.Objects (duty_of self) objects.old result objects.new }
-        ensures kept { O.holds objects.new × (O.stage objects.new ≡ O.stage objects.old) }
+        ensures does { KeeperAsks O.Objects (duty_of self) objects.old result objects.new }
     {
         match self {
             Duty::Resizes { pool, min, .. } => resize(objects, pool, min),

@@ -6,7 +6,7 @@ ghost use Rattle.task_steps.specs.Routed.{routing_setup};
 ghost use Rattle.task_steps.specs.Stage.{RequestFits, Owes};
 ghost use Rattle.task_steps.specs.Homes.{IsTaskOf};
 ghost use Rattle.task_steps.specs.Turns.{Turns};
-ghost use Rattle.task_steps.specs.RescuerViews.{rescuer_task, PopAnswers, RescuerPops};
+ghost use Rattle.task_steps.specs.RescuerViews.{rescuer_task};
 ghost use Rattle.task_steps.specs.TaskSteps.{TaskDoes, TaskReady};
 ghost use Rattle.task_steps.specs.Answers.{Ready};
 
@@ -57,9 +57,7 @@ impl Rescuer {
         requires ready { Ready O.Objects objects.old (Pop self.old.dev) }
         requires routing { (O.stage objects.old).routing ≡ routes.now }
         requires rests { self.old.line.doing ≡ Rests }
-        ensures step { RescuerPops O.Objects routes.now self.old objects.old self.new objects.new result }
-        ensures dev { self.new.dev ≡ self.old.dev }
-        ensures kept { O.holds objects.new × (O.stage objects.new ≡ O.stage objects.old) }
+        ensures does { TaskDoes O.Objects routes.now (rescuer_task self.old) objects.old (rescuer_task self.new) objects.new result }
     {
         let dev = self.dev;
         match objects.pop(dev) {

@@ -6,9 +6,9 @@ ghost use Rattle.run_machine.specs.Scene.{Setup};
 ghost use Rattle.task_steps.specs.Routed.{routing_setup};
 ghost use Rattle.task_steps.specs.Stage.{Owes};
 ghost use Rattle.task_steps.specs.Homes.{IsTaskOf};
-ghost use Rattle.task_steps.specs.Turns.{Acts, Turns};
+ghost use Rattle.task_steps.specs.Turns.{Asks, Turns};
 ghost use Rattle.task_steps.specs.WriterViews.{writer_task, next_of, tried, IsNextAlone, IsAttemptAtBioAlone, is_taken, writer_next};
-ghost use Rattle.task_steps.specs.TaskSteps.{TaskActs, TaskDoes, TaskReady, TaskTurns};
+ghost use Rattle.task_steps.specs.TaskSteps.{TaskAsks, TaskDoes, TaskReady, TaskTurns};
 
 pub(crate) mod begin;
 mod first_bio;
@@ -90,8 +90,7 @@ impl Writer {
         requires rests { self.old.line.doing ≡ Rests }
         requires first { self.old.todo ≡ todo.now ∷ drop 1 self.old.todo }
         requires some { is_taken self.old.taken ≡ true }
-        ensures acts { TaskActs O.Objects (routing_setup routes.now) (writer_task self.old) objects.old (writer_task self.new) objects.new result }
-        ensures kept { O.holds objects.new × (O.stage objects.new ≡ O.stage objects.old) }
+        ensures does { TaskDoes O.Objects routes.now (writer_task self.old) objects.old (writer_task self.new) objects.new result }
     {
         let taken = mem::replace(&mut self.taken, Taken::NoBio);
         let (next, step) = go_on(objects, routes, self.number, todo, taken, &mut self.line);
@@ -120,8 +119,7 @@ impl Writer {
         requires rests { self.old.line.doing ≡ Rests }
         requires none { self.old.taken ≡ NoBio }
         requires some { self.old.todo ≢ [] }
-        ensures acts { (setup : Setup) → TaskActs O.Objects setup (writer_task self.old) objects.old (writer_task self.new) objects.new result }
-        ensures kept { O.holds objects.new × (O.stage objects.new ≡ O.stage objects.old) }
+        ensures does { TaskAsks O.Objects (writer_task self.old) objects.old (writer_task self.new) objects.new result }
     {
         let (attempt, step) = take_bio(objects, self.number);
         self.have(attempt);
@@ -134,8 +132,7 @@ impl Writer {
         requires rests { self.old.line.doing ≡ Rests }
         requires first { self.old.todo ≡ todo.now ∷ drop 1 self.old.todo }
         requires none { is_taken self.old.taken ≡ false }
-        ensures turn { (setup : Setup) → TaskTurns O.Objects setup (writer_task self.old) objects.old (writer_task self.new) objects.new result }
-        ensures kept { O.holds objects.new × (O.stage objects.new ≡ O.stage objects.old) }
+        ensures does { (setup : Setup) → TaskTurns O.Objects setup (writer_task self.old) objects.old (writer_task self.new) objects.new result }
     {
         let round = objects.round();
         if round < todo.round {

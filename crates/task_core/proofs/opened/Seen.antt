@@ -26,10 +26,9 @@ use Rattle.task_core.specs.Plains.{objects_of, stage_of, PlainServes, StaysLast}
 use Rattle.task_core.specs.PlainSteps.{state_of_objects, scene_of_objects, HasRound, IsStill, IsPassedOver, StepsAreEvents}
 use Rattle.task_steps.specs.Routed.{routing_setup}
 use Rattle.task_steps.specs.Stage.{Stage, Owes}
-use Rattle.task_steps.specs.Turns.{silent_step, step_by, step_of, resting_step, breach_of, idle_step, Follows, Asks, Acts, ActsIf, TurnsBy}
+use Rattle.task_steps.specs.Turns.{silent_step, step_by, step_of, resting_step, breach_of, idle_step, Asks, Turns, Rested, Waited, Asked, Saw}
 use Rattle.run_machine.proofs.Idle.{IsFair, fair_task, task_stays}
 use Rattle.task_core.proofs.Quiet.{quiet, passed}
-use Rattle.task_steps.proofs.Turned.{acts}
 use Rattle.task_core.proofs.opened.OwedLedgers.{of_ledgers}
 
 -- what a task looks at
@@ -116,28 +115,6 @@ looks_any objects requests.LookRound is = tt
 looks_any objects requests.LookLeft is = tt
 looks_any objects _ is = absurd is
 
--- what follows a reply
-module _ {S : Type 0} (serves : S → Request → Reply → S → Type 0) (setup : Setup) (task : TaskId) (asked : Request) (middle new : S) (step : Step) where
-  abbrev FoundNothing : Reply → Type 0
-  FoundNothing reply = (reply ≡ requests.Nothing) × ((left : ℕ) × serves middle requests.LookLeft (requests.LeftOver left) new × (step ≡ idle_step left))
-
-  pub followed : (reply : Reply) → Follows serves setup task asked reply middle new step
-      → ((new ≡ middle) × (step ≡ step_of setup task asked reply)) ⊎ FoundNothing reply
-  followed requests.Nothing follows = inr (refl, follows)
-  followed (requests.HadBio got bio) follows = inl follows
-  followed (requests.HadVec got vector) follows = inl follows
-  followed (requests.HadSlip got slip) follows = inl follows
-  followed (requests.Missed used) follows = inl follows
-  followed requests.Did follows = inl follows
-  followed (requests.Popped bio) follows = inl follows
-  followed (requests.Completed index bio status) follows = inl follows
-  followed (requests.LinkedTo answer) follows = inl follows
-  followed (requests.DroppedTo ended) follows = inl follows
-  followed (requests.OutIs out) follows = inl follows
-  followed (requests.Present round) follows = inl follows
-  followed (requests.LeftOver count) follows = inl follows
-  followed requests.Spent follows = inl follows
-
 -- which steps are events
 abbrev is_event : Step → Bool
 is_event (Stepped event) = true
@@ -220,49 +197,43 @@ module _ (old new : Plain) (tasks : ℕ → TaskState) (count place : ℕ) (next
 
   -- a task that may ask, and is told of
   asks_stepped : place < count → (event : Event) (between : Plain) → objects_of between ≡ objects_of old → HasRound (objects_of old) asked
-      → IsLet stage.ledger (objects_of old) task (look_of task) → Acts PlainServes (Owes stage) (routing_setup stage.routing) task between next new (Stepped event)
+      → IsLet stage.ledger (objects_of old) task (look_of task) → Asks PlainServes (Owes stage) (routing_setup stage.routing) task between next new (Stepped event)
       → Steps (scene_of_objects old count) (state_of_objects old tasks) place event (state_of_objects new (upd tasks place next))
-  asks_stepped here event between same there lets is =
-      elim (acts PlainServes (Owes stage) (routing_setup stage.routing) asked task between next new (Stepped event) is) [
-        | inl rests ↦ no_event event (resting_step (breach_of task)) rests.1.2 (rest_is_none (breach_of task))
-        | inr asks ↦ by_reply asks
+  asks_stepped here event between same there lets asks =
+      elim asks.follows [
+        | inl told ↦
+            let is_told = told_by (id_of task) (what_of asked asks.reply) (silent_step (routing_setup stage.routing) asked asks.reply) event
+            (silent_is_none (routing_setup stage.routing) asked asks.reply) told.2 in
+            record {
+              here = here;
+              by = is_told.by;
+              is_let = lets;
+              reply = asks.reply;
+              told = is_told.what;
+              serves = subst (λ (o : Plain). Serves stage.ledger (objects_of old) asked asks.reply (objects_of o)) (sym told.1)
+                  (served between asks.middle same asks.reply
+                  (told_serves between asks.middle asked asks.reply (subst (λ o. HasRound o asked) (sym same) there) asks.replied) asks.owed);
+              goes_on = ap (upd tasks place) asks.goes_on;
+            }
+        | inr nothing ↦ no_event event (idle_step nothing.1.0) nothing.1.2 (idle_is_none (nothing.1.0 == 0))
       ]
-    where
-      by_reply : Asks PlainServes (Owes stage) (routing_setup stage.routing) asked task between next new (Stepped event)
-          → Steps (scene_of_objects old count) (state_of_objects old tasks) place event (state_of_objects new (upd tasks place next))
-      by_reply asks =
-          elim (followed PlainServes (routing_setup stage.routing) (id_of task) asked asks.middle new (Stepped event) asks.reply asks.follows) [
-            | inl told ↦
-                let is_told = told_by (id_of task) (what_of asked asks.reply) (silent_step (routing_setup stage.routing) asked asks.reply) event
-                (silent_is_none (routing_setup stage.routing) asked asks.reply) told.1 in
-                record {
-                  here = here;
-                  by = is_told.by;
-                  is_let = lets;
-                  reply = asks.reply;
-                  told = is_told.what;
-                  serves = subst (λ (o : Plain). Serves stage.ledger (objects_of old) asked asks.reply (objects_of o)) (sym told.0)
-                      (served between asks.middle same asks.reply
-                      (told_serves between asks.middle asked asks.reply (subst (λ o. HasRound o asked) (sym same) there) asks.replied) asks.owed);
-                  goes_on = ap (upd tasks place) asks.goes_on;
-                }
-            | inr nothing ↦ no_event event (idle_step nothing.1.0) nothing.1.2 (idle_is_none (nothing.1.0 == 0))
-          ]
 
   abbrev IsUnchanged : Type 0
   IsUnchanged = (objects_of new ≡ objects_of old) × (next ≡ task) × IsPassedOver (scene_of_objects old count) (state_of_objects old tasks) place
 
   -- a task that may ask, and nothing has happened
   asks_still : (step : Step) → IsStill step → (between : Plain) → objects_of between ≡ objects_of old
-      → Acts PlainServes (Owes stage) (routing_setup stage.routing) task between next new step → IsUnchanged
-  asks_still step still between same is =
-      elim (acts PlainServes (Owes stage) (routing_setup stage.routing) asked task between next new step is) [
-        | inl rests ↦ (
-          ap objects_of rests.1.1 ∙ same,
-          rests.1.0,
-          λ event other steps. absurd (rest_untold steps.reply event.what (subst (λ r. what_of r steps.reply ≡ Some event.what) rests.0 steps.told)),
-        )
-        | inr asks ↦ by_reply asks
+      → Asks PlainServes (Owes stage) (routing_setup stage.routing) task between next new step → IsUnchanged
+  asks_still step still between same asks =
+      elim asks.follows [
+        | inl told ↦
+            let is = still_untold (id_of task) (what_of asked asks.reply) (silent_step (routing_setup stage.routing) asked asks.reply) step still told.2 in
+            by_quiet asks.middle asks.reply (answers is.0) is.0 is.1 asks.goes_on (ap objects_of told.1)
+        | inr nothing ↦
+            let untold : what_of asked asks.reply ≡ None = subst (λ r. what_of asked r ≡ None) (sym nothing.0) (nothing_untold asked) in
+            by_quiet asks.middle asks.reply (answers untold) untold
+            (subst (λ r. IsStill (silent_step (routing_setup stage.routing) asked r)) (sym nothing.0) (nothing_is_still (routing_setup stage.routing) asked))
+            asks.goes_on (left_stays asks.middle new nothing.1.0 nothing.1.1)
       ]
     where
       fair : IsFair (calm (objects_of old)) asked
@@ -280,22 +251,8 @@ module _ (old new : Plain) (tasks : ℕ → TaskState) (count place : ℕ) (next
                 passed stage.ledger (objects_of old) (objects_of middle) other.objects asked reply steps.reply event.what found.0 untold serves steps.serves steps.told,
           )
 
-      answers : (asks : Asks PlainServes (Owes stage) (routing_setup stage.routing) asked task between next new step) → what_of asked asks.reply ≡ None
-          → Serves stage.ledger (objects_of old) asked asks.reply (objects_of asks.middle)
-      answers asks untold = served between asks.middle same asks.reply (untold_serves between asks.middle asked asks.reply untold asks.replied) asks.owed
-
-      by_reply : Asks PlainServes (Owes stage) (routing_setup stage.routing) asked task between next new step → IsUnchanged
-      by_reply asks =
-          elim (followed PlainServes (routing_setup stage.routing) (id_of task) asked asks.middle new step asks.reply asks.follows) [
-            | inl told ↦
-                let is = still_untold (id_of task) (what_of asked asks.reply) (silent_step (routing_setup stage.routing) asked asks.reply) step still told.1 in
-                by_quiet asks.middle asks.reply (answers asks is.0) is.0 is.1 asks.goes_on (ap objects_of told.0)
-            | inr nothing ↦
-                let untold : what_of asked asks.reply ≡ None = subst (λ r. what_of asked r ≡ None) (sym nothing.0) (nothing_untold asked) in
-                by_quiet asks.middle asks.reply (answers asks untold) untold
-                (subst (λ r. IsStill (silent_step (routing_setup stage.routing) asked r)) (sym nothing.0) (nothing_is_still (routing_setup stage.routing) asked))
-                asks.goes_on (left_stays asks.middle new nothing.1.0 nothing.1.1)
-          ]
+      answers : what_of asked asks.reply ≡ None → Serves stage.ledger (objects_of old) asked asks.reply (objects_of asks.middle)
+      answers untold = served between asks.middle same asks.reply (untold_serves between asks.middle asked asks.reply untold asks.replied) asks.owed
 
   -- what a task saw
   module _ (look : Request) (e : look_of task ≡ Some look) (seen : Reply) (between : Plain) (saw : PlainServes old look seen between) where
@@ -321,36 +278,33 @@ module _ (old new : Plain) (tasks : ℕ → TaskState) (count place : ℕ) (next
             let again = looked stage.ledger (objects_of old) (objects_of old) look other (task_looks task look e) serves in
             not_true (lets task other) (ap (lets task) (again.1 ∙ sym has_seen.1) ∙ not) asks
 
-    stepped_if : (b : Bool) → lets task seen ≡ b → place < count → HasRound (objects_of old) asked → (event : Event)
-        → ActsIf b PlainServes (Owes stage) (routing_setup stage.routing) task between next new (Stepped event)
-        → Steps (scene_of_objects old count) (state_of_objects old tasks) place event (state_of_objects new (upd tasks place next))
-    stepped_if true q here there event is = asks_stepped here event between has_seen.0 there (lets_ask q) is
-    stepped_if false q here there event is = no_event event Waiting is.2 refl
-
-    still_if : (b : Bool) → lets task seen ≡ b → (step : Step) → IsStill step → ActsIf b PlainServes (Owes stage) (routing_setup stage.routing) task between next new step
-        → IsUnchanged
-    still_if true q step still is = asks_still step still between has_seen.0 is
-    still_if false q step still is = (
-      ap objects_of is.1 ∙ has_seen.0,
-      is.0,
-      λ event other steps. absurd (let_once q steps.is_let),
-    )
-
-  stepped_by : (o : Option Request) → look_of task ≡ o → place < count → HasRound (objects_of old) asked → (event : Event)
-      → TurnsBy o PlainServes (Owes stage) (routing_setup stage.routing) task old next new (Stepped event)
+  -- a step that is told
+  stepped_by : (event : Event) → place < count → HasRound (objects_of old) asked
+      → Turns PlainServes (Owes stage) (routing_setup stage.routing) task old next new (Stepped event)
       → Steps (scene_of_objects old count) (state_of_objects old tasks) place event (state_of_objects new (upd tasks place next))
-  stepped_by None e here there event is =
-      asks_stepped here event old refl there (subst (IsLet stage.ledger (objects_of old) task) (sym e) tt) is
-  stepped_by (Some look) e here there event (seen, between, saw, is) = stepped_if look e seen between saw (lets task seen) refl here there event is
+  stepped_by event here there (Rested rests same stays tells) = no_event event (resting_step (breach_of task)) tells (rest_is_none (breach_of task))
+  stepped_by event here there (Waited look seen looks saw early same tells) = no_event event Waiting tells refl
+  stepped_by event here there (Asked none asks) = asks_stepped here event old refl there (subst (IsLet stage.ledger (objects_of old) task) (sym none) tt) asks
+  stepped_by event here there (Saw look seen between looks saw due asks) =
+      asks_stepped here event between (has_seen look looks seen between saw).0 there (lets_ask look looks seen between saw due) asks
 
-  still_by : (o : Option Request) → look_of task ≡ o → (step : Step) → IsStill step
-      → TurnsBy o PlainServes (Owes stage) (routing_setup stage.routing) task old next new step → IsUnchanged
-  still_by None e step still is = asks_still step still old refl is
-  still_by (Some look) e step still (seen, between, saw, is) = still_if look e seen between saw (lets task seen) refl step still is
+  -- and one that is not
+  still_by : (step : Step) → IsStill step → Turns PlainServes (Owes stage) (routing_setup stage.routing) task old next new step → IsUnchanged
+  still_by step still (Rested rests same stays tells) = (
+    ap objects_of stays,
+    same,
+    λ event other steps. absurd (rest_untold steps.reply event.what (subst (λ r. what_of r steps.reply ≡ Some event.what) rests steps.told)),
+  )
+  still_by step still (Waited look seen looks saw early same tells) = (
+    (has_seen look looks seen new saw).0,
+    same,
+    λ event other steps. absurd (let_once look looks seen new saw early steps.is_let),
+  )
+  still_by step still (Asked none asks) = asks_still step still old refl asks
+  still_by step still (Saw look seen between looks saw due asks) = asks_still step still between (has_seen look looks seen between saw).0 asks
 
 pub steps_are_events : StepsAreEvents
 steps_are_events = record {
-  stepped = λ old new tasks count place next event here there is.
-      stepped_by old new tasks count place next (look_of (tasks place)) refl here there event is;
-  still = λ old new tasks count place next step still is. still_by old new tasks count place next (look_of (tasks place)) refl step still is;
+  stepped = λ old new tasks count place next event here there is. stepped_by old new tasks count place next event here there is;
+  still = λ old new tasks count place next step still is. still_by old new tasks count place next step still is;
 }

@@ -1,24 +1,28 @@
 use Rattle.std.proofs.Common.{rules, refl}
 use Rattle.run_machine.specs.Requests.{Did, Spent}
+use Rattle.run_machine.specs.Tasks.{Starts}
+use Rattle.task_steps.specs.Stage.{Owes}
+use Rattle.task_steps.specs.KeeperViews.{keeping_of}
+use Rattle.task_steps.proofs.Asking.{duty_once}
 use Rattle.task_steps.proofs.keeper.start.Goals as goal
 
 -- src/keeper.rt
-pub returns-in-Ok-clause-asks : goal.returns-in-Ok-clause-asks
-returns-in-Ok-clause-asks g c later duties = record {
-  reply = Did;
-  middle = c.next_round.new.self;
-  replied = c.in-Ok.ensures.serves c.args.round;
-  owed = tt;
-  goes_on = refl;
-  follows = (refl, search rules);
+pub returns-in-Ok : goal.returns-in-Ok
+returns-in-Ok g c = record {
+  does = λ later duties. record {
+    asks = λ setup. duty_once g.O.Objects.serves (Owes (g.O.Objects.stage c.args.objects.now)) setup (Starts c.args.round later) duties _ c.args.objects.now
+        c.next_round.new.self _ Did (c.in-Ok.ensures.serves c.args.round) tt refl refl (search rules);
+    held = search rules;
+    same = search rules;
+  };
 }
 
-pub returns-in-Err-clause-asks : goal.returns-in-Err-clause-asks
-returns-in-Err-clause-asks g c later duties = record {
-  reply = Spent;
-  middle = c.next_round.new.self;
-  replied = c.in-Err.ensures.serves c.args.round;
-  owed = tt;
-  goes_on = search rules;
-  follows = (refl, search rules);
+pub returns-in-Err : goal.returns-in-Err
+returns-in-Err g c = record {
+  does = λ later duties. record {
+    asks = λ setup. duty_once g.O.Objects.serves (Owes (g.O.Objects.stage c.args.objects.now)) setup (Starts c.args.round later) duties _ c.args.objects.now
+        c.next_round.new.self _ Spent (c.in-Err.ensures.serves c.args.round) tt refl (search rules) (search rules);
+    held = search rules;
+    same = search rules;
+  };
 }

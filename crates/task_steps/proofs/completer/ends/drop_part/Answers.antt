@@ -5,10 +5,11 @@ use Rattle.bio_records.specs.Items.{item_of}
 use Rattle.bio_books.specs.Views.{ended_of}
 use Rattle.run_machine.specs.declared.event.TaskId.TheVariants.{Completer as Completer'}
 use Rattle.run_machine.specs.Requests.{Request, Drop, DroppedTo}
-use Rattle.run_machine.specs.Tasks.{Carried, Completer, after_drop}
+use Rattle.run_machine.specs.Tasks.{Carried, Brings, Completer, after_drop}
 use Rattle.task_steps.specs.Routed.{routing_setup}
 use Rattle.task_steps.specs.Stage.{Owes}
 use Rattle.task_steps.specs.Turns.{step_of}
+use Rattle.task_steps.proofs.Asking.{completer_once}
 use Rattle.task_steps.proofs.completer.ends.drop_part.Goals as goal
 
 pub returns-in-Ok : goal.returns-in-Ok
@@ -20,19 +21,14 @@ returns-in-Ok g c =
     after_drop (out-BioBody Pad body).bio.writer (out-BioBody Pad body).bio.node (ended_of c.in-Ok.dropped) in
     record {
       does = record {
-        turns = record {
-          reply = DroppedTo (ended_of c.in-Ok.dropped);
-          middle = c.drop_one.new.self;
-          replied = subst (λ body. g.O.Objects.serves c.args.objects.now (asked body) (DroppedTo (ended_of c.in-Ok.dropped)) c.drop_one.new.self)
-              c.deref.ensures c.in-Ok.ensures.serves;
-          owed = subst (λ body. Owes stage (asked body) (DroppedTo (ended_of c.in-Ok.dropped))) c.deref.ensures c.in-Ok.ensures.owed;
-          goes_on = ap (Completer c.args.disk) (subst (λ body. c.told.result.0 ≡ told body) c.deref.ensures c.told.ensures.carried);
-          follows = (
-            refl,
-            subst (λ body. c.told.result.1 ≡ step_of (routing_setup stage.routing) (Completer' c.args.disk) (asked body) (DroppedTo (ended_of c.in-Ok.dropped)))
-                c.deref.ensures (c.told.ensures.step (Some (item_of c.args.bio)) (routing_setup stage.routing)),
-          );
-        };
+        turns = completer_once g.O.Objects.serves (Owes stage) (routing_setup stage.routing) c.args.disk (Brings (item_of c.args.bio) c.args.status)
+            c.told.result.0 c.args.objects.now c.drop_one.new.self c.told.result.1 (DroppedTo (ended_of c.in-Ok.dropped))
+            (subst (λ body. g.O.Objects.serves c.args.objects.now (asked body) (DroppedTo (ended_of c.in-Ok.dropped)) c.drop_one.new.self)
+            c.deref.ensures c.in-Ok.ensures.serves)
+            (subst (λ body. Owes stage (asked body) (DroppedTo (ended_of c.in-Ok.dropped))) c.deref.ensures c.in-Ok.ensures.owed) refl refl
+            (ap (Completer c.args.disk) (subst (λ body. c.told.result.0 ≡ told body) c.deref.ensures c.told.ensures.carried))
+            (subst (λ body. c.told.result.1 ≡ step_of (routing_setup stage.routing) (Completer' c.args.disk) (asked body) (DroppedTo (ended_of c.in-Ok.dropped)))
+            c.deref.ensures (c.told.ensures.step (Some (item_of c.args.bio)) (routing_setup stage.routing)));
         held = search rules;
         same = search rules;
       };

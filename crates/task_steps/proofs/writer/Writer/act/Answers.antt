@@ -6,14 +6,14 @@ use Rattle.run_machine.specs.Tasks.{Todo, TaskState, write_request}
 use Rattle.task_steps.specs.Routed.{routing_setup}
 use Rattle.task_steps.specs.Stage.{Owes}
 use Rattle.task_steps.specs.Homes.{TodoFits}
-use Rattle.task_steps.specs.Turns.{Acts}
+use Rattle.task_steps.specs.Turns.{Asks}
 use Rattle.task_steps.specs.WriterViews.{WriterState, writer_task, taken_of, next_of, WriteAnswers}
-use Rattle.task_steps.proofs.TurnLemmas.{write_acts}
+use Rattle.task_steps.proofs.TurnLemmas.{taken_turns, write_asks}
 use Rattle.task_steps.proofs.writer.Writer.act.Goals as goal
 
 -- what it asks for its next write is what it asks for
-pub returns-clause-acts : goal.returns-clause-acts
-returns-clause-acts g c =
+pub returns : goal.returns
+returns g c =
     let serves = g.O.Objects.serves in
     let owes = Owes (g.O.Objects.stage c.args.objects.now) in
     let known = routing_setup c.args.routes.now in
@@ -29,9 +29,18 @@ returns-clause-acts g c =
     let answers =
     subst (λ (taken : Taken). WriteAnswers serves owes known w.number (write_request w.number (todo ∷ later) (taken_of taken)) (todo ∷ later) (taken_of taken) w.line old after new step)
     c.replace-taken.ensures.value (c.go_on-next.ensures.step later) in
-    subst (λ (next : TaskState). Acts serves owes known (writer_task c.args.self.now) old next new step) (sym (c.put.ensures todo first))
-    (subst (λ (s : WriterState). Acts serves owes known (writer_task s) old after new step) c.self.view_is
-    (write_acts serves owes known w.number w.todo (taken_of w.taken) w.line todo later old after new step rests first answers))
+    let asks =
+    subst (λ (next : TaskState). Asks serves owes known (writer_task c.args.self.now) old next new step) (sym (c.put.ensures todo first))
+    (subst (λ (s : WriterState). Asks serves owes known (writer_task s) old after new step) c.self.view_is
+    (write_asks serves owes known w.number w.todo (taken_of w.taken) w.line todo later old after new step rests first answers)) in
+    let now = c.args.self.now in
+    record {
+      does = record {
+        turns = taken_turns serves owes known now.number now.todo now.taken now.line old (writer_task c.put.new.self) new step c.requires.some asks;
+        held = c.go_on-next.ensures.kept.0;
+        same = c.go_on-next.ensures.kept.1;
+      };
+    }
 
 -- its next write is the first of those that fit
 pub go_on-next-requires-clause-todo : goal.go_on-next-requires-clause-todo

@@ -24,3 +24,7 @@ returns-then-asks g c =
         same = c.step.ensures.does.same;
       };
     }
+
+-- so is what it does for its next write, once it has looked at the round
+pub returns-else-has_bio : goal.returns-else-has_bio
+returns-else-has_bio g c = record { does = c.look.ensures.does (routing_setup c.args.routes.now) }

@@ -3,14 +3,14 @@ use Rattle.stack_base.specs.declared.ids.SetId.TheVariants.{Fs}
 use Rattle.run_machine.specs.Requests.{TakeBio}
 use Rattle.run_machine.specs.Tasks.{TaskState, NoBio}
 use Rattle.task_steps.specs.Stage.{Owes}
-use Rattle.task_steps.specs.Turns.{Acts}
+use Rattle.task_steps.specs.Turns.{Asks}
 use Rattle.task_steps.specs.WriterViews.{WriterState, writer_task, tried, WriteAnswers}
-use Rattle.task_steps.proofs.TurnLemmas.{bio_acts}
+use Rattle.task_steps.proofs.TurnLemmas.{bio_asks}
 use Rattle.task_steps.proofs.writer.Writer.take.Goals as goal
 
 -- what came of the attempt is what it asks for
-pub returns-clause-acts : goal.returns-clause-acts
-returns-clause-acts g c setup =
+pub returns : goal.returns
+returns g c =
     let serves = g.O.Objects.serves in
     let owes = Owes (g.O.Objects.stage c.args.objects.now) in
     let w = c.args.self.now in
@@ -18,7 +18,14 @@ returns-clause-acts g c setup =
     let old = c.args.objects.now in
     let new = c.take_bio-attempt.new.objects in
     let step = c.take_bio-attempt.result.1 in
-    subst (λ (next : TaskState). Acts serves owes setup (writer_task w) old next new step) (sym c.have.ensures)
-    (bio_acts serves owes setup w.number w.todo w.taken w.line came old new step c.requires.rests c.requires.none c.requires.some
-    (λ todo later. subst (λ (s : WriterState). WriteAnswers serves owes setup s.number (TakeBio Fs true) (todo ∷ later) NoBio w.line old (tried came s.number (todo ∷ later) w.line) new step)
-    c.self.view_is (c.take_bio-attempt.ensures.step setup todo later w.line)))
+    record {
+      does = record {
+        asks = λ setup.
+            subst (λ (next : TaskState). Asks serves owes setup (writer_task w) old next new step) (sym c.have.ensures)
+            (bio_asks serves owes setup w.number w.todo w.taken w.line came old new step c.requires.rests c.requires.none c.requires.some
+            (λ todo later. subst (λ (s : WriterState). WriteAnswers serves owes setup s.number (TakeBio Fs true) (todo ∷ later) NoBio w.line old (tried came s.number (todo ∷ later) w.line) new step)
+            c.self.view_is (c.take_bio-attempt.ensures.step setup todo later w.line)));
+        held = c.take_bio-attempt.ensures.kept.0;
+        same = c.take_bio-attempt.ensures.kept.1;
+      };
+    }
