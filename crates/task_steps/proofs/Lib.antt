@@ -17,4 +17,5 @@ pub mod Turned
 pub mod TurnLemmas
 pub mod Attempting
 pub mod KeptLemmas
+pub mod Resting
 pub mod Named

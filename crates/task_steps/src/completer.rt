@@ -17,8 +17,6 @@ mod closed;
 mod ends;
 mod gives;
 
-use crate::completer::closed::finish;
-use crate::completer::ends::drop_part;
 use crate::objects::{Chooser, Objects, Unmade};
 use crate::step::Step;
 use bio_books::{Back, ClosedNode};
@@ -60,7 +58,7 @@ impl Model for Carried {
 }
 
 // No element.
-pub(crate) fn nothing_held() -> Back
+fn nothing_held() -> Back
     ensures { holding_of result ≡ nothing_held }
 {
     Back {
@@ -91,50 +89,6 @@ fn put_back(rest: Back, back: Unmade) -> Back
     }
 }
 
-// It cannot go on, and keeps this.
-pub(crate) fn failing(breach: Breach, held: Back) -> Carried
-    ensures { result ≡ Fails breach (holding_kept (holding_of held)) }
-{
-    Carried {
-        load: Load::Fails { breach, held },
-    }
-}
-
-// An object had no ticket for a call. It keeps what came back, and what else it carried.
-pub(crate) fn spent(rest: Back, back: Unmade) -> (Carried, Step)
-    ensures carried { result.0 ≡ Fails Breach'.Spent (holding_kept (put_back (holding_of rest) back)) }
-    ensures step { result.1 ≡ Step'.Broken Breach'.Spent }
-{
-    let held = put_back(rest, back);
-    (failing(Breach::Spent, held), Step::Broken(Breach::Spent))
-}
-
-// What is left of a closed node after a call.
-pub(crate) fn carrying(writer: u32, node: ClosedNode) -> Carried
-    requires { IsAlonePart node.held.bio }
-    ensures { result ≡ Carries writer (closed_node_of node) }
-{
-    Carried {
-        load: Load::Carries { writer, node },
-    }
-}
-
-// A step of a completer that carries this.
-pub(crate) fn step_of<O: Objects>(objects: &mut O, disk: DevId, load: Load) -> (Carried, Step)
-    requires alone { IsLoadAlone load }
-    requires busy { is_busy (carried_of load) ≡ true }
-    requires ready { TaskReady O.Objects objects.old (Completes disk (carried_of load)) }
-    ensures does { CompleterDoes O.Objects disk (carried_of load) objects.old result objects.new }
-    ensures completes_none { completes result.1 ≡ false }
-{
-    match load {
-        Load::Empty => unreachable!(),
-        Load::Brings { bio, status } => drop_part(objects, disk, bio, status),
-        Load::Carries { writer, node } => finish(objects, disk, writer, node),
-        Load::Fails { breach, held } => (failing(breach, held), Step::Broken(breach)),
-    }
-}
-
 impl Carried {
     /// Nothing.
     pub fn empty() -> Carried
@@ -153,12 +107,41 @@ impl Carried {
         }
     }
 
-    // It carries this from now on.
+    // One that carries nothing carries this from now on: an assignment would have code that drops what was there.
     fn put(&mut self, load: Load)
-        requires { IsLoadAlone load }
+        requires empty { self.old ≡ Empty }
+        requires alone { IsLoadAlone load }
         ensures { self.new ≡ carried_of load }
     {
-        drop(mem::replace(&mut self.load, load));
+        mem::forget(mem::replace(&mut self.load, load));
+    }
+
+    // It cannot go on, and keeps this.
+    fn fail(&mut self, breach: Breach, held: Back) -> Step
+        requires { self.old ≡ Empty }
+        ensures carried { self.new ≡ Fails breach (holding_kept (holding_of held)) }
+        ensures step { result ≡ Step'.Broken breach }
+    {
+        self.put(Load::Fails { breach, held });
+        Step::Broken(breach)
+    }
+
+    // An object had no ticket for a call. It keeps what came back, and what else it carried.
+    fn spend(&mut self, rest: Back, back: Unmade) -> Step
+        requires { self.old ≡ Empty }
+        ensures carried { self.new ≡ Fails Breach'.Spent (holding_kept (put_back (holding_of rest) back)) }
+        ensures step { result ≡ Step'.Broken Breach'.Spent }
+    {
+        self.fail(Breach::Spent, put_back(rest, back))
+    }
+
+    // What is left of a closed node after a call.
+    fn keep(&mut self, writer: u32, node: ClosedNode)
+        requires empty { self.old ≡ Empty }
+        requires alone { IsAlonePart node.held.bio }
+        ensures { self.new ≡ Carries writer (closed_node_of node) }
+    {
+        self.put(Load::Carries { writer, node });
     }
 
     // Completes one of the bios that wait in the disk (`bio_endio`, `block/bio.c`). Where none waits, it looks whether any write is unfinished.
@@ -191,12 +174,24 @@ impl Carried {
                     Step::Waiting
                 }
             }
-            Err(back) => {
-                let held = put_back(nothing_held(), back);
-                let breach = Breach::Spent;
-                self.put(Load::Fails { breach, held });
-                Step::Broken(Breach::Spent)
-            }
+            Err(back) => self.spend(nothing_held(), back),
+        }
+    }
+
+    // A step of a completer that carried this.
+    fn go_on<O: Objects>(&mut self, objects: &mut O, disk: DevId, load: Load) -> Step
+        requires empty { self.old ≡ Empty }
+        requires alone { IsLoadAlone load }
+        requires busy { is_busy (carried_of load) ≡ true }
+        requires ready { TaskReady O.Objects objects.old (Completes disk (carried_of load)) }
+        ensures does { CompleterDoes O.Objects disk (carried_of load) objects.old (self.new, result) objects.new }
+        ensures completes_none { completes result ≡ false }
+    {
+        match load {
+            Load::Empty => unreachable!(),
+            Load::Brings { bio, status } => self.drop_part(objects, disk, bio, status),
+            Load::Carries { writer, node } => self.finish(objects, disk, writer, node),
+            Load::Fails { breach, held } => self.fail(breach, held),
         }
     }
 
@@ -218,8 +213,6 @@ impl Carried {
             return self.complete(objects, chooser, disk);
         }
         let load = mem::replace(&mut self.load, Load::Empty);
-        let (carried, step) = step_of(objects, disk, load);
-        self.put(carried.load);
-        step
+        self.go_on(objects, disk, load)
     }
 }

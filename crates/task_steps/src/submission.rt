@@ -8,6 +8,7 @@ ghost use Rattle.task_steps.specs.Stage.{Owes};
 ghost use Rattle.task_steps.specs.Homes.{IsLineOf};
 ghost use Rattle.task_steps.specs.Turns.{doing_breach};
 ghost use Rattle.task_steps.specs.LineViews.{unmade_kept, kept_of, doing_of, submission_of, IsDoingAlone, is_asking};
+ghost use Rattle.task_steps.specs.declared.submission.Doing.TheVariants as doing';
 ghost use Rattle.run_machine.specs.Kept.{bio_kept};
 ghost use Rattle.bio_books.specs.Views.{bio_of};
 ghost use Rattle.task_steps.specs.Answers.{AnswersSubmission, LineDoes};
@@ -137,11 +138,12 @@ impl Model for Line {
     ghost invariant = { λ l. IsDoingAlone l.doing };
 }
 
-// What it is at from now on.
+// What it is at from now on, where it was at nothing: an assignment would have code that drops what was there.
 pub(crate) fn put(at: &mut Doing, doing: Doing)
+    requires { at.old ≡ doing'.Rests }
     ensures { at.new ≡ doing }
 {
-    drop(mem::replace(at, doing));
+    mem::forget(mem::replace(at, doing));
 }
 
 // It cannot go on, and keeps this.
@@ -153,21 +155,24 @@ pub(crate) fn broken(breach: Breach, kept: Kept) -> Doing
 }
 
 // It breaks off, and keeps this.
-pub(crate) fn break_off(breach: Breach, kept: Kept) -> (Doing, Step)
-    ensures doing { doing_of result.0 ≡ Breaks' breach (kept_of kept) }
-    ensures alone { IsDoingAlone result.0 }
-    ensures step { result.1 ≡ Step.Broken breach }
+pub(crate) fn break_off(at: &mut Doing, breach: Breach, kept: Kept) -> Step
+    requires { at.old ≡ doing'.Rests }
+    ensures doing { doing_of at.new ≡ Breaks' breach (kept_of kept) }
+    ensures alone { IsDoingAlone at.new }
+    ensures step { result ≡ Step.Broken breach }
 {
-    (broken(breach, kept), Step::Broken(breach))
+    put(at, broken(breach, kept));
+    Step::Broken(breach)
 }
 
 // There was no ticket for its call: it keeps the bio that its driver had, if it had one, and what came back.
-pub(crate) fn spent(bio: Option<BioElement>, back: Unmade) -> (Doing, Step)
-    ensures doing { doing_of result.0 ≡ Breaks' Breach.Spent (bio_kept (bio_of bio) ++ unmade_kept back) }
-    ensures alone { IsDoingAlone result.0 }
-    ensures step { result.1 ≡ Step.Broken Breach.Spent }
+pub(crate) fn spent(at: &mut Doing, bio: Option<BioElement>, back: Unmade) -> Step
+    requires { at.old ≡ doing'.Rests }
+    ensures doing { doing_of at.new ≡ Breaks' Breach.Spent (bio_kept (bio_of bio) ++ unmade_kept back) }
+    ensures alone { IsDoingAlone at.new }
+    ensures step { result ≡ Step.Broken Breach.Spent }
 {
-    break_off(Breach::Spent, Kept::unmade(bio, back))
+    break_off(at, Breach::Spent, Kept::unmade(bio, back))
 }
 
 impl Line {
@@ -187,13 +192,16 @@ impl Line {
         requires alone { IsAlone bio }
         ensures { result ≡ settled (routing_setup routes.now) (item_of bio ∷ []) }
     {
+        let mut doing = Doing::Rests;
         let lists = TaskLists::new();
-        let doing = serve(routes, bio, &lists);
+        serve(routes, bio, &mut doing, &lists);
         Line { doing, lists }
     }
 
-    /// It is another one from now on.
+    /// One that is over is another one from now on.
+    #[tactic(auto, using(crate::proofs::Resting::rests_alone))]
     pub(crate) fn becomes(&mut self, line: Line)
+        requires { self.old.doing ≡ Rests }
         ensures { self.new ≡ line }
     {
         put(&mut self.doing, line.doing);
@@ -201,6 +209,7 @@ impl Line {
     }
 
     /// The task of a submission that is over cannot go on, and keeps this.
+    #[tactic(auto, using(crate::proofs::Resting::rests_alone))]
     pub(crate) fn breaks(&mut self, breach: Breach, kept: Kept)
         requires { self.old.doing ≡ Rests }
         ensures { self.new ≡ record self.old { doing = Breaks' breach (kept_of kept) } }
@@ -243,8 +252,13 @@ impl Line {
             return self.attempt(objects, task, dev, waits);
         }
         let doing = mem::replace(&mut self.doing, Doing::Rests);
-        let (doing, step) = turn(objects, routes, task, doing, &mut self.lists);
-        put(&mut self.doing, doing);
-        step
+        turn(
+            objects,
+            routes,
+            task,
+            doing,
+            &mut self.doing,
+            &mut self.lists,
+        )
     }
 }

@@ -19,27 +19,13 @@ ghost use Rattle.task_steps.specs.Turns.{Turns, step_of};
 ghost use Rattle.task_steps.specs.TaskSteps.{CompleterDoes, TaskReady, TellsDrop};
 ghost use Rattle.task_steps.specs.CarriedViews.{given_back};
 
-use crate::completer::{Carried, Load, carrying, failing, nothing_held, spent, step_of};
+use crate::completer::{Carried, nothing_held};
 use crate::objects::Objects;
 use crate::step::Step;
 use bio_books::{Back, Dropped};
 use bio_records::{Bio, BioElement};
 use run_machine::{Breach, End, Event, TaskId, What};
 use stack_base::{DevId, Status};
-
-// The node that was to be told of an end is not open. The completer breaks off, and keeps the part that the book handed back.
-#[tactic(auto, using(crate::proofs::KeptLemmas::part_alone))]
-fn stray(writer: u32, node: u32, part: Option<BioElement>) -> (Carried, Step)
-    ensures carried { result.0 ≡ Fails (Breach'.Stray writer node) (bio_kept (bio_of part)) }
-    ensures step { result.1 ≡ Step'.Broken (Breach'.Stray writer node) }
-{
-    let breach = Breach::Stray { writer, node };
-    let held = Back {
-        bio: part,
-        ..nothing_held()
-    };
-    (failing(breach, held), Step::Broken(breach))
-}
 
 // The event that a node was told of an end.
 fn drops(disk: DevId, writer: u32, node: u32, status: Status, end: End) -> Step
@@ -56,61 +42,87 @@ fn drops(disk: DevId, writer: u32, node: u32, status: Status, end: End) -> Step
     })
 }
 
-// What is left of a node that was told of an end, and the event of that.
-fn told(disk: DevId, writer: u32, node: u32, status: Status, dropped: Dropped) -> (Carried, Step)
-    requires { IsDroppedAlone dropped }
-    ensures carried { result.0 ≡ after_drop writer node (ended_of dropped) }
-    ensures step { TellsDrop disk writer node status (ended_of dropped) result.1 }
-{
-    match dropped {
-        Dropped::Left => (
-            Carried { load: Load::Empty },
-            drops(disk, writer, node, status, End::Left),
-        ),
-        Dropped::Up(closed) => (
-            carrying(writer, closed),
-            drops(disk, writer, node, status, End::Up),
-        ),
-        Dropped::Top(closed) => (
-            carrying(writer, closed),
-            drops(disk, writer, node, status, End::Top),
-        ),
-        Dropped::Stray(part) => stray(writer, node, part),
+impl Carried {
+    // The node that was to be told of an end is not open. The completer breaks off, and keeps the part that the book handed back.
+    #[tactic(auto, using(crate::proofs::KeptLemmas::part_alone))]
+    fn stray(&mut self, writer: u32, node: u32, part: Option<BioElement>) -> Step
+        requires empty { self.old ≡ Empty }
+        ensures carried { self.new ≡ Fails (Breach'.Stray writer node) (bio_kept (bio_of part)) }
+        ensures step { result ≡ Step'.Broken (Breach'.Stray writer node) }
+    {
+        let breach = Breach::Stray { writer, node };
+        let held = Back {
+            bio: part,
+            ..nothing_held()
+        };
+        self.fail(breach, held)
     }
-}
 
-// Tells the node of a bio that came from the disk of its end (`bio_endio`, `block/bio.c`).
-pub(crate) fn drop_part<O: Objects>(
-    objects: &mut O,
-    disk: DevId,
-    bio: BioElement,
-    status: Status,
-) -> (Carried, Step)
-    requires alone { IsAlone bio }
-    requires ready { TaskReady O.Objects objects.old (Completes disk (Brings (item_of bio) status)) }
-    ensures does { CompleterDoes O.Objects disk (Brings (item_of bio) status) objects.old result objects.new }
-{
-    let Bio { writer, node, .. } = bio.body.bio;
-    match objects.drop_one(writer, node, status, Some(bio)) {
-        Ok(dropped) => told(disk, writer, node, status, dropped),
-        Err(back) => spent(nothing_held(), back),
+    // What is left of a node that was told of an end, and the event of that.
+    fn told(
+        &mut self,
+        disk: DevId,
+        writer: u32,
+        node: u32,
+        status: Status,
+        dropped: Dropped,
+    ) -> Step
+        requires empty { self.old ≡ Empty }
+        requires alone { IsDroppedAlone dropped }
+        ensures carried { self.new ≡ after_drop writer node (ended_of dropped) }
+        ensures step { TellsDrop disk writer node status (ended_of dropped) result }
+    {
+        match dropped {
+            Dropped::Left => drops(disk, writer, node, status, End::Left),
+            Dropped::Up(closed) => {
+                self.keep(writer, closed);
+                drops(disk, writer, node, status, End::Up)
+            }
+            Dropped::Top(closed) => {
+                self.keep(writer, closed);
+                drops(disk, writer, node, status, End::Top)
+            }
+            Dropped::Stray(part) => self.stray(writer, node, part),
+        }
     }
-}
 
-// Tells the parent of a closed node, which holds nothing any more, of its end (`bio_chain_endio`, `block/bio.c`).
-pub(crate) fn drop_parent<O: Objects>(
-    objects: &mut O,
-    disk: DevId,
-    writer: u32,
-    parent: u32,
-    write: u32,
-    status: Status,
-) -> (Carried, Step)
-    requires ready { TaskReady O.Objects objects.old (Completes disk (Carries writer (given_back (Some parent) write status))) }
-    ensures does { CompleterDoes O.Objects disk (Carries writer (given_back (Some parent) write status)) objects.old result objects.new }
-{
-    match objects.drop_one(writer, parent, status, None) {
-        Ok(dropped) => told(disk, writer, parent, status, dropped),
-        Err(back) => spent(nothing_held(), back),
+    // Tells the node of a bio that came from the disk of its end (`bio_endio`, `block/bio.c`).
+    pub(crate) fn drop_part<O: Objects>(
+        &mut self,
+        objects: &mut O,
+        disk: DevId,
+        bio: BioElement,
+        status: Status,
+    ) -> Step
+        requires empty { self.old ≡ Empty }
+        requires alone { IsAlone bio }
+        requires ready { TaskReady O.Objects objects.old (Completes disk (Brings (item_of bio) status)) }
+        ensures does { CompleterDoes O.Objects disk (Brings (item_of bio) status) objects.old (self.new, result) objects.new }
+    {
+        let Bio { writer, node, .. } = bio.body.bio;
+        match objects.drop_one(writer, node, status, Some(bio)) {
+            Ok(dropped) => self.told(disk, writer, node, status, dropped),
+            Err(back) => self.spend(nothing_held(), back),
+        }
+    }
+
+    // Tells the parent of a closed node, which holds nothing any more, of its end (`bio_chain_endio`, `block/bio.c`).
+    pub(crate) fn drop_parent<O: Objects>(
+        &mut self,
+        objects: &mut O,
+        disk: DevId,
+        writer: u32,
+        parent: u32,
+        write: u32,
+        status: Status,
+    ) -> Step
+        requires empty { self.old ≡ Empty }
+        requires ready { TaskReady O.Objects objects.old (Completes disk (Carries writer (given_back (Some parent) write status))) }
+        ensures does { CompleterDoes O.Objects disk (Carries writer (given_back (Some parent) write status)) objects.old (self.new, result) objects.new }
+    {
+        match objects.drop_one(writer, parent, status, None) {
+            Ok(dropped) => self.told(disk, writer, parent, status, dropped),
+            Err(back) => self.spend(nothing_held(), back),
+        }
     }
 }

@@ -6,7 +6,7 @@ ghost use Rattle.run_machine.specs.declared.event.TaskId.TheVariants as TaskId';
 ghost use Rattle.run_machine.specs.declared.event.What.TheVariants as What';
 ghost use Rattle.task_steps.specs.declared.step.Step.TheVariants as Step';
 ghost use Rattle.run_machine.specs.Events.{pool_of};
-ghost use Rattle.run_machine.specs.Tasks.{Carries, Completer as Completes};
+ghost use Rattle.run_machine.specs.Tasks.{Carries, Completer as Completes, Empty};
 ghost use Rattle.task_steps.specs.Routed.{routing_setup};
 ghost use Rattle.task_steps.specs.Stage.{Owes};
 ghost use Rattle.task_steps.specs.Homes.{IsTaskOf};
@@ -14,7 +14,7 @@ ghost use Rattle.task_steps.specs.Turns.{Turns};
 ghost use Rattle.task_steps.specs.CarriedViews.{with_bio_held, with_slip, with_vector, HoldsNothing};
 ghost use Rattle.task_steps.specs.TaskSteps.{CompleterDoes, TaskReady};
 
-use crate::completer::{Carried, carrying, spent};
+use crate::completer::Carried;
 use crate::objects::Objects;
 use crate::step::Step;
 use bio_books::ClosedNode;
@@ -47,61 +47,78 @@ fn gives(disk: DevId, pool: PoolId) -> Step
     })
 }
 
-// Gives the vector of a closed node back (`bvec_free`, `block/bio.c`). `rest` is the node without it.
-pub(crate) fn give_vector<O: Objects>(
-    objects: &mut O,
-    disk: DevId,
-    writer: u32,
-    vector: VecElement,
-    rest: ClosedNode,
-) -> (Carried, Step)
-    requires alone { IsAlonePart rest.held.bio }
-    requires rest { rest.held.vector ≡ None }
-    requires ready { TaskReady O.Objects objects.old (Completes disk (Carries writer (with_vector vector rest))) }
-    ensures does { CompleterDoes O.Objects disk (Carries writer (with_vector vector rest)) objects.old result objects.new }
-{
-    let pool = pool_of(vector.no());
-    match objects.give_vec(vector) {
-        Ok(()) => (carrying(writer, rest), gives(disk, pool)),
-        Err(back) => spent(rest.held, back),
+impl Carried {
+    // Gives the vector of a closed node back (`bvec_free`, `block/bio.c`). `rest` is the node without it.
+    pub(crate) fn give_vector<O: Objects>(
+        &mut self,
+        objects: &mut O,
+        disk: DevId,
+        writer: u32,
+        vector: VecElement,
+        rest: ClosedNode,
+    ) -> Step
+        requires empty { self.old ≡ Empty }
+        requires alone { IsAlonePart rest.held.bio }
+        requires rest { rest.held.vector ≡ None }
+        requires ready { TaskReady O.Objects objects.old (Completes disk (Carries writer (with_vector vector rest))) }
+        ensures does { CompleterDoes O.Objects disk (Carries writer (with_vector vector rest)) objects.old (self.new, result) objects.new }
+    {
+        let pool = pool_of(vector.no());
+        match objects.give_vec(vector) {
+            Ok(()) => {
+                self.keep(writer, rest);
+                gives(disk, pool)
+            }
+            Err(back) => self.spend(rest.held, back),
+        }
     }
-}
 
-// Gives the bio of a closed node back (`bio_free`, `block/bio.c`), which holds no vector any more. `rest` is the node without it.
-pub(crate) fn give_bio<O: Objects>(
-    objects: &mut O,
-    disk: DevId,
-    writer: u32,
-    bio: BioElement,
-    rest: ClosedNode,
-) -> (Carried, Step)
-    requires alone { IsAlone bio }
-    requires rest { (rest.held.vector ≡ None) × (rest.held.bio ≡ None) }
-    requires ready { TaskReady O.Objects objects.old (Completes disk (Carries writer (with_bio_held bio rest))) }
-    ensures does { CompleterDoes O.Objects disk (Carries writer (with_bio_held bio rest)) objects.old result objects.new }
-{
-    let pool = pool_of(bio.no());
-    match objects.give_bio(bio) {
-        Ok(()) => (carrying(writer, rest), gives(disk, pool)),
-        Err(back) => spent(rest.held, back),
+    // Gives the bio of a closed node back (`bio_free`, `block/bio.c`), which holds no vector any more. `rest` is the node without it.
+    pub(crate) fn give_bio<O: Objects>(
+        &mut self,
+        objects: &mut O,
+        disk: DevId,
+        writer: u32,
+        bio: BioElement,
+        rest: ClosedNode,
+    ) -> Step
+        requires empty { self.old ≡ Empty }
+        requires alone { IsAlone bio }
+        requires rest { (rest.held.vector ≡ None) × (rest.held.bio ≡ None) }
+        requires ready { TaskReady O.Objects objects.old (Completes disk (Carries writer (with_bio_held bio rest))) }
+        ensures does { CompleterDoes O.Objects disk (Carries writer (with_bio_held bio rest)) objects.old (self.new, result) objects.new }
+    {
+        let pool = pool_of(bio.no());
+        match objects.give_bio(bio) {
+            Ok(()) => {
+                self.keep(writer, rest);
+                gives(disk, pool)
+            }
+            Err(back) => self.spend(rest.held, back),
+        }
     }
-}
 
-// Gives the record of a closed master back (`free_r1bio`, `drivers/md/raid1.c`), which holds nothing else. `rest` is the node without it.
-pub(crate) fn give_slip<O: Objects>(
-    objects: &mut O,
-    disk: DevId,
-    writer: u32,
-    slip: SlipElement,
-    rest: ClosedNode,
-) -> (Carried, Step)
-    requires rest { HoldsNothing rest }
-    requires ready { TaskReady O.Objects objects.old (Completes disk (Carries writer (with_slip slip rest))) }
-    ensures does { CompleterDoes O.Objects disk (Carries writer (with_slip slip rest)) objects.old result objects.new }
-{
-    let pool = pool_of(slip.no());
-    match objects.give_slip(slip) {
-        Ok(()) => (carrying(writer, rest), gives(disk, pool)),
-        Err(back) => spent(rest.held, back),
+    // Gives the record of a closed master back (`free_r1bio`, `drivers/md/raid1.c`), which holds nothing else. `rest` is the node without it.
+    pub(crate) fn give_slip<O: Objects>(
+        &mut self,
+        objects: &mut O,
+        disk: DevId,
+        writer: u32,
+        slip: SlipElement,
+        rest: ClosedNode,
+    ) -> Step
+        requires empty { self.old ≡ Empty }
+        requires rest { HoldsNothing rest }
+        requires ready { TaskReady O.Objects objects.old (Completes disk (Carries writer (with_slip slip rest))) }
+        ensures does { CompleterDoes O.Objects disk (Carries writer (with_slip slip rest)) objects.old (self.new, result) objects.new }
+    {
+        let pool = pool_of(slip.no());
+        match objects.give_slip(slip) {
+            Ok(()) => {
+                self.keep(writer, rest);
+                gives(disk, pool)
+            }
+            Err(back) => self.spend(rest.held, back),
+        }
     }
 }

@@ -6,6 +6,7 @@ ghost use Rattle.bio_split.specs.Split.{split_front, split_rest};
 ghost use Rattle.run_machine.specs.Scene.{Setup, tree_at};
 ghost use Rattle.run_machine.specs.Requests.{Punt, Link as LinkOf, Chain};
 ghost use Rattle.run_machine.specs.Lines.{Drives, ToCut, Punts, Links, punted};
+ghost use Rattle.task_steps.specs.declared.submission.Doing.TheVariants as doing';
 ghost use Rattle.task_steps.specs.Within.{IsWithinDevice, ListsAreWithin, is_cut};
 ghost use Rattle.task_steps.specs.Routed.{routing_setup, sent, Routing};
 ghost use Rattle.task_steps.specs.Stage.{RequestFits, Owes};
@@ -17,7 +18,7 @@ use crate::objects::{Ask, Objects};
 use crate::routes::{Cut, Routes};
 use crate::step::Step;
 use crate::submission::dispatch::go_on;
-use crate::submission::{Doing, DriverAsk, Kept, Want, break_off, spent};
+use crate::submission::{Doing, DriverAsk, Kept, Want, break_off, put, spent};
 use bio_lists::Submission;
 use bio_records::{BioElement, TaskLists};
 use bio_split::split;
@@ -29,20 +30,22 @@ pub(crate) fn punt_to_cut<O: Objects>(
     objects: &mut O,
     task: TaskId,
     bio: BioElement,
+    at: &mut Doing,
     lists: &mut TaskLists,
-) -> (Doing, Step)
+) -> Step
     requires ready { Ready O.Objects objects.old (Punt (item_of bio).bio.dev (punted (item_of bio).bio.dev lists.old)) }
     requires alone { IsAlone bio }
-    ensures does { (routing : Routing) → Does O.Objects routing task (Drives (item_of bio) (ToCut Punts)) lists.old objects.old result lists.new objects.new }
-    ensures alone { IsDoingAlone result.0 }
+    requires rests { at.old ≡ doing'.Rests }
+    ensures does { (routing : Routing) → Does O.Objects routing task (Drives (item_of bio) (ToCut Punts)) lists.old objects.old (at.new, result) lists.new objects.new }
+    ensures alone { IsDoingAlone at.new }
 {
     match punt_all(objects, task, bio.body.bio.dev, lists) {
         Ok(step) => {
             let ask = DriverAsk::ToCut(Want::Takes { waits: true });
-            let doing = Doing::Drives { bio, ask };
-            (doing, step)
+            put(at, Doing::Drives { bio, ask });
+            step
         }
-        Err(back) => spent(Some(bio), back),
+        Err(back) => spent(at, Some(bio), back),
     }
 }
 
@@ -71,15 +74,17 @@ pub(crate) fn chain<O: Objects>(
     task: TaskId,
     mut bio: BioElement,
     hand: BioElement,
+    at: &mut Doing,
     lists: &mut TaskLists,
-) -> (Doing, Step)
+) -> Step
     requires ready { Ready O.Objects objects.old (LinkOf (item_of bio).bio.writer (Chain (item_of bio).bio.node)) }
     requires alone { IsAlone bio × IsAlone hand }
+    requires rests { at.old ≡ doing'.Rests }
     requires within { IsWithinDevice routes.now.stack (item_of bio).bio }
     requires cut { is_cut (tree_at (routing_setup routes.now) (item_of bio).bio.dev) (item_of bio).bio.range ≡ true }
     requires lists { ListsAreWithin routes.now.stack lists.old }
-    ensures does { Does O.Objects routes.now task (Drives (item_of bio) (ToCut (Links (item_of hand)))) lists.old objects.old result lists.new objects.new }
-    ensures alone { IsDoingAlone result.0 }
+    ensures does { Does O.Objects routes.now task (Drives (item_of bio) (ToCut (Links (item_of hand)))) lists.old objects.old (at.new, result) lists.new objects.new }
+    ensures alone { IsDoingAlone at.new }
 {
     let whole = bio.body.bio;
     let cut = routes.cut(&whole);
@@ -92,10 +97,8 @@ pub(crate) fn chain<O: Objects>(
             let child = cut_off(&mut bio, cut, hand, node);
             lists.submit(child);
             lists.submit(bio);
-            (
-                go_on(routes, lists, whole.dev),
-                Step::Stepped(Event { task, what }),
-            )
+            go_on(routes, at, lists, whole.dev);
+            Step::Stepped(Event { task, what })
         }
         Err((breach, back)) => {
             let kept = Kept {
@@ -103,7 +106,7 @@ pub(crate) fn chain<O: Objects>(
                 hand: Some(hand),
                 back,
             };
-            break_off(breach, kept)
+            break_off(at, breach, kept)
         }
     }
 }

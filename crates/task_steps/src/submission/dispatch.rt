@@ -4,6 +4,7 @@ ghost use Rattle.bio_records.specs.declared.bio.Pad.{Pad};
 ghost use Rattle.bio_records.specs.Items.{Item, item_of, IsAlone};
 ghost use Rattle.run_machine.specs.Scene.{tree_at};
 ghost use Rattle.run_machine.specs.Lines.{Rests, Drives, Copies as Copies', ToCut, asks_at, driven, goes_on, line_request};
+ghost use Rattle.task_steps.specs.declared.submission.Doing.TheVariants as doing';
 ghost use Rattle.task_steps.specs.Within.{IsWithinDevice, ListsAreWithin, is_cut, DoingFits, LineFits};
 ghost use Rattle.task_steps.specs.Routed.{routing_setup};
 ghost use Rattle.task_steps.specs.Stage.{RequestFits, Owes};
@@ -17,7 +18,7 @@ use crate::step::Step;
 use crate::submission::cut::{chain, punt_to_cut};
 use crate::submission::mirror::{Copying, leg, master, punt_to_copy, take_record};
 use crate::submission::push::push;
-use crate::submission::{Doing, DriverAsk, Want};
+use crate::submission::{Doing, DriverAsk, Want, put};
 use bio_lists::Submission;
 use bio_records::{BioElement, TaskLists};
 use run_machine::TaskId;
@@ -39,26 +40,27 @@ fn asked(routes: &Routes, dev: DevId, lists: &TaskLists) -> DriverAsk
 }
 
 // The bio goes to its driver, while these wait.
-pub(crate) fn serve(routes: &Routes, mut bio: BioElement, lists: &TaskLists) -> Doing
+pub(crate) fn serve(routes: &Routes, mut bio: BioElement, at: &mut Doing, lists: &TaskLists)
+    requires rests { at.old ≡ doing'.Rests }
     requires within { IsWithinDevice routes.now.stack (item_of bio).bio }
     requires alone { IsAlone bio }
-    ensures line { submission_of result lists.now ≡ record { doing = driven (routing_setup routes.now) lists.now (item_of bio); lists = lists.now } }
-    ensures alone { IsDoingAlone result }
+    ensures line { submission_of at.new lists.now ≡ record { doing = driven (routing_setup routes.now) lists.now (item_of bio); lists = lists.now } }
+    ensures alone { IsDoingAlone at.new }
 {
     bio.body.bio = routes.land(bio.body.bio);
     let ask = asked(routes, bio.body.bio.dev, lists);
-    Doing::Drives { bio, ask }
+    put(at, Doing::Drives { bio, ask });
 }
 
 // The driver of a device has returned: the next bio goes to its driver, if one waits.
-pub(crate) fn go_on(routes: &Routes, lists: &mut TaskLists, served: DevId) -> Doing
-    requires { ListsAreWithin routes.now.stack lists.old }
-    ensures line { submission_of result lists.new ≡ goes_on (routing_setup routes.now) served lists.old }
-    ensures alone { IsDoingAlone result }
+pub(crate) fn go_on(routes: &Routes, at: &mut Doing, lists: &mut TaskLists, served: DevId)
+    requires rests { at.old ≡ doing'.Rests }
+    requires lists { ListsAreWithin routes.now.stack lists.old }
+    ensures line { submission_of at.new lists.new ≡ goes_on (routing_setup routes.now) served lists.old }
+    ensures alone { IsDoingAlone at.new }
 {
-    match lists.next(served) {
-        None => Doing::Rests,
-        Some(bio) => serve(routes, bio, lists),
+    if let Some(bio) = lists.next(served) {
+        serve(routes, bio, at, lists);
     }
 }
 
@@ -69,21 +71,23 @@ fn cut<O: Objects>(
     task: TaskId,
     bio: BioElement,
     want: Want,
+    at: &mut Doing,
     lists: &mut TaskLists,
-) -> (Doing, Step)
+) -> Step
     requires ready { LineReady O.Objects objects.old routes.now (Drives (item_of bio) (ToCut (want_of want))) lists.old }
     requires alone { IsAlone bio × IsWantAlone want }
+    requires rests { at.old ≡ doing'.Rests }
     requires no_attempt { attempt_of (Drives (item_of bio) (ToCut (want_of want))) ≡ None }
     requires within { IsWithinDevice routes.now.stack (item_of bio).bio }
     requires cut { is_cut (tree_at (routing_setup routes.now) (item_of bio).bio.dev) (item_of bio).bio.range ≡ true }
     requires lists { ListsAreWithin routes.now.stack lists.old }
-    ensures does { Does O.Objects routes.now task (Drives (item_of bio) (ToCut (want_of want))) lists.old objects.old result lists.new objects.new }
-    ensures alone { IsDoingAlone result.0 }
+    ensures does { Does O.Objects routes.now task (Drives (item_of bio) (ToCut (want_of want))) lists.old objects.old (at.new, result) lists.new objects.new }
+    ensures alone { IsDoingAlone at.new }
 {
     match want {
         Want::Takes { .. } => unreachable!(),
-        Want::Punts => punt_to_cut(objects, task, bio, lists),
-        Want::Links { hand } => chain(objects, routes, task, bio, hand, lists),
+        Want::Punts => punt_to_cut(objects, task, bio, at, lists),
+        Want::Links { hand } => chain(objects, routes, task, bio, hand, at, lists),
     }
 }
 
@@ -94,21 +98,23 @@ fn drive<O: Objects>(
     task: TaskId,
     bio: BioElement,
     ask: DriverAsk,
+    at: &mut Doing,
     lists: &mut TaskLists,
-) -> (Doing, Step)
+) -> Step
     requires ready { LineReady O.Objects objects.old routes.now (Drives (item_of bio) (ask_of ask)) lists.old }
     requires alone { IsAlone bio × IsAskOfAlone ask }
+    requires rests { at.old ≡ doing'.Rests }
     requires no_attempt { attempt_of (Drives (item_of bio) (ask_of ask)) ≡ None }
     requires within { DoingFits routes.now.stack (Drives (item_of bio) (ask_of ask)) }
     requires lists { ListsAreWithin routes.now.stack lists.old }
-    ensures does { Does O.Objects routes.now task (Drives (item_of bio) (ask_of ask)) lists.old objects.old result lists.new objects.new }
-    ensures alone { IsDoingAlone result.0 }
+    ensures does { Does O.Objects routes.now task (Drives (item_of bio) (ask_of ask)) lists.old objects.old (at.new, result) lists.new objects.new }
+    ensures alone { IsDoingAlone at.new }
 {
     match ask {
-        DriverAsk::ToPush => push(objects, routes, task, bio, lists),
-        DriverAsk::ToCut(want) => cut(objects, routes, task, bio, want, lists),
-        DriverAsk::ToRecord => take_record(objects, task, bio, lists),
-        DriverAsk::ToMaster(slip) => master(objects, routes, task, bio, slip, lists),
+        DriverAsk::ToPush => push(objects, routes, task, bio, at, lists),
+        DriverAsk::ToCut(want) => cut(objects, routes, task, bio, want, at, lists),
+        DriverAsk::ToRecord => take_record(objects, task, bio, at, lists),
+        DriverAsk::ToMaster(slip) => master(objects, routes, task, bio, slip, at, lists),
     }
 }
 
@@ -119,20 +125,22 @@ fn copy<O: Objects>(
     task: TaskId,
     run: Copying,
     want: Want,
+    at: &mut Doing,
     lists: &mut TaskLists,
-) -> (Doing, Step)
+) -> Step
     requires ready { LineReady O.Objects objects.old routes.now (Copies' run.bio run.master run.leg (want_of want)) lists.old }
     requires alone { IsWantAlone want }
+    requires rests { at.old ≡ doing'.Rests }
     requires no_attempt { attempt_of (Copies' run.bio run.master run.leg (want_of want)) ≡ None }
     requires within { DoingFits routes.now.stack (Copies' run.bio run.master run.leg (want_of want)) }
     requires lists { ListsAreWithin routes.now.stack lists.old }
-    ensures does { Does O.Objects routes.now task (Copies' run.bio run.master run.leg (want_of want)) lists.old objects.old result lists.new objects.new }
-    ensures alone { IsDoingAlone result.0 }
+    ensures does { Does O.Objects routes.now task (Copies' run.bio run.master run.leg (want_of want)) lists.old objects.old (at.new, result) lists.new objects.new }
+    ensures alone { IsDoingAlone at.new }
 {
     match want {
         Want::Takes { .. } => unreachable!(),
-        Want::Punts => punt_to_copy(objects, task, run, lists),
-        Want::Links { hand } => leg(objects, routes, task, run, hand, lists),
+        Want::Punts => punt_to_copy(objects, task, run, at, lists),
+        Want::Links { hand } => leg(objects, routes, task, run, hand, at, lists),
     }
 }
 
@@ -142,18 +150,20 @@ pub(crate) fn turn<O: Objects>(
     routes: &Routes,
     task: TaskId,
     doing: Doing,
+    at: &mut Doing,
     lists: &mut TaskLists,
-) -> (Doing, Step)
+) -> Step
     requires ready { LineReady O.Objects objects.old routes.now (doing_of doing) lists.old }
     requires alone { IsDoingAlone doing }
     requires asks { is_asking (doing_of doing) ≡ true }
+    requires rests { at.old ≡ doing'.Rests }
     requires no_attempt { attempt_of (doing_of doing) ≡ None }
     requires within { LineFits routes.now.stack (submission_of doing lists.old) }
-    ensures does { Does O.Objects routes.now task (doing_of doing) lists.old objects.old result lists.new objects.new }
-    ensures alone { IsDoingAlone result.0 }
+    ensures does { Does O.Objects routes.now task (doing_of doing) lists.old objects.old (at.new, result) lists.new objects.new }
+    ensures alone { IsDoingAlone at.new }
 {
     match doing {
-        Doing::Drives { bio, ask } => drive(objects, routes, task, bio, ask, lists),
+        Doing::Drives { bio, ask } => drive(objects, routes, task, bio, ask, at, lists),
         Doing::Copies {
             bio,
             master,
@@ -165,6 +175,7 @@ pub(crate) fn turn<O: Objects>(
             task,
             Copying { bio, master, leg },
             want,
+            at,
             lists,
         ),
         Doing::Rests | Doing::Breaks { .. } => unreachable!(),

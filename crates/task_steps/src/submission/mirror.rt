@@ -6,6 +6,7 @@ ghost use Rattle.bio_books.specs.Views.{slip_item};
 ghost use Rattle.run_machine.specs.Scene.{Setup, tree_at};
 ghost use Rattle.run_machine.specs.Requests.{TakeSlip, Punt, Link as LinkOf, Master, Leg};
 ghost use Rattle.run_machine.specs.Lines.{Drives, ToRecord, ToMaster, Punts, Links, punted, legs_of, Copies, leg_at, copies};
+ghost use Rattle.task_steps.specs.declared.submission.Doing.TheVariants as doing';
 ghost use Rattle.task_steps.specs.Within.{IsWithinDevice, ListsAreWithin};
 ghost use Rattle.task_steps.specs.Routed.{routing_setup, Routing};
 ghost use Rattle.task_steps.specs.Stage.{RequestFits, Owes};
@@ -17,7 +18,7 @@ use crate::objects::{Ask, Objects};
 use crate::routes::Routes;
 use crate::step::Step;
 use crate::submission::dispatch::go_on;
-use crate::submission::{Doing, DriverAsk, Kept, Want, break_off, spent};
+use crate::submission::{Doing, DriverAsk, Kept, Want, break_off, put, spent};
 use bio_lists::Submission;
 use bio_records::{Bio, BioElement, SlipElement, TaskLists};
 use bioset_pools::fill_bio;
@@ -30,32 +31,34 @@ pub(crate) fn take_record<O: Objects>(
     objects: &mut O,
     task: TaskId,
     bio: BioElement,
+    at: &mut Doing,
     lists: &mut TaskLists,
-) -> (Doing, Step)
+) -> Step
     requires ready { Ready O.Objects objects.old (TakeSlip (item_of bio).bio.dev) }
     requires alone { IsAlone bio }
-    ensures does { (routing : Routing) → Does O.Objects routing task (Drives (item_of bio) ToRecord) lists.old objects.old result lists.new objects.new }
-    ensures alone { IsDoingAlone result.0 }
+    requires rests { at.old ≡ doing'.Rests }
+    ensures does { (routing : Routing) → Does O.Objects routing task (Drives (item_of bio) ToRecord) lists.old objects.old (at.new, result) lists.new objects.new }
+    ensures alone { IsDoingAlone at.new }
 {
     let dev = bio.body.bio.dev;
     let pool = PoolId::Records(dev);
     match objects.take_slip(dev) {
         Ok(Taken::Ordinary(slip)) => {
             let ask = DriverAsk::ToMaster(slip);
-            let doing = Doing::Drives { bio, ask };
-            (doing, had(task, true, pool, Got::Ordinary))
+            put(at, Doing::Drives { bio, ask });
+            had(task, true, pool, Got::Ordinary)
         }
         Ok(Taken::Spare(slip)) => {
             let ask = DriverAsk::ToMaster(slip);
-            let doing = Doing::Drives { bio, ask };
-            (doing, had(task, true, pool, Got::Spare))
+            put(at, Doing::Drives { bio, ask });
+            had(task, true, pool, Got::Spare)
         }
         Ok(Taken::Miss { used }) => {
             let ask = DriverAsk::ToRecord;
-            let doing = Doing::Drives { bio, ask };
-            (doing, missed(task, true, used, pool))
+            put(at, Doing::Drives { bio, ask });
+            missed(task, true, used, pool)
         }
-        Err(back) => spent(Some(bio), back),
+        Err(back) => spent(at, Some(bio), back),
     }
 }
 
@@ -67,14 +70,16 @@ pub(crate) fn master<O: Objects>(
     task: TaskId,
     bio: BioElement,
     slip: SlipElement,
+    at: &mut Doing,
     lists: &mut TaskLists,
-) -> (Doing, Step)
+) -> Step
     requires ready { LineReady O.Objects objects.old routes.now (Drives (item_of bio) (ToMaster (slip_item slip))) lists.old }
     requires alone { IsAlone bio }
+    requires rests { at.old ≡ doing'.Rests }
     requires within { IsWithinDevice routes.now.stack (item_of bio).bio }
     requires lists { ListsAreWithin routes.now.stack lists.old }
-    ensures does { Does O.Objects routes.now task (Drives (item_of bio) (ToMaster (slip_item slip))) lists.old objects.old result lists.new objects.new }
-    ensures alone { IsDoingAlone result.0 }
+    ensures does { Does O.Objects routes.now task (Drives (item_of bio) (ToMaster (slip_item slip))) lists.old objects.old (at.new, result) lists.new objects.new }
+    ensures alone { IsDoingAlone at.new }
 {
     let whole = bio.body.bio;
     let legs = routes.legs(whole.dev);
@@ -94,10 +99,8 @@ pub(crate) fn master<O: Objects>(
                 master: node,
                 leg: 0,
             };
-            (
-                copy_on(routes, run, legs, lists),
-                Step::Stepped(Event { task, what }),
-            )
+            copy_on(routes, run, legs, at, lists);
+            Step::Stepped(Event { task, what })
         }
         Err((breach, back)) => {
             let kept = Kept {
@@ -105,7 +108,7 @@ pub(crate) fn master<O: Objects>(
                 hand: None,
                 back,
             };
-            break_off(breach, kept)
+            break_off(at, breach, kept)
         }
     }
 }
@@ -122,25 +125,36 @@ pub(crate) struct Copying {
 }
 
 /// The next leg is made, or the driver of the mirror returns behind the last of so many.
-pub(crate) fn copy_on(routes: &Routes, run: Copying, legs: u32, lists: &mut TaskLists) -> Doing
+pub(crate) fn copy_on(
+    routes: &Routes,
+    run: Copying,
+    legs: u32,
+    at: &mut Doing,
+    lists: &mut TaskLists,
+)
+    requires rests { at.old ≡ doing'.Rests }
     requires bio { IsWithinDevice routes.now.stack run.bio }
     requires legs { legs ≡ legs_of (tree_at (routing_setup routes.now) run.bio.dev) }
     requires lists { ListsAreWithin routes.now.stack lists.old }
-    ensures line { submission_of result lists.new ≡ copies (routing_setup routes.now) lists.old run.bio run.master run.leg }
-    ensures alone { IsDoingAlone result }
+    ensures line { submission_of at.new lists.new ≡ copies (routing_setup routes.now) lists.old run.bio run.master run.leg }
+    ensures alone { IsDoingAlone at.new }
 {
     let Copying { bio, master, leg } = run;
     if leg == legs {
-        return go_on(routes, lists, bio.dev);
+        go_on(routes, at, lists, bio.dev);
+        return;
     }
     let waits = routes.first_waits(bio.dev, lists);
     let want = Want::Takes { waits };
-    Doing::Copies {
-        bio,
-        master,
-        leg,
-        want,
-    }
+    put(
+        at,
+        Doing::Copies {
+            bio,
+            master,
+            leg,
+            want,
+        },
+    );
 }
 
 /// Hands the bios of the mirror's set to its rescuer, and waits for one then.
@@ -148,25 +162,30 @@ pub(crate) fn punt_to_copy<O: Objects>(
     objects: &mut O,
     task: TaskId,
     run: Copying,
+    at: &mut Doing,
     lists: &mut TaskLists,
-) -> (Doing, Step)
+) -> Step
     requires ready { Ready O.Objects objects.old (Punt run.bio.dev (punted run.bio.dev lists.old)) }
-    ensures does { (routing : Routing) → Does O.Objects routing task (Copies run.bio run.master run.leg Punts) lists.old objects.old result lists.new objects.new }
-    ensures alone { IsDoingAlone result.0 }
+    requires rests { at.old ≡ doing'.Rests }
+    ensures does { (routing : Routing) → Does O.Objects routing task (Copies run.bio run.master run.leg Punts) lists.old objects.old (at.new, result) lists.new objects.new }
+    ensures alone { IsDoingAlone at.new }
 {
     match punt_all(objects, task, run.bio.dev, lists) {
         Ok(step) => {
             let want = Want::Takes { waits: true };
             let Copying { bio, master, leg } = run;
-            let doing = Doing::Copies {
-                bio,
-                master,
-                leg,
-                want,
-            };
-            (doing, step)
+            put(
+                at,
+                Doing::Copies {
+                    bio,
+                    master,
+                    leg,
+                    want,
+                },
+            );
+            step
         }
-        Err(back) => spent(None, back),
+        Err(back) => spent(at, None, back),
     }
 }
 
@@ -191,15 +210,17 @@ pub(crate) fn leg<O: Objects>(
     task: TaskId,
     run: Copying,
     hand: BioElement,
+    at: &mut Doing,
     lists: &mut TaskLists,
-) -> (Doing, Step)
+) -> Step
     requires ready { Ready O.Objects objects.old (LinkOf run.bio.writer (Leg run.master)) }
     requires alone { IsAlone hand }
+    requires rests { at.old ≡ doing'.Rests }
     requires within { IsWithinDevice routes.now.stack run.bio }
     requires leg { run.leg < legs_of (tree_at (routing_setup routes.now) run.bio.dev) }
     requires lists { ListsAreWithin routes.now.stack lists.old }
-    ensures does { Does O.Objects routes.now task (Copies run.bio run.master run.leg (Links (item_of hand))) lists.old objects.old result lists.new objects.new }
-    ensures alone { IsDoingAlone result.0 }
+    ensures does { Does O.Objects routes.now task (Copies run.bio run.master run.leg (Links (item_of hand))) lists.old objects.old (at.new, result) lists.new objects.new }
+    ensures alone { IsDoingAlone at.new }
 {
     let Copying { bio, master, leg } = run;
     let legs = routes.legs(bio.dev);
@@ -213,10 +234,8 @@ pub(crate) fn leg<O: Objects>(
                 leg: leg + 1,
                 ..run
             };
-            (
-                copy_on(routes, run, legs, lists),
-                Step::Stepped(Event { task, what }),
-            )
+            copy_on(routes, run, legs, at, lists);
+            Step::Stepped(Event { task, what })
         }
         Err((breach, back)) => {
             let kept = Kept {
@@ -224,7 +243,7 @@ pub(crate) fn leg<O: Objects>(
                 hand: Some(hand),
                 back,
             };
-            break_off(breach, kept)
+            break_off(at, breach, kept)
         }
     }
 }

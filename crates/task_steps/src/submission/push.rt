@@ -1,8 +1,9 @@
 //! A disk's driver: the bio goes to the disk.
-ghost use Rattle.std.specs.Prelude.{◌<◌, ◌-◌};
+ghost use Rattle.std.specs.Prelude.{◌≡◌, ◌<◌, ◌-◌};
 ghost use Rattle.bio_records.specs.Items.{item_of, IsAlone};
 ghost use Rattle.run_machine.specs.Requests.{Push};
 ghost use Rattle.run_machine.specs.Lines.{Drives, ToPush};
+ghost use Rattle.task_steps.specs.declared.submission.Doing.TheVariants as doing';
 ghost use Rattle.task_steps.specs.Within.{ListsAreWithin};
 ghost use Rattle.task_steps.specs.LineViews.{submission_of, IsDoingAlone};
 ghost use Rattle.task_steps.specs.Answers.{Ready, Does};
@@ -21,26 +22,28 @@ pub(crate) fn push<O: Objects>(
     routes: &Routes,
     task: TaskId,
     bio: BioElement,
+    at: &mut Doing,
     lists: &mut TaskLists,
-) -> (Doing, Step)
+) -> Step
     requires ready { Ready O.Objects objects.old (Push (item_of bio)) }
     requires alone { IsAlone bio }
+    requires rests { at.old ≡ doing'.Rests }
     requires within { ListsAreWithin routes.now.stack lists.old }
-    ensures does { Does O.Objects routes.now task (Drives (item_of bio) ToPush) lists.old objects.old result lists.new objects.new }
-    ensures alone { IsDoingAlone result.0 }
+    ensures does { Does O.Objects routes.now task (Drives (item_of bio) ToPush) lists.old objects.old (at.new, result) lists.new objects.new }
+    ensures alone { IsDoingAlone at.new }
 {
-    let at = bio.body.bio.dev;
+    let disk = bio.body.bio.dev;
     let what = What::Push {
-        disk: at,
+        disk,
         at: bio.body.bio.range.start,
         len: bio.body.bio.range.len,
         leg: bio.body.pad.leg,
     };
     match objects.push(bio) {
-        Ok(()) => (
-            go_on(routes, lists, at),
-            Step::Stepped(Event { task, what }),
-        ),
-        Err(back) => spent(None, back),
+        Ok(()) => {
+            go_on(routes, at, lists, disk);
+            Step::Stepped(Event { task, what })
+        }
+        Err(back) => spent(at, None, back),
     }
 }

@@ -5,8 +5,8 @@ use Rattle.task_steps.proofs.Parts.{both_within}
 use Rattle.task_steps.proofs.submission.cut.chain.Goals as goal
 
 -- both parts are within their devices
-pub go_on-requires : goal.go_on-requires
-go_on-requires g c =
+pub go_on-requires-clause-lists : goal.go_on-requires-clause-lists
+go_on-requires-clause-lists g c =
     both_within c.args.routes.now.stack (routing_setup c.args.routes.now) (item_of c.args.bio) (item_of c.args.hand) c.in-Ok.node c.cut-cut.result _ (search rules)
     c.cut-cut.ensures c.args.lists.now c.submit.new.self c.submit-in-Ok.new.self _ _ c.requires.lists c.cut_off-child.ensures.child c.cut_off-child.ensures.rest
     c.submit.ensures c.submit-in-Ok.ensures

@@ -6,13 +6,13 @@ use Rattle.task_steps.specs.Routed.{routing_setup}
 use Rattle.task_steps.specs.Stage.{Owes}
 use Rattle.task_steps.specs.CarriedViews.{given_back}
 use Rattle.task_steps.proofs.Asking.{completer_once}
-use Rattle.task_steps.proofs.completer.ends.drop_parent.Goals as goal
+use Rattle.task_steps.proofs.completer.Carried.drop_parent.Goals as goal
 
 pub returns-in-Ok : goal.returns-in-Ok
 returns-in-Ok g c = record {
   does = record {
     turns = completer_once g.O.Objects.serves (Owes (g.O.Objects.stage c.args.objects.now)) (routing_setup (g.O.Objects.stage c.args.objects.now).routing) c.args.disk
-        (Carries c.args.writer (given_back (Some c.args.parent) c.args.write c.args.status)) c.told.result.0 c.args.objects.now c.drop_one.new.self c.told.result.1
+        (Carries c.args.writer (given_back (Some c.args.parent) c.args.write c.args.status)) c.told.new.self c.args.objects.now c.drop_one.new.self c.told.result
         (DroppedTo (ended_of c.in-Ok.dropped)) c.in-Ok.ensures.serves c.in-Ok.ensures.owed refl refl (ap (Completer c.args.disk) c.told.ensures.carried)
         (c.told.ensures.step None (routing_setup (g.O.Objects.stage c.args.objects.now).routing));
     held = search rules;

@@ -10,7 +10,7 @@ use Rattle.task_steps.specs.Routed.{routing_setup}
 use Rattle.task_steps.specs.Stage.{Owes}
 use Rattle.task_steps.specs.Turns.{step_of}
 use Rattle.task_steps.proofs.Asking.{completer_once}
-use Rattle.task_steps.proofs.completer.ends.drop_part.Goals as goal
+use Rattle.task_steps.proofs.completer.Carried.drop_part.Goals as goal
 
 pub returns-in-Ok : goal.returns-in-Ok
 returns-in-Ok g c =
@@ -22,12 +22,12 @@ returns-in-Ok g c =
     record {
       does = record {
         turns = completer_once g.O.Objects.serves (Owes stage) (routing_setup stage.routing) c.args.disk (Brings (item_of c.args.bio) c.args.status)
-            c.told.result.0 c.args.objects.now c.drop_one.new.self c.told.result.1 (DroppedTo (ended_of c.in-Ok.dropped))
+            c.told.new.self c.args.objects.now c.drop_one.new.self c.told.result (DroppedTo (ended_of c.in-Ok.dropped))
             (subst (λ body. g.O.Objects.serves c.args.objects.now (asked body) (DroppedTo (ended_of c.in-Ok.dropped)) c.drop_one.new.self)
             c.deref.ensures c.in-Ok.ensures.serves)
             (subst (λ body. Owes stage (asked body) (DroppedTo (ended_of c.in-Ok.dropped))) c.deref.ensures c.in-Ok.ensures.owed) refl refl
-            (ap (Completer c.args.disk) (subst (λ body. c.told.result.0 ≡ told body) c.deref.ensures c.told.ensures.carried))
-            (subst (λ body. c.told.result.1 ≡ step_of (routing_setup stage.routing) (Completer' c.args.disk) (asked body) (DroppedTo (ended_of c.in-Ok.dropped)))
+            (ap (Completer c.args.disk) (subst (λ body. c.told.new.self ≡ told body) c.deref.ensures c.told.ensures.carried))
+            (subst (λ body. c.told.result ≡ step_of (routing_setup stage.routing) (Completer' c.args.disk) (asked body) (DroppedTo (ended_of c.in-Ok.dropped)))
             c.deref.ensures (c.told.ensures.step (Some (item_of c.args.bio)) (routing_setup stage.routing)));
         held = search rules;
         same = search rules;
