@@ -1,4 +1,4 @@
--- Events open no more nodes than were still to be opened.
+-- Each node that an event opens was still to be opened.
 use Rattle.std.proofs.Common.{◌≡◌, ◌+◌, ◌*◌, ◌<◌, ◌≤◌, ◌==◌, ℕ, List, [], ◌∷◌, length, Option, None, Some, inl, inr, refl, sym, ◌∙◌, ap, subst, arith}
 use Rattle.std.specs.Prelude.{sum_by}
 use Rattle.std.proofs.lemmas.List.{length-set}
@@ -15,9 +15,10 @@ use Rattle.run_machine.specs.Scene.{Setup, Scene, tree_at}
 use Rattle.run_machine.specs.Lines.{Links, ToPush, ToCut, ToMaster, Doing, Drives, Copies, rests, copies, first_length, landed, legs_of, leg_at}
 use Rattle.run_machine.specs.Tasks.{TaskState, Writer, Todo}
 use Rattle.run_machine.specs.Runs.{State}
-use Rattle.block_core.specs.Weights.{Lined, line_weight, one}
+use Rattle.block_core.specs.Touches.{Touch, Opens, Shuts, Passes}
+use Rattle.block_core.specs.Weights.{Weight, Lined, line_weight, one}
 use Rattle.block_core.specs.Rooms.{need_at, todo_need, legs_need, room, HasRoomInBooks}
-use Rattle.block_core.proofs.moves.Moves.{Move, Can, after, lost, gained, limit_of, HasLine, taken_of, filled_of, cut_lists, piece, with_book}
+use Rattle.block_core.proofs.moves.Moves.{Move, Can, after, lost, gained, limit_of, HasLine, touch_by, taken_of, filled_of, cut_lists, piece, with_book}
 use Rattle.block_core.proofs.moves.Moves as moves
 use Rattle.block_core.proofs.moves.Sums.{upd-same, upd-other, same_or_not}
 use Rattle.block_core.proofs.moves.Listed.{landed_same}
@@ -31,20 +32,30 @@ use Rattle.block_core.proofs.sound.OrdersKept.{line_placed}
 use Rattle.block_core.proofs.sound.Places.{cut_weight, unless_less}
 use Rattle.block_core.proofs.unrefused.NodeNeeds.{Needs, mirror_need, legs_on}
 
+-- the nodes that writer w's writes have still to open, and those that are open, where each in a writer's book is worth this
+abbrev pub room_worth : Setup → ℕ → (ℕ → ℕ) → Weight
+room_worth setup w worth = record (room setup w) { node = λ writer place node. worth writer }
+
+-- what the node is worth that is opened
+abbrev pub opened_worth : (ℕ → ℕ) → Touch → ℕ
+opened_worth worth (Opens writer node) = worth writer
+opened_worth worth (Shuts writer node) = 0
+opened_worth worth Passes = 0
+
 -- bios of a line need what they needed, the first of them where it lands
-pub landed_room : (setup : Setup) → Needs setup → (w limit : ℕ) (item : Item Pad) → IsThere setup item.bio
+landed_room : (setup : Setup) → Needs setup → (w limit : ℕ) (item : Item Pad) → IsThere setup item.bio
     → (room setup w).bio (Lined limit) (record item { bio = landed (tree_at setup item.bio.dev) item.bio }) ≡ (room setup w).bio (Lined limit) item
 landed_room setup n w limit item is =
     let at : Bio = landed (tree_at setup item.bio.dev) item.bio in
     ap (λ v. one v w * need_at setup at) (landed_same (λ (bio : Bio). bio.writer) (λ to members bio. refl) (tree_at setup item.bio.dev) item.bio)
     ∙ ap (λ v. one item.bio.writer w * v) (n.lands item.bio is)
 
-copies_room : (setup : Setup) (n : Needs setup) (w limit : ℕ) (lists : TaskLists) (bio : Bio) (master leg : ℕ) → AreThere setup lists.list0 → AreThere setup lists.list1
-    → line_weight (room setup w) limit (copies setup lists bio master leg)
-    ≤ one bio.writer w * legs_need setup bio leg + sum_by ((room setup w).bio (Lined limit)) lists.list0 + sum_by ((room setup w).bio (Lined limit)) lists.list1
-copies_room setup n w limit lists bio master leg first second = omega (
+copies_room : (setup : Setup) (n : Needs setup) (w : ℕ) (worth : ℕ → ℕ) (limit : ℕ) (lists : TaskLists) (bio : Bio) (master leg : ℕ) → AreThere setup lists.list0 → AreThere setup lists.list1
+    → line_weight (room_worth setup w worth) limit (copies setup lists bio master leg)
+    ≤ one bio.writer w * legs_need setup bio leg + sum_by ((room_worth setup w worth).bio (Lined limit)) lists.list0 + sum_by ((room_worth setup w worth).bio (Lined limit)) lists.list1
+copies_room setup n w worth limit lists bio master leg first second = omega (
   arith,
-  copies_there setup (room setup w) (landed_room setup n w) limit lists bio master leg first second,
+  copies_there setup (room_worth setup w worth) (landed_room setup n w) limit lists bio master leg first second,
   unless_less (leg == legs_of (tree_at setup bio.dev)) (one bio.writer w * legs_need setup bio leg),
 )
 
@@ -60,68 +71,69 @@ two_places : (book : BookState) (key place : ℕ) (new other : Option Node) → 
 two_places book key place new other = length-set (with_node book key new).nodes place other ∙ length-set book.nodes key new
 
 module _ (scene : Scene) (s : State) (g : Ground scene.setup) (n : Needs scene.setup) (i : Kept scene s) (a : Placed scene.setup s) where
-  -- no event needs more nodes than it had
-  abbrev Fits : ℕ → Move → Type 0
-  Fits w m = gained scene (room scene.setup w) s m ≤ lost scene (room scene.setup w) s m
+  -- an event that opens a node has one less to open
+  abbrev Spends : ℕ → (ℕ → ℕ) → Move → Type 0
+  Spends w worth m =
+      gained scene (room_worth scene.setup w worth) s m + opened_worth (λ writer. one writer w) (touch_by m) ≤ lost scene (room_worth scene.setup w worth) s m + opened_worth worth (touch_by m)
 
   has : (place : ℕ) (x : TaskState) (doing : Doing) (lists : TaskLists) → s.task place ≡ x → HasLine x doing lists → DoingPlaced scene.setup (limit_of x) doing lists
   has place x doing lists is h = line_placed scene.setup x doing lists (subst (TaskPlaced scene.setup) is (a.tasks place)) h
 
-  lands : (w : ℕ) → IsLanding scene.setup (room scene.setup w)
-  lands w = landed_room scene.setup n w
+  lands : (w : ℕ) (worth : ℕ → ℕ) → IsLanding scene.setup (room_worth scene.setup w worth)
+  lands w worth = landed_room scene.setup n w
 
-  begins : (w place writer : ℕ) (todo : Todo) (later : List Todo) (item : Item Pad) (vector : Option VectorItem) (key : ℕ) → TodoThere scene.setup writer todo
-      → Fits w (moves.Begins place writer todo later item vector key)
-  begins w place writer todo later item None key there =
+  begins : (w : ℕ) (worth : ℕ → ℕ) (place writer : ℕ) (todo : Todo) (later : List Todo) (item : Item Pad) (vector : Option VectorItem) (key : ℕ) → TodoThere scene.setup writer todo
+      → Spends w worth (moves.Begins place writer todo later item vector key)
+  begins w worth place writer todo later item None key there =
       let filled_item : Item Pad = filled_of writer todo item None key in
-      let b = settled_there scene.setup (room scene.setup w) (lands w) 32 (filled_item ∷ []) (there key, tt) in
+      let b = settled_there scene.setup (room_worth scene.setup w worth) (lands w worth) 32 (filled_item ∷ []) (there key, tt) in
       let all = ap (λ k. one writer w * k) (sum_by-cons (todo_need scene.setup) todo later) in
-      omega (arith, b, sum_by-cons ((room scene.setup w).bio (Lined 32)) filled_item [], all)
-  begins w place writer todo later item (Some vector) key there =
+      omega (arith, b, sum_by-cons ((room_worth scene.setup w worth).bio (Lined 32)) filled_item [], all)
+  begins w worth place writer todo later item (Some vector) key there =
       let filled_item : Item Pad = filled_of writer todo item (Some vector) key in
-      let b = settled_there scene.setup (room scene.setup w) (lands w) 32 (filled_item ∷ []) (there key, tt) in
+      let b = settled_there scene.setup (room_worth scene.setup w worth) (lands w worth) 32 (filled_item ∷ []) (there key, tt) in
       let all = ap (λ k. one writer w * k) (sum_by-cons (todo_need scene.setup) todo later) in
-      omega (arith, b, sum_by-cons ((room scene.setup w).bio (Lined 32)) filled_item [], all)
+      omega (arith, b, sum_by-cons ((room_worth scene.setup w worth).bio (Lined 32)) filled_item [], all)
 
-  fits : (w : ℕ) (m : Move) → Can scene s m → Fits w m
+  pub spends : (w : ℕ) (worth : ℕ → ℕ) (m : Move) → Can scene s m → Spends w worth m
   -- takes, misses, punts, pops, pushes, completions and links of writes
-  fits w (moves.TakesFirst place writer todo later move) c = omega arith
-  fits w (moves.TakesVector place writer todo later item move) c = omega arith
-  fits w (moves.TakesSub place x doing lists dev waits move) c = omega arith
-  fits w (moves.TakesSlip place x bio lists move) c = omega arith
-  fits w (moves.MissesOne place x number used) c = omega arith
-  fits w (moves.MissesTry place x doing lists dev used) c = omega arith
-  fits w (moves.Punts place x doing lists dev) c = omega arith
-  fits w (moves.Pops place dev bio bios) c =
+  spends w worth (moves.TakesFirst place writer todo later move) c = omega arith
+  spends w worth (moves.TakesVector place writer todo later item move) c = omega arith
+  spends w worth (moves.TakesSub place x doing lists dev waits move) c = omega arith
+  spends w worth (moves.TakesSlip place x bio lists move) c = omega arith
+  spends w worth (moves.MissesOne place x number used) c = omega arith
+  spends w worth (moves.MissesTry place x doing lists dev used) c = omega arith
+  spends w worth (moves.Punts place x doing lists dev) c = omega arith
+  spends w worth (moves.Pops place dev bio bios) c =
       let r : Each (IsOwn scene.setup dev.0 dev.0) (bio ∷ bios) = subst (Each (IsOwn scene.setup dev.0 dev.0)) c.3 (a.rescued dev.0) in
-      omega (arith, settled_there scene.setup (room scene.setup w) (lands w) dev.0 (bio ∷ []) (r.0.0.0, tt), sum_by-cons ((room scene.setup w).bio (Lined dev.0)) bio [])
-  fits w (moves.Pushes place x bio lists) c =
+      omega (arith, settled_there scene.setup (room_worth scene.setup w worth) (lands w worth) dev.0 (bio ∷ []) (r.0.0.0, tt), sum_by-cons ((room_worth scene.setup w worth).bio (Lined dev.0)) bio [])
+  spends w worth (moves.Pushes place x bio lists) c =
       let d = has place x (Drives bio ToPush) lists c.1 c.2 in
-      omega (arith, goes_there scene.setup (room scene.setup w) (lands w) (limit_of x) bio.bio.dev lists (none_there scene.setup (limit_of x) lists d.0) (all_there scene.setup (limit_of x) lists.list1 d.1.1))
-  fits w (moves.Completed place disk index bio status new) c = omega arith
-  fits w (moves.Begins place writer todo later item vector key) c =
+      omega (arith, goes_there scene.setup (room_worth scene.setup w worth) (lands w worth) (limit_of x) bio.bio.dev lists (none_there scene.setup (limit_of x) lists d.0) (all_there scene.setup (limit_of x) lists.list1 d.1.1))
+  spends w worth (moves.Completed place disk index bio status new) c = omega arith
+  spends w worth (moves.Begins place writer todo later item vector key) c =
       let t : TaskPlaced scene.setup (Writer writer (todo ∷ later) (taken_of item vector) rests) = subst (TaskPlaced scene.setup) c.1 (a.tasks place) in
-      begins w place writer todo later item vector key t.0.0
+      begins w worth place writer todo later item vector key t.0.0
   -- links of pieces
-  fits w (moves.Chained place x bio lists hand number kind sizes members key node) c =
+  spends w worth (moves.Chained place x bio lists hand number kind sizes members key node) c =
       let k = first_length kind sizes bio.bio.range in
       let d = has place x (Drives bio (ToCut (Links hand))) lists c.1 c.2 in
       let cuts = cut_there scene.setup (limit_of x) g bio hand lists key number kind sizes members d c.3 in
       let part = ap (λ v. one bio.bio.writer w * v) (n.cut bio hand key number kind sizes members d.1.0.0 c.3 cuts.0) in
       omega (
         arith,
-        goes_there scene.setup (room scene.setup w) (lands w) (limit_of x) bio.bio.dev (cut_lists bio lists hand k key kind sizes members) cuts.1 (all_there scene.setup (limit_of x) lists.list1 d.1.1),
-        cut_weight ((room scene.setup w).bio (Lined (limit_of x))) bio lists hand k key kind sizes members,
+        goes_there scene.setup (room_worth scene.setup w worth) (lands w worth) (limit_of x) bio.bio.dev (cut_lists bio lists hand k key kind sizes members) cuts.1 (all_there scene.setup (limit_of x) lists.list1 d.1.1),
+        cut_weight ((room_worth scene.setup w worth).bio (Lined (limit_of x))) bio lists hand k key kind sizes members,
         part,
       )
   -- links of masters
-  fits w (moves.Mastered place x bio lists slip key node) c =
+  spends w worth (moves.Mastered place x bio lists slip key node) c =
       let d = has place x (Drives bio (ToMaster slip)) lists c.1 c.2 in
       let is = d.1.0.0 in
       let part = ap (λ v. one bio.bio.writer w * v) (mirror_need (tree_at scene.setup bio.bio.dev) bio.bio.range bio.bio.dev.0 slip d.3 is.some) in
-      omega (arith, copies_room scene.setup n w (limit_of x) lists bio.bio key 0 (none_there scene.setup (limit_of x) lists d.0) (all_there scene.setup (limit_of x) lists.list1 d.1.1), part)
+      omega (arith, copies_room scene.setup n w worth (limit_of x) lists bio.bio key 0 (none_there scene.setup (limit_of x) lists d.0) (all_there scene.setup (limit_of x) lists.list1 d.1.1), part)
   -- links of legs
-  fits w (moves.Legged place x bio lists master leg hand key node) c =
+  spends w worth (moves.Legged place x bio lists master leg hand key node) c =
       let d = has place x (Copies bio master leg (Links hand)) lists c.1 c.2 in
       let lt = line_fits scene x (Copies bio master leg (Links hand)) lists (subst (TaskFits scene) c.1 (i.tasks place)) c.2 in
       let item = leg_at bio hand leg key (tree_at scene.setup bio.dev) in
@@ -132,8 +144,8 @@ module _ (scene : Scene) (s : State) (g : Ground scene.setup) (n : Needs scene.s
       let own = ap (λ v. one v w * need_at scene.setup item.bio) (leg_writer bio hand leg key (tree_at scene.setup bio.dev) lt) in
       omega (
         arith,
-        copies_room scene.setup n w (limit_of x) more bio master (leg + 1) first (all_there scene.setup (limit_of x) lists.list1 d.3),
-        sum_by_push ((room scene.setup w).bio (Lined (limit_of x))) lists.list0 item,
+        copies_room scene.setup n w worth (limit_of x) more bio master (leg + 1) first (all_there scene.setup (limit_of x) lists.list1 d.3),
+        sum_by_push ((room_worth scene.setup w worth).bio (Lined (limit_of x))) lists.list0 item,
         next,
         part,
         own,
@@ -144,12 +156,12 @@ module _ (scene : Scene) (s : State) (g : Ground scene.setup) (n : Needs scene.s
       leg_writer bio hand leg key (Split number kind sizes members) lt = absurd (omega (arith, lt))
       leg_writer bio hand leg key (Mirrored number sizes members) lt = refl
   -- drops that leave a node open, drops that close a node, gives, ends of writes, resizes and rounds
-  fits w (moves.Told place disk carried writer key status part node) c = omega arith
-  fits w (moves.Closes place disk carried writer key status part node) c = omega arith
-  fits w (moves.Gives place disk writer number closed held) c = omega arith
-  fits w (moves.Ends place disk writer closed) c = omega arith
-  fits w (moves.Resized place pool min later duties) c = omega arith
-  fits w (moves.Started place round later duties) c = omega arith
+  spends w worth (moves.Told place disk carried writer key status part node) c = omega arith
+  spends w worth (moves.Closes place disk carried writer key status part node) c = omega arith
+  spends w worth (moves.Gives place disk writer number closed held) c = omega arith
+  spends w worth (moves.Ends place disk writer closed) c = omega arith
+  spends w worth (moves.Resized place pool min later duties) c = omega arith
+  spends w worth (moves.Started place round later duties) c = omega arith
 
   places : (m : Move) → Can scene s m → ((w : ℕ) → length (s.objects.book w).nodes ≡ scene.setup.places w) → (w : ℕ) → length ((after scene s m).objects.book w).nodes ≡ scene.setup.places w
   places (moves.Begins place writer todo later item vector key) c all = kept_places s.objects.book scene.setup.places writer _ all (length-set (s.objects.book writer).nodes key _)
@@ -179,5 +191,5 @@ module _ (scene : Scene) (s : State) (g : Ground scene.setup) (n : Needs scene.s
   pub stays_roomy : (m : Move) → Can scene s m → HasRoomInBooks scene s → HasRoomInBooks scene (after scene s m)
   stays_roomy m c r = record {
     places = places m c r.places;
-    room = λ w. omega (arith, delta scene (room scene.setup w) s m c, fits w m c, r.room w);
+    room = λ w. omega (arith, delta scene (room scene.setup w) s m c, spends w (λ writer. one writer w) m c, r.room w);
   }

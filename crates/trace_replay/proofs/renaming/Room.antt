@@ -2,12 +2,10 @@
 use Rattle.std.proofs.Common.{◌≡◌, ◌+◌, ◌*◌, ◌<◌, ◌≤◌, ◌==◌, ℕ, List, [], ◌∷◌, Option, None, Some, inl, inr, refl, sym, ◌∙◌, ap, subst, arith}
 use Rattle.std.specs.Prelude.{sum_by}
 use Rattle.std.proofs.lemmas.List.Sums.{sum_by-cons, sum_by_push}
-use Rattle.stack_base.specs.Tree.{Tree, Leaf, Split, Mirrored}
 use Rattle.bio_records.specs.declared.bio.Bio.{Bio}
 use Rattle.bio_records.specs.declared.bio.Pad.{Pad}
 use Rattle.bio_records.specs.declared.tasks.TaskLists.{TaskLists}
 use Rattle.bio_records.specs.Items.{Item}
-use Rattle.bio_lists.specs.Submission.{submitted}
 use Rattle.bio_books.specs.Books.{VectorItem}
 use Rattle.bio_books.specs.Links.{IsVacant}
 use Rattle.run_machine.specs.declared.event.End.TheVariants as end
@@ -16,7 +14,6 @@ use Rattle.run_machine.specs.declared.event.What.{What}
 use Rattle.run_machine.specs.declared.event.What.TheVariants as what
 use Rattle.run_machine.specs.Maps.{upd}
 use Rattle.run_machine.specs.Scene.{Setup, Scene, tree_at}
-use Rattle.run_machine.specs.Lines.{Links, ToPush, ToCut, ToMaster, Doing, Drives, Copies, rests, copies, first_length, legs_of, leg_at}
 use Rattle.run_machine.specs.Tasks.{TaskState, Writer, Todo}
 use Rattle.run_machine.specs.Runs.{State, Steps}
 use Rattle.block_core.specs.Touches.{Touch, Opens, Shuts, Passes, touch_of}
@@ -28,132 +25,29 @@ use Rattle.block_core.proofs.moves.Sums.{upd-same, upd-other, same_or_not, one-s
 use Rattle.block_core.proofs.sound.Facts.{TaskFits, Fair, Kept}
 use Rattle.block_core.proofs.sound.Orders.{Each, IsOwn, DoingPlaced, TodoThere, TaskPlaced, Placed, Ground}
 use Rattle.block_core.proofs.moves.Deltas.{delta}
-use Rattle.block_core.proofs.moves.Landings.{AreThere, IsLanding, settled_there, goes_there, copies_there, all_there, none_there, cut_there, leg_there}
-use Rattle.block_core.proofs.sound.TaskLines.{line_fits}
-use Rattle.block_core.proofs.sound.OrdersKept.{line_placed}
-use Rattle.block_core.proofs.sound.Places.{cut_weight, unless_less}
 use Rattle.block_core.proofs.unrefused.NodeNeeds.{Needs, mirror_need, legs_on}
-use Rattle.block_core.proofs.unrefused.NodesOpened.{landed_room}
+use Rattle.block_core.proofs.unrefused.NodesOpened.{room_worth, opened_worth, spends}
 use Rattle.block_core.proofs.moves.StepMoves.{step_is_move}
 use Rattle.block_core.proofs.moves.SumsCompared.{under_in_all}
 use Rattle.trace_replay.specs.Names.{Names, names_after}
 
 -- the nodes that a writer's writes have still to open
 abbrev pub to_open : Setup → ℕ → Weight
-to_open setup w = record (room setup w) { node = λ writer place node. 0 }
+to_open setup w = room_worth setup w (λ writer. 0)
 
 -- one more is opened
 abbrev pub opens : ℕ → Touch → ℕ
-opens w (Opens writer node) = one writer w
-opens w (Shuts writer node) = 0
-opens w Passes = 0
+opens w = opened_worth (λ writer. one writer w)
 
-copies_open : (setup : Setup) (n : Needs setup) (w limit : ℕ) (lists : TaskLists) (bio : Bio) (master leg : ℕ) → AreThere setup lists.list0 → AreThere setup lists.list1
-    → line_weight (to_open setup w) limit (copies setup lists bio master leg)
-    ≤ one bio.writer w * legs_need setup bio leg + sum_by ((to_open setup w).bio (Lined limit)) lists.list0 + sum_by ((to_open setup w).bio (Lined limit)) lists.list1
-copies_open setup n w limit lists bio master leg first second = omega (
-  arith,
-  copies_there setup (to_open setup w) (landed_room setup n w) limit lists bio master leg first second,
-  unless_less (leg == legs_of (tree_at setup bio.dev)) (one bio.writer w * legs_need setup bio leg),
-)
+none_worth : (touch : Touch) → opened_worth (λ writer. 0) touch ≡ 0
+none_worth (Opens writer node) = refl
+none_worth (Shuts writer node) = refl
+none_worth Passes = refl
 
 module _ (scene : Scene) (s : State) (g : Ground scene.setup) (n : Needs scene.setup) (i : Kept scene s) (a : Placed scene.setup s) where
-  -- an event that opens a node has one less to open
-  abbrev Spends : ℕ → Move → Type 0
-  Spends w m = gained scene (to_open scene.setup w) s m + opens w (touch_by m) ≤ lost scene (to_open scene.setup w) s m
-
-  has : (place : ℕ) (x : TaskState) (doing : Doing) (lists : TaskLists) → s.task place ≡ x → HasLine x doing lists → DoingPlaced scene.setup (limit_of x) doing lists
-  has place x doing lists is h = line_placed scene.setup x doing lists (subst (TaskPlaced scene.setup) is (a.tasks place)) h
-
-  lands : (w : ℕ) → IsLanding scene.setup (to_open scene.setup w)
-  lands w = landed_room scene.setup n w
-
-  begins : (w place writer : ℕ) (todo : Todo) (later : List Todo) (item : Item Pad) (vector : Option VectorItem) (key : ℕ) → TodoThere scene.setup writer todo
-      → Spends w (moves.Begins place writer todo later item vector key)
-  begins w place writer todo later item None key there =
-      let filled_item : Item Pad = filled_of writer todo item None key in
-      let b = settled_there scene.setup (to_open scene.setup w) (lands w) 32 (filled_item ∷ []) (there key, tt) in
-      let all = ap (λ k. one writer w * k) (sum_by-cons (todo_need scene.setup) todo later) in
-      omega (arith, b, sum_by-cons ((to_open scene.setup w).bio (Lined 32)) filled_item [], all)
-  begins w place writer todo later item (Some vector) key there =
-      let filled_item : Item Pad = filled_of writer todo item (Some vector) key in
-      let b = settled_there scene.setup (to_open scene.setup w) (lands w) 32 (filled_item ∷ []) (there key, tt) in
-      let all = ap (λ k. one writer w * k) (sum_by-cons (todo_need scene.setup) todo later) in
-      omega (arith, b, sum_by-cons ((to_open scene.setup w).bio (Lined 32)) filled_item [], all)
-
-  leg_writer : (bio : Bio) (hand : Item Pad) (leg key : ℕ) (t : Tree) → leg < legs_of t → (leg_at bio hand leg key t).bio.writer ≡ bio.writer
-  leg_writer bio hand leg key (Leaf number sectors) lt = absurd (omega (arith, lt))
-  leg_writer bio hand leg key (Split number kind sizes members) lt = absurd (omega (arith, lt))
-  leg_writer bio hand leg key (Mirrored number sizes members) lt = refl
-
-  spends : (w : ℕ) (m : Move) → Can scene s m → Spends w m
-  spends w (moves.TakesFirst place writer todo later move) c = omega arith
-  spends w (moves.TakesVector place writer todo later item move) c = omega arith
-  spends w (moves.TakesSub place x doing lists dev waits move) c = omega arith
-  spends w (moves.TakesSlip place x bio lists move) c = omega arith
-  spends w (moves.MissesOne place x number used) c = omega arith
-  spends w (moves.MissesTry place x doing lists dev used) c = omega arith
-  spends w (moves.Punts place x doing lists dev) c = omega arith
-  spends w (moves.Pops place dev bio bios) c =
-      let r : Each (IsOwn scene.setup dev.0 dev.0) (bio ∷ bios) = subst (Each (IsOwn scene.setup dev.0 dev.0)) c.3 (a.rescued dev.0) in
-      omega (arith, settled_there scene.setup (to_open scene.setup w) (lands w) dev.0 (bio ∷ []) (r.0.0.0, tt), sum_by-cons ((to_open scene.setup w).bio (Lined dev.0)) bio [])
-  spends w (moves.Pushes place x bio lists) c =
-      let d = has place x (Drives bio ToPush) lists c.1 c.2 in
-      omega (
-        arith,
-        goes_there scene.setup (to_open scene.setup w) (lands w) (limit_of x) bio.bio.dev lists (none_there scene.setup (limit_of x) lists d.0) (all_there scene.setup (limit_of x) lists.list1 d.1.1),
-      )
-  spends w (moves.Completed place disk index bio status new) c = omega arith
-  spends w (moves.Begins place writer todo later item vector key) c =
-      let t : TaskPlaced scene.setup (Writer writer (todo ∷ later) (taken_of item vector) rests) = subst (TaskPlaced scene.setup) c.1 (a.tasks place) in
-      begins w place writer todo later item vector key t.0.0
-  spends w (moves.Chained place x bio lists hand number kind sizes members key node) c =
-      let k = first_length kind sizes bio.bio.range in
-      let d = has place x (Drives bio (ToCut (Links hand))) lists c.1 c.2 in
-      let cuts = cut_there scene.setup (limit_of x) g bio hand lists key number kind sizes members d c.3 in
-      let part = ap (λ v. one bio.bio.writer w * v) (n.cut bio hand key number kind sizes members d.1.0.0 c.3 cuts.0) in
-      omega (
-        arith,
-        goes_there scene.setup (to_open scene.setup w) (lands w) (limit_of x) bio.bio.dev (cut_lists bio lists hand k key kind sizes members) cuts.1 (all_there scene.setup (limit_of x) lists.list1 d.1.1),
-        cut_weight ((to_open scene.setup w).bio (Lined (limit_of x))) bio lists hand k key kind sizes members,
-        part,
-      )
-  spends w (moves.Mastered place x bio lists slip key node) c =
-      let d = has place x (Drives bio (ToMaster slip)) lists c.1 c.2 in
-      let is = d.1.0.0 in
-      let part = ap (λ v. one bio.bio.writer w * v) (mirror_need (tree_at scene.setup bio.bio.dev) bio.bio.range bio.bio.dev.0 slip d.3 is.some) in
-      omega (
-        arith,
-        copies_open scene.setup n w (limit_of x) lists bio.bio key 0 (none_there scene.setup (limit_of x) lists d.0) (all_there scene.setup (limit_of x) lists.list1 d.1.1),
-        part,
-      )
-  spends w (moves.Legged place x bio lists master leg hand key node) c =
-      let d = has place x (Copies bio master leg (Links hand)) lists c.1 c.2 in
-      let lt = line_fits scene x (Copies bio master leg (Links hand)) lists (subst (TaskFits scene) c.1 (i.tasks place)) c.2 in
-      let item = leg_at bio hand leg key (tree_at scene.setup bio.dev) in
-      let more = submitted item lists in
-      let first = leg_there scene.setup (limit_of x) g bio hand lists master leg key d lt in
-      let next = ap (λ v. one bio.writer w * v) (legs_on (tree_at scene.setup bio.dev) bio.range leg lt) in
-      let part = ap (λ v. one bio.writer w * v) (n.leg bio hand leg key d.0 lt) in
-      let own = ap (λ v. one v w * need_at scene.setup item.bio) (leg_writer bio hand leg key (tree_at scene.setup bio.dev) lt) in
-      omega (
-        arith,
-        copies_open scene.setup n w (limit_of x) more bio master (leg + 1) first (all_there scene.setup (limit_of x) lists.list1 d.3),
-        sum_by_push ((to_open scene.setup w).bio (Lined (limit_of x))) lists.list0 item,
-        next,
-        part,
-        own,
-      )
-  spends w (moves.Told place disk carried writer key status part node) c = omega arith
-  spends w (moves.Closes place disk carried writer key status part node) c = omega arith
-  spends w (moves.Gives place disk writer number closed held) c = omega arith
-  spends w (moves.Ends place disk writer closed) c = omega arith
-  spends w (moves.Resized place pool min later duties) c = omega arith
-  spends w (moves.Started place round later duties) c = omega arith
-
-  -- so behind each event there is one less for each that it opens
+  -- behind each event there is one less to open for each node that it opens
   pub opens_of_those : (w : ℕ) (m : Move) → Can scene s m → total scene (to_open scene.setup w) (after scene s m) + opens w (touch_by m) ≤ total scene (to_open scene.setup w) s
-  opens_of_those w m c = omega (arith, delta scene (to_open scene.setup w) s m c, spends w m c)
+  opens_of_those w m c = omega (arith, delta scene (to_open scene.setup w) s m c, spends scene s g n i a w (λ writer. 0) m c, none_worth (touch_by m))
 
 -- an event that opens a node finds its place vacant
 abbrev TouchIs : Touch → Type 0
