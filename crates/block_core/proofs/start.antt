@@ -1,4 +1,5 @@
 pub mod FactsAtStart
+pub mod StartTotals
 pub mod StagesAtStart
 pub mod WritesAtStart
 pub mod TallyAtStart

@@ -1,36 +1,31 @@
 -- At the start no more is charged than all that pays.
-use Rattle.std.proofs.Common.{◌≡◌, ◌≢◌, ◌+◌, ◌-◌, ◌<◌, ◌≤◌, ◌==◌, ◌⊎◌, ◌++◌, not, if◌then◌else◌, ℕ, zero, suc, Bool, true, false, List, [], ◌∷◌, length, map, filter, Some, inl, inr, refl, sym, ◌∙◌, ap, subst, arith, cond}
+use Rattle.std.proofs.Common.{◌≡◌, ◌≢◌, ◌+◌, ◌-◌, ◌<◌, ◌≤◌, ◌==◌, ◌⊎◌, if◌then◌else◌, ℕ, zero, suc, Bool, true, false, List, [], ◌∷◌, length, map, filter, Some, inl, inr, refl, sym, ◌∙◌, ap, subst, arith, cond}
 use Rattle.std.specs.Prelude.{sum_by}
 use Rattle.std.specs.List.{range_with_len}
 use Rattle.std.proofs.lemmas.Bool.{eq-eqb, ne_eqb}
 use Rattle.std.proofs.lemmas.List.Sums.{sum_by-cons, sum_by-append}
-use Rattle.std.proofs.lemmas.List.Filters.{sum_by-filter_both}
 use Rattle.stack_base.specs.declared.ids.PoolId.{PoolId}
 use Rattle.stack_base.specs.PoolId.{pool_number}
 use Rattle.elem_ledger.specs.Ledger.{LedgerId}
 use Rattle.block_core.specs.Payers.{Paid, ScriptEntry, LaterRound, ReserveChange, cost}
 use Rattle.block_core.specs.Paying.{write_cost, all_costs}
 use Rattle.layout_model.proofs.RangeSums.{sum_next}
-use Rattle.model_disks.specs.Disks.{DiskState}
-use Rattle.run_machine.specs.Lines.{rests}
-use Rattle.run_machine.specs.Tasks.{TaskState, Writer, Rescuer, Completer, Duty, Resizes, Starts, Keeps, Keeper, Todo, NoBio, Empty}
+use Rattle.run_machine.specs.Tasks.{Duty, Resizes, Starts, Keeps, Keeper, Todo, NoBio}
 use Rattle.block_core.specs.Touches.{none_was}
-use Rattle.block_core.specs.Weights.{Pending, Rescued, total, sum_at, task_weight, book_weight}
+use Rattle.block_core.specs.Weights.{total, sum_at}
 use Rattle.block_core.specs.Charges.{write_charge, todo_charge, charge, duty_charge, task_charge, task_spent, entries_left, charged, spent_charges}
 use Rattle.block_core.proofs.moves.Sums.{same_or_not}
 use Rattle.std.specs.Prelude.{zip, find}
-use Rattle.std.specs.List.{list_any, flat_map}
+use Rattle.std.specs.List.{list_any}
 use Rattle.std.specs.Option.{option_map_or}
-use Rattle.std.proofs.lemmas.List.{take_all}
 use Rattle.std.proofs.Math.Nat.{mul-le-mul_left}
 use Rattle.fail_script.specs.Script.{Answers, entries_of, only_tail}
 use Rattle.layout_model.specs.declared.write.Write.{Write}
-use Rattle.layout_model.proofs.RangeSums.{sum_of_zero, sum_of_two}
-use Rattle.run_machine.specs.Scene.{is_disk}
-use Rattle.run_machine.specs.Opened.{Scenario, Change, scene, start, tasks as opened_tasks, todos, todos_of, is_by, writers, duties, duties_of, keepers, no_task, round_count, writes_from, script_at, is_numbered, setup as setup_in, at as device_at}
+use Rattle.layout_model.proofs.RangeSums.{sum_same, sum_of_zero, sum_of_two}
+use Rattle.run_machine.specs.Opened.{Scenario, Change, scene, start, tasks as opened_tasks, todos, todos_of, is_by, writers, duties, duties_of, keepers, round_count, writes_from, script_at, is_numbered, setup as setup_in}
 use Rattle.block_core.specs.Scenarios.{IsScenario}
-use Rattle.block_core.proofs.start.FactsAtStart.{start_opened, nodes_zero, sum_at-zero}
-use Rattle.block_core.proofs.start.StagesAtStart.{places_sum}
+use Rattle.block_core.proofs.start.FactsAtStart.{sum_at-zero}
+use Rattle.block_core.proofs.start.StartTotals.{map_sum, filter_sum, flat_sum, opened_sum, placed_sum, worth_at_start}
 use Rattle.std.proofs.Math.Numerals.{add-one}
 use Rattle.block_core.proofs.bound.TaskCharges.{later_charge}
 
@@ -89,30 +84,10 @@ range_part h a (suc n) =
     let one_more : sum_at (λ v (x : ℕ). h v) (a + 1) (λ v. v) ≡ sum_at (λ v (x : ℕ). h v) a (λ v. v) + h a = ap (λ k. sum_at (λ v (x : ℕ). h v) k (λ v. v)) (add-one a) in
     omega (arith, rest, next, all, one_more)
 
-pub map_sum : {X Y : Type 0} (g : Y → ℕ) (f : X → Y) (xs : List X) → sum_by g (map f xs) ≡ sum_by (λ x. g (f x)) xs
-map_sum g f [] = refl
-map_sum g f (x ∷ xs) = omega (arith, sum_by-cons g (f x) (map f xs), sum_by-cons (λ x. g (f x)) x xs, map_sum g f xs)
-
-pub zero_sum : {X : Type 0} (g : X → ℕ) (xs : List X) → ((x : X) → g x ≡ 0) → sum_by g xs ≡ 0
-zero_sum g [] none = refl
-zero_sum g (x ∷ xs) none = omega (arith, sum_by-cons g x xs, none x, zero_sum g xs none)
-
-pub same_sum : {X : Type 0} (g h : X → ℕ) (xs : List X) → ((x : X) → g x ≡ h x) → sum_by g xs ≡ sum_by h xs
-same_sum g h [] same = refl
-same_sum g h (x ∷ xs) same = omega (arith, sum_by-cons g x xs, sum_by-cons h x xs, same x, same_sum g h xs same)
-
-pub filter_sum : {X : Type 0} (g : X → ℕ) (p : X → Bool) (xs : List X) → sum_by g (filter p xs) ≤ sum_by g xs
-filter_sum g p xs = omega (arith, sum_by-filter_both p (λ x. not (p x)) (λ x. refl) g xs)
-
 pub zip_sum : {A B : Type 0} (h : B → ℕ) (ns : List A) (xs : List B) → sum_by (λ (x : A × B). h x.1) (zip ns xs) ≤ sum_by h xs
 zip_sum h [] xs = omega arith
 zip_sum h (n ∷ ns) [] = omega arith
 zip_sum {A = A} {B = B} h (n ∷ ns) (x ∷ xs) = omega (arith, sum_by-cons (λ (x : A × B). h x.1) (n, x) (zip ns xs), sum_by-cons h x xs, zip_sum h ns xs)
-
--- a sum over what is joined
-joined_sum : {X Y : Type 0} (g : Y → ℕ) (f : X → List Y) (xs : List X) → sum_by g (flat_map f xs) ≡ sum_by (λ x. sum_by g (f x)) xs
-joined_sum g f [] = refl
-joined_sum g f (x ∷ xs) = omega (arith, sum_by-append g (f x) (flat_map f xs), sum_by-cons (λ x. sum_by g (f x)) x xs, joined_sum g f xs)
 
 -- the script of a pool is one of those of its number
 script_part : (scripts : List (PoolId × Answers)) (number : ℕ)
@@ -127,31 +102,6 @@ script_part (script ∷ scripts) number = by_test (is_numbered number script) (s
     by_test false rest = rest
 
 module _ (s : Scenario) (good : IsScenario s) (ledger : ℕ → LedgerId) where
-  -- a sum over all tasks
-  pub opened_sum : (G : TaskState → ℕ) → ((dev : ℕ) → G (Rescuer (device_at dev) rests) ≡ 0) → ((dev : ℕ) → G (Completer (device_at dev) Empty) ≡ 0)
-      → sum_by G (opened_tasks s) ≡ sum_by (λ writer. G (Writer writer (todos_of s writer) NoBio rests)) (writers s) + sum_by G (keepers (duties s))
-  opened_sum G no_rescue no_end =
-      let count = (setup_in s).count in
-      let ws = map (λ writer. Writer writer (todos_of s writer) NoBio rests) (writers s) in
-      let rs = map (λ dev. Rescuer (device_at dev) rests) (filter (setup_in s).rescuer (range_with_len 0 count)) in
-      let cs = map (λ dev. Completer (device_at dev) Empty) (filter (is_disk (setup_in s)) (range_with_len 0 count)) in
-      let r : sum_by G rs ≡ 0 = map_sum G (λ dev. Rescuer (device_at dev) rests) (filter (setup_in s).rescuer (range_with_len 0 count))
-      ∙ zero_sum (λ dev. G (Rescuer (device_at dev) rests)) (filter (setup_in s).rescuer (range_with_len 0 count)) no_rescue in
-      let c : sum_by G cs ≡ 0 = map_sum G (λ dev. Completer (device_at dev) Empty) (filter (is_disk (setup_in s)) (range_with_len 0 count))
-      ∙ zero_sum (λ dev. G (Completer (device_at dev) Empty)) (filter (is_disk (setup_in s)) (range_with_len 0 count)) no_end in
-      omega (
-        arith,
-        sum_by-append G ws (rs ++ (cs ++ keepers (duties s))),
-        sum_by-append G rs (cs ++ keepers (duties s)),
-        sum_by-append G cs (keepers (duties s)),
-        map_sum G (λ writer. Writer writer (todos_of s writer) NoBio rests) (writers s),
-        r,
-        c,
-      )
-
-  pub placed_sum : (G : TaskState → ℕ) → sum_at (λ place x. G x) (length (opened_tasks s)) (start s).task ≡ sum_by G (opened_tasks s)
-  placed_sum G = places_sum G (opened_tasks s) no_task (length (opened_tasks s)) (omega arith) ∙ ap (sum_by G) (take_all (length (opened_tasks s)) (opened_tasks s) (omega arith))
-
   module _ (price : Paid → ℕ) where
     -- what the writers have to begin
     todos_charge : sum_by (write_charge price (setup_in s)) (todos s) ≤ sum_by (write_cost price s.stack) s.writes
@@ -165,35 +115,15 @@ module _ (s : Scenario) (good : IsScenario s) (ledger : ℕ → LedgerId) where
     writers_charge : sum_by (λ writer. todo_charge price (setup_in s) (todos_of s writer) NoBio) (writers s) ≤ sum_by (write_cost price s.stack) s.writes
     writers_charge =
         let of : ℕ → ℕ = λ writer. sum_by (write_charge price (setup_in s)) (todos_of s writer) in
-        let a = same_sum (λ writer. todo_charge price (setup_in s) (todos_of s writer) NoBio) of (writers s) (λ writer. later_charge price (setup_in s) (todos_of s writer)) in
+        let a = sum_same (λ writer. todo_charge price (setup_in s) (todos_of s writer) NoBio) of (writers s) (λ writer. later_charge price (setup_in s) (todos_of s writer)) in
         let b = filter_sum of (λ writer. list_any (is_by writer) (todos s)) (range_with_len 0 8) in
         let c = range_part of 0 8 in
         let d : sum_at (λ v (x : ℕ). of v) 8 (λ v. v) ≤ sum_by (write_charge price (setup_in s)) (todos s) =
         grouped (λ (todo : Todo). todo.write.task) (write_charge price (setup_in s)) 8 (todos s) in
         omega (arith, a, b, c, d, todos_charge)
 
-    tasks_charge : sum_at (task_weight (charge price none_was (setup_in s))) (length (opened_tasks s)) (start s).task ≤ sum_by (write_cost price s.stack) s.writes
-    tasks_charge =
-        let G : TaskState → ℕ = λ x. task_weight (charge price none_was (setup_in s)) 0 x in
-        let same : sum_at (task_weight (charge price none_was (setup_in s))) (length (opened_tasks s)) (start s).task ≡ sum_at (λ place x. G x) (length (opened_tasks s)) (start s).task = refl in
-        let writer_same = same_sum (λ writer. G (Writer writer (todos_of s writer) NoBio rests)) (λ writer. todo_charge price (setup_in s) (todos_of s writer) NoBio) (writers s) (λ writer. omega arith) in
-        omega (arith, same, placed_sum G, opened_sum G (λ dev. refl) (λ dev. refl), writer_same, writers_charge, keeper_charge (duties s))
-      where
-        keeper_charge : (ds : List Duty) → sum_by (λ x. task_weight (charge price none_was (setup_in s)) 0 x) (keepers ds) ≡ 0
-        keeper_charge [] = refl
-        keeper_charge (duty ∷ ds) = refl
-
     total_charge : total (scene s ledger) (charge price none_was (setup_in s)) (start s) ≤ sum_by (write_cost price s.stack) s.writes
-    total_charge =
-        let o = start_opened s good ledger in
-        let w = charge price none_was (setup_in s) in
-        omega (
-          arith,
-          tasks_charge,
-          sum_at-zero (λ dev bios. sum_by (w.bio Rescued) bios) (scene s ledger).setup.count (start s).objects.rescue (λ dev. refl),
-          sum_at-zero (λ dev (disk : DiskState). sum_by (w.bio Pending) disk.pending) (scene s ledger).setup.count (start s).objects.disk (λ dev. refl),
-          sum_at-zero (book_weight w) (scene s ledger).books (start s).objects.book (λ writer. nodes_zero w writer ((start s).objects.book writer) (o.books writer)),
-        )
+    total_charge = omega (arith, worth_at_start s good ledger (charge price none_was (setup_in s)), writers_charge)
 
   -- the entries of all scripts
   entries_charge : sum_at (λ number pool. entries_left pool) 66 (start s).objects.pool ≤ sum_by (λ (script : PoolId × Answers). entries_of script.1) s.scripts
@@ -225,8 +155,8 @@ module _ (s : Scenario) (good : IsScenario s) (ledger : ℕ → LedgerId) where
         let rounds = range_with_len 1 n in
         let at : ℕ → List Change = λ round. filter (λ (change : Change). change.round == round) s.changes in
         let each : ℕ → ℕ = λ round. sum_by (λ (change : Change). cost price ReserveChange) (at round) in
-        let a = joined_sum (duty_charge price) (duties_of s) rounds in
-        let b = same_sum (λ round. sum_by (duty_charge price) (duties_of s round)) (λ round. each round + cost price LaterRound) rounds (λ round.
+        let a = flat_sum (duty_charge price) (duties_of s) rounds in
+        let b = sum_same (λ round. sum_by (duty_charge price) (duties_of s round)) (λ round. each round + cost price LaterRound) rounds (λ round.
         let resizes_of : Change → Duty = λ change. Resizes change.pool change.min (writes_from s round) in
         let last : Duty = Starts round (writes_from s round) in
         omega (arith, sum_by-append (duty_charge price) (map resizes_of (at round)) (last ∷ []), sum_by-cons (duty_charge price) last [], map_sum (duty_charge price) resizes_of (at round))) in
@@ -235,7 +165,7 @@ module _ (s : Scenario) (good : IsScenario s) (ledger : ℕ → LedgerId) where
 
     duties_charge : sum_at (λ place x. task_charge price x) (length (opened_tasks s)) (start s).task ≤ rounds_cost + changes_cost
     duties_charge =
-        omega (arith, placed_sum (task_charge price), opened_sum (task_charge price) (λ dev. refl) (λ dev. refl), sum_of_zero (writers s), keeper_duties (duties s), duties_cost)
+        omega (arith, placed_sum s good ledger (task_charge price), opened_sum s good ledger (task_charge price) (λ dev. refl) (λ dev. refl), sum_of_zero (writers s), keeper_duties (duties s), duties_cost)
       where
         keeper_duties : (ds : List Duty) → sum_by (task_charge price) (keepers ds) ≡ sum_by (duty_charge price) ds
         keeper_duties [] = refl
@@ -248,7 +178,7 @@ module _ (s : Scenario) (good : IsScenario s) (ledger : ℕ → LedgerId) where
     pub start_spent : spent_charges price (scene s ledger) (start s) ≡ 0
     start_spent =
         let keeper_spent : (ds : List Duty) → sum_by (task_spent price) (keepers ds) ≡ 0 = none_spent in
-        omega (arith, placed_sum (task_spent price), opened_sum (task_spent price) (λ dev. refl) (λ dev. refl), sum_of_zero (writers s), keeper_spent (duties s))
+        omega (arith, placed_sum s good ledger (task_spent price), opened_sum s good ledger (task_spent price) (λ dev. refl) (λ dev. refl), sum_of_zero (writers s), keeper_spent (duties s))
       where
         none_spent : (ds : List Duty) → sum_by (task_spent price) (keepers ds) ≡ 0
         none_spent [] = refl

@@ -45,10 +45,10 @@ use Rattle.block_core.proofs.sound.Lasting.{runs_keep}
 use Rattle.block_core.proofs.moves.StepMoves.{step_is_move}
 use Rattle.block_core.proofs.unrefused.BioNeeds.{Worth, worth}
 use Rattle.block_core.proofs.images.FragmentCounts.{Divided, divided}
-use Rattle.block_core.proofs.images.Completed.{opened_total, all_sum, start_counted, over_follows}
+use Rattle.block_core.proofs.images.Completed.{start_counted, over_follows}
 use Rattle.block_core.proofs.moves.Misfits.{misfits, no_misfits}
 use Rattle.block_core.proofs.images.StillToCome.{over}
-use Rattle.block_core.proofs.bound.ChargesAtStart.{placed_sum, opened_sum}
+use Rattle.block_core.proofs.start.StartTotals.{placed_sum, opened_sum, opened_total, all_sum}
 use Rattle.block_core.proofs.moves.Sums.{one-same}
 use Rattle.block_core.proofs.images.PlannedOnce.{sum_none}
 use Rattle.block_core.proofs.images.EndedRuns.{zero_at, nothing_comes_where_ended}
@@ -163,7 +163,7 @@ module _ (s : Scenario) (good : IsScenario s) (ledger : ℕ → LedgerId) where
 
   due_at_start : total (scene s ledger) (due (setup_in s)) (start s) ≡ sum_by write_parts s.writes
   due_at_start =
-      opened_total s good ledger (due (setup_in s)) (write_due (setup_in s)) (λ n ts. later ts) refl
+      opened_total s good ledger (due (setup_in s)) (write_due (setup_in s)) (λ n ts. later ts)
       ∙ (all_sum (λ (todo : Todo). IsWrite s.stack todo.write) (write_due (setup_in s)) (λ todo. write_parts todo.write) (todos s) todo_is (todos_all s (IsWrite s.stack) good.writes)
       ∙ by_writes 0 (length s.writes) s.rounds s.writes good.rounds refl)
     where

@@ -47,7 +47,8 @@ use Rattle.block_core.proofs.moves.StepMoves.{step_is_move}
 use Rattle.block_core.proofs.sound.Wholes.{Whole, runs_whole, start_whole}
 use Rattle.block_core.proofs.moves.Devices.{ground}
 use Rattle.block_core.proofs.start.FactsAtStart.{todos_all}
-use Rattle.block_core.proofs.images.Completed.{opened_total, all_sum, small}
+use Rattle.block_core.proofs.images.Completed.{small}
+use Rattle.block_core.proofs.start.StartTotals.{opened_total, all_sum}
 use Rattle.block_core.proofs.moves.Misfits.{misfits, no_misfits}
 use Rattle.block_core.proofs.images.StillToCome.{over, ended}
 use Rattle.block_core.proofs.images.Completions.{step_completes}
@@ -296,7 +297,7 @@ module _ (s : Scenario) (ledger : ℕ → LedgerId) (good : IsScenario s) where
       let loose_first : Todo → ℕ = λ todo. loose s (first_bio 0 todo 0) in
       omega (
         arith,
-        opened_total s good ledger (misfits (unfit s)) (λ todo. over_first todo + loose_first todo) (λ n ts. refl) refl,
+        opened_total s good ledger (misfits (unfit s)) (λ todo. over_first todo + loose_first todo) (λ n ts. refl),
         sum_of_two over_first loose_first (todos s),
         all_sum (λ (todo : Todo). IsWrite s.stack todo.write) over_first (λ todo. 0) (todos s) (λ todo is. small s good ledger todo is) (todos_all s (IsWrite s.stack) good.writes),
         all_sum (λ (todo : Todo). tag_of s todo.number ≡ todo.write.tag) loose_first (λ todo. 0) (todos s) (λ todo is. not_loose s (first_bio 0 todo 0) (first_tied s todo is)) (own_tags s),

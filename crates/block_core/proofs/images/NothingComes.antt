@@ -29,7 +29,7 @@ use Rattle.block_core.proofs.sound.Orders.{Ground}
 use Rattle.block_core.proofs.moves.Devices.{ground}
 use Rattle.block_core.proofs.moves.StepMoves.{step_is_move}
 use Rattle.block_core.proofs.sound.Wholes.{Whole, runs_whole, start_whole}
-use Rattle.block_core.proofs.images.Completed.{opened_total}
+use Rattle.block_core.proofs.start.StartTotals.{opened_total}
 
 -- no bio is in a list that has an element of no pool
 no_items : (xs : List (Item Pad)) → ((p : ℕ) → sum_by (λ (bio : Item Pad). one bio.share.no p) xs ≡ 0) → xs ≡ []
@@ -193,6 +193,6 @@ nothing_comes_where_all_is_home s ledger events state good naming run home =
     let f : Fair (opened_scene s ledger) = record { named = naming } in
     let g = ground s.stack good.stack (setup_in s).places in
     let i = start_whole s ledger good naming in
-    let opened = opened_total s good ledger bare (λ todo. 0) (λ n ts. sym (sum_of_zero ts)) refl ∙ sum_of_zero (todos s) in
+    let opened = opened_total s good ledger bare (λ todo. 0) (λ n ts. sym (sum_of_zero ts)) ∙ sum_of_zero (todos s) in
     let kept = (runs_whole (opened_scene s ledger) f g (start s) events state i run).kept in
     home_comes (opened_scene s ledger) state kept (runs_hold_slips (opened_scene s ledger) f g (start s) events state i opened run) home.pools home

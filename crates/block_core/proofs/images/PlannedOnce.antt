@@ -21,10 +21,10 @@ use Rattle.block_core.specs.Scenarios.{IsScenario}
 use Rattle.block_core.specs.Fragments.{todo_fragments, to_come, planned, is_same, is_it, times, IsOfScenario, HasNone, NothingComes, NoneIsCompletedTwice, NoOtherIsCompleted, EachIsCompletedOnce}
 use Rattle.block_core.proofs.moves.Sums.{one-same, same_or_not}
 use Rattle.block_core.proofs.start.FactsAtStart.{sum_at-zero, todos_all, all_map}
-use Rattle.block_core.proofs.sound.DoneOnce.{to_begin}
-use Rattle.block_core.proofs.start.StagesAtStart.{once}
+use Rattle.block_core.proofs.start.StagesAtStart.{once, begins_sum}
 use Rattle.block_core.proofs.images.StillToCome.{carried_none}
-use Rattle.block_core.proofs.images.Completed.{flat_sum, fragments_add_up}
+use Rattle.block_core.proofs.images.Completed.{fragments_add_up}
+use Rattle.block_core.proofs.start.StartTotals.{flat_sum}
 
 -- fragments that are told to be the same are
 same_fragment : (f g : Fragment) → is_same f g ≡ true → f ≡ g
@@ -114,10 +114,6 @@ all_le : {X : Type 0} (P : X → Type 0) (f g : X → ℕ) (xs : List X) → ((x
 all_le P f g [] le all = omega arith
 all_le P f g (x ∷ xs) le all =
     omega (arith, sum_by-cons f x xs, sum_by-cons g x xs, le x (All-head P x xs all), all_le P f g xs le (All-tail P x xs all))
-
-pub begins_sum : (w : ℕ) (ts : List Todo) → sum_by (λ (todo : Todo). one todo.number w) ts ≡ to_begin w ts
-begins_sum w [] = refl
-begins_sum w (todo ∷ ts) = omega (arith, sum_by-cons (λ (todo : Todo). one todo.number w) todo ts, begins_sum w ts)
 
 module _ (s : Scenario) (good : IsScenario s) (ledger : ℕ → LedgerId) where
   todo_sound : (todo : Todo) → IsWrite s.stack todo.write → (f : Fragment)

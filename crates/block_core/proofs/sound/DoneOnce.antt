@@ -1,25 +1,19 @@
 -- Each write is told done at most once: it is to be begun, or its top node is open or carried, and then no more.
-use Rattle.std.proofs.Common.{◌≡◌, ◌+◌, ◌*◌, ◌==◌, ℕ, Bool, true, false, List, [], ◌∷◌, Option, None, Some, inl, inr, refl, ◌∙◌, ap, arith, set}
-use Rattle.std.specs.Prelude.{sum_by}
-use Rattle.std.proofs.lemmas.List.Sums.{sum_by-cons}
+use Rattle.std.proofs.Common.{◌≡◌, ◌+◌, ◌==◌, ℕ, Bool, true, false, List, [], ◌∷◌, Option, None, Some, inl, inr, refl, ◌∙◌, ap, arith, set}
 use Rattle.stack_base.specs.declared.ids.DevId.{DevId}
 use Rattle.stack_base.specs.declared.ids.Status.{Status}
 use Rattle.bio_records.specs.declared.bio.Pad.{Pad}
 use Rattle.bio_records.specs.declared.tasks.TaskLists.{TaskLists}
 use Rattle.bio_records.specs.Items.{Item}
-use Rattle.bio_lists.specs.Submission.{submitted}
-use Rattle.bio_books.specs.declared.node.Role.{Role}
-use Rattle.bio_books.specs.declared.node.Role.TheVariants as role
-use Rattle.bio_books.specs.Books.{VectorItem, Holding, told, parent_of}
+use Rattle.bio_books.specs.Books.{VectorItem, Holding, told}
 use Rattle.bio_books.specs.Drops.{Closed, closed_of}
-use Rattle.run_machine.specs.Scene.{Setup, Scene, tree_at}
-use Rattle.run_machine.specs.Lines.{Takes, Punts as WantsPunt, Links, ToPush, ToCut, ToRecord, ToMaster, Doing, Rests, Drives, Copies, Breaks, Line, settled, goes_on, copies, first_length, leg_at, punted}
+use Rattle.run_machine.specs.Scene.{Setup, Scene}
+use Rattle.run_machine.specs.Lines.{Takes, Punts as WantsPunt, Links, ToPush, ToCut, ToRecord, ToMaster, Doing, Rests, Drives, Copies, Breaks}
 use Rattle.run_machine.specs.Tasks.{Completer, Todo, Carried, Empty, Brings, Carries, Fails}
 use Rattle.run_machine.specs.Runs.{State}
-use Rattle.block_core.specs.Weights.{Weight, Pending, total, one, doing_weight, line_weight, carried_weight}
+use Rattle.block_core.specs.Weights.{Weight, total, one}
 use Rattle.block_core.proofs.moves.Moves.{Move, IsTaking, place_of, Can, after, lost, gained, limit_of, with_line, HasLine, Wants, with_want, taken_of, filled_of, vector_of, cut_lists, IsTake, Tells, Hands, piece, with_pool, with_book}
 use Rattle.block_core.proofs.moves.Moves as moves
-use Rattle.block_core.proofs.moves.Deltas.{delta}
 use Rattle.run_machine.specs.declared.event.What.{What}
 use Rattle.run_machine.specs.Events.{what_of, resize_of}
 use Rattle.run_machine.specs.Lines.{line_request}
@@ -30,6 +24,8 @@ use Rattle.bio_books.specs.Links.{Made, NoRoom, Stray}
 use Rattle.bio_books.specs.Drops.{Ended}
 use Rattle.bio_books.specs.Drops as end
 use Rattle.block_core.specs.Dones.{done_in}
+use Rattle.block_core.specs.Rounds.{by_stage}
+use Rattle.block_core.proofs.sound.EventStages.{ended_worth, to_come_before, to_come_after, staged as worth_staged}
 use Rattle.block_core.proofs.sound.TaskLines.{wants_busy}
 use Rattle.block_core.proofs.moves.LineSteps.{asks_line}
 
@@ -39,8 +35,7 @@ asked w (requests.Done write status) = one write w
 asked w request = 0
 
 abbrev pub done_by : ℕ → Move → ℕ
-done_by w (moves.Ends place disk writer closed) = one closed.write w
-done_by w m = 0
+done_by w = ended_worth (λ n. one n w)
 
 abbrev pub done_of : ℕ → Option What → ℕ
 done_of w None = 0
@@ -198,118 +193,15 @@ abbrev pub to_begin : ℕ → List Todo → ℕ
 to_begin w [] = 0
 to_begin w (todo ∷ todos) = one todo.number w + to_begin w todos
 
-abbrev pub top_role : Role → ℕ
-top_role role.Top = 1
-top_role (role.Chain parent) = 0
-top_role (role.Master parent) = 0
-top_role (role.Leg parent) = 0
-
-abbrev pub top_parent : Option ℕ → ℕ
-top_parent None = 1
-top_parent (Some parent) = 0
-
-pub same_top : (r : Role) → top_parent (parent_of r) ≡ top_role r
-same_top role.Top = refl
-same_top (role.Chain parent) = refl
-same_top (role.Master parent) = refl
-same_top (role.Leg parent) = refl
-
 -- a write is to be begun, or its top node is open, or what is left of it is carried
 abbrev pub stage : ℕ → Weight
-stage w = record {
-  todo = λ writer todos taken. to_begin w todos;
-  bio = λ spot bio. 0;
-  copy = λ bio master leg. 0;
-  hand = λ bio. 0;
-  vector = λ vector. 0;
-  slip = λ slip. 0;
-  node = λ writer place node. top_role node.role * one node.write w;
-  closed = λ task writer closed. top_parent closed.parent * one closed.write w;
-}
+stage w = by_stage (λ todos taken. to_begin w todos) (λ n. one n w)
 
-zeros : (w : ℕ) (items : List (Item Pad)) → sum_by ((stage w).bio Pending) items ≡ 0
-zeros w [] = refl
-zeros w (item ∷ items) = omega (arith, sum_by-cons ((stage w).bio Pending) item items, zeros w items)
-
-line_zero : (w limit : ℕ) (line : Line) → line_weight (stage w) limit line ≡ 0
-line_zero w limit line = omega (arith, doing_zero line.doing, zeros w line.lists.list0, zeros w line.lists.list1)
-  where
-    doing_zero : (doing : Doing) → doing_weight (stage w) limit doing ≡ 0
-    doing_zero Rests = refl
-    doing_zero (Drives bio ToPush) = refl
-    doing_zero (Drives bio (ToCut (Takes waits))) = refl
-    doing_zero (Drives bio (ToCut WantsPunt)) = refl
-    doing_zero (Drives bio (ToCut (Links hand))) = refl
-    doing_zero (Drives bio ToRecord) = refl
-    doing_zero (Drives bio (ToMaster slip)) = refl
-    doing_zero (Copies bio master leg (Takes waits)) = refl
-    doing_zero (Copies bio master leg WantsPunt) = refl
-    doing_zero (Copies bio master leg (Links hand)) = refl
-    doing_zero (Breaks breach kept) = refl
-
--- what is carried of a child tells no top
-carried_child : (w task : ℕ) (carried : Carried) (writer key : ℕ) (status : Status) (part : Option (Item Pad)) → Tells carried writer key status part
-    → carried_weight (stage w) task carried ≡ 0
-carried_child w task (Brings bio ending) writer key status part t = refl
-carried_child w task (Carries of closed) writer key status part t = ap (λ parent. top_parent parent * one closed.write w) t.1 ∙ omega arith
-carried_child w task Empty writer key status part t = absurd t
-carried_child w task (Fails breach kept) writer key status part t = absurd t
+-- what is to come of it is as before, but where it begins
+to_come_kept : (scene : Scene) (w : ℕ) (m : Move) → to_come_before (λ todos taken. to_begin w todos) m ≡ to_come_after scene (λ todos taken. to_begin w todos) (λ n. one n w) m
+to_come_kept scene w (moves.Begins place writer todo later item vector key) = omega arith
+to_come_kept scene w _ = refl
 
 -- an event takes a write's stage away exactly where it tells it done
 pub staged : (scene : Scene) (s : State) (w : ℕ) (m : Move) → Can scene s m → total scene (stage w) (after scene s m) + done_by w m ≡ total scene (stage w) s
-staged scene s w (moves.TakesFirst place writer todo later move) c = omega (arith, delta scene (stage w) s (moves.TakesFirst place writer todo later move) c)
-staged scene s w (moves.TakesVector place writer todo later item move) c = omega (arith, delta scene (stage w) s (moves.TakesVector place writer todo later item move) c)
-staged scene s w (moves.TakesSub place x doing lists dev waits move) c = omega (arith, delta scene (stage w) s (moves.TakesSub place x doing lists dev waits move) c)
-staged scene s w (moves.TakesSlip place x bio lists move) c = omega (arith, delta scene (stage w) s (moves.TakesSlip place x bio lists move) c)
-staged scene s w (moves.MissesOne place x number used) c = omega (arith, delta scene (stage w) s (moves.MissesOne place x number used) c)
-staged scene s w (moves.MissesTry place x doing lists dev used) c = omega (arith, delta scene (stage w) s (moves.MissesTry place x doing lists dev used) c)
-staged scene s w (moves.Punts place x doing lists dev) c =
-    omega (arith, delta scene (stage w) s (moves.Punts place x doing lists dev) c, zeros w (punted dev lists))
-staged scene s w (moves.Pops place dev bio bios) c = omega (arith, delta scene (stage w) s (moves.Pops place dev bio bios) c, line_zero w dev.0 (settled scene.setup (bio ∷ [])))
-staged scene s w (moves.Pushes place x bio lists) c =
-    omega (
-      arith,
-      delta scene (stage w) s (moves.Pushes place x bio lists) c,
-      line_zero w (limit_of x) (goes_on scene.setup bio.bio.dev lists),
-      line_zero w (limit_of x) (record { doing = Drives bio ToPush; lists = lists }),
-    )
-staged scene s w (moves.Completed place disk index bio status new) c = omega (arith, delta scene (stage w) s (moves.Completed place disk index bio status new) c)
-staged scene s w (moves.Begins place writer todo later item None key) c =
-    omega (arith, delta scene (stage w) s (moves.Begins place writer todo later item None key) c, line_zero w 32 (settled scene.setup (filled_of writer todo item None key ∷ [])))
-staged scene s w (moves.Begins place writer todo later item (Some vector) key) c =
-    omega (arith, delta scene (stage w) s (moves.Begins place writer todo later item (Some vector) key) c, line_zero w 32 (settled scene.setup (filled_of writer todo item (Some vector) key ∷ [])))
-staged scene s w (moves.Chained place x bio lists hand number kind sizes members key node) c =
-    omega (
-      arith,
-      delta scene (stage w) s (moves.Chained place x bio lists hand number kind sizes members key node) c,
-      line_zero w (limit_of x) (goes_on scene.setup bio.bio.dev (cut_lists bio lists hand (first_length kind sizes bio.bio.range) key kind sizes members)),
-      line_zero w (limit_of x) (record { doing = Drives bio (ToCut (Links hand)); lists = lists }),
-    )
-staged scene s w (moves.Mastered place x bio lists slip key node) c =
-    omega (
-      arith,
-      delta scene (stage w) s (moves.Mastered place x bio lists slip key node) c,
-      line_zero w (limit_of x) (copies scene.setup lists bio.bio key 0),
-      line_zero w (limit_of x) (record { doing = Drives bio (ToMaster slip); lists = lists }),
-    )
-staged scene s w (moves.Legged place x bio lists master leg hand key node) c =
-    omega (
-      arith,
-      delta scene (stage w) s (moves.Legged place x bio lists master leg hand key node) c,
-      line_zero w (limit_of x) (copies scene.setup (submitted (leg_at bio hand leg key (tree_at scene.setup bio.dev)) lists) bio master (leg + 1)),
-      line_zero w (limit_of x) (record { doing = Copies bio master leg (Links hand); lists = lists }),
-    )
-staged scene s w (moves.Told place disk carried writer key status part node) c =
-    omega (arith, delta scene (stage w) s (moves.Told place disk carried writer key status part node) c, carried_child w place carried writer key status part c.2)
-staged scene s w (moves.Closes place disk carried writer key status part node) c =
-    omega (
-      arith,
-      delta scene (stage w) s (moves.Closes place disk carried writer key status part node) c,
-      carried_child w place carried writer key status part c.2,
-      ap (λ n. n * one node.write w) (same_top node.role),
-    )
-staged scene s w (moves.Gives place disk writer number closed held) c = omega (arith, delta scene (stage w) s (moves.Gives place disk writer number closed held) c)
-staged scene s w (moves.Ends place disk writer closed) c =
-    omega (arith, delta scene (stage w) s (moves.Ends place disk writer closed) c, ap (λ parent. top_parent parent * one closed.write w) c.3)
-staged scene s w (moves.Resized place pool min later duties) c = omega (arith, delta scene (stage w) s (moves.Resized place pool min later duties) c)
-staged scene s w (moves.Started place round later duties) c = omega (arith, delta scene (stage w) s (moves.Started place round later duties) c)
+staged scene s w m c = omega (arith, worth_staged (λ todos taken. to_begin w todos) (λ n. one n w) scene s m c, to_come_kept scene w m)

@@ -1,5 +1,5 @@
 -- Each write is unfinished until it is told done, in its round and with the status that the tally has then; and rounds start in turn.
-use Rattle.std.proofs.Common.{◌≡◌, ◌≢◌, ◌+◌, ◌*◌, ◌<◌, ◌≤◌, ◌⊎◌, ℕ, zero, suc, List, [], ◌∷◌, length, Option, None, Some, inl, inr, refl, sym, ◌∙◌, ap, subst, arith, get_or}
+use Rattle.std.proofs.Common.{◌≡◌, ◌≢◌, ◌+◌, ◌*◌, ◌<◌, ◌≤◌, ◌⊎◌, ℕ, zero, suc, List, [], ◌∷◌, length, Some, inl, inr, refl, sym, ◌∙◌, ap, subst, arith, get_or}
 use Rattle.std.specs.Prelude.{Contains, slice_set, zip, map}
 use Rattle.std.specs.List.{range_with_len}
 use Rattle.std.proofs.lemmas.List.{get_or-set_same, get_or-set_other, length-set}
@@ -9,8 +9,6 @@ use Rattle.elem_ledger.specs.Ledger.{LedgerId}
 use Rattle.stack_base.specs.declared.ids.Status.{Status}
 use Rattle.stack_base.specs.declared.ids.Status.TheVariants.{Ok}
 use Rattle.layout_model.specs.declared.write.Write.{Write}
-use Rattle.bio_books.specs.declared.node.Role.{Role}
-use Rattle.bio_books.specs.declared.node.Role.TheVariants as role
 use Rattle.run_machine.specs.declared.event.Event.{Event}
 use Rattle.run_machine.specs.declared.event.What.{What}
 use Rattle.run_machine.specs.declared.event.What.TheVariants as what
@@ -33,7 +31,7 @@ use Rattle.block_core.proofs.moves.Moves as moves
 use Rattle.block_core.proofs.sound.Facts.{Fair}
 use Rattle.block_core.proofs.moves.Devices.{ground}
 use Rattle.block_core.proofs.stuck.NothingWaits.{one-eq}
-use Rattle.block_core.proofs.sound.DoneOnce.{stage, to_begin, top_role, top_parent, asked, asked_by, done_by}
+use Rattle.block_core.proofs.sound.DoneOnce.{stage, to_begin, asked, asked_by, done_by}
 use Rattle.block_core.proofs.sound.Wholes.{Whole, runs_whole, runs_done, runs_tallied, run_tallied, start_whole, stage_once}
 use Rattle.block_core.proofs.moves.StepMoves.{step_is_move}
 use Rattle.block_core.proofs.sound.Rounds.{Tallied, TaskRounds, KeepingFits, of_present}
@@ -48,16 +46,6 @@ begins_worth : (w : ℕ) (ts : List Todo) → to_begin w ts ≡ all_worth (λ n.
 begins_worth w [] = refl
 begins_worth w (todo ∷ ts) = ap (λ n. one todo.number w + n) (begins_worth w ts)
 
-same_role : (r : Role) → top_role r ≡ tops r
-same_role role.Top = refl
-same_role (role.Chain parent) = refl
-same_role (role.Master parent) = refl
-same_role (role.Leg parent) = refl
-
-same_parent : (parent : Option ℕ) → top_parent parent ≡ tops_left parent
-same_parent None = refl
-same_parent (Some parent) = refl
-
 pub stage_is : (w : ℕ) → stage w ≡ unfinished_write w
 stage_is w = λ i. record {
   todo = λ writer todos taken. begins_worth w todos i;
@@ -66,8 +54,8 @@ stage_is w = λ i. record {
   hand = λ bio. 0;
   vector = λ vector. 0;
   slip = λ slip. 0;
-  node = λ writer place node. same_role node.role i * one node.write w;
-  closed = λ task writer closed. same_parent closed.parent i * one closed.write w;
+  node = λ writer place node. tops node.role * one node.write w;
+  closed = λ task writer closed. tops_left closed.parent * one closed.write w;
 }
 
 module _ (s : Scenario) (ledger : ℕ → LedgerId) (good : IsScenario s) (naming : IsNaming ledger) where

@@ -39,7 +39,7 @@ to_come_after scene f worth (moves.TakesVector place writer todo later item move
 to_come_after scene f worth (moves.Begins place writer todo later item vector key) = f later NoBio + worth todo.number
 to_come_after scene f worth m = 0
 
-same_top : (r : Role) → tops_left (parent_of r) ≡ tops r
+pub same_top : (r : Role) → tops_left (parent_of r) ≡ tops r
 same_top role.Top = refl
 same_top (role.Chain parent) = refl
 same_top (role.Master parent) = refl

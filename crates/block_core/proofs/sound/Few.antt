@@ -1,20 +1,17 @@
 -- No run of any scenario has more elements out than its writes need, and no node of it waits for too many ends.
 use Rattle.std.proofs.Common.{◌≡◌, ◌+◌, ◌≤◌, ℕ, List, [], ◌∷◌, length, Some, refl, ap, arith}
 use Rattle.std.specs.Prelude.{sum_by, zip}
-use Rattle.std.specs.List.{range_with_len, list_any}
+use Rattle.std.specs.List.{range_with_len}
 use Rattle.elem_ledger.specs.Ledger.{LedgerId}
 use Rattle.layout_model.specs.declared.write.Write.{Write}
 use Rattle.layout_model.specs.Needs.{elements}
 use Rattle.layout_model.specs.Bound.{all_elements}
 use Rattle.bio_books.specs.Books.{Node, node_at}
-use Rattle.model_disks.specs.Disks.{DiskState}
 use Rattle.run_machine.specs.declared.event.Event.{Event}
 use Rattle.run_machine.specs.Scene.{Scene}
-use Rattle.run_machine.specs.Lines.{rests}
-use Rattle.run_machine.specs.Tasks.{TaskState, Writer, Duty, Todo, NoBio}
-use Rattle.run_machine.specs.Opened.{Scenario, scene, start, tasks as opened_tasks, todos, todos_of, is_by, writers, duties, keepers, places_of, setup as setup_in}
+use Rattle.run_machine.specs.Opened.{Scenario, scene, start, tasks as opened_tasks, todos, places_of, setup as setup_in}
 use Rattle.run_machine.specs.Runs.{State, IsRun}
-use Rattle.block_core.specs.Weights.{Pending, Rescued, total, sum_at, task_weight, book_weight, count_of}
+use Rattle.block_core.specs.Weights.{total, count_of}
 use Rattle.block_core.specs.Scenarios.{IsScenario, IsNaming}
 use Rattle.block_core.specs.Breaks.{ElementsAreAllowed}
 use Rattle.block_core.specs.Few.{OutsAreFew, EndsAreFew, CountersAreSmall, NoCounterIsFull}
@@ -23,8 +20,8 @@ use Rattle.block_core.proofs.sound.Orders.{Ground}
 use Rattle.block_core.proofs.moves.Devices.{ground}
 use Rattle.block_core.proofs.unrefused.NodeNeeds.{Needs, needs_known}
 use Rattle.block_core.proofs.moves.StepMoves.{step_is_move}
-use Rattle.block_core.proofs.start.FactsAtStart.{start_opened, nodes_zero, sum_at-zero}
-use Rattle.block_core.proofs.bound.ChargesAtStart.{opened_sum, placed_sum, map_sum, zip_sum, same_sum, filter_sum, range_part, grouped}
+use Rattle.block_core.proofs.bound.ChargesAtStart.{zip_sum}
+use Rattle.block_core.proofs.start.StartTotals.{map_sum, opened_total}
 use Rattle.block_core.proofs.sound.Wholes.{Whole, runs_whole, start_whole}
 use Rattle.block_core.proofs.unrefused.RoomKept.{run_roomy}
 use Rattle.block_core.proofs.unrefused.Ready.{ends_few}
@@ -52,31 +49,8 @@ module _ (s : Scenario) (good : IsScenario s) (ledger : ℕ → LedgerId) where
         zip_sum (elements s.stack) s.rounds s.writes,
       )
 
-  tasks_need : sum_at (task_weight (worth (setup_in s))) (length (opened_tasks s)) (start s).task ≤ all_elements s.stack s.writes
-  tasks_need =
-      let of : ℕ → ℕ = λ writer. sum_by (write_need (setup_in s)) (todos_of s writer) in
-      let G : TaskState → ℕ = λ x. task_weight (worth (setup_in s)) 0 x in
-      let same : sum_at (task_weight (worth (setup_in s))) (length (opened_tasks s)) (start s).task ≡ sum_at (λ place x. G x) (length (opened_tasks s)) (start s).task = refl in
-      let each = same_sum (λ writer. G (Writer writer (todos_of s writer) NoBio rests)) of (writers s) (λ writer. omega arith) in
-      let some = filter_sum of (λ writer. list_any (is_by writer) (todos s)) (range_with_len 0 8) in
-      let all : sum_at (λ v (x : ℕ). of v) 8 (λ v. v) ≤ sum_by (write_need (setup_in s)) (todos s) = grouped (λ (todo : Todo). todo.write.task) (write_need (setup_in s)) 8 (todos s) in
-      omega (arith, same, placed_sum s good ledger G, opened_sum s good ledger G (λ dev. refl) (λ dev. refl), each, some, range_part of 0 8, all, todos_need, keeper_need (duties s))
-    where
-      keeper_need : (ds : List Duty) → sum_by (λ x. task_weight (worth (setup_in s)) 0 x) (keepers ds) ≡ 0
-      keeper_need [] = refl
-      keeper_need (duty ∷ ds) = refl
-
   pub start_within : total (scene s ledger) (worth (setup_in s)) (start s) ≤ all_elements s.stack s.writes
-  start_within =
-      let o = start_opened s good ledger in
-      let w = worth (setup_in s) in
-      omega (
-        arith,
-        tasks_need,
-        sum_at-zero (λ dev bios. sum_by (w.bio Rescued) bios) (scene s ledger).setup.count (start s).objects.rescue (λ dev. refl),
-        sum_at-zero (λ dev (disk : DiskState). sum_by (w.bio Pending) disk.pending) (scene s ledger).setup.count (start s).objects.disk (λ dev. refl),
-        sum_at-zero (book_weight w) (scene s ledger).books (start s).objects.book (λ writer. nodes_zero w writer ((start s).objects.book writer) (o.books writer)),
-      )
+  start_within = omega (arith, opened_total s good ledger (worth (setup_in s)) (write_need (setup_in s)) (λ n ts. omega arith), todos_need)
 
 module _ (s : Scenario) (ledger : ℕ → LedgerId) (good : IsScenario s) (naming : IsNaming ledger) (events : List Event) (state : State) (run : IsRun (scene s ledger) (start s) events state) where
   whole : Whole (scene s ledger) state

@@ -13,7 +13,7 @@ use Rattle.run_machine.specs.Runs.{State}
 use Rattle.block_core.specs.Weights.{Weight, total, one, refs, under, legs_left, count_of}
 use Rattle.block_core.specs.Touches.{is_master}
 use Rattle.block_core.specs.Roles.{is_leg, named, masters, children, legs_to_make, WaitsForParts, HasRoles}
-use Rattle.block_core.proofs.status.Marks.{yes, mismatch}
+use Rattle.block_core.proofs.status.Marks.{yes, mismatch, kind_is}
 use Rattle.block_core.proofs.moves.Sums.{same_or_not, one-same, one-other}
 use Rattle.block_core.proofs.sound.Facts.{own_part, own_of, Kept}
 use Rattle.block_core.proofs.moves.BookMaps.{made}
@@ -24,17 +24,6 @@ use Rattle.block_core.proofs.stuck.Idle.{node_part}
 use Rattle.block_core.proofs.images.Ancestors.{open_at}
 use Rattle.block_core.proofs.moves.SumsCompared.{under_in_all}
 use Rattle.block_core.proofs.sound.StoodFor.{refs_are, Stands}
-
--- a node's kind is its mark
-kind_is : (r : Role) (b : Bool) → mismatch r b ≡ 0 → is_master r ≡ b
-kind_is role.Top true none = absurd (omega (arith, none))
-kind_is role.Top false none = refl
-kind_is (role.Chain parent) true none = absurd (omega (arith, none))
-kind_is (role.Chain parent) false none = refl
-kind_is (role.Master parent) true none = refl
-kind_is (role.Master parent) false none = absurd (omega (arith, none))
-kind_is (role.Leg parent) true none = absurd (omega (arith, none))
-kind_is (role.Leg parent) false none = refl
 
 is_false : (b : Bool) → yes b ≡ 0 → b ≡ false
 is_false true none = absurd (omega (arith, none))

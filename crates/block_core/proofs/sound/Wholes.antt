@@ -1,25 +1,22 @@
 -- Every run of every scenario keeps all facts, and tells no write done twice.
 use Rattle.std.proofs.Common.{◌≡◌, ◌⊎◌, inl, inr, ◌+◌, ◌<◌, ◌≤◌, ℕ, List, [], ◌∷◌, length, refl, sym, ◌∙◌, ap, subst, arith}
-use Rattle.std.specs.Prelude.{sum_by}
 use Rattle.elem_ledger.specs.Ledger.{LedgerId}
 use Rattle.bio_books.specs.Books.{node_at}
-use Rattle.model_disks.specs.Disks.{DiskState}
 use Rattle.run_machine.specs.Scene.{Scene}
-use Rattle.run_machine.specs.Tasks.{TaskState}
 use Rattle.run_machine.specs.Runs.{State}
-use Rattle.block_core.specs.Weights.{Pending, Rescued, total, task_weight, book_weight, count_of}
+use Rattle.block_core.specs.Weights.{total, count_of}
 use Rattle.block_core.proofs.sound.Facts.{Fair, Kept}
 use Rattle.block_core.proofs.sound.Orders.{Placed, Ground}
-use Rattle.run_machine.specs.Opened.{Scenario, scene, start, tasks as opened_tasks, no_task, setup as setup_in}
+use Rattle.run_machine.specs.Opened.{Scenario, scene, start, setup as setup_in}
 use Rattle.block_core.specs.Scenarios.{IsScenario}
 use Rattle.block_core.specs.Scenarios.{IsNaming}
 use Rattle.block_core.specs.Dones.{times_done, EachIsDoneOnce}
 use Rattle.block_core.specs.Waits.{NoTaskWaitsForItself}
 use Rattle.run_machine.specs.declared.event.Event.{Event}
 use Rattle.run_machine.specs.Runs.{Steps, IsRun}
-use Rattle.block_core.proofs.start.FactsAtStart.{total_zero, opened_kept, start_opened, nodes_zero, sum_at-zero}
+use Rattle.block_core.proofs.start.FactsAtStart.{total_zero, opened_kept, start_opened}
 use Rattle.block_core.proofs.sound.DoneOnce.{stage}
-use Rattle.block_core.proofs.start.StagesAtStart.{stage_at_start, places_sum}
+use Rattle.block_core.proofs.start.StagesAtStart.{stage_at_start}
 use Rattle.block_core.proofs.sound.Runs.{step_keeps, step_done}
 use Rattle.block_core.proofs.moves.StepMoves.{step_is_move}
 use Rattle.block_core.proofs.sound.OrdersKept.{stays_placed, placed_in}
@@ -54,8 +51,6 @@ use Rattle.block_core.proofs.sound.Counters.{Counted, stays_counted}
 use Rattle.std.specs.Prelude.{◌^◌}
 use Rattle.block_core.proofs.moves.Devices.{ground}
 use Rattle.block_core.proofs.start.WritesAtStart.{start_placed}
-use Rattle.std.proofs.lemmas.List.{take_all}
-use Rattle.std.specs.Prelude.{take}
 
 -- all that stays in a run
 pub record Whole (scene : Scene) (s : State) : Type 0 where
@@ -172,15 +167,7 @@ module _ (s : Scenario) (ledger : ℕ → LedgerId) (good : IsScenario s) (namin
 
   -- at the start each write is in stage in its writer alone
   pub stage_once : (w : ℕ) → total (scene s ledger) (stage w) (start s) ≤ 1
-  stage_once w =
-      let o = start_opened s good ledger in
-      let g = λ (x : TaskState). task_weight (stage w) 0 x in
-      let tasks = places_sum g (opened_tasks s) no_task (length (opened_tasks s)) (omega arith) in
-      let whole : sum_by g (take (length (opened_tasks s)) (opened_tasks s)) ≡ sum_by g (opened_tasks s) = ap (sum_by g) (take_all (length (opened_tasks s)) (opened_tasks s) (omega arith)) in
-      let rescued = sum_at-zero (λ dev bios. sum_by ((stage w).bio Rescued) bios) (scene s ledger).setup.count (start s).objects.rescue (λ dev. refl) in
-      let disks = sum_at-zero (λ dev (disk : DiskState). sum_by ((stage w).bio Pending) disk.pending) (scene s ledger).setup.count (start s).objects.disk (λ dev. refl) in
-      let books = sum_at-zero (book_weight (stage w)) (scene s ledger).books (start s).objects.book (λ writer. nodes_zero (stage w) writer ((start s).objects.book writer) (o.books writer)) in
-      omega (arith, stage_at_start s w 0, tasks, whole, rescued, disks, books)
+  stage_once w = stage_at_start s good ledger w
 
   pub start_leveled : AreLeveled (scene s ledger) (start s)
   start_leveled = (λ writer place. 0, total_zero (scene s ledger) (start s) (off_levels (λ writer place. 0)) (λ n todos. refl) (start_opened s good ledger))

@@ -32,6 +32,7 @@ use Rattle.block_core.specs.Scenarios.{IsScenario, AreInOrder, KeepsSome, EveryP
 use Rattle.block_core.proofs.stuck.NothingWaits.{IsPool}
 use Rattle.block_core.proofs.moves.Geometry.{at_device}
 use Rattle.block_core.proofs.sound.Posts.{ByRounds, Mins, starts, Manned, Posted}
+use Rattle.block_core.proofs.start.StartTotals.{writer_tasks, rescuer_tasks, completer_tasks}
 use Rattle.block_core.proofs.start.TallyAtStart.{numbered, each_passed, each_image, keeper_place}
 use Rattle.block_core.proofs.stuck.Stuck.{Crew}
 
@@ -135,15 +136,6 @@ module _ (s : Scenario) (good : IsScenario s) (ledger : ℕ → LedgerId) (reser
   abbrev count : ℕ
   count = (setup_in s).count
 
-  abbrev ws : List TaskState
-  ws = map (λ writer. Writer writer (todos_of s writer) NoBio rests) (writers s)
-
-  abbrev rs : List TaskState
-  rs = map (λ dev. Rescuer (device_at dev) rests) (filter (setup_in s).rescuer (range_with_len 0 count))
-
-  abbrev cs : List TaskState
-  cs = map (λ dev. Completer (device_at dev) Empty) (filter (is_disk (setup_in s)) (range_with_len 0 count))
-
   abbrev kp : ℕ
   kp = keeper_place s good ledger
 
@@ -156,10 +148,10 @@ module _ (s : Scenario) (good : IsScenario s) (ledger : ℕ → LedgerId) (reser
   abbrev Q : ℕ → TaskState → Type 0
   Q = Manned kp (scene s ledger) tally
 
-  long : (scene s ledger).tasks ≡ length ws + (length rs + (length cs + length (keepers (duties s))))
+  long : (scene s ledger).tasks ≡ length (writer_tasks s) + (length (rescuer_tasks s) + (length (completer_tasks s) + length (keepers (duties s))))
   long =
-      length-append ws (rs ++ (cs ++ keepers (duties s)))
-      ∙ ap (λ n. length ws + n) (length-append rs (cs ++ keepers (duties s)) ∙ ap (λ n. length rs + n) (length-append cs (keepers (duties s))))
+      length-append (writer_tasks s) ((rescuer_tasks s) ++ ((completer_tasks s) ++ keepers (duties s)))
+      ∙ ap (λ n. length (writer_tasks s) + n) (length-append (rescuer_tasks s) ((completer_tasks s) ++ keepers (duties s)) ∙ ap (λ n. length (rescuer_tasks s) + n) (length-append (completer_tasks s) (keepers (duties s))))
 
   keepers_all : (ds : List Duty) → starts ds + 1 ≡ length tally.left → Mins ds → kp + length (keepers ds) ≤ (scene s ledger).tasks → (place : ℕ) → Q (kp + place) (get_or (keepers ds) place no_task)
   keepers_all [] full mins few place = (tt, (λ own. omega (arith, full)), tt)
@@ -168,12 +160,12 @@ module _ (s : Scenario) (good : IsScenario s) (ledger : ℕ → LedgerId) (reser
 
   tasks_manned : (place : ℕ) → Q (0 + place) (get_or (opened_tasks s) place no_task)
   tasks_manned =
-      append_all Q 0 ws (rs ++ (cs ++ keepers (duties s)))
+      append_all Q 0 (writer_tasks s) ((rescuer_tasks s) ++ ((completer_tasks s) ++ keepers (duties s)))
       (each_image (λ x. (place : ℕ) → Q place x) (λ writer. Writer writer (todos_of s writer) NoBio rests) (writers s)
       (λ writer place. (passed_order (is_by writer) (todos s) (in_order 0 (length s.writes) s.rounds s.writes ordered), tt)))
-      (append_all Q (0 + length ws) rs (cs ++ keepers (duties s))
+      (append_all Q (0 + length (writer_tasks s)) (rescuer_tasks s) ((completer_tasks s) ++ keepers (duties s))
       (each_image (λ x. (place : ℕ) → Q place x) (λ dev. Rescuer (device_at dev) rests) (filter (setup_in s).rescuer (range_with_len 0 count)) (λ dev place. tt))
-      (append_all Q (0 + length ws + length rs) cs (keepers (duties s))
+      (append_all Q (0 + length (writer_tasks s) + length (rescuer_tasks s)) (completer_tasks s) (keepers (duties s))
       (each_image (λ x. (place : ℕ) → Q place x) (λ dev. Completer (device_at dev) Empty) (filter (is_disk (setup_in s)) (range_with_len 0 count)) (λ dev place. tt))
       (keepers_all (duties s)
       (omega (arith, starts_all s 1 (round_count s - 1), length-map-range_with_len (writes_in s) 0 (round_count s)))
@@ -248,19 +240,19 @@ module _ (s : Scenario) (good : IsScenario s) (ledger : ℕ → LedgerId) (reser
   start_crew = record {
     rescuers = λ dev lt has.
         let x = Rescuer (device_at dev) rests in
-        let m = in_right ws (rs ++ (cs ++ keepers (duties s))) x (in_left rs (cs ++ keepers (duties s)) x
+        let m = in_right (writer_tasks s) ((rescuer_tasks s) ++ ((completer_tasks s) ++ keepers (duties s))) x (in_left (rescuer_tasks s) ((completer_tasks s) ++ keepers (duties s)) x
         (in_range (λ d. Rescuer (device_at d) rests) (setup_in s).rescuer 0 count dev (omega arith) (omega (arith, lt)) has)) in
         (m.0, m.1, ap id_of m.2);
     disks = λ dev is.
         let x = Completer (device_at dev) Empty in
         let lt = below_count dev is in
-        let m = in_right ws (rs ++ (cs ++ keepers (duties s))) x (in_right rs (cs ++ keepers (duties s)) x (in_left cs (keepers (duties s)) x
+        let m = in_right (writer_tasks s) ((rescuer_tasks s) ++ ((completer_tasks s) ++ keepers (duties s))) x (in_right (rescuer_tasks s) ((completer_tasks s) ++ keepers (duties s)) x (in_left (completer_tasks s) (keepers (duties s)) x
         (in_range (λ d. Completer (device_at d) Empty) (is_disk (setup_in s)) 0 count dev (omega arith) (omega (arith, lt)) is))) in
         (m.0, m.1, ap id_of m.2);
     keeps =
-        let e : kp ≡ length ws + (length rs + (length cs + 0)) = omega arith in
+        let e : kp ≡ length (writer_tasks s) + (length (rescuer_tasks s) + (length (completer_tasks s) + 0)) = omega arith in
         let at : get_or (opened_tasks s) kp no_task ≡ get_or (keepers (duties s)) 0 no_task =
-        ap (λ n. get_or (opened_tasks s) n no_task) e ∙ at_right ws (rs ++ (cs ++ keepers (duties s))) (length rs + (length cs + 0))
-        ∙ at_right rs (cs ++ keepers (duties s)) (length cs + 0) ∙ at_right cs (keepers (duties s)) 0 in
+        ap (λ n. get_or (opened_tasks s) n no_task) e ∙ at_right (writer_tasks s) ((rescuer_tasks s) ++ ((completer_tasks s) ++ keepers (duties s))) (length (rescuer_tasks s) + (length (completer_tasks s) + 0))
+        ∙ at_right (rescuer_tasks s) ((completer_tasks s) ++ keepers (duties s)) (length (completer_tasks s) + 0) ∙ at_right (completer_tasks s) (keepers (duties s)) 0 in
         ap id_of at ∙ keepers_id (duties s);
   }

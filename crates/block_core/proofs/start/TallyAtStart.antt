@@ -1,20 +1,16 @@
 -- At the start the tally has the number of the writes of each round, and nothing is begun.
-use Rattle.std.proofs.Common.{◌≡◌, ◌+◌, ◌-◌, ◌*◌, ◌<◌, ◌≤◌, ◌==◌, ◌⊎◌, ◌++◌, ◌||◌, if◌then◌else◌, ℕ, zero, suc, Bool, true, false, List, [], ◌∷◌, length, map, filter, inl, inr, refl, sym, ◌∙◌, ap, subst, arith, get_or, true≢false}
+use Rattle.std.proofs.Common.{◌≡◌, ◌+◌, ◌-◌, ◌<◌, ◌≤◌, ◌==◌, ◌⊎◌, ◌++◌, if◌then◌else◌, ℕ, zero, suc, Bool, true, false, List, [], ◌∷◌, length, map, filter, inl, inr, refl, sym, ◌∙◌, ap, subst, arith, get_or}
 use Rattle.std.specs.Prelude.{sum, sum_by}
 use Rattle.std.proofs.lemmas.List.{get_or_past}
-use Rattle.std.proofs.lemmas.List.Sums.{sum_by-cons, sum_by-append}
+use Rattle.std.proofs.lemmas.List.Sums.{sum_by-cons}
 use Rattle.elem_ledger.specs.Ledger.{LedgerId}
-use Rattle.model_disks.specs.Disks.{DiskState}
 use Rattle.run_machine.specs.Lines.{rests}
 use Rattle.run_machine.specs.Tasks.{TaskState, Writer, Rescuer, Completer, Duty, Resizes, Starts, Todo, NoBio, Empty}
-use Rattle.block_core.specs.Weights.{Pending, Rescued, total, sum_at, one, task_weight, book_weight}
-use Rattle.block_core.proofs.moves.Sums.{one-same, one-other, same_or_not}
+use Rattle.block_core.specs.Weights.{total, one}
 use Rattle.block_core.proofs.sound.Orders.{Each}
-use Rattle.std.specs.Prelude.{nat_le, fold, max, zip, take, All}
-use Rattle.std.specs.List.{range_with_len, list_any, flat_map}
+use Rattle.std.specs.Prelude.{nat_le, fold, max, zip}
+use Rattle.std.specs.List.{range_with_len, flat_map}
 use Rattle.std.proofs.lemmas.Bool.Decides.{nat_tests}
-use Rattle.std.proofs.lemmas.List.{take_all}
-use Rattle.std.proofs.lemmas.List.Elements.{All-head, All-tail}
 use Rattle.std.proofs.lemmas.List.FromFn.{get_or-map-range_with_len, length-map-range_with_len}
 use Rattle.layout_model.specs.declared.write.Write.{Write}
 use Rattle.run_machine.specs.Scene.{is_disk}
@@ -22,8 +18,8 @@ use Rattle.run_machine.specs.Opened.{Scenario, Change, scene, start, tasks as op
 use Rattle.block_core.specs.Scenarios.{IsScenario}
 use Rattle.block_core.specs.Rounds.{round_of, is_of_round, all_worth, unfinished_of, begun_of}
 use Rattle.block_core.proofs.sound.Rounds.{of_round, from_round, from_next, TodosFit, DutiesFit, TaskRounds, Tallied}
-use Rattle.block_core.proofs.start.FactsAtStart.{start_opened, total_zero, nodes_zero, sum_at-zero, todos_all}
-use Rattle.block_core.proofs.start.StagesAtStart.{places_sum, sum_split, sum_scaled, sum_same, range_sum, map_sum, zero_sum, same_sum}
+use Rattle.block_core.proofs.start.FactsAtStart.{start_opened, total_zero}
+use Rattle.block_core.proofs.start.StartTotals.{writer_tasks, rescuer_tasks, completer_tasks, opened_total}
 
 -- tasks, one after the other, from this place on
 abbrev Fit : List ℕ → ℕ → ℕ → List TaskState → Type 0
@@ -107,63 +103,9 @@ todos_worth rounds r a (suc n) (x ∷ rs) (w ∷ ws) few same h =
     let rest = todos_worth rounds r (a + 1) n rs ws (omega (arith, few)) (omega (arith, same)) (λ i. let q : a + 1 + i ≡ a + suc i = omega arith in ap (round_of rounds) q ∙ h (suc i)) in
     omega (arith, own, rest, counted x rs r)
 
--- what a writer has to begin is worth, by its number
-worth_by : (ℕ → ℕ) → List Todo → ℕ → ℕ
-worth_by f ts writer = all_worth f (filter (is_by writer) ts)
-
-worth_next : (f : ℕ → ℕ) (todo : Todo) (ts : List Todo) (v : ℕ) → worth_by f (todo ∷ ts) v ≡ one todo.write.task v * f todo.number + worth_by f ts v
-unfolding worth_by one
-worth_next f todo ts v = by_test (todo.write.task == v)
-  where
-    by_test : (b : Bool) → all_worth f (if b then todo ∷ filter (is_by v) ts else filter (is_by v) ts) ≡ (if b then 1 else 0) * f todo.number + all_worth f (filter (is_by v) ts)
-    by_test true = omega arith
-    by_test false = omega arith
-
-none_worth : (f : ℕ → ℕ) (n : ℕ) → sum_at (λ v (x : ℕ). worth_by f [] v) n (λ v. v) ≡ 0
-unfolding sum_at worth_by
-none_worth f zero = refl
-none_worth f (suc n) = omega (arith, none_worth f n)
-
--- a number below n is one of them
-one_exactly : (t n : ℕ) → t < n → sum_at (λ v (x : ℕ). one t v) n (λ v. v) ≡ 1
-unfolding sum_at
-one_exactly t zero lt = absurd (omega (arith, lt))
-one_exactly t (suc n) lt = elim (same_or_not t n) [
-  | inl e ↦ omega (arith, none_below t n (omega (arith, e)), ap (λ k. one k n) e, one-same n)
-  | inr ne ↦ omega (arith, one_exactly t n (omega (arith, lt, ne)), one-other t n ne)
-]
-  where
-    none_below : (t n : ℕ) → n ≤ t → sum_at (λ v (x : ℕ). one t v) n (λ v. v) ≡ 0
-    none_below t zero le = refl
-    none_below t (suc n) le = omega (arith, none_below t n (omega (arith, le)), one-other t n (λ e. omega (arith, e, le)))
-
-by_writers : (f : ℕ → ℕ) (n : ℕ) (ts : List Todo) → All (λ (todo : Todo). todo.write.task < n) ts → sum_at (λ v (x : ℕ). worth_by f ts v) n (λ v. v) ≡ all_worth f ts
-by_writers f n [] all = none_worth f n
-by_writers f n (todo ∷ ts) all =
-    let c = f todo.number in
-    let a = sum_same (worth_by f (todo ∷ ts)) (λ v. one todo.write.task v * c + worth_by f ts v) n (worth_next f todo ts) in
-    let b = sum_split (λ v. one todo.write.task v * c) (worth_by f ts) n in
-    let d = sum_scaled (one todo.write.task) c n in
-    let lt : todo.write.task < n = All-head (λ (todo : Todo). todo.write.task < n) todo ts all in
-    let e = ap (λ k. k * c) (one_exactly todo.write.task n lt) in
-    omega (arith, a, b, d, e, by_writers f n ts (All-tail (λ (todo : Todo). todo.write.task < n) todo ts all))
-
--- where a test passes nothing, what it does not pass is worth nothing
-unpassed : {X : Type 0} (q : X → Bool) (xs : List X) → list_any q xs ≡ false → filter q xs ≡ []
-unpassed q [] none = refl
-unpassed q (x ∷ xs) none = by_test (unpassed q xs) (q x) none
-  where
-    by_test : (list_any q xs ≡ false → filter q xs ≡ []) → (v : Bool) → (v || list_any q xs) ≡ false → (if v then x ∷ filter q xs else filter q xs) ≡ []
-    by_test rest true is = absurd (true≢false is)
-    by_test rest false is = rest is
-
-passed_sum : (h : ℕ → ℕ) (p : ℕ → Bool) (xs : List ℕ) → ((x : ℕ) → p x ≡ false → h x ≡ 0) → sum_by h (filter p xs) ≡ sum_by h xs
-passed_sum h p [] none = refl
-passed_sum h p (x ∷ xs) none = by_test (passed_sum h p xs none) (p x) refl
-  where
-    by_test : sum_by h (filter p xs) ≡ sum_by h xs → (v : Bool) → p x ≡ v → sum_by h (if v then x ∷ filter p xs else filter p xs) ≡ sum_by h (x ∷ xs)
-    by_test rest true is = omega (arith, sum_by-cons h x (filter p xs), sum_by-cons h x xs, rest)
-    by_test rest false is = omega (arith, none x is, sum_by-cons h x xs, rest)
+worth_sum : (f : ℕ → ℕ) (ts : List Todo) → all_worth f ts ≡ sum_by (λ (todo : Todo). f todo.number) ts
+worth_sum f [] = refl
+worth_sum f (todo ∷ ts) = omega (arith, sum_by-cons (λ (todo : Todo). f todo.number) todo ts, worth_sum f ts)
 
 -- the duties of the rounds from one on
 duties_fit : (s : Scenario) (present n : ℕ) → DutiesFit s.rounds present (flat_map (duties_of s) (range_with_len (present + 1) n))
@@ -201,73 +143,24 @@ module _ (s : Scenario) (good : IsScenario s) (ledger : ℕ → LedgerId) where
   abbrev count : ℕ
   count = (setup_in s).count
 
-  abbrev ws : List TaskState
-  ws = map (λ writer. Writer writer (todos_of s writer) NoBio rests) (writers s)
-
-  abbrev rs : List TaskState
-  rs = map (λ dev. Rescuer (device_at dev) rests) (filter (setup_in s).rescuer (range_with_len 0 count))
-
-  abbrev cs : List TaskState
-  cs = map (λ dev. Completer (device_at dev) Empty) (filter (is_disk (setup_in s)) (range_with_len 0 count))
-
   -- the keeper's place is behind all others
   abbrev pub keeper_place : ℕ
-  keeper_place = 0 + length ws + length rs + length cs
+  keeper_place = 0 + length (writer_tasks s) + length (rescuer_tasks s) + length (completer_tasks s)
 
   tasks_fit : Fit s.rounds keeper_place 0 (opened_tasks s)
   tasks_fit =
-      append_fits s.rounds keeper_place 0 ws (rs ++ (cs ++ keepers (duties s)))
+      append_fits s.rounds keeper_place 0 (writer_tasks s) ((rescuer_tasks s) ++ ((completer_tasks s) ++ keepers (duties s)))
       (each_image (IsOther s.rounds keeper_place) (λ writer. Writer writer (todos_of s writer) NoBio rests) (writers s)
       (λ writer place. each_passed (λ (todo : Todo). round_of s.rounds todo.number ≡ todo.round) (is_by writer) (todos s) all_fit))
-      (append_fits s.rounds keeper_place (0 + length ws) rs (cs ++ keepers (duties s))
+      (append_fits s.rounds keeper_place (0 + length (writer_tasks s)) (rescuer_tasks s) ((completer_tasks s) ++ keepers (duties s))
       (each_image (IsOther s.rounds keeper_place) (λ dev. Rescuer (device_at dev) rests) (filter (setup_in s).rescuer (range_with_len 0 count)) (λ dev place. tt))
-      (append_fits s.rounds keeper_place (0 + length ws + length rs) cs (keepers (duties s))
+      (append_fits s.rounds keeper_place (0 + length (writer_tasks s) + length (rescuer_tasks s)) (completer_tasks s) (keepers (duties s))
       (each_image (IsOther s.rounds keeper_place) (λ dev. Completer (device_at dev) Empty) (filter (is_disk (setup_in s)) (range_with_len 0 count)) (λ dev place. tt))
       (keepers_fit s.rounds keeper_place keeper_place (duties s) refl (duties_fit s 0 (round_count s - 1)))))
 
   -- what all tasks have to begin
   pub unfinished_at_start : (f : ℕ → ℕ) → total (scene s ledger) (unfinished_of f) (start s) ≡ all_worth f (todos s)
-  unfolding worth_by
-  unfinished_at_start f =
-      let w = unfinished_of f in
-      let o = start_opened s good ledger in
-      let g = λ (x : TaskState). task_weight w 0 x in
-      let tasks = places_sum g (opened_tasks s) no_task (length (opened_tasks s)) (omega arith) in
-      let whole : sum_by g (take (length (opened_tasks s)) (opened_tasks s)) ≡ sum_by g (opened_tasks s) = ap (sum_by g) (take_all (length (opened_tasks s)) (opened_tasks s) (omega arith)) in
-      let rescued = sum_at-zero (λ dev bios. sum_by (w.bio Rescued) bios) (scene s ledger).setup.count (start s).objects.rescue (λ dev. refl) in
-      let disks = sum_at-zero (λ dev (disk : DiskState). sum_by (w.bio Pending) disk.pending) (scene s ledger).setup.count (start s).objects.disk (λ dev. refl) in
-      let books = sum_at-zero (book_weight w) (scene s ledger).books (start s).objects.book (λ writer. nodes_zero w writer ((start s).objects.book writer) (o.books writer)) in
-      let r0 : sum_by g rs ≡ 0 = map_sum g (λ dev. Rescuer (device_at dev) rests) (filter (setup_in s).rescuer (range_with_len 0 count))
-      ∙ zero_sum (λ dev. g (Rescuer (device_at dev) rests)) (filter (setup_in s).rescuer (range_with_len 0 count)) (λ dev. refl) in
-      let c0 : sum_by g cs ≡ 0 = map_sum g (λ dev. Completer (device_at dev) Empty) (filter (is_disk (setup_in s)) (range_with_len 0 count))
-      ∙ zero_sum (λ dev. g (Completer (device_at dev) Empty)) (filter (is_disk (setup_in s)) (range_with_len 0 count)) (λ dev. refl) in
-      let a = map_sum g (λ writer. Writer writer (todos_of s writer) NoBio rests) (writers s) in
-      let b = same_sum (λ writer. g (Writer writer (todos_of s writer) NoBio rests)) (worth_by f (todos s)) (writers s) (λ writer. omega arith) in
-      let c = passed_sum (worth_by f (todos s)) (λ writer. list_any (is_by writer) (todos s)) (range_with_len 0 8) (λ writer none. ap (all_worth f) (unpassed (is_by writer) (todos s) none)) in
-      let d = by_writers f 8 (todos s) (todos_all s (λ (write : Write). write.task < 8) good.writers) in
-      omega (
-        arith,
-        tasks,
-        whole,
-        rescued,
-        disks,
-        books,
-        r0,
-        c0,
-        a,
-        b,
-        c,
-        d,
-        range_sum (worth_by f (todos s)),
-        keeper_none (duties s),
-        sum_by-append g ws (rs ++ (cs ++ keepers (duties s))),
-        sum_by-append g rs (cs ++ keepers (duties s)),
-        sum_by-append g cs (keepers (duties s)),
-      )
-    where
-      keeper_none : (ds : List Duty) → sum_by (λ (x : TaskState). task_weight (unfinished_of f) 0 x) (keepers ds) ≡ 0
-      keeper_none [] = refl
-      keeper_none (duty ∷ ds) = refl
+  unfinished_at_start f = opened_total s good ledger (unfinished_of f) (λ (todo : Todo). f todo.number) (λ n ts. worth_sum f ts) ∙ sym (worth_sum f (todos s))
 
   -- and how many of it are of a round
   round_at_start : (r : ℕ) → total (scene s ledger) (unfinished_of (is_of_round s.rounds r)) (start s) ≡ of_round s.rounds r

@@ -1,6 +1,7 @@
 -- Marks of nodes: how their runs may end, as numbers that are 1 where they may, so that sums over all places say what comes to which node.
 use Rattle.std.specs.Prelude.{◌≡◌, ◌≢◌, ◌+◌, ◌-◌, ◌*◌, ◌≤◌, if◌then◌else◌, not, ℕ, Bool, true, false, Option, None, Some, slice_get, sum_by}
 use Rattle.std.specs.List.{range_with_len}
+use Rattle.std.proofs.Common.{refl, arith}
 use Rattle.std.specs.Option.{option_map_or}
 use Rattle.stack_base.specs.declared.ids.Status.{Status}
 use Rattle.stack_base.specs.declared.ids.Status.TheVariants.{Ok, Io, Medium, NoSpace}
@@ -18,6 +19,7 @@ use Rattle.run_machine.specs.Scene.{Setup, Scene, tree_at}
 use Rattle.run_machine.specs.Tasks.{Todo}
 use Rattle.run_machine.specs.Opened.{Scenario}
 use Rattle.run_machine.specs.Runs.{State}
+use Rattle.block_core.specs.Touches.{is_master}
 use Rattle.block_core.specs.Weights.{Weight, Spot, Lined, Rescued, Pending, Brought, total, one, names_node, under, legs_left}
 use Rattle.block_core.specs.Weights.{apart}
 use Rattle.block_core.specs.Fragments.{offset_of, fragment_of}
@@ -92,6 +94,16 @@ mismatch role.Top master = yes master
 mismatch (role.Chain parent) master = yes master
 mismatch (role.Master parent) master = yes (not master)
 mismatch (role.Leg parent) master = yes master
+
+pub kind_is : (r : Role) (b : Bool) → mismatch r b ≡ 0 → is_master r ≡ b
+kind_is role.Top true none = absurd (omega (arith, none))
+kind_is role.Top false none = refl
+kind_is (role.Chain parent) true none = absurd (omega (arith, none))
+kind_is (role.Chain parent) false none = refl
+kind_is (role.Master parent) true none = refl
+kind_is (role.Master parent) false none = absurd (omega (arith, none))
+kind_is (role.Leg parent) true none = absurd (omega (arith, none))
+kind_is (role.Leg parent) false none = refl
 
 -- 1 where a bio that waits at its disk, or that the disk is done with, may end otherwise than its fragment does
 abbrev pub unlike : Setup → (Fragment → Status) → Status → Spot → Bio → ℕ

@@ -49,14 +49,15 @@ use Rattle.block_core.proofs.sound.Orders.{Ground}
 use Rattle.block_core.proofs.moves.Devices.{ground}
 use Rattle.block_core.proofs.moves.StepMoves.{step_is_move}
 use Rattle.block_core.proofs.start.FactsAtStart.{Begins, start_opened}
-use Rattle.block_core.proofs.sound.DoneOnce.{done_of, told_done, done_by, asked_by, to_begin, top_role, top_parent, stage, staged}
+use Rattle.block_core.proofs.sound.DoneOnce.{done_of, told_done, done_by, asked_by, to_begin, stage, staged}
 use Rattle.block_core.proofs.sound.Wholes.{Whole, runs_whole, start_whole, run_tallied}
 use Rattle.block_core.proofs.moves.Totals.{IsWithin, within, task_part}
 use Rattle.block_core.proofs.images.EndedRuns.{zero_at}
 use Rattle.block_core.proofs.moves.Misfits.{misfits, no_misfits}
 use Rattle.block_core.proofs.images.StillToCome.{over}
-use Rattle.block_core.proofs.images.Completed.{over_follows, opened_total, all_sum, start_counted}
-use Rattle.block_core.proofs.images.PlannedOnce.{begins_sum}
+use Rattle.block_core.proofs.images.Completed.{over_follows, start_counted}
+use Rattle.block_core.proofs.start.StagesAtStart.{begins_sum}
+use Rattle.block_core.proofs.start.StartTotals.{opened_total, all_sum}
 use Rattle.block_core.proofs.images.BioData.{own_writes}
 use Rattle.block_core.proofs.images.ImageData.{IsOwn, own_stays, completed_waits, completed_ends, start_own}
 use Rattle.block_core.proofs.status.RunEndings.{Given, given, plan_alone}
@@ -248,7 +249,7 @@ module _ (s : Scenario) (good : IsScenario s) (ledger : ℕ → LedgerId) where
   start_off : (end : Status) → total (scene s ledger) (unallowed (setup_in s) (fault_of s.stack) (write_may s) (λ w k. plain) end) (start s) ≡ 0
   start_off end =
       let of : Todo → ℕ = λ todo. todo_may (setup_in s) (fault_of s.stack) todo end - write_may s todo.number end in
-      opened_total s good ledger (unallowed (setup_in s) (fault_of s.stack) (write_may s) (λ w k. plain) end) of (λ n ts. refl) refl
+      opened_total s good ledger (unallowed (setup_in s) (fault_of s.stack) (write_may s) (λ w k. plain) end) of (λ n ts. refl)
       ∙ (all_sum (λ (todo : Todo). slice_get s.writes todo.number ≡ Some todo.write) of (λ todo. 0) (todos s)
       (λ todo at. omega (
         arith,
@@ -260,7 +261,7 @@ module _ (s : Scenario) (good : IsScenario s) (ledger : ℕ → LedgerId) where
   start_staged number lt =
       omega (
         arith,
-        opened_total s good ledger (stage number) (λ (todo : Todo). one todo.number number) (λ n ts. sym (begins_sum number ts)) refl,
+        opened_total s good ledger (stage number) (λ (todo : Todo). one todo.number number) (λ n ts. sym (begins_sum number ts)),
         begins_sum number (todos s),
         is_numbered number 0 (length s.writes) s.rounds s.writes good.rounds refl (omega arith) (omega (arith, lt)),
       )
@@ -309,14 +310,14 @@ stage_within rounds number = record {
   closed = λ task writer closed. by_parent closed.parent closed.write;
 }
   where
-    by_role : (r : Role) (write : ℕ) → let worth = tops r * is_of_round rounds (round_of rounds number) write in top_role r * one write number ≤ worth + worth + worth
+    by_role : (r : Role) (write : ℕ) → let worth = tops r * is_of_round rounds (round_of rounds number) write in tops r * one write number ≤ worth + worth + worth
     by_role role.Top write = omega (arith, same_round rounds number write)
     by_role (role.Chain parent) write = omega arith
     by_role (role.Master parent) write = omega arith
     by_role (role.Leg parent) write = omega arith
 
     by_parent : (parent : Option ℕ) (write : ℕ)
-        → let worth = tops_left parent * is_of_round rounds (round_of rounds number) write in top_parent parent * one write number ≤ worth + worth + worth
+        → let worth = tops_left parent * is_of_round rounds (round_of rounds number) write in tops_left parent * one write number ≤ worth + worth + worth
     by_parent None write = omega (arith, same_round rounds number write)
     by_parent (Some parent) write = omega arith
 

@@ -16,7 +16,6 @@ use Rattle.layout_model.specs.May.{may_end, fault_of}
 use Rattle.bio_records.specs.declared.bio.Bio.{Bio}
 use Rattle.bio_records.specs.declared.bio.Pad.{Pad}
 use Rattle.bio_records.specs.Items.{Item}
-use Rattle.bio_books.specs.declared.node.Role.{Role}
 use Rattle.bio_books.specs.declared.node.Role.TheVariants as role
 use Rattle.bio_books.specs.Books.{Node, node_at, parent_of}
 use Rattle.bio_books.specs.Drops.{Closed}
@@ -36,7 +35,7 @@ use Rattle.block_core.proofs.sound.Facts.{Kept}
 use Rattle.block_core.proofs.stuck.Idle.{node_part}
 use Rattle.block_core.proofs.stuck.NothingWaits.{zero_or, both, one-eq}
 use Rattle.block_core.proofs.status.Found.{in_range, some_in_range, in_disk, is_brought, line_within, at_work, Weighs, IsOfWork, some_weighs}
-use Rattle.block_core.proofs.status.Marks.{yes, is, may, bio_may, leg_may, todo_may, write_may, Mark, allowed_by, allowed, decides, lack, mismatch, above, unallowed, deciding, IsMarked}
+use Rattle.block_core.proofs.status.Marks.{yes, is, may, bio_may, leg_may, todo_may, write_may, Mark, allowed_by, allowed, decides, lack, mismatch, kind_is, above, unallowed, deciding, IsMarked}
 use Rattle.block_core.proofs.status.NodeBios.{AreOfBios}
 use Rattle.block_core.proofs.status.NodeValues.{is_itself}
 
@@ -109,17 +108,6 @@ status_fact status end le = sym (is_same end status le)
 status_one : (status end : Status) → status ≡ end → is end status ≡ 1
 status_one status end same = ap (is end) same ∙ is_itself end
 
--- a node's kind is its mark
-kind_is : (r : Role) (b : Bool) → mismatch r b ≡ 0 → b ≡ is_master r
-kind_is role.Top true none = absurd (omega (arith, none))
-kind_is role.Top false none = refl
-kind_is (role.Chain parent) true none = absurd (omega (arith, none))
-kind_is (role.Chain parent) false none = refl
-kind_is (role.Master parent) true none = refl
-kind_is (role.Master parent) false none = absurd (omega (arith, none))
-kind_is (role.Leg parent) true none = absurd (omega (arith, none))
-kind_is (role.Leg parent) false none = refl
-
 module _ (s : Scenario) (scene : Scene) (bios : ℕ → ℕ → Bio) (state : State) (i : Kept scene state) (mark : ℕ → ℕ → Mark)
     (tied : AreOfBios scene.setup (fault_of s.stack) mark bios) (h : IsMarked scene (fault_of s.stack) (write_may s) mark state) where
   abbrev ends : Fragment → Status
@@ -191,7 +179,7 @@ module _ (s : Scenario) (scene : Scene) (bios : ℕ → ℕ → Bio) (state : St
     part end = omega (arith, h.fits end, node_part scene state i (off end) w k node at)
 
     kind : (mark w k).master ≡ is_master node.role
-    kind = kind_is node.role (mark w k).master (omega (arith, part Ok))
+    kind = sym (kind_is node.role (mark w k).master (omega (arith, part Ok)))
 
     -- what the mark allows
     by_mark : (end : Status) → 1 ≤ allowed (mark w k) end → IsAllowed (is_master node.role) (MayEnd (bios w k)) end

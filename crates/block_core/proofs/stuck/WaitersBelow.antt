@@ -169,6 +169,29 @@ module _ (scene : Scene) (s : State) (level : ℕ → ℕ → ℕ) (known : Know
       let a : level bio.writer master ≡ level w k = ap (level bio.writer) (one-eq master k b.1) ∙ ap (λ v. level v k) (one-eq bio.writer w b.0) in
       lower setup s (2 * bio.dev.0 + 1) (level w k) (omega (arith, a, none)) below
 
+  -- what weighs something weighs it in a task, in a rescuer's list or in a node
+  found_at : {X : Type 0} (u : Weight) → ((n : ℕ) (todos : List Todo) (taken : Taken) → u.todo n todos taken ≡ 0) → 1 ≤ total scene u s → (Has u → X)
+      → ((item : Item Pad) → Below setup s (min item.share.no 64) → 1 ≤ u.bio Rescued item → off.bio Rescued item ≡ 0 → X)
+      → ((v j : ℕ) → v < scene.books → j < length (s.objects.book v).nodes → 1 ≤ weigh_option (u.node v j) (node_at (s.objects.book v) j) → X) → X
+  found_at u todos some by_task by_rescue by_node =
+      let pending = no_pending u in
+      elim (zero_or (sum_at (task_weight u) scene.tasks s.task)) [
+        | inr h ↦
+            let t = some_place (task_weight u) scene.tasks s.task h in
+            by_task (task_found u todos t.0 (s.task t.0) (known.kept.tasks t.0) (known.placed.tasks t.0) (known.waits.tasks t.0) (c.still t.0 t.1) t.2 (off_task t.0 t.1))
+        | inl no_task ↦ elim (zero_or (sum_at (λ dev bios. sum_by (u.bio Rescued) bios) setup.count s.objects.rescue)) [
+          | inr h ↦
+              let d = some_place (λ dev bios. sum_by (u.bio Rescued) bios) setup.count s.objects.rescue h in
+              let r = rescue_found u d.0 d.1 d.2 (off_rescue d.0 d.1) in
+              by_rescue r.0 r.1 r.2 r.3
+          | inl no_rescue ↦
+              let books : 1 ≤ sum_at (book_weight u) scene.books s.objects.book = omega (arith, some, no_task, no_rescue, pending) in
+              let v = some_place (book_weight u) scene.books s.objects.book books in
+              let j = some_place (λ place. weigh_option (u.node v.0 place)) (length (s.objects.book v.0).nodes) (node_at (s.objects.book v.0)) v.2 in
+              by_node v.0 j.0 v.1 j.1 j.2
+        ]
+      ]
+
   -- each open node has a task that waits below its level
   pub node_waits : (fuel w k : ℕ) (node : Node) → node_at (s.objects.book w) k ≡ Some node → level w k < fuel → Below setup s (level w k)
   node_waits zero w k node at lt = absurd (omega (arith, lt))
@@ -177,23 +200,8 @@ module _ (scene : Scene) (s : State) (level : ℕ → ℕ → ℕ) (known : Know
       let alive : 1 ≤ node.count = subst IsAlive at (known.alive w k) in
       let counted : count_of (node_at (s.objects.book w) k) ≡ node.count = ap count_of at in
       let some : 1 ≤ total scene u s = let all = known.kept.counts w k in omega (arith, alive, counted, all) in
-      let pending = no_pending u in
-      elim (zero_or (sum_at (task_weight u) scene.tasks s.task)) [
-        | inr h ↦
-            let t = some_place (task_weight u) scene.tasks s.task h in
-            by_task (task_found u (λ n todos taken. refl) t.0 (s.task t.0) (known.kept.tasks t.0) (known.placed.tasks t.0) (known.waits.tasks t.0) (c.still t.0 t.1) t.2 (off_task t.0 t.1))
-        | inl no_task ↦ elim (zero_or (sum_at (λ dev bios. sum_by (u.bio Rescued) bios) setup.count s.objects.rescue)) [
-          | inr h ↦
-              let d = some_place (λ dev bios. sum_by (u.bio Rescued) bios) setup.count s.objects.rescue h in
-              let r = rescue_found u d.0 d.1 d.2 (off_rescue d.0 d.1) in
-              named_below w k r.0 r.1 r.2 r.3
-          | inl no_rescue ↦
-              let books : 1 ≤ sum_at (book_weight u) scene.books s.objects.book = omega (arith, some, no_task, no_rescue, pending) in
-              let v = some_place (book_weight u) scene.books s.objects.book books in
-              let j = some_place (λ place. weigh_option (u.node v.0 place)) (length (s.objects.book v.0).nodes) (node_at (s.objects.book v.0)) v.2 in
-              by_node v.0 j.0 v.1 j.1 (node_at (s.objects.book v.0) j.0) refl j.2 (λ w2 k2 node2 at2 lt2. node_waits fuel w2 k2 node2 at2 lt2)
-        ]
-      ]
+      found_at u (λ n todos taken. refl) some by_task (λ item below some none. named_below w k item below some none)
+      (λ v j known_book inside h. by_node v j known_book inside (node_at (s.objects.book v) j) refl h (λ w2 k2 node2 at2 lt2. node_waits fuel w2 k2 node2 at2 lt2))
     where
       by_task : Has (refs setup w k) → Below setup s (level w k)
       by_task (inl (limit, inl (item, below, some, none))) = named_below w k item below some none
@@ -246,24 +254,9 @@ module _ (scene : Scene) (s : State) (level : ℕ → ℕ → ℕ) (known : Know
   out_below q out =
       let u = elements_of_pool q in
       let some : 1 ≤ total scene u s = let all = known.kept.outs q in omega (arith, out, all) in
-      let pending = no_pending u in
-      elim (zero_or (sum_at (task_weight u) scene.tasks s.task)) [
-        | inr h ↦
-            let t = some_place (task_weight u) scene.tasks s.task h in
-            by_task (task_found u (λ n todos taken. refl) t.0 (s.task t.0) (known.kept.tasks t.0) (known.placed.tasks t.0) (known.waits.tasks t.0) (c.still t.0 t.1) t.2 (off_task t.0 t.1))
-        | inl no_task ↦ elim (zero_or (sum_at (λ dev bios. sum_by (u.bio Rescued) bios) setup.count s.objects.rescue)) [
-          | inr h ↦
-              let d = some_place (λ dev bios. sum_by (u.bio Rescued) bios) setup.count s.objects.rescue h in
-              let r = rescue_found u d.0 d.1 d.2 (off_rescue d.0 d.1) in
-              let same = one-eq r.0.share.no q r.2 in
-              lower setup s (min r.0.share.no 64) q (omega (arith, same)) r.1
-          | inl no_rescue ↦
-              let books : 1 ≤ sum_at (book_weight u) scene.books s.objects.book = omega (arith, some, no_task, no_rescue, pending) in
-              let v = some_place (book_weight u) scene.books s.objects.book books in
-              let j = some_place (λ place. weigh_option (u.node v.0 place)) (length (s.objects.book v.0).nodes) (node_at (s.objects.book v.0)) v.2 in
-              by_node v.0 j.0 v.1 j.1 (node_at (s.objects.book v.0) j.0) refl j.2
-        ]
-      ]
+      found_at u (λ n todos taken. refl) some by_task
+      (λ item below some none. let same = one-eq item.share.no q some in lower setup s (min item.share.no 64) q (omega (arith, same)) below)
+      (λ v j known_book inside h. by_node v j known_book inside (node_at (s.objects.book v) j) refl h)
     where
       by_task : Has (elements_of_pool q) → Below setup s q
       by_task (inl (limit, inl (item, below, some, none))) = let same = one-eq item.share.no q some in lower setup s (min item.share.no 64) q (omega (arith, same)) below

@@ -23,7 +23,8 @@ use Rattle.block_core.proofs.sound.Facts.{DoingFits, TaskFits, Fair}
 use Rattle.block_core.proofs.moves.Devices.{ground}
 use Rattle.block_core.proofs.unrefused.NodeNeeds.{needs_known}
 use Rattle.block_core.proofs.start.FactsAtStart.{start_opened}
-use Rattle.block_core.proofs.bound.ChargesAtStart.{map_sum, zip_sum, filter_sum}
+use Rattle.block_core.proofs.bound.ChargesAtStart.{zip_sum}
+use Rattle.block_core.proofs.start.StartTotals.{map_sum, filter_sum}
 use Rattle.block_core.proofs.sound.Wholes.{runs_tallied, runs_leveled, start_leveled, runs_whole, start_whole}
 use Rattle.block_core.proofs.unrefused.RoomKept.{run_roomy}
 use Rattle.block_core.proofs.unrefused.Ready.{IsSmall, ready, not_refused}
