@@ -37,7 +37,7 @@ use Rattle.block_core.proofs.stuck.Idle.{GoesDown, node_part}
 use Rattle.block_core.proofs.unrefused.Resizes.{goes_down}
 use Rattle.block_core.proofs.moves.Devices.{ground}
 use Rattle.block_core.proofs.sound.DoneOnce.{to_begin, stage}
-use Rattle.block_core.proofs.sound.EventStages.{same_top}
+use Rattle.block_core.proofs.sound.EventStages.{top_is}
 use Rattle.block_core.specs.Rounds.{tops, tops_left}
 use Rattle.block_core.proofs.sound.Wholes.{Whole, runs_whole, start_whole, runs_leveled, start_leveled, runs_done, stage_once}
 use Rattle.block_core.proofs.sound.OfOneWrite.{runs_of_one_write, start_of_one_write, node_write}
@@ -111,8 +111,7 @@ module _ (w : ℕ) (value : Fragment → ℕ) (other : (f : Fragment) → f.writ
       (done : total scene (stage w) s ≡ 0) where
     no_top : (writer key : ℕ) (node : Node) → writer < scene.books → node_at (s.objects.book writer) key ≡ Some node → parent_of node.role ≡ None → node.write ≢ w
     no_top writer key node lt at is e =
-        let top : tops node.role ≡ 1 = sym (same_top node.role) ∙ ap tops_left is in
-        let worth : tops node.role * one node.write w ≡ 1 = ap (λ n. n * one node.write w) top ∙ ap (λ n. 1 * n) (one_of node.write w e) in
+        let worth : tops node.role * one node.write w ≡ 1 = ap (λ n. n * one node.write w) (top_is node.role is) ∙ ap (λ n. 1 * n) (one_of node.write w e) in
         omega (arith, done, worth, node_part scene s i (stage w) writer key node at)
 
     pub nothing_comes_of : total scene (to_come scene.setup value) s ≡ 0

@@ -14,6 +14,7 @@ use Rattle.block_core.specs.Rounds.{round_of, is_of_round, tops, tops_left, unfi
 use Rattle.block_core.specs.Present.{IsOfPresent, WorkIsPresent}
 use Rattle.block_core.proofs.moves.Sums.{one-same}
 use Rattle.block_core.proofs.sound.Facts.{Fair, Kept}
+use Rattle.block_core.proofs.sound.EventStages.{top_is}
 use Rattle.block_core.proofs.sound.Rounds.{Tallied}
 use Rattle.block_core.proofs.start.TallyAtStart.{keeper_place, start_tallied}
 use Rattle.block_core.proofs.stuck.Idle.{node_part}
@@ -35,14 +36,8 @@ top_present rounds keeper scene s i t writer key node at is = by_order (in_order
     in_order : (a b : ℕ) → (a < b) ⊎ (a ≡ b) ⊎ (b < a)
     in_order a b = grind arith
 
-    is_top : (role : Role) → parent_of role ≡ None → tops role ≡ 1
-    is_top role.Top same = refl
-    is_top (role.Chain parent) same = absurd cc
-    is_top (role.Master parent) same = absurd cc
-    is_top (role.Leg parent) same = absurd cc
-
     worth : tops node.role * one r r ≡ 1
-    worth = ap (λ n. n * one r r) (is_top node.role is) ∙ ap (λ n. 1 * n) (one-same r)
+    worth = ap (λ n. n * one r r) (top_is node.role is) ∙ ap (λ n. 1 * n) (one-same r)
 
     by_order : (r < s.objects.tally.round) ⊎ (r ≡ s.objects.tally.round) ⊎ (s.objects.tally.round < r) → r ≡ s.objects.tally.round
     by_order (inl lt) = absurd (omega (arith, worth, t.left r, t.tally.past r lt, node_part scene s i (unfinished_of (is_of_round rounds r)) writer key node at))

@@ -1,5 +1,5 @@
 -- What events do to what writes are worth that are to be begun, or whose top node is open or carried.
-use Rattle.std.proofs.Common.{◌≡◌, ◌+◌, ◌*◌, ℕ, List, [], ◌∷◌, Option, None, Some, refl, ◌∙◌, ap, arith}
+use Rattle.std.proofs.Common.{◌≡◌, ◌+◌, ◌*◌, ℕ, List, [], ◌∷◌, Option, None, Some, refl, sym, ◌∙◌, ap, arith}
 use Rattle.std.specs.Prelude.{sum_by}
 use Rattle.std.proofs.lemmas.List.Sums.{sum_by-cons}
 use Rattle.stack_base.specs.declared.ids.Status.{Status}
@@ -39,11 +39,14 @@ to_come_after scene f worth (moves.TakesVector place writer todo later item move
 to_come_after scene f worth (moves.Begins place writer todo later item vector key) = f later NoBio + worth todo.number
 to_come_after scene f worth m = 0
 
-pub same_top : (r : Role) → tops_left (parent_of r) ≡ tops r
+same_top : (r : Role) → tops_left (parent_of r) ≡ tops r
 same_top role.Top = refl
 same_top (role.Chain parent) = refl
 same_top (role.Master parent) = refl
 same_top (role.Leg parent) = refl
+
+pub top_is : (r : Role) → parent_of r ≡ None → tops r ≡ 1
+top_is r is = sym (same_top r) ∙ ap tops_left is
 
 pub zeros : (items : List (Item Pad)) → sum_by (λ item. 0) items ≡ 0
 zeros [] = refl

@@ -14,6 +14,7 @@ use Rattle.run_machine.specs.Tasks.{Writer, Completer, Keeper, Keeps, Resizes, D
 use Rattle.run_machine.specs.Runs.{State, IsLet}
 use Rattle.block_core.specs.Weights.{total, one}
 use Rattle.block_core.proofs.sound.OffLevels.{AreLeveled, off_levels, parent_off}
+use Rattle.block_core.proofs.sound.EventStages.{top_is}
 use Rattle.block_core.specs.Rounds.{round_of, is_of_round, tops, tops_left, unfinished_of, begun_of}
 use Rattle.block_core.proofs.moves.Sums.{one-same}
 use Rattle.block_core.proofs.sound.Facts.{Kept}
@@ -54,14 +55,8 @@ module _ (rounds : List ℕ) (keeper : ℕ) (scene : Scene) (s : State) (i : Kep
       r : ℕ
       r = round_of rounds node.write
 
-      is_top : (role : Role) → parent_of role ≡ None → tops role ≡ 1
-      is_top role.Top same = refl
-      is_top (role.Chain parent) same = absurd cc
-      is_top (role.Master parent) same = absurd cc
-      is_top (role.Leg parent) same = absurd cc
-
       worth : tops node.role * one r r ≡ 1
-      worth = ap (λ n. n * one r r) (is_top node.role is) ∙ ap (λ n. 1 * n) (one-same r)
+      worth = ap (λ n. n * one r r) (top_is node.role is) ∙ ap (λ n. 1 * n) (one-same r)
 
   no_carried : (place : ℕ) (disk : DevId) (writer : ℕ) (closed : Closed) → place < scene.tasks → s.task place ≡ Completer disk (Carries writer closed) → closed.parent ≡ None → ⊥
   no_carried place disk writer closed here is top = elim (over r) [

@@ -33,27 +33,21 @@ use Rattle.block_core.proofs.unrefused.Resizes.{nothing_out}
 use Rattle.block_core.proofs.unrefused.Hands.{GoesOnCarrying, runs_on, begins_on}
 
 -- what fits did not break off
+unbroken_line : (scene : Scene) (doing : Doing) (lists : TaskLists) → DoingFits scene.setup doing lists → broke_in doing ≡ false
+unbroken_line scene Rests lists fits = refl
+unbroken_line scene (Drives bio ask) lists fits = refl
+unbroken_line scene (Copies bio master leg want) lists fits = refl
+unbroken_line scene (Breaks breach kept) lists fits = absurd fits
+
 unbroken : (scene : Scene) (x : TaskState) → TaskFits scene x → GoesOnCarrying x → is_broken x ≡ false
-unbroken scene (Writer number todo taken line) fits on = by_doing line.doing line.lists fits.1
-  where
-    by_doing : (doing : Doing) (lists : TaskLists) → DoingFits scene.setup doing lists → broke_in doing ≡ false
-    by_doing Rests lists fits = refl
-    by_doing (Drives bio ask) lists fits = refl
-    by_doing (Copies bio master leg want) lists fits = refl
-    by_doing (Breaks breach kept) lists fits = absurd fits
-unbroken scene (Rescuer dev line) fits on = by_doing line.doing line.lists fits.1
-  where
-    by_doing : (doing : Doing) (lists : TaskLists) → DoingFits scene.setup doing lists → broke_in doing ≡ false
-    by_doing Rests lists fits = refl
-    by_doing (Drives bio ask) lists fits = refl
-    by_doing (Copies bio master leg want) lists fits = refl
-    by_doing (Breaks breach kept) lists fits = absurd fits
+unbroken scene (Writer number todo taken line) fits on = unbroken_line scene line.doing line.lists fits.1
+unbroken scene (Rescuer dev line) fits on = unbroken_line scene line.doing line.lists fits.1
 unbroken scene (Completer disk carried) fits on = on
 unbroken scene (Keeper (Keeps duties)) fits on = refl
 unbroken scene (Keeper (Stops breach)) fits on = absurd fits
 
 -- there is one keeper at most
-pub one_keeper : (ds : List Duty) → length (keepers ds) ≤ 1
+one_keeper : (ds : List Duty) → length (keepers ds) ≤ 1
 one_keeper [] = omega arith
 one_keeper (duty ∷ ds) = omega arith
 
