@@ -28,7 +28,7 @@ use Rattle.shared_objects.specs.Calling.{AreSeatedAt, FitsWith, HasAsked, HasAsk
 use Rattle.shared_objects.specs.Desks.{HasCalled}
 use Rattle.shared_objects.specs.Holding.{AreLocked, AreSeatsOf, DeskHolds, IsClearSlip, IsClearVector, by_pool, calls_in, calls_of, desk_of, set_key, slip_key, stage_at}
 use Rattle.shared_objects.proofs.Called.{SeatCalls, fits_with, has_called, home_again, numbered_stays, owed_of, seat_calls}
-use Rattle.shared_objects.proofs.Numbers.{bios_change, records_change, vecs_change, stands_for_bios, stands_for_records, bios_not_64, bios_of_set, slips_not_64, slips_of_set}
+use Rattle.task_core.proofs.PoolLemmas.{bios_change, records_change, vecs_change, stands_for_bios, stands_for_records, bios_not_64, bios_of_set, slips_not_64, slips_of_set}
 use Rattle.shared_objects.proofs.RowCalls.{mark_as, row_call, row_calls, row_fits, row_owed, row_seats}
 use Rattle.shared_objects.proofs.RowSeats.{seated_at}
 

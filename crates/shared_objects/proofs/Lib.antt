@@ -1,5 +1,4 @@
 pub mod Knowing
-pub mod Numbers
 pub mod Called
 pub mod RowSeats
 pub mod RowCalls

@@ -1,32 +1,36 @@
--- A pool of the objects of one thread moves.
-use Rattle.std.proofs.Common.{◌≡◌, ◌≢◌, ◌==◌, ℕ, Bool, true, false, refl, sym, ap, ◌∙◌, arith}
+-- What is known of pools by their numbers, where one of a kind changes; and a pool of the objects of one thread moves.
+use Rattle.std.proofs.Common.{◌≡◌, ◌≢◌, ◌%◌, ◌==◌, ◌&&◌, ◌||◌, if◌then◌else◌, ℕ, Bool, true, false, refl, sym, ap, subst, ◌∙◌, arith}
+use Rattle.std.specs.Prelude.{IsTrue}
 use Rattle.std.proofs.lemmas.Bool.Decides.{nat_tests}
 use Rattle.elem_ledger.specs.Ledger.{LedgerId}
 use Rattle.mempool_core.specs.Move.{PoolState, Move}
 use Rattle.mempool_core.specs.Pool.{LedgerPool}
 use Rattle.mempool_core.specs.Pool as pool
+use Rattle.task_steps.specs.Stage.{is_bios, is_slips}
 use Rattle.task_core.specs.declared.plain.Plain.{Plain}
 use Rattle.run_machine.specs.Maps.{upd}
 use Rattle.run_machine.specs.Objects.{PoolMoves}
-use Rattle.task_core.specs.Plains.{is_bios_number, by_kind, pool_at, objects_of, stage_of}
+use Rattle.task_core.specs.Plains.{Holds, is_bios_number, pool_at, objects_of, stage_of}
 
-same_by : (a b : ℕ) → (a == b) ≡ true → a ≡ b
+pub same_by : (a b : ℕ) → (a == b) ≡ true → a ≡ b
 same_by a b e = grind (arith, nat_tests)
 
 not_64 : (m n : ℕ) → m ≡ n → n ≢ 64 → (m == 64) ≡ false
 not_64 m n e apart = grind (arith, nat_tests)
 
--- a number stands for a pool of bios or of records
-pub stands_for_bios : (vecs : LedgerPool) (bios records : ℕ → LedgerPool) (n : ℕ) → n ≢ 64 → is_bios_number n ≡ true → by_kind vecs bios records n ≡ bios n
+-- what a number stands for among things of pools, as of pools themselves
+abbrev pub by_number : {X : Type 0} → X → (ℕ → X) → (ℕ → X) → ℕ → X
+by_number vecs bios records number = if number == 64 then vecs else if is_bios_number number then bios number else records number
+
+pub stands_for_bios : {X : Type 0} (vecs : X) (bios records : ℕ → X) (n : ℕ) → n ≢ 64 → is_bios_number n ≡ true → by_number vecs bios records n ≡ bios n
 stands_for_bios vecs bios records n apart kind = let other : (n == 64) ≡ false = not_64 n n refl apart in rw (other, kind) refl
 
-pub stands_for_records : (vecs : LedgerPool) (bios records : ℕ → LedgerPool) (n : ℕ) → n ≢ 64 → is_bios_number n ≡ false
-    → by_kind vecs bios records n ≡ records n
+pub stands_for_records : {X : Type 0} (vecs : X) (bios records : ℕ → X) (n : ℕ) → n ≢ 64 → is_bios_number n ≡ false → by_number vecs bios records n ≡ records n
 stands_for_records vecs bios records n apart kind = let other : (n == 64) ≡ false = not_64 n n refl apart in rw (other, kind) refl
 
--- one pool among those of each kind
-module _ (vecs : LedgerPool) (bios records : ℕ → LedgerPool) (n : ℕ) (x : LedgerPool) where
-  bios_at : n ≢ 64 → is_bios_number n ≡ true → (m : ℕ) (b : Bool) → (m == n) ≡ b → by_kind vecs (upd bios n x) records m ≡ upd (by_kind vecs bios records) n x m
+-- one of each kind changes
+module _ {X : Type 0} (vecs : X) (bios records : ℕ → X) (n : ℕ) (x : X) where
+  bios_at : n ≢ 64 → is_bios_number n ≡ true → (m : ℕ) (b : Bool) → (m == n) ≡ b → by_number vecs (upd bios n x) records m ≡ upd (by_number vecs bios records) n x m
   unfolding upd
   bios_at apart kind m true q =
       let other : (m == 64) ≡ false = not_64 m n (same_by m n q) apart in
@@ -34,11 +38,11 @@ module _ (vecs : LedgerPool) (bios records : ℕ → LedgerPool) (n : ℕ) (x : 
       rw (q, other, of_set) refl
   bios_at apart kind m false q = rw (q) refl
 
-  pub bios_change : n ≢ 64 → is_bios_number n ≡ true → by_kind vecs (upd bios n x) records ≡ upd (by_kind vecs bios records) n x
+  pub bios_change : n ≢ 64 → is_bios_number n ≡ true → by_number vecs (upd bios n x) records ≡ upd (by_number vecs bios records) n x
   bios_change apart kind = λ k m. bios_at apart kind m (m == n) refl k
 
   records_at : n ≢ 64 → is_bios_number n ≡ false → (m : ℕ) (b : Bool) → (m == n) ≡ b
-      → by_kind vecs bios (upd records n x) m ≡ upd (by_kind vecs bios records) n x m
+      → by_number vecs bios (upd records n x) m ≡ upd (by_number vecs bios records) n x m
   unfolding upd
   records_at apart kind m true q =
       let other : (m == 64) ≡ false = not_64 m n (same_by m n q) apart in
@@ -46,16 +50,57 @@ module _ (vecs : LedgerPool) (bios records : ℕ → LedgerPool) (n : ℕ) (x : 
       rw (q, other, of_set) refl
   records_at apart kind m false q = rw (q) refl
 
-  pub records_change : n ≢ 64 → is_bios_number n ≡ false → by_kind vecs bios (upd records n x) ≡ upd (by_kind vecs bios records) n x
+  pub records_change : n ≢ 64 → is_bios_number n ≡ false → by_number vecs bios (upd records n x) ≡ upd (by_number vecs bios records) n x
   records_change apart kind = λ k m. records_at apart kind m (m == n) refl k
 
-  vecs_at : (m : ℕ) (b : Bool) → (m == 64) ≡ b → by_kind x bios records m ≡ upd (by_kind vecs bios records) 64 x m
+module _ {X : Type 0} (vecs : X) (bios records : ℕ → X) (x : X) where
+  vecs_at : (m : ℕ) (b : Bool) → (m == 64) ≡ b → by_number x bios records m ≡ upd (by_number vecs bios records) 64 x m
   unfolding upd
   vecs_at m true q = rw (q) refl
   vecs_at m false q = rw (q) refl
 
-pub vecs_change : (vecs : LedgerPool) (bios records : ℕ → LedgerPool) (x : LedgerPool) → by_kind x bios records ≡ upd (by_kind vecs bios records) 64 x
-vecs_change vecs bios records x = λ k m. vecs_at vecs bios records 64 x m (m == 64) refl k
+  pub vecs_change : by_number x bios records ≡ upd (by_number vecs bios records) 64 x
+  vecs_change = λ k m. vecs_at m (m == 64) refl k
+
+-- the numbers of pools by their kinds, where there are 32 devices at most
+pub bios_not_64 : (plain : Plain) (n : ℕ) → Holds plain → IsTrue (is_bios (stage_of plain) n) → n ≢ 64
+bios_not_64 plain n holds is e =
+    let few = holds.stack_is.few in
+    let at_64 : IsTrue (is_bios (stage_of plain) 64) = subst (λ k. IsTrue (is_bios (stage_of plain) k)) e is in
+    absurd (grind (at_64, few, arith, nat_tests))
+
+pub bios_of_set : (plain : Plain) (n : ℕ) → IsTrue (is_bios (stage_of plain) n) → is_bios_number n ≡ true
+bios_of_set plain n is = by_cases (n == 65) (n % 2 == 0) _ is
+  where
+    by_cases : (a b c : Bool) → (a || b && c) ≡ true → (a || b) ≡ true
+    by_cases true b c e = refl
+    by_cases false true c e = refl
+    by_cases false false c e = e
+
+slips_odd : (plain : Plain) (n : ℕ) → IsTrue (is_slips (stage_of plain) n) → n % 2 ≡ 1
+slips_odd plain n is = by_cases (n % 2 == 1) _ refl is
+  where
+    by_cases : (a b : Bool) → (n % 2 == 1) ≡ a → (a && b) ≡ true → n % 2 ≡ 1
+    by_cases true b q e = grind (q, arith, nat_tests)
+    by_cases false b q e = absurd cc
+
+odd_not_64 : (n : ℕ) → n % 2 ≡ 1 → n ≢ 64
+odd_not_64 n odd e = absurd (omega (arith, odd, e))
+
+pub slips_not_64 : (plain : Plain) (n : ℕ) → IsTrue (is_slips (stage_of plain) n) → n ≢ 64
+slips_not_64 plain n is = odd_not_64 n (slips_odd plain n is)
+
+slips_not_65 : (plain : Plain) (n : ℕ) → Holds plain → IsTrue (is_slips (stage_of plain) n) → n ≢ 65
+slips_not_65 plain n holds is e =
+    let few = holds.stack_is.few in
+    let at_65 : IsTrue (is_slips (stage_of plain) 65) = subst (λ k. IsTrue (is_slips (stage_of plain) k)) e is in
+    absurd (grind (at_65, few, arith, nat_tests))
+
+pub slips_of_set : (plain : Plain) (n : ℕ) → Holds plain → IsTrue (is_slips (stage_of plain) n) → is_bios_number n ≡ false
+slips_of_set plain n holds is = neither n (slips_odd plain n is) (slips_not_65 plain n holds is)
+  where
+    neither : (n : ℕ) → n % 2 ≡ 1 → n ≢ 65 → (n == 65 || n % 2 == 0) ≡ false
+    neither n odd apart = grind (odd, apart, arith, nat_tests)
 
 -- a pool moves, and all else is as before
 module _ (old new : Plain) (n : ℕ) (x : LedgerPool) (is : pool_at new ≡ upd (pool_at old) n x)

@@ -1,8 +1,7 @@
 -- What one changed object makes of the objects of one thread.
-use Rattle.std.proofs.Common.{◌≡◌, ◌≢◌, ◌%◌, ◌==◌, ◌&&◌, ◌||◌, ℕ, Bool, true, false, [], set, get_or, refl, sym, ap, subst, ◌∙◌, arith}
+use Rattle.std.proofs.Common.{◌≡◌, ℕ, [], set, get_or, refl, sym, ap, subst, ◌∙◌}
 use Rattle.std.specs.Prelude.{IsTrue, slice_index_or}
 use Rattle.std.specs.Vec.{with_item}
-use Rattle.std.proofs.lemmas.Bool.Decides.{nat_tests}
 use Rattle.elem_ledger.specs.Ledger.{LedgerId}
 use Rattle.stack_base.specs.declared.ids.DevId.{DevId}
 use Rattle.stack_base.specs.declared.ids.SetId.{SetId}
@@ -24,11 +23,11 @@ use Rattle.run_machine.specs.Objects.{Objects, PoolMoves, Serves}
 use Rattle.run_machine.specs.Opened.{at}
 use Rattle.task_steps.specs.Stage.{Stage, has_rescuer, has_disk, has_book, is_bios, is_slips, RequestFits, Owes}
 use Rattle.task_core.specs.ObjectsOf.{AreObjectsOf, AreNumbered}
-use Rattle.task_core.specs.Plains.{set_number, records_number, list_number, disk_number, book_number, no_pool, no_disk, no_book, is_bios_number, by_kind, bios_at, records_at, pool_at, objects_of, stage_of, AreSeated, Holds}
+use Rattle.task_core.specs.Plains.{set_number, records_number, list_number, disk_number, book_number, no_pool, no_disk, no_book, by_kind, bios_at, records_at, pool_at, objects_of, stage_of, AreSeated, Holds}
 use Rattle.run_machine.proofs.Frames.{upd_same}
 use Rattle.task_core.proofs.Keeping.{objects_stay, objects_owe}
 use Rattle.task_core.proofs.TableLemmas.{looked, changed, places_stay, numbers_stay}
-use Rattle.task_core.proofs.PoolLemmas.{stands_for_bios, stands_for_records, bios_change, records_change, vecs_change, moves_pool, stage_kept}
+use Rattle.task_core.proofs.PoolLemmas.{bios_not_64, bios_of_set, slips_not_64, slips_of_set, stands_for_bios, stands_for_records, bios_change, records_change, vecs_change, moves_pool, stage_kept}
 
 -- with one object in the place of another
 abbrev pub with_bios : Plain → ℕ → SetId → LedgerPool → Plain
@@ -74,44 +73,6 @@ pub take_moves : {P : Type 0} (is_clear : P → Type 0) (old new : LedgerPool) (
 take_moves is_clear old new (taken.Ordinary element) takes = (takes_ordinary, takes.0)
 take_moves is_clear old new (taken.Spare element) takes = (takes_spare, takes.0)
 take_moves is_clear old new (taken.Miss used) takes = (misses used, takes)
-
--- the numbers of pools by their kinds
-bios_not_64 : (plain : Plain) (n : ℕ) → Holds plain → IsTrue (is_bios (stage_of plain) n) → n ≢ 64
-bios_not_64 plain n holds is e =
-    let few = holds.stack_is.few in
-    let at_64 : IsTrue (is_bios (stage_of plain) 64) = subst (λ k. IsTrue (is_bios (stage_of plain) k)) e is in
-    absurd (grind (at_64, few, arith, nat_tests))
-
-bios_of_set : (plain : Plain) (n : ℕ) → IsTrue (is_bios (stage_of plain) n) → is_bios_number n ≡ true
-bios_of_set plain n is = by_cases (n == 65) (n % 2 == 0) _ is
-  where
-    by_cases : (a b c : Bool) → (a || b && c) ≡ true → (a || b) ≡ true
-    by_cases true b c e = refl
-    by_cases false true c e = refl
-    by_cases false false c e = e
-
-slips_odd : (plain : Plain) (n : ℕ) → IsTrue (is_slips (stage_of plain) n) → n % 2 ≡ 1
-slips_odd plain n is = by_cases (n % 2 == 1) _ refl is
-  where
-    by_cases : (a b : Bool) → (n % 2 == 1) ≡ a → (a && b) ≡ true → n % 2 ≡ 1
-    by_cases true b q e = grind (q, arith, nat_tests)
-    by_cases false b q e = absurd cc
-
-slips_not_64 : (n : ℕ) → n % 2 ≡ 1 → n ≢ 64
-slips_not_64 n odd e = absurd (omega (arith, odd, e))
-
--- 65 is odd, and is the number of no pool of records where there are 32 devices at most
-slips_not_65 : (plain : Plain) (n : ℕ) → Holds plain → IsTrue (is_slips (stage_of plain) n) → n ≢ 65
-slips_not_65 plain n holds is e =
-    let few = holds.stack_is.few in
-    let at_65 : IsTrue (is_slips (stage_of plain) 65) = subst (λ k. IsTrue (is_slips (stage_of plain) k)) e is in
-    absurd (grind (at_65, few, arith, nat_tests))
-
-slips_of_set : (plain : Plain) (n : ℕ) → Holds plain → IsTrue (is_slips (stage_of plain) n) → is_bios_number n ≡ false
-slips_of_set plain n holds is = neither n (slips_odd plain n is) (slips_not_65 plain n holds is)
-  where
-    neither : (n : ℕ) → n % 2 ≡ 1 → n ≢ 65 → (n == 65 || n % 2 == 0) ≡ false
-    neither n odd apart = grind (odd, apart, arith, nat_tests)
 
 -- one pool of bios
 module _ (plain : Plain) (holds : Holds plain) (n i : ℕ) (is : IsTrue (is_bios (stage_of plain) n)) (place : i ≡ slice_index_or plain.index.bios n 0)
@@ -160,7 +121,7 @@ module _ (plain : Plain) (holds : Holds plain) (n i : ℕ) (is : IsTrue (is_slip
   records_there =
       let none : ℕ → LedgerPool = no_pool plain.stage.value.stack plain.vecs.ledger in
       sym (
-      stands_for_records plain.vecs (bios_at plain) (records_at plain) n (slips_not_64 n (slips_odd plain n is)) (slips_of_set plain n holds is)
+      stands_for_records plain.vecs (bios_at plain) (records_at plain) n (slips_not_64 plain n is) (slips_of_set plain n holds is)
       ∙ looked records_number plain.index.records plain.records.items n i (holds.seated.records n is) place entry value (λ e. e.1) none
       )
 
@@ -170,7 +131,7 @@ module _ (plain : Plain) (holds : Holds plain) (n i : ℕ) (is : IsTrue (is_slip
         ap (by_kind plain.vecs (bios_at plain))
         (changed records_number plain.index.records plain.records.items n i (holds.seated.records n is) place entry value (entry.0, x) refl (λ e. e.1)
         (no_pool plain.stage.value.stack plain.vecs.ledger))
-        ∙ records_change plain.vecs (bios_at plain) (records_at plain) n x (slips_not_64 n (slips_odd plain n is)) (slips_of_set plain n holds is)
+        ∙ records_change plain.vecs (bios_at plain) (records_at plain) n x (slips_not_64 plain n is) (slips_of_set plain n holds is)
 
     pub records_seated : AreSeated (with_records plain i entry.0 x)
     records_seated = record {
