@@ -10,7 +10,6 @@ pub mod Merged
 pub mod Places
 pub mod Rounds
 pub mod Owners
-pub mod Drawing
 pub mod Spending
 pub mod Looks
 pub mod Stopping

@@ -23,7 +23,7 @@ use Rattle.task_core.specs.declared.opening.Opened.{Opened}
 use Rattle.task_core.specs.opened.OfOne.{IsOpened, scenario_in}
 use Rattle.shared_objects.specs.Rans.{most_tasks}
 
-few_of : {X : Type 0} (p : X → Bool) (xs : List X) → length (filter p xs) ≤ length xs
+pub few_of : {X : Type 0} (p : X → Bool) (xs : List X) → length (filter p xs) ≤ length xs
 few_of p [] = omega arith
 few_of p (x ∷ xs) = by_test (p x) (few_of p xs)
   where
@@ -72,26 +72,34 @@ module _ (stack : Stack) (good : IsStack stack) (fit : IsFitStack stack) (number
   disks_have_none : rescuer_at (slice_get stack.devices.items number) ≡ true → keeps_data (tree stack number) ≡ true → ⊥
   disks_have_none = by_found (slice_get stack.devices.items number) refl
 
-few_in : (s : Scenario) → IsStack s.stack → IsFitStack s.stack → length (tasks s) ≤ most_tasks
-few_in s good fit =
-    let count = (setup s).count in
-    let all = range_with_len 0 count in
+-- the tasks of a scenario by their kinds
+pub tasks_counted : (s : Scenario) → let all = range_with_len 0 (setup s).count in
+    length (tasks s) ≤ most_writers + length (filter (setup s).rescuer all) + length (filter (is_disk (setup s)) all) + 1
+tasks_counted s =
+    let all = range_with_len 0 (setup s).count in
     let ws = map (λ writer. Writer writer (todos_of s writer) NoBio rests) (writers s) in
     let rs = map (λ dev. Rescuer (at dev) rests) (filter (setup s).rescuer all) in
     let cs = map (λ dev. Completer (at dev) Empty) (filter (is_disk (setup s)) all) in
-    let a = length-map (writers s) (λ writer. Writer writer (todos_of s writer) NoBio rests) in
-    let b = length-map (filter (setup s).rescuer all) (λ dev. Rescuer (at dev) rests) in
-    let d = length-map (filter (is_disk (setup s)) all) (λ dev. Completer (at dev) Empty) in
-    let a' = few_of (λ writer. list_any (is_by writer) (todos s)) (range_with_len 0 most_writers) in
-    let b' = few_of_both (setup s).rescuer (is_disk (setup s))
+    omega (
+      arith,
+      length-append ws (rs ++ (cs ++ keepers (duties s))),
+      length-append rs (cs ++ keepers (duties s)),
+      length-append cs (keepers (duties s)),
+      length-map (writers s) (λ writer. Writer writer (todos_of s writer) NoBio rests),
+      length-map (filter (setup s).rescuer all) (λ dev. Rescuer (at dev) rests),
+      length-map (filter (is_disk (setup s)) all) (λ dev. Completer (at dev) Empty),
+      few_of (λ writer. list_any (is_by writer) (todos s)) (range_with_len 0 most_writers),
+      length-range_with_len 0 most_writers,
+      one_keeper (duties s),
+    )
+
+few_in : (s : Scenario) → IsStack s.stack → IsFitStack s.stack → length (tasks s) ≤ most_tasks
+few_in s good fit =
+    let all = range_with_len 0 (setup s).count in
+    let apart = few_of_both (setup s).rescuer (is_disk (setup s))
     (λ dev rescuer is. disks_have_none s.stack good fit dev rescuer (right_of (is_device (setup s) dev) (keeps_data (tree s.stack dev)) is)) all in
-    let eight = length-range_with_len 0 most_writers in
-    let each = length-range_with_len 0 count in
-    let x = length-append ws (rs ++ (cs ++ keepers (duties s))) in
-    let y = length-append rs (cs ++ keepers (duties s)) in
-    let z = length-append cs (keepers (duties s)) in
     let devices = good.few in
-    omega (arith, a, b, d, a', b', eight, each, x, y, z, devices, one_keeper (duties s))
+    omega (arith, tasks_counted s, apart, length-range_with_len 0 (setup s).count, devices)
 
 pub few_tasks : (o : Opened) → IsOpened o → length o.tasks.items ≤ most_tasks
 few_tasks o opened =

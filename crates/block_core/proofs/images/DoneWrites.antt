@@ -38,7 +38,7 @@ use Rattle.block_core.proofs.unrefused.Resizes.{goes_down}
 use Rattle.block_core.proofs.moves.Devices.{ground}
 use Rattle.block_core.proofs.sound.DoneOnce.{to_begin, stage}
 use Rattle.block_core.proofs.sound.EventStages.{top_is}
-use Rattle.block_core.specs.Rounds.{tops, tops_left}
+use Rattle.block_core.specs.Rounds.{tops}
 use Rattle.block_core.proofs.sound.Wholes.{Whole, runs_whole, start_whole, runs_leveled, start_leveled, runs_done, stage_once}
 use Rattle.block_core.proofs.sound.OfOneWrite.{runs_of_one_write, start_of_one_write, node_write}
 use Rattle.block_core.proofs.images.Ancestors.{open_at, of_node, of_named}

@@ -1,7 +1,5 @@
 -- In every run all open nodes and all bios are of writes of the present round.
-use Rattle.std.proofs.Common.{◌≡◌, ◌*◌, ◌<◌, ◌⊎◌, ℕ, List, None, Some, inl, inr, refl, ◌∙◌, ap, arith}
-use Rattle.bio_books.specs.declared.node.Role.{Role}
-use Rattle.bio_books.specs.declared.node.Role.TheVariants as role
+use Rattle.std.proofs.Common.{◌≡◌, ◌*◌, ◌<◌, ◌⊎◌, ℕ, List, None, Some, inl, inr, ◌∙◌, ap, arith}
 use Rattle.bio_books.specs.Books.{Node, node_at, parent_of}
 use Rattle.bio_books.specs.Drops.{Closed}
 use Rattle.stack_base.specs.declared.ids.DevId.{DevId}

@@ -3,8 +3,6 @@ use Rattle.std.proofs.Common.{◌≡◌, ◌*◌, ◌<◌, ◌⊎◌, ℕ, List,
 use Rattle.std.specs.Prelude.{sum, slice_index_or}
 use Rattle.stack_base.specs.declared.ids.DevId.{DevId}
 use Rattle.stack_base.specs.declared.ids.PoolId.{PoolId}
-use Rattle.bio_books.specs.declared.node.Role.{Role}
-use Rattle.bio_books.specs.declared.node.Role.TheVariants as role
 use Rattle.bio_books.specs.Books.{Node, node_at, parent_of}
 use Rattle.bio_books.specs.Drops.{Closed}
 use Rattle.run_machine.specs.Scene.{Scene}

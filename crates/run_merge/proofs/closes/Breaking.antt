@@ -1,5 +1,5 @@
 -- A task that was refused, or had no ticket, breaks off, and asks for nothing more.
-use Rattle.std.proofs.Common.{◌≡◌, true, Bool, refl, sym, ◌∙◌, ap}
+use Rattle.std.proofs.Common.{◌≡◌, true, refl, sym, ◌∙◌, ap}
 use Rattle.std.specs.Option.{is_some}
 use Rattle.run_machine.specs.Laws.{OfNone, object_of}
 use Rattle.run_machine.specs.Lines.{Doing, Rests, Drives, Copies, Breaks}

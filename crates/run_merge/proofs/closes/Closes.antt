@@ -30,6 +30,8 @@ use Rattle.shared_objects.specs.Closes.{Returned, ClosesAs}
 use Rattle.shared_objects.specs.Kinds.{ThingAt, opened_at, unasked}
 use Rattle.shared_objects.specs.Logs.{LogLeads}
 use Rattle.shared_objects.specs.Passes.{found_by, numbers_of}
+use Rattle.shared_objects.proofs.Drawn.{in_row, keeps}
+use Rattle.shared_objects.proofs.Owners.{logged}
 use Rattle.run_merge.specs.Closing.{IsThrough, WasRefused, HasLast, IsClosed, MergeIsEndedRun}
 use Rattle.run_merge.specs.Machines.{LeadsObject}
 use Rattle.run_merge.specs.Merging.{Ticketed, RiseFrom, without_tickets, history_of, done_by, LetsAsk, Shown}
@@ -37,14 +39,13 @@ use Rattle.run_merge.specs.ObjectsByName.{get, made_of}
 use Rattle.run_merge.specs.Products.{LeadsTask, led_by, task_behind}
 use Rattle.run_merge.specs.SharedObjects.{ticketed, seen_at, tasks_left, state_left, ClosesAreRuns}
 use Rattle.run_merge.proofs.closes.Counting.{walked, first_is, done_at, rounds_few, few_drawn, image_at, image_none}
-use Rattle.run_merge.proofs.closes.Drawing.{in_row}
 use Rattle.run_merge.proofs.closes.DrewEvents.{drew_as_events}
 use Rattle.run_merge.proofs.closes.Drawn.{events_told, events_untold, rises_events}
 use Rattle.run_merge.proofs.closes.Events.{ticketed_events, event_histories, histories_are}
 use Rattle.run_merge.proofs.closes.Looks.{lets_ask}
 use Rattle.run_merge.proofs.closes.Merged.{history_is, all_events, are_apart, are_tagged}
-use Rattle.run_merge.proofs.closes.Objects.{keeps, told_drew, IsReady, object_leads}
-use Rattle.run_merge.proofs.closes.Owners.{logged, ask_some}
+use Rattle.run_merge.proofs.closes.Objects.{told_drew, IsReady, object_leads}
+use Rattle.run_merge.proofs.closes.Owners.{ask_some}
 use Rattle.run_merge.proofs.closes.Rounds.{rounds_there}
 use Rattle.run_merge.proofs.closes.Sorting.{done_is}
 use Rattle.run_merge.proofs.closes.Stopping.{object_last, log_drew, comes_to}
@@ -195,7 +196,7 @@ module _ (s : Scenario) (plain : Plain) (names : List Object) (history : Object 
           let led = λ (t : TaskState) (ns : List Ticketed). led_by (setup s) t (without_tickets ns) in
           let looked = looks_there (setup s) [] task.first cut.before cut.after cut.call task.task cut.told
           (subst AskSome cut.is (ask_some s plain names history left tasks pass c place task at))
-          (subst (λ l. LogLeads (setup s) [] task.first l task.task) cut.is (logged s plain names history left tasks pass c place task at).0.leads) in
+          (subst (λ l. LogLeads (setup s) [] task.first l task.task) cut.is (logged (setup s) plain names history left tasks pass c place task at).0.leads) in
           let has = log_drew s plain names history left tasks pass c (stage_of plain).ledger begins ready found place task at cut.call within cut.told in
           let lets = lets_ask s plain names history left tasks pass c (stage_of plain).ledger begins ready place task at cut.before
           (λ x inside. subst (λ l. Contains l x) (sym cut.is) (Contains-append_left cut.before (cut.call ∷ cut.after) x inside))
@@ -273,7 +274,7 @@ module _ (s : Scenario) (plain : Plain) (names : List Object) (history : Object 
     shown = shown;
     object = object_left;
     task = λ place. (shown_at place).comes;
-    row = in_row s plain names history left tasks pass c;
+    row = in_row (setup s) plain names history left tasks pass c;
     few = few_drawn s plain names history left tasks pass c firsts;
   }
 

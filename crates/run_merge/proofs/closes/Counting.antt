@@ -25,24 +25,25 @@ use Rattle.shared_objects.specs.Kinds.{ThingAt, serves_at, looks_at, opened_at, 
 use Rattle.shared_objects.specs.Logs.{is_event, is_refused, is_stop, is_glance, events_in, tickets_in, LogLeads}
 use Rattle.shared_objects.specs.Passes.{numbers_of}
 use Rattle.shared_objects.proofs.Leading.{event_first, kinds, quiet_first, stop_kind}
+use Rattle.shared_objects.proofs.Drawn.{drawn_of, drew_of, numbers_is}
+use Rattle.shared_objects.proofs.Owners.{logged, kept, IsInPlace, in_place}
+use Rattle.shared_objects.proofs.Refusing.{served_refused}
 use Rattle.run_merge.specs.Entries.{Entry}
 use Rattle.run_merge.specs.Merging.{Ticketed, RiseFrom, without_tickets, all_of, done_by}
 use Rattle.run_merge.specs.Products.{is_next_round}
 use Rattle.run_merge.specs.SharedObjects.{ticketed}
 use Rattle.run_merge.proofs.closes.Breaking.{broken_rests, stop_breaks}
-use Rattle.run_merge.proofs.closes.Drawing.{drawn_of, drew_of, numbers_is}
 use Rattle.run_merge.proofs.closes.Drawn.{HasTicket, rises_events}
 use Rattle.run_merge.proofs.closes.Events.{ticketed_events, event_histories}
 use Rattle.run_merge.proofs.closes.Objects as calls
 use Rattle.run_merge.proofs.closes.Objects.{told_drew}
-use Rattle.run_merge.proofs.closes.Owners.{logged, kept, ask_some, named, IsInPlace, in_place}
+use Rattle.run_merge.proofs.closes.Owners.{ask_some, named}
 use Rattle.run_merge.proofs.closes.Places.{total, total_most, total_list, by_places}
 use Rattle.run_merge.proofs.closes.Rounds.{starts_left, task_starts, tally_starts, tasks_start}
 use Rattle.run_merge.proofs.closes.Sorting.{picks_mine, events_to, done_is}
-use Rattle.run_merge.proofs.closes.Spending.{served_refused}
 use Rattle.run_merge.proofs.closes.Walks.{is_told, AskSome, Walked, walk}
 use Rattle.run_merge.proofs.closing.Counts.{sorted_length}
-use Rattle.run_merge.proofs.closing.FewTasks.{few_of}
+use Rattle.shared_objects.proofs.FewTasks.{few_of}
 use Rattle.run_merge.proofs.merging.Picked.{is_at, is_by, entries_filter, filter_swap}
 
 -- a call that left its task as it was drew no ticket
@@ -115,7 +116,7 @@ module _ (s : Scenario) (plain : Plain) (names : List Object) (history : Object 
     (pass : PassState) (c : ClosesAs (setup s) plain names history left tasks pass) (firsts : map (λ (task : Returned). task.first) tasks ≡ opened.tasks s) where
   pub walked : (place : ℕ) (task : Returned) → slice_get tasks place ≡ Some task → Walked (setup s) [] task.first task.log task.task
   walked place task at =
-      walk (setup s) [] task.first task.log task.task (ask_some s plain names history left tasks pass c place task at) (logged s plain names history left tasks pass c place task at).0.leads
+      walk (setup s) [] task.first task.log task.task (ask_some s plain names history left tasks pass c place task at) (logged (setup s) plain names history left tasks pass c place task at).0.leads
 
   pub first_is : (place : ℕ) (task : Returned) → slice_get tasks place ≡ Some task → (start s).task place ≡ task.first
   first_is place task at = ap (λ l. get_or l place no_task) (sym firsts) ∙ image_at (λ (task : Returned). task.first) no_task tasks place task at
@@ -138,11 +139,11 @@ module _ (s : Scenario) (plain : Plain) (names : List Object) (history : Object 
       All-weaker (Contains task.log) HasTicket
       (λ call within. All-contains HasTicket (history (object_of call.asked)) call
       (told_drew (object_of call.asked) (unasked (opened_at plain (object_of call.asked))) (left (object_of call.asked)) (history (object_of call.asked)) (c.things (object_of call.asked)))
-      (kept s plain names history left tasks pass c place task at call within)) task.log (All-contains_itself task.log)
+      (kept (setup s) plain names history left tasks pass c place task at call within)) task.log (All-contains_itself task.log)
 
   pub log_rises : (place : ℕ) (task : Returned) → slice_get tasks place ≡ Some task → RiseFrom 0 (ticketed_events task.log)
   log_rises place task at =
-      let l = (logged s plain names history left tasks pass c place task at).0 in rises_events 0 l.end task.log l.rises (log_drew place task at)
+      let l = (logged (setup s) plain names history left tasks pass c place task at).0 in rises_events 0 l.end task.log l.rises (log_drew place task at)
 
   -- what a task did, by tickets
   pub done_at : (place : ℕ) (task : Returned) → slice_get tasks place ≡ Some task → done_by place (event_histories names history) ≡ ticketed_events task.log
@@ -208,8 +209,8 @@ module _ (s : Scenario) (plain : Plain) (names : List Object) (history : Object 
       name : Object
       name = object_of call.asked
 
-      p : IsInPlace s plain names history left tasks pass c (object_of call.asked) call
-      p = in_place s plain names history left tasks pass c (object_of call.asked) call (kept s plain names history left tasks pass c place task at call within)
+      p : IsInPlace (setup s) plain names history left tasks pass c (object_of call.asked) call
+      p = in_place (setup s) plain names history left tasks pass c (object_of call.asked) call (kept (setup s) plain names history left tasks pass c place task at call within)
 
       untold : is_told call ≡ false
       untold = (kinds call glance).0
@@ -223,9 +224,9 @@ module _ (s : Scenario) (plain : Plain) (names : List Object) (history : Object 
   one_more : (place : ℕ) (task : Returned) → slice_get tasks place ≡ Some task
       → length (numbers_of (drawn_of task)) ≤ length (filter (is_by place) (all_of (event_histories names history))) + 1
   one_more place task at =
-      let tickets = ap (λ (l : List ℕ). length l) (drew_of s plain names history left tasks pass c place task at) in
+      let tickets = ap (λ (l : List ℕ). length l) (drew_of (setup s) plain names history left tasks pass c place task at) in
       let few = few_tickets (setup s) [] task.first task.log task.task (ask_some s plain names history left tasks pass c place task at)
-      (All-weaker (Contains task.log) GlanceNone (glance_none place task at) task.log (All-contains_itself task.log)) (logged s plain names history left tasks pass c place task at).0.leads in
+      (All-weaker (Contains task.log) GlanceNone (glance_none place task at) task.log (All-contains_itself task.log)) (logged (setup s) plain names history left tasks pass c place task at).0.leads in
       let events = length-map (events_in task.log) ticketed in
       let done = ap (λ (l : List Ticketed). length l) (done_at place task at) in
       let order = sorted_length (filter (is_by place) (all_of (event_histories names history))) in
@@ -233,7 +234,7 @@ module _ (s : Scenario) (plain : Plain) (names : List Object) (history : Object 
 
   pub few_drawn : length (numbers_of pass.drawn) ≤ length (all_of (event_histories names history)) + length (opened.tasks s)
   few_drawn =
-      let all = ap (λ (l : List ℕ). length l) (numbers_is s plain names history left tasks pass c) ∙ length-flat_map (λ (task : Returned). numbers_of (drawn_of task)) tasks in
+      let all = ap (λ (l : List ℕ). length l) (numbers_is (setup s) plain names history left tasks pass c) ∙ length-flat_map (λ (task : Returned). numbers_of (drawn_of task)) tasks in
       let most = sum_most (λ (task : Returned). length (numbers_of (drawn_of task))) (λ place. length (filter (is_by place) (all_of (event_histories names history)))) tasks one_more in
       let split = by_places (length tasks) (all_of (event_histories names history)) (all_placed names) in
       let same = long in

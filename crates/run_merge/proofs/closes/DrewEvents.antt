@@ -16,12 +16,12 @@ use Rattle.shared_objects.specs.Kinds.{ThingAt, serves_at, looks_at}
 use Rattle.shared_objects.specs.Led.{BrokeOff, IsLed}
 use Rattle.shared_objects.specs.Logs.{is_stop}
 use Rattle.shared_objects.proofs.Leading.{logs_lead}
+use Rattle.shared_objects.proofs.Drawn.{keeps}
+use Rattle.shared_objects.proofs.Owners.{logged, IsOwned, owner, IsInPlace, in_place}
+use Rattle.shared_objects.proofs.Refusing.{served_refused}
 use Rattle.run_merge.specs.SharedObjects.{DrewAsEvent}
 use Rattle.run_merge.proofs.closes.Breaking.{broken_is}
 use Rattle.run_merge.proofs.closes.Counting.{refused_stops}
-use Rattle.run_merge.proofs.closes.Objects.{keeps}
-use Rattle.run_merge.proofs.closes.Owners.{logged, IsOwned, owner, IsInPlace, in_place}
-use Rattle.run_merge.proofs.closes.Spending.{served_refused}
 use Rattle.run_merge.proofs.closes.Walks.{is_told}
 
 module _ (s : Scenario) (plain : Plain) (names : List Object) (history : Object → List Call) (left : (name : Object) → ThingState (ThingAt name)) (tasks : List Returned)
@@ -32,7 +32,7 @@ module _ (s : Scenario) (plain : Plain) (names : List Object) (history : Object 
   goes_on place task at call there = by_end led.stops
     where
       led : IsLed (setup s) task.first task.log task.task
-      led = logs_lead (setup s) task.first task.task task.log task.desk (logged s plain names history left tasks pass c place task at).0
+      led = logs_lead (setup s) task.first task.task task.log task.desk (logged (setup s) plain names history left tasks pass c place task at).0
 
       by_end : ((task.task ≡ led.through) × All (λ (x : Call). is_stop x.asked x.told.reply ≡ false) task.log) ⊎ BrokeOff (setup s) task.log led.through task.task
           → is_stop call.asked call.told.reply ≡ false
@@ -42,11 +42,11 @@ module _ (s : Scenario) (plain : Plain) (names : List Object) (history : Object 
   drew_as : (name : Object) (call : Call) → Contains (history name) call → DrewAsEvent call
   drew_as name call there = by_ticket call.told.ticket p.answers.step
     where
-      p : IsInPlace s plain names history left tasks pass c name call
-      p = in_place s plain names history left tasks pass c name call there
+      p : IsInPlace (setup s) plain names history left tasks pass c name call
+      p = in_place (setup s) plain names history left tasks pass c name call there
 
-      o : IsOwned s plain names history left tasks pass c name call
-      o = owner s plain names history left tasks pass c name call there
+      o : IsOwned (setup s) plain names history left tasks pass c name call
+      o = owner (setup s) plain names history left tasks pass c name call there
 
       -- with a ticket it was served, so that it is an event or was refused, which stops its task
       by_event : (b : Bool) → is_told call ≡ b → serves_at name p.here.object call.asked call.told.reply p.next.object → true ≡ is_told call

@@ -19,6 +19,8 @@ use Rattle.object_things.specs.Tallies as things
 use Rattle.shared_objects.specs.Closes.{Returned, ClosesAs}
 use Rattle.shared_objects.specs.Kinds.{ThingAt, opened_at, unasked}
 use Rattle.shared_objects.specs.Logs.{is_event, Looked}
+use Rattle.shared_objects.proofs.Drawn.{keeps}
+use Rattle.shared_objects.proofs.Owners.{kept, IsInPlace, in_place}
 use Rattle.run_merge.specs.Machines.{TallyMachine, LeadsObject}
 use Rattle.run_merge.specs.Merging.{Ticketed, without_tickets, history_of, TallyThen, LetsAsk}
 use Rattle.run_merge.specs.ObjectsByName.{get}
@@ -26,8 +28,7 @@ use Rattle.run_merge.specs.SharedObjects.{seen_at}
 use Rattle.run_merge.proofs.closes.Drawn.{events_around, none_greater}
 use Rattle.run_merge.proofs.closes.Events.{ticketed_events, event_histories}
 use Rattle.run_merge.proofs.closes.Merged.{history_is}
-use Rattle.run_merge.proofs.closes.Objects.{keeps, told_drew, IsReady, ready_first, drawn_leads, tally_drawn}
-use Rattle.run_merge.proofs.closes.Owners.{kept, IsInPlace, in_place}
+use Rattle.run_merge.proofs.closes.Objects.{told_drew, IsReady, ready_first, drawn_leads, tally_drawn}
 use Rattle.run_merge.proofs.closes.Walks.{is_told}
 
 -- a look of a task asks the tally, is no event, and is told the tally as it is
@@ -93,7 +94,7 @@ module _ (s : Scenario) (plain : Plain) (names : List Object) (history : Object 
   parts_ready name before after is =
       subst (IsReady ledger name (opened_at plain name)) (ap drawn_in is ∙ filter-append (λ (call : Call). is_some call.told.ticket) before after) (ready name)
 
-  pub history_parts : (name : Object) (call : Call) (p : IsInPlace s plain names history left tasks pass c name call) → is_told call ≡ false
+  pub history_parts : (name : Object) (call : Call) (p : IsInPlace (setup s) plain names history left tasks pass c name call) → is_told call ≡ false
       → history_of name (event_histories names history) ≡ ticketed_events p.before ++ ticketed_events p.after
   history_parts name call p untold =
       history_is history name names (c.others name) ∙ ap ticketed_events p.is ∙ events_around p.before p.after call untold
@@ -124,8 +125,8 @@ module _ (s : Scenario) (plain : Plain) (names : List Object) (history : Object 
     found = told.1;
   }
     where
-      p : IsInPlace s plain names history left tasks pass c OfTally call
-      p = in_place s plain names history left tasks pass c OfTally call there
+      p : IsInPlace (setup s) plain names history left tasks pass c OfTally call
+      p = in_place (setup s) plain names history left tasks pass c OfTally call there
 
       untold : is_told call ≡ false
       untold = ap (λ a. is_event a call.told.reply) asks ∙ is.untold call.told.reply
@@ -151,7 +152,7 @@ module _ (s : Scenario) (plain : Plain) (names : List Object) (history : Object 
       look_is = is_look now look is
 
       in_history : Contains (history OfTally) seen
-      in_history = subst (λ o. Contains (history o) seen) (ap object_of asks ∙ look_is.tally) (kept s plain names history left tasks pass c place task at seen (inside seen there))
+      in_history = subst (λ o. Contains (history o) seen) (ap object_of asks ∙ look_is.tally) (kept (setup s) plain names history left tasks pass c place task at seen (inside seen there))
 
       was : IsSeen seen
       was = seen_then seen look asks look_is in_history

@@ -10,16 +10,11 @@ use Rattle.seat_lock.specs.History.{Leads}
 use Rattle.run_machine.specs.Laws.{Object, OfPool, OfRescuer, OfDisk, OfBook, OfTally, OfNone}
 use Rattle.run_machine.specs.Objects.{TallyState}
 use Rattle.run_machine.specs.Requests.{Request, Reply, Done, NextRound, LookRound, LookLeft, Did, Present, LeftOver, Spent}
-use Rattle.object_things.specs.Books.{BookServes, BookLooks}
-use Rattle.object_things.specs.Disks.{DiskServes, DiskLooks}
-use Rattle.object_things.specs.Lists.{ListServes, ListLooks}
-use Rattle.object_things.specs.Pools.{PoolServes, PoolLooks}
 use Rattle.object_things.specs.Tallies.{TallyServes, TallyLooks}
-use Rattle.object_things.specs.Histories.{Call, drawn_in, LeadDrawn, KeepsHistory}
+use Rattle.object_things.specs.Histories.{Call, drawn_in, LeadDrawn}
 use Rattle.object_things.specs.Stamps.{ThingState, StepOf}
-use Rattle.object_things.proofs.Looking.{book_quiet, tally_quiet, disk_quiet, list_quiet, pool_quiet}
-use Rattle.object_things.proofs.Rising.{keeps_history}
 use Rattle.shared_objects.specs.Kinds.{ThingAt, serves_at, looks_at, answers_at}
+use Rattle.shared_objects.proofs.Drawn.{keeps}
 use Rattle.run_merge.specs.Machines.{ServesAt, LeadsObject}
 use Rattle.run_merge.specs.Merging.{without_tickets}
 use Rattle.run_merge.specs.Products.{is_next_round}
@@ -28,14 +23,6 @@ use Rattle.run_merge.proofs.closes.Drawn.{HasTicket, events_told, events_untold}
 use Rattle.run_merge.proofs.closes.Events.{ticketed_events}
 use Rattle.run_merge.proofs.closes.Kinds.{pool_is, pool_stays, pool_ledger, list_is, list_stays, disk_is, disk_stays, book_is, book_stays, HasNext, tally_is, tally_stays}
 use Rattle.run_merge.proofs.closes.Walks.{is_told}
-
-pub keeps : (name : Object) → KeepsHistory (serves_at name) (looks_at name)
-keeps (OfPool number) = keeps_history PoolServes PoolLooks pool_quiet
-keeps (OfRescuer dev) = keeps_history ListServes ListLooks list_quiet
-keeps (OfDisk dev) = keeps_history DiskServes DiskLooks disk_quiet
-keeps (OfBook writer) = keeps_history BookServes BookLooks book_quiet
-keeps OfTally = keeps_history TallyServes TallyLooks tally_quiet
-keeps OfNone = keeps_history (serves_at OfNone) (looks_at OfNone) (λ old new asked reply looks. absurd looks)
 
 -- each event of a history drew a ticket
 pub told_drew : (name : Object) (old new : ThingState (ThingAt name)) (calls : List Call) → Leads (answers_at name) old calls new → All HasTicket calls

@@ -12,6 +12,7 @@ use Rattle.object_things.specs.Histories.{Call}
 use Rattle.shared_objects.specs.Calls.{calls_to, is_same_object}
 use Rattle.shared_objects.specs.Names.{Apart}
 use Rattle.shared_objects.specs.Logs.{events_in}
+use Rattle.shared_objects.proofs.Naming.{same_is}
 use Rattle.run_merge.specs.Merging.{Ticketed, insert, sorted, RiseFrom, all_of, done_by}
 use Rattle.run_merge.specs.SharedObjects.{ticketed}
 use Rattle.run_merge.proofs.closes.Drawn.{events_told, events_untold, rises_above}
@@ -20,7 +21,6 @@ use Rattle.run_merge.proofs.closes.Owners.{or_first, or_second, turned}
 use Rattle.run_merge.proofs.closes.Walks.{is_told}
 use Rattle.run_merge.proofs.merging.Picked.{is_at, is_by}
 use Rattle.run_merge.proofs.merging.Tickets.{Ordered, insert_front, sorted_ordered, all_sorted}
-use Rattle.run_merge.proofs.products.Names.{same_is}
 
 -- the seat of the task at a place
 mine_is : (place by : ℕ) → 0 < by → (place == by - 1) ≡ nat_lt 0 (count by ((place + 1) ∷ []))

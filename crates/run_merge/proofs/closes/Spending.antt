@@ -1,22 +1,16 @@
--- Calls that found no ticket, and what is refused with one.
-use Rattle.std.proofs.Common.{◌≡◌, ◌⊎◌, ◌<◌, ◌==◌, not, ℕ, Bool, true, false, List, [], ◌∷◌, Option, None, Some, inl, inr, refl, sym, ◌∙◌, ap, subst, arith}
-use Rattle.std.specs.Option.{is_some}
+-- Calls that found no ticket.
+use Rattle.std.proofs.Common.{◌≡◌, not, ℕ, Bool, true, false, List, [], ◌∷◌, Option, None, Some, refl, sym, ◌∙◌, ap}
 use Rattle.std.specs.Prelude.{Contains}
-use Rattle.std.proofs.lemmas.Bool.{true≢false, ne_eqb}
+use Rattle.std.proofs.lemmas.Bool.{true≢false}
 use Rattle.std.proofs.lemmas.List.Elements.{Contains-append_right}
 use Rattle.bio_books.specs.Books.{BookState}
 use Rattle.bio_records.specs.Rescue.{Rescue}
 use Rattle.model_disks.specs.Disks.{DiskState}
 use Rattle.run_machine.specs.Objects.{TallyState}
-use Rattle.bio_books.specs.Links.{Made, NoRoom, Stray}
-use Rattle.bio_books.specs.Drops as end
-use Rattle.mempool_core.specs.Pool.{LedgerPool, PoolMoves}
-use Rattle.mempool_core.specs.Move.{resizes}
+use Rattle.mempool_core.specs.Pool.{LedgerPool}
 use Rattle.seat_lock.specs.History.{Leads}
-use Rattle.stack_base.specs.declared.ids.PoolId.{PoolId}
-use Rattle.run_machine.specs.Events.{miss_of}
 use Rattle.run_machine.specs.Laws.{Object, OfPool, OfRescuer, OfDisk, OfBook, OfTally, OfNone}
-use Rattle.run_machine.specs.Requests.{Request, Reply, TakeBio, TakeVec, TakeSlip, GiveBio, GiveVec, GiveSlip, Punt, Pop, Push, Complete, Link, Drop, Done, Resize, NextRound, LookRound, LookLeft, HadBio, HadVec, HadSlip, Missed, Did, Popped, Completed, LinkedTo, DroppedTo, OutIs, Present, LeftOver, Nothing, Spent}
+use Rattle.run_machine.specs.Requests.{Request, Reply, TakeBio, TakeVec, TakeSlip, GiveBio, GiveVec, GiveSlip, Punt, Pop, Push, Complete, Link, Drop, Done, Resize, NextRound, LookRound, LookLeft, Missed, Present, LeftOver, Nothing, Spent}
 use Rattle.object_things.specs.Books.{BookServes, BookLooks}
 use Rattle.object_things.specs.Disks.{DiskServes, DiskLooks}
 use Rattle.object_things.specs.Histories.{Call}
@@ -25,8 +19,8 @@ use Rattle.object_things.specs.Pools.{PoolServes, PoolLooks}
 use Rattle.object_things.specs.Stamps.{ThingState, StepOf, is_spent}
 use Rattle.object_things.specs.Tallies.{TallyServes, TallyLooks}
 use Rattle.shared_objects.specs.Kinds.{ThingAt, serves_at, looks_at, answers_at}
-use Rattle.shared_objects.specs.Logs.{is_event, is_refused, is_stop, FoundNone}
-use Rattle.run_merge.proofs.closes.Owners.{first_there}
+use Rattle.shared_objects.specs.Logs.{is_stop, FoundNone}
+use Rattle.shared_objects.proofs.Owners.{first_there}
 
 -- a look that finds a ticket, or needs none, leaves the object with as many
 pool_keeps : (old new : ThingState LedgerPool) (asked : Request) (reply : Reply) → PoolLooks old asked reply new → is_spent reply ≡ false → new.spent ≡ old.spent
@@ -112,74 +106,6 @@ none_served (OfDisk dev) old new asked serves = none_disk old new asked serves
 none_served (OfBook writer) old new asked serves = none_book old new asked serves
 none_served OfTally old new asked serves = none_tally old new asked serves
 none_served OfNone old new asked serves = absurd serves
-
--- what was served and is no event was refused
-miss_event : (waits used : Bool) (pool : PoolId) → (waits ≡ true → used ≡ true) → is_some (miss_of waits used pool) ≡ true
-miss_event true true pool told = refl
-miss_event true false pool told = absurd (true≢false (sym (told refl)))
-miss_event false used pool told = refl
-
-wrong : {X : Type 0} {b : Bool} → b ≡ true → b ≡ false → X
-wrong is not = absurd (true≢false (sym is ∙ not))
-
-out_refused : (old new : LedgerPool) (pool : PoolId) (min out : ℕ) → ((out ≡ 0) × PoolMoves old (resizes min) new) ⊎ ((0 < out) × (new ≡ old)) → is_event (Resize pool min) (OutIs out) ≡ false
-    → not (out == 0) ≡ true
-out_refused old new pool min out (inr (some, same)) not_event = ap not (ne_eqb out 0 (λ none. omega (arith, none, some)))
-out_refused old new pool min out (inl (none, moves)) not_event = wrong (subst (λ n. is_event (Resize pool min) (OutIs n) ≡ true) (sym none) refl) not_event
-
-pool_refused : (old new : LedgerPool) (asked : Request) (reply : Reply) → PoolServes old asked reply new → is_event asked reply ≡ false → is_refused asked reply ≡ true
-pool_refused old new (TakeBio set waits) (HadBio from bio) h none = wrong refl none
-pool_refused old new (TakeBio set waits) (Missed used) h none = wrong (miss_event waits used _ h.1) none
-pool_refused old new (TakeBio set waits) reply h none = absurd h
-pool_refused old new TakeVec (HadVec from vector) h none = wrong refl none
-pool_refused old new TakeVec (Missed used) h none = wrong (miss_event true used _ h.1) none
-pool_refused old new TakeVec reply h none = absurd h
-pool_refused old new (TakeSlip dev) (HadSlip from slip) h none = wrong refl none
-pool_refused old new (TakeSlip dev) (Missed used) h none = wrong (miss_event true used _ h.1) none
-pool_refused old new (TakeSlip dev) reply h none = absurd h
-pool_refused old new (GiveBio bio) Did h none = wrong refl none
-pool_refused old new (GiveBio bio) reply h none = absurd h
-pool_refused old new (GiveVec vector) Did h none = wrong refl none
-pool_refused old new (GiveVec vector) reply h none = absurd h
-pool_refused old new (GiveSlip slip) Did h none = wrong refl none
-pool_refused old new (GiveSlip slip) reply h none = absurd h
-pool_refused old new (Resize pool min) (OutIs out) h none = out_refused old new pool min out h.1 none
-pool_refused old new (Resize pool min) reply h none = absurd h
-pool_refused old new asked reply h none = absurd h
-
-list_refused : (old new : Rescue) (asked : Request) (reply : Reply) → ListServes old asked reply new → is_event asked reply ≡ false → is_refused asked reply ≡ true
-list_refused old new (Punt other moved) Did h none = wrong refl none
-list_refused old new (Pop other) (Popped bio) h none = wrong refl none
-list_refused old new asked reply h none = absurd h
-
-disk_refused : (old new : DiskState) (asked : Request) (reply : Reply) → DiskServes old asked reply new → is_event asked reply ≡ false → is_refused asked reply ≡ true
-disk_refused old new (Push bio) Did h none = wrong refl none
-disk_refused old new (Complete disk) (Completed index bio status) h none = wrong refl none
-disk_refused old new asked reply h none = absurd h
-
-book_refused : (old new : BookState) (asked : Request) (reply : Reply) → BookServes old asked reply new → is_event asked reply ≡ false → is_refused asked reply ≡ true
-book_refused old new (Link other opening) (LinkedTo (Made place)) h none = wrong refl none
-book_refused old new (Link other opening) (LinkedTo (NoRoom back)) h none = refl
-book_refused old new (Link other opening) (LinkedTo (Stray back)) h none = refl
-book_refused old new (Drop other node status part) (DroppedTo end.Left) h none = wrong refl none
-book_refused old new (Drop other node status part) (DroppedTo (end.Up closed)) h none = wrong refl none
-book_refused old new (Drop other node status part) (DroppedTo (end.Top closed)) h none = wrong refl none
-book_refused old new (Drop other node status part) (DroppedTo (end.Stray back)) h none = refl
-book_refused old new asked reply h none = absurd h
-
-tally_refused : (old new : TallyState) (asked : Request) (reply : Reply) → TallyServes old asked reply new → is_event asked reply ≡ false → is_refused asked reply ≡ true
-tally_refused old new (Done write status) Did h none = wrong refl none
-tally_refused old new (NextRound round) Did h none = wrong refl none
-tally_refused old new asked reply h none = absurd h
-
-pub served_refused : (name : Object) (old new : ThingAt name) (asked : Request) (reply : Reply) → serves_at name old asked reply new → is_event asked reply ≡ false
-    → is_refused asked reply ≡ true
-served_refused (OfPool number) old new asked reply h none = pool_refused old new asked reply h none
-served_refused (OfRescuer dev) old new asked reply h none = list_refused old new asked reply h none
-served_refused (OfDisk dev) old new asked reply h none = disk_refused old new asked reply h none
-served_refused (OfBook writer) old new asked reply h none = book_refused old new asked reply h none
-served_refused OfTally old new asked reply h none = tally_refused old new asked reply h none
-served_refused OfNone old new asked reply h none = absurd h
 
 -- where an object has no more tickets, a call found none
 pub found_none : (name : Object) (old new : ThingState (ThingAt name)) (calls : List Call) → Leads (answers_at name) old calls new → old.spent ≡ false → new.spent ≡ true

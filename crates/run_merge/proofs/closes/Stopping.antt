@@ -18,17 +18,17 @@ use Rattle.shared_objects.specs.Closes.{Returned, ClosesAs}
 use Rattle.shared_objects.specs.Kinds.{ThingAt, serves_at, looks_at, opened_at, unasked}
 use Rattle.shared_objects.specs.Logs.{HasStopped}
 use Rattle.shared_objects.specs.Passes.{found_by, numbers_of}
+use Rattle.shared_objects.proofs.Drawn.{last_drawn, keeps}
+use Rattle.shared_objects.proofs.Owners.{first_there, logged, kept, IsInPlace, in_place}
 use Rattle.run_merge.specs.Closing.{IsThrough, WasRefused, HasLast}
 use Rattle.run_merge.specs.Machines.{ServesAt, TallyMachine, LeadsObject}
 use Rattle.run_merge.specs.Merging.{Ticketed, without_tickets, done_by}
 use Rattle.run_merge.specs.ObjectsByName.{get}
 use Rattle.run_merge.specs.SharedObjects.{ticketed, seen_at}
-use Rattle.run_merge.proofs.closes.Drawing.{last_drawn}
 use Rattle.run_merge.proofs.closes.Drawn.{HasTicket, events_append, events_untold, rises_events, none_greater, rises_above, rises_parts}
 use Rattle.run_merge.proofs.closes.Events.{ticketed_events, event_histories}
 use Rattle.run_merge.proofs.closes.Looks.{parts_ready, history_parts, IsSeen, seen_then, left_look, lets_ask}
-use Rattle.run_merge.proofs.closes.Objects.{keeps, told_drew, IsReady, ready_first, ready_behind, serves_is, serves_none, drawn_leads}
-use Rattle.run_merge.proofs.closes.Owners.{first_there, logged, kept, IsInPlace, in_place}
+use Rattle.run_merge.proofs.closes.Objects.{told_drew, IsReady, ready_first, ready_behind, serves_is, serves_none, drawn_leads}
 use Rattle.run_merge.proofs.closes.Spending.{found_none, none_served, stop_spent}
 use Rattle.run_merge.proofs.closes.Walks.{IsStopped}
 
@@ -41,18 +41,18 @@ module _ (s : Scenario) (plain : Plain) (names : List Object) (history : Object 
   pub said_last : (name : Object) (call : Call) → Contains (history name) call → is_spent call.told.reply ≡ true → HasLast (numbers_of pass.drawn)
   said_last name call there spent = by_ticket call.told.ticket refl p.answers.step
     where
-      p : IsInPlace s plain names history left tasks pass c name call
-      p = in_place s plain names history left tasks pass c name call there
+      p : IsInPlace (setup s) plain names history left tasks pass c name call
+      p = in_place (setup s) plain names history left tasks pass c name call there
 
       spent_is : (reply : Reply) → is_spent reply ≡ true → reply ≡ Spent
       spent_is Spent is = refl
       spent_is reply is = absurd (true≢false (sym is))
 
       by_object : (b : Bool) → p.here.spent ≡ b → call.told.ticket ≡ None → HasLast (numbers_of pass.drawn)
-      by_object false had none = last_drawn s plain names history left tasks pass c found name call there (spent, p.answers.drew ∙ ap not had, none)
+      by_object false had none = last_drawn (setup s) plain names history left tasks pass c found name call there (spent, p.answers.drew ∙ ap not had, none)
       by_object true had none =
           let f = found_none name (unasked (opened_at plain name)) p.here p.before p.leads refl had in
-          last_drawn s plain names history left tasks pass c found name f.0 (subst (λ l. Contains l f.0) (sym p.is) (Contains-append_left p.before (call ∷ p.after) f.0 f.1)) f.2
+          last_drawn (setup s) plain names history left tasks pass c found name f.0 (subst (λ l. Contains l f.0) (sym p.is) (Contains-append_left p.before (call ∷ p.after) f.0 f.1)) f.2
 
       by_ticket : (ticket : Option ℕ) → call.told.ticket ≡ ticket → StepOf (serves_at name) (looks_at name) p.here call.asked call.told.reply ticket p.next → HasLast (numbers_of pass.drawn)
       by_ticket (Some n) t step =
@@ -62,14 +62,14 @@ module _ (s : Scenario) (plain : Plain) (names : List Object) (history : Object 
   pub object_last : (name : Object) → (left name).spent ≡ true → HasLast (numbers_of pass.drawn)
   object_last name spent =
       let f = found_none name (unasked (opened_at plain name)) (left name) (history name) (c.things name) refl spent in
-      last_drawn s plain names history left tasks pass c found name f.0 f.1 f.2
+      last_drawn (setup s) plain names history left tasks pass c found name f.0 f.1 f.2
 
   -- each event of a log has a ticket
   pub log_drew : (place : ℕ) (task : Returned) → slice_get tasks place ≡ Some task → (call : Call) → Contains task.log call → HasTicket call
   log_drew place task at call within =
       let name = object_of call.asked in
       All-contains HasTicket (history name) call (told_drew name (unasked (opened_at plain name)) (left name) (history name) (c.things name))
-      (kept s plain names history left tasks pass c place task at call within)
+      (kept (setup s) plain names history left tasks pass c place task at call within)
 
   module _ (place : ℕ) (task : Returned) (at : slice_get tasks place ≡ Some task) (done : done_by place (event_histories names history) ≡ ticketed_events task.log)
       (now : TaskState) where
@@ -78,10 +78,10 @@ module _ (s : Scenario) (plain : Plain) (names : List Object) (history : Object 
       inside = subst (λ l. Contains l st.call) (sym st.log_is) (Contains-append_right st.here (st.call ∷ st.later) st.call (first_there st.call st.later))
 
       there : Contains (history (object_of st.call.asked)) st.call
-      there = kept s plain names history left tasks pass c place task at st.call inside
+      there = kept (setup s) plain names history left tasks pass c place task at st.call inside
 
-      p : IsInPlace s plain names history left tasks pass c (object_of st.call.asked) st.call
-      p = in_place s plain names history left tasks pass c (object_of st.call.asked) st.call there
+      p : IsInPlace (setup s) plain names history left tasks pass c (object_of st.call.asked) st.call
+      p = in_place (setup s) plain names history left tasks pass c (object_of st.call.asked) st.call there
 
       refused : (n : ℕ) → st.call.told.ticket ≡ Some n
           → WasRefused s ledger (event_histories names history) place now task.task
@@ -142,7 +142,7 @@ module _ (s : Scenario) (plain : Plain) (names : List Object) (history : Object 
 
           mine_few : All (λ (x : Ticketed). x.ticket < n) (ticketed_events task.log)
           mine_few =
-              let l = (logged s plain names history left tasks pass c place task at).0 in
+              let l = (logged (setup s) plain names history left tasks pass c place task at).0 in
               let parts = rises_parts 0 l.end st.here (st.call ∷ st.later) (subst (λ log. TicketsRise 0 log l.end) st.log_is l.rises) in
               let lt : parts.0 < n = subst (IsNextTicket parts.0) ticket parts.2.0 in
               let events : ticketed_events task.log ≡ ticketed_events st.here =
@@ -170,10 +170,10 @@ module _ (s : Scenario) (plain : Plain) (names : List Object) (history : Object 
       where
         seen : IsSeen s plain names history left tasks pass c ledger begins ready call
         seen = seen_then s plain names history left tasks pass c ledger begins ready call LookLeft asks left_look
-            (subst (λ a. Contains (history (object_of a)) call) asks (kept s plain names history left tasks pass c place task at call within))
+            (subst (λ a. Contains (history (object_of a)) call) asks (kept (setup s) plain names history left tasks pass c place task at call within))
 
     pub comes_to : (task.task ≡ now) ⊎ IsStopped (setup s) [] task.log now task.task
         → ((task.task ≡ now) × IsThrough s ledger (event_histories names history) now)
         ⊎ (WasRefused s ledger (event_histories names history) place now task.task ⊎ HasLast (numbers_of pass.drawn))
-    comes_to (inl is) = inl (is, through (subst (HasStopped (setup s) task.log) is (logged s plain names history left tasks pass c place task at).1))
+    comes_to (inl is) = inl (is, through (subst (HasStopped (setup s) task.log) is (logged (setup s) plain names history left tasks pass c place task at).1))
     comes_to (inr st) = inr (stopped st)

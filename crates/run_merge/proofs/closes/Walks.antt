@@ -1,5 +1,5 @@
 -- The log of a task leads it on by its events, up to a call that breaks it off, if there is one.
-use Rattle.std.proofs.Common.{◌≡◌, ◌⊎◌, ◌++◌, ◌||◌, not, cond, Bool, true, false, List, [], ◌∷◌, inl, inr, refl, sym, ◌∙◌, ap, subst}
+use Rattle.std.proofs.Common.{◌≡◌, ◌⊎◌, ◌++◌, cond, Bool, true, false, List, [], ◌∷◌, inl, inr, refl, sym, ◌∙◌, ap, subst}
 use Rattle.std.specs.Prelude.{All, map}
 use Rattle.std.proofs.lemmas.Bool.{true≢false}
 use Rattle.std.proofs.lemmas.List.{append_assoc, append-nil}
@@ -10,7 +10,7 @@ use Rattle.run_machine.specs.Tasks.{TaskState, request, look_of, answered}
 use Rattle.block_core.specs.Breaks.{is_broken}
 use Rattle.object_things.specs.Histories.{Call}
 use Rattle.shared_objects.specs.Calls.{struck}
-use Rattle.shared_objects.specs.Logs.{is_event, is_stop, is_glance, events_in, Looked, LogLeads}
+use Rattle.shared_objects.specs.Logs.{is_event, is_stop, events_in, Looked, LogLeads}
 use Rattle.shared_objects.proofs.Leading.{event_first, kinds, quiet_first, stop_kind}
 use Rattle.run_merge.specs.Merging.{Ticketed, without_tickets}
 use Rattle.run_merge.specs.Products.{LeadsTask, led_by}

@@ -11,6 +11,7 @@ use Rattle.run_machine.specs.Runs.{State}
 use Rattle.run_machine.specs.Tasks.{TaskState, look_of}
 use Rattle.shared_objects.specs.Calls.{is_same_object}
 use Rattle.shared_objects.specs.Logs.{is_event}
+use Rattle.shared_objects.proofs.Naming.{same_is}
 use Rattle.run_merge.specs.Machines.{LeadsObject}
 use Rattle.run_merge.specs.Merging.{Ticketed, Histories, without_tickets, sorted, RiseFrom, all_of, history_of, AreOfDifferentObjects, AreTagged, done_by, LetsAsk, Shown}
 use Rattle.run_merge.specs.ObjectsByName.{StateAt, get, put_object, made_of}
@@ -18,7 +19,7 @@ use Rattle.run_merge.specs.Products.{LeadsTask, task_behind}
 use Rattle.run_merge.proofs.merging.Picked.{is_by, filter_swap}
 use Rattle.run_merge.proofs.merging.Splits.{object_split, task_split}
 use Rattle.run_merge.proofs.merging.Tickets.{sorted_ordered, filter_sorted, early, early_first, early_all, early_few, rises_ordered}
-use Rattle.run_merge.proofs.products.Names.{get_put, get_other, same_is, get_made}
+use Rattle.run_merge.proofs.products.Names.{get_put, get_other, get_made}
 
 abbrev pub early_histories : ℕ → Histories → Histories
 early_histories ticket [] = []

@@ -5,12 +5,12 @@ use Rattle.std.proofs.lemmas.List.{append-nil}
 use Rattle.std.proofs.lemmas.List.Elements.{All-head, All-tail, filter-append}
 use Rattle.run_machine.specs.Laws.{Object, object_of}
 use Rattle.shared_objects.specs.Calls.{is_same_object}
+use Rattle.shared_objects.proofs.Naming.{same_is}
 use Rattle.run_merge.specs.Entries.{Entry}
 use Rattle.run_merge.specs.Machines.{entries_at}
 use Rattle.run_merge.specs.Products.{entries_by}
 use Rattle.run_merge.specs.Merging.{Ticketed, Histories, without_tickets, sorted, RiseFrom, all_of, history_of, AreOfDifferentObjects, AreTagged, done_by}
 use Rattle.run_merge.proofs.merging.Tickets.{rising_sorted, filter_sorted}
-use Rattle.run_merge.proofs.products.Names.{same_is}
 
 pub entries_filter : (q : Entry → Bool) (ns : List Ticketed) → filter q (without_tickets ns) ≡ without_tickets (filter (λ (n : Ticketed). q n.entry) ns)
 entries_filter q [] = refl

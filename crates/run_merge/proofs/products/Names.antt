@@ -1,34 +1,12 @@
 -- Objects by their names.
-use Rattle.std.proofs.Common.{◌≡◌, true, false, refl, sym, ap}
-use Rattle.std.proofs.lemmas.Bool.{eq-eqb, eqb-true, eqb-false, true≢false}
+use Rattle.std.proofs.Common.{◌≡◌, false, refl, ap}
+use Rattle.std.proofs.lemmas.Bool.{eqb-false, true≢false}
 use mathlib.Core.Path.{fun_ext}
 use Rattle.run_machine.specs.Laws.{Object, OfPool, OfRescuer, OfDisk, OfBook, OfTally, OfNone}
 use Rattle.run_machine.specs.Objects.{Objects}
 use Rattle.run_machine.proofs.Frames.{upd_same, upd_other, upd_own}
 use Rattle.shared_objects.specs.Calls.{is_same_object}
 use Rattle.run_merge.specs.ObjectsByName.{StateAt, get, put_object, made_of}
-
-pub same_self : (name : Object) → is_same_object name name ≡ true
-same_self (OfPool a) = eq-eqb a a refl
-same_self (OfRescuer a) = eq-eqb a a refl
-same_self (OfDisk a) = eq-eqb a a refl
-same_self (OfBook a) = eq-eqb a a refl
-same_self OfTally = refl
-same_self OfNone = refl
-
-pub same_is : (a b : Object) → is_same_object a b ≡ true → a ≡ b
-same_is (OfPool a) (OfPool b) h = ap OfPool (eqb-true a b h)
-same_is (OfPool a) b h = absurd (true≢false (sym h))
-same_is (OfRescuer a) (OfRescuer b) h = ap OfRescuer (eqb-true a b h)
-same_is (OfRescuer a) b h = absurd (true≢false (sym h))
-same_is (OfDisk a) (OfDisk b) h = ap OfDisk (eqb-true a b h)
-same_is (OfDisk a) b h = absurd (true≢false (sym h))
-same_is (OfBook a) (OfBook b) h = ap OfBook (eqb-true a b h)
-same_is (OfBook a) b h = absurd (true≢false (sym h))
-same_is OfTally OfTally h = refl
-same_is OfTally b h = absurd (true≢false (sym h))
-same_is OfNone OfNone h = refl
-same_is OfNone b h = absurd (true≢false (sym h))
 
 -- one of them changed
 pub get_put : (o : Objects) (name : Object) (v : StateAt name) → get (put_object o name v) name ≡ v

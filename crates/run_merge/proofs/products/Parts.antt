@@ -16,6 +16,7 @@ use Rattle.run_machine.proofs.Frames.{upd_same, upd_other}
 use Rattle.block_core.specs.Scenarios.{IsScenario, IsNaming}
 use Rattle.shared_objects.specs.Calls.{is_same_object, struck}
 use Rattle.shared_objects.specs.Logs.{is_event}
+use Rattle.shared_objects.proofs.Naming.{same_is}
 use Rattle.run_merge.specs.Entries.{Entry, AreEvents, entries_in}
 use Rattle.run_merge.specs.Machines.{ServesAt, LeadsObject, entries_at}
 use Rattle.run_merge.specs.ObjectsByName.{get}
@@ -24,7 +25,7 @@ use Rattle.run_merge.proofs.products.Behind.{entry_of, at_start, behind_run}
 use Rattle.run_merge.proofs.products.Known.{known}
 use Rattle.run_merge.proofs.products.Leads.{leads}
 use Rattle.run_merge.proofs.products.Lets.{ComesBehind, comes_by}
-use Rattle.run_merge.proofs.products.Names.{get_other, same_is}
+use Rattle.run_merge.proofs.products.Names.{get_other}
 use Rattle.run_merge.proofs.products.Served.{others_stay, serves_one, serves_struck, struck_event}
 
 -- equations of lists

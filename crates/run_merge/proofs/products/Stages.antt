@@ -1,10 +1,8 @@
 -- Each write of a scenario is in stage once at the start, and no other: it is to be begun.
-use Rattle.std.proofs.Common.{◌≡◌, ◌≢◌, ◌+◌, ◌*◌, ◌<◌, ◌≤◌, ◌⊎◌, ℕ, zero, suc, List, [], ◌∷◌, length, map, Option, None, Some, inl, inr, refl, ◌∙◌, ap, arith}
+use Rattle.std.proofs.Common.{◌≡◌, ◌≢◌, ◌+◌, ◌*◌, ◌<◌, ◌≤◌, ◌⊎◌, ℕ, zero, suc, List, [], ◌∷◌, length, map, inl, inr, refl, ◌∙◌, ap, arith}
 use Rattle.std.specs.Prelude.{zip}
 use Rattle.std.specs.List.{range_with_len}
 use Rattle.elem_ledger.specs.Ledger.{LedgerId}
-use Rattle.bio_books.specs.declared.node.Role.{Role}
-use Rattle.bio_books.specs.declared.node.Role.TheVariants as role
 use Rattle.layout_model.specs.declared.write.Write.{Write}
 use Rattle.run_machine.specs.Scene.{Scene}
 use Rattle.run_machine.specs.Tasks.{Todo}
@@ -14,23 +12,12 @@ use Rattle.block_core.specs.Rounds.{tops, tops_left, all_worth, unfinished_of}
 use Rattle.block_core.specs.Scenarios.{IsScenario}
 use Rattle.block_core.specs.Weights.{total, one}
 use Rattle.block_core.proofs.stuck.NothingWaits.{zero_or}
-use Rattle.block_core.proofs.sound.DoneOnce.{to_begin, top_role, top_parent, stage}
+use Rattle.block_core.proofs.sound.DoneOnce.{to_begin, stage}
 use Rattle.block_core.proofs.sound.Dones.{stage_is}
 use Rattle.block_core.proofs.sound.Facts.{Kept}
 use Rattle.block_core.proofs.moves.SumsCompared.{under_in_all}
 use Rattle.block_core.proofs.start.TallyAtStart.{numbered, unfinished_at_start}
 use Rattle.block_core.proofs.moves.Sums.{one-same, one-other, same_or_not}
-
--- what is in stage of a node, and of what is left of one, is unfinished
-role_is : (r : Role) → top_role r ≡ tops r
-role_is role.Top = refl
-role_is (role.Chain parent) = refl
-role_is (role.Master parent) = refl
-role_is (role.Leg parent) = refl
-
-parent_is : (p : Option ℕ) → top_parent p ≡ tops_left p
-parent_is None = refl
-parent_is (Some parent) = refl
 
 -- at the start
 none_numbered : (w a n : ℕ) (rs : List ℕ) (ws : List Write) → a + n ≤ w → all_worth (λ k. one k w) (map numbered (zip (range_with_len a n) (zip rs ws))) ≡ 0
@@ -121,9 +108,9 @@ worth_nothing scene s i f w none = under_in_all scene s i (unfinished_of f) (sta
   node = λ writer place node at part.
       let z = none_on_top (f node.write) (tops node.role) (zero_or (f node.write)) (λ some.
       let a = part (stage node.write) in let b = none node.write some in
-      let c = role_is node.role in let d = ap (λ n. top_role node.role * n) (one-same node.write) in omega (arith, a, b, c, d)) in omega (arith, z);
+      let c = ap (λ n. tops node.role * n) (one-same node.write) in omega (arith, a, b, c)) in omega (arith, z);
   closed = λ task writer closed part.
       let z = none_on_top (f closed.write) (tops_left closed.parent) (zero_or (f closed.write)) (λ some.
       let a = part (stage closed.write) in let b = none closed.write some in
-      let c = parent_is closed.parent in let d = ap (λ n. top_parent closed.parent * n) (one-same closed.write) in omega (arith, a, b, c, d)) in omega (arith, z);
+      let c = ap (λ n. tops_left closed.parent * n) (one-same closed.write) in omega (arith, a, b, c)) in omega (arith, z);
 })

@@ -26,17 +26,18 @@ use Rattle.shared_objects.specs.Closes.{Returned, ClosesAs}
 use Rattle.shared_objects.specs.Kinds.{ThingAt, opened_at, unasked}
 use Rattle.shared_objects.specs.Logs.{is_event, events_in}
 use Rattle.shared_objects.specs.Noting.{notes_of}
+use Rattle.shared_objects.proofs.Drawn.{flat_there}
+use Rattle.shared_objects.proofs.Owners.{logged}
 use Rattle.run_merge.specs.Entries.{Entry, AreEvents, entries_in}
 use Rattle.run_merge.specs.Joining.{IsJoined}
 use Rattle.run_merge.specs.Merging.{Ticketed, all_of, done_by, without_tickets, sorted}
 use Rattle.run_merge.specs.SharedObjects.{ticketed, entry_histories}
 use Rattle.run_merge.specs.Tracing.{notes_in, NotesAreRuns}
 use Rattle.run_merge.proofs.closes.Counting.{first_is, done_at}
-use Rattle.run_merge.proofs.closes.Drawing.{flat_there}
 use Rattle.run_merge.proofs.closes.Events.{ticketed_events, event_histories}
 use Rattle.run_merge.proofs.closes.Drawn.{HasTicket}
 use Rattle.run_merge.proofs.closes.Objects.{told_drew}
-use Rattle.run_merge.proofs.closes.Owners.{logged, ask_some}
+use Rattle.run_merge.proofs.closes.Owners.{ask_some}
 use Rattle.run_merge.proofs.closes.Walks.{is_told}
 use Rattle.run_merge.proofs.merging.Picked.{is_by, merge_by}
 use Rattle.run_merge.proofs.merging.Tickets.{sorted_ordered, of_sorted}
@@ -85,7 +86,7 @@ module _ (s : Scenario) (ledger : ℕ → LedgerId) (plain : Plain) (names : Lis
 
   noted_by : (place : ℕ) (task : Returned) → slice_get tasks place ≡ Some task → notes_of (setup s) task.first task.log ≡ own_notes (setup s) task.first (ticketed_events task.log)
   noted_by place task at =
-      log_notes (setup s) [] task.first task.log task.task (ask_some s plain names history left tasks pass c place task at) (logged s plain names history left tasks pass c place task at).0.leads
+      log_notes (setup s) [] task.first task.log task.task (ask_some s plain names history left tasks pass c place task at) (logged (setup s) plain names history left tasks pass c place task at).0.leads
 
   -- along them tickets rise, as along the events of its log, which are those of the merge that are its own
   pub notes_rise : (place : ℕ) (task : Returned) → slice_get tasks place ≡ Some task → IsNonDecreasingBy (λ (e : ℕ × Event). e.0) (notes_of (setup s) task.first task.log)

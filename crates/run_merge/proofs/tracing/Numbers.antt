@@ -21,10 +21,10 @@ use Rattle.shared_objects.specs.Closes.{Returned, ClosesAs}
 use Rattle.shared_objects.specs.Kinds.{ThingAt}
 use Rattle.shared_objects.specs.Logs.{tickets_in}
 use Rattle.shared_objects.specs.Passes.{numbers_of}
+use Rattle.shared_objects.proofs.Drawn.{drawn_of, drew_of, numbers_is}
 use Rattle.run_merge.specs.Merging.{Ticketed, sorted, all_of}
 use Rattle.run_merge.specs.SharedObjects.{ticketed}
 use Rattle.run_merge.proofs.closes.Counting.{done_at, image_at, all_placed, log_drew}
-use Rattle.run_merge.proofs.closes.Drawing.{drawn_of, drew_of, numbers_is}
 use Rattle.run_merge.proofs.closes.Drawn.{HasTicket, events_told, events_untold}
 use Rattle.run_merge.proofs.closes.Events.{ticketed_events, event_histories}
 use Rattle.run_merge.proofs.closes.Places.{total, total_most, total_list, by_places}
@@ -118,7 +118,7 @@ module _ (s : Scenario) (plain : Plain) (names : List Object) (history : Object 
 
   pub drawn_once : (number : ℕ) → sum_by (drew number) tasks ≤ 1
   drawn_once number =
-      let all = ap (hits number) (numbers_is s plain names history left tasks pass c) in
+      let all = ap (hits number) (numbers_is (setup s) plain names history left tasks pass c) in
       let parts = hits_flat (λ (task : Returned). numbers_of (drawn_of task)) tasks number in
       let same = times_is number pass.drawn in
       let once = (pass_once pass c.all.1).0 number in
@@ -127,7 +127,7 @@ module _ (s : Scenario) (plain : Plain) (names : List Object) (history : Object 
   pub few_at : (number place : ℕ) (task : Returned) → slice_get tasks place ≡ Some task → hits number (tickets_of (ticketed_events task.log)) ≤ drew number task
   few_at number place task at =
       let few = events_fewer number task.log (log_drew s plain names history left tasks pass c firsts place task at) in
-      let same = ap (hits number) (drew_of s plain names history left tasks pass c place task at) in
+      let same = ap (hits number) (drew_of (setup s) plain names history left tasks pass c place task at) in
       omega (arith, few, same)
 
   pub merged_placed : All (λ (n : Ticketed). n.entry.place < length tasks) merged
