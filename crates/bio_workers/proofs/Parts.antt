@@ -1,6 +1,6 @@
 -- Tasks that are parted one by one.
 use Rattle.std.proofs.Common.{◌≡◌, inl, inr, ◌+◌, List, [], ◌∷◌, ◌++◌, length, All, IsPermutation, arith, ap, sym, subst, ◌∙◌}
-use Rattle.std.proofs.lemmas.List.Sorted.{IsPermutation-trans, IsPermutation-refl, IsPermutation-append_right, IsPermutation-sym}
+use Rattle.std.proofs.lemmas.List.Sorted.{IsPermutation-trans, IsPermutation-refl, IsPermutation-append_right, IsPermutation-sym, All-permutation}
 use Rattle.std.proofs.lemmas.List.{append_assoc, append-nil}
 use Rattle.std.proofs.lemmas.List.Elements.{All-nil, All-push}
 use Rattle.bio_workers.proofs.Dealing.{moved, one_less}
@@ -10,9 +10,17 @@ module _ {T : Type 0} (P : T → Type 0) where
   pub begins : (all : List T) → IsParting P all [] [] all
   begins all = record { whole = IsPermutation-refl all; own_are = All-nil P; others_are = All-nil (λ t. P t → ⊥) }
 
-  -- nothing is left
-  pub ends : (all own others : List T) → IsParting P all own others [] → IsPermutation all (own ++ others)
-  ends all own others so_far = subst (λ l. IsPermutation all (own ++ l)) (append-nil others) so_far.whole
+  -- the others are put back to those left
+  pub all_back : (all own others left back : List T) → IsParting P all own others left → IsPermutation (others ++ left) back → IsPermutation all (own ++ back)
+  all_back all own others left back so_far same =
+      IsPermutation-trans all (own ++ (others ++ left)) (own ++ back) so_far.whole (IsPermutation-append_right own (others ++ left) back same)
+
+  -- where nothing is left, only they are there
+  pub others_back : (all own others left back : List T) → IsParting P all own others left → length left ≡ 0 → IsPermutation (others ++ left) back
+      → All (λ t. P t → ⊥) back
+  others_back all own others [] back so_far none same =
+      All-permutation (λ t. P t → ⊥) (others ++ []) back same (subst (All (λ t. P t → ⊥)) (sym (append-nil others)) so_far.others_are)
+  others_back all own others (x ∷ left) back so_far none same = absurd (omega arith)
 
   -- the last of those left was put to its own
   own_next : (all own others left left' own' : List T) (x : T) → left ≡ left' ++ x ∷ [] → own' ≡ own ++ x ∷ [] → IsPermutation (own ++ (others ++ left)) (own' ++ (others ++ left'))

@@ -83,11 +83,7 @@ impl<T: Drop> Few<T> {
         let Some(slot) = self.slots.get_mut(at) else {
             unreachable!()
         };
-        let Some(task) = slot.take() else {
-            unreachable!()
-        };
-        let (task, came) = visit(rt, work, bell, task);
-        *slot = Some(task);
-        came
+        let Some(task) = slot else { unreachable!() };
+        visit(rt, work, bell, task)
     }
 }

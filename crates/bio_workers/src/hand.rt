@@ -13,32 +13,29 @@ pub struct Hand<T: Drop> {
     pub(crate) tasks: Few<T>,
 }
 
-/// All tasks of both.
-pub(crate) fn joined<T: Drop>(tasks: Few<T>, others: Few<T>) -> Few<T>
-    requires { length tasks + length others ≤ MOST_TASKS }
-    ensures { IsPermutation (others ++ tasks) result }
+/// Adds all of the others.
+pub(crate) fn join<T: Drop>(tasks: &mut Few<T>, others: Few<T>)
+    requires { length tasks.old + length others ≤ MOST_TASKS }
+    ensures { IsPermutation (others ++ tasks.old) tasks.new }
 {
-    let mut tasks = tasks;
     let mut others = others;
     while let Some(task) = others.pop() {
         tasks.push(task);
     }
-    tasks
 }
 
-/// The tasks that fall to a worker, by their numbers, and the others.
-pub(crate) fn parted<T: Drop, W: Work<T>>(
+/// Takes out the tasks that fall to a worker, by their numbers. The others stay.
+pub(crate) fn part<T: Drop, W: Work<T>>(
     work: &W,
-    tasks: Few<T>,
+    tasks: &mut Few<T>,
     workers: u32,
     worker: u32,
-) -> (Few<T>, Few<T>)
+) -> Few<T>
     requires { 1 ≤ workers }
-    ensures all { IsPermutation tasks (result.0 ++ result.1) }
-    ensures own { All (λ task. W.number (W.key task) % workers ≡ worker) result.0 }
-    ensures others { All (λ task. W.number (W.key task) % workers ≢ worker) result.1 }
+    ensures all { IsPermutation tasks.old (result ++ tasks.new) }
+    ensures own { All (λ task. W.number (W.key task) % workers ≡ worker) result }
+    ensures others { All (λ task. W.number (W.key task) % workers ≢ worker) tasks.new }
 {
-    let mut tasks = tasks;
     let mut own = Few::new();
     let mut others = Few::new();
     let count = tasks.len();
@@ -48,7 +45,8 @@ pub(crate) fn parted<T: Drop, W: Work<T>>(
         };
         put_by(work, task, workers, worker, &mut own, &mut others);
     }
-    (own, others)
+    join(tasks, others);
+    own
 }
 
 // Puts a task to the worker's own, or to the others.

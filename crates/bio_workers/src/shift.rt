@@ -5,10 +5,9 @@ ghost use Rattle.bio_workers.specs.declared.work.Progress.TheVariants.{Over};
 
 use crate::bell::Bell;
 use crate::few::{Few, MOST_TASKS};
-use crate::hand::{Hand, joined, parted};
+use crate::hand::{Hand, join, part};
 use crate::job::{Job, run};
 use crate::work::{Progress, Work};
-use std::mem;
 use std::sync::Wait;
 use std::sync::atomic::{AtomicU64, Ordering};
 use std::thread::Threads;
@@ -82,34 +81,25 @@ impl<'a, T: Drop, W: Work<T>> Job<Hand<T>> for Shift<'a, W> {
     ghost holder = { λ hand. hand.worker };
 
     fn deal(&self, all: &mut Hand<T>, worker: u32) -> Hand<T> {
-        let tasks = mem::replace(&mut all.tasks, Few::new());
-        let (own, others) = parted(self.work, tasks, self.workers, worker);
-        all.tasks = others;
-        Hand { worker, tasks: own }
-    }
-
-    fn absorb(&self, hand: Hand<T>, other: Hand<T>) -> Hand<T> {
-        let Hand { worker, tasks } = hand;
-        let Hand {
-            worker: _,
-            tasks: others,
-        } = other;
         Hand {
             worker,
-            tasks: joined(tasks, others),
+            tasks: part(self.work, &mut all.tasks, self.workers, worker),
         }
+    }
+
+    fn absorb(&self, hand: &mut Hand<T>, other: Hand<T>) {
+        let Hand { worker: _, tasks } = other;
+        join(&mut hand.tasks, tasks);
     }
 
     fn halt(&self, worker: u32) {
         self.refused.fetch_add(1 << (worker % 64), Ordering::SeqCst);
     }
 
-    fn work<R: Wait>(&self, rt: &R, hand: Hand<T>) -> Hand<T> {
-        let mut hand = hand;
+    fn work<R: Wait>(&self, rt: &R, hand: &mut Hand<T>) {
         if !self.is_refused(hand.worker) {
             self.finish(rt, &mut hand.tasks);
         }
-        hand
     }
 }
 

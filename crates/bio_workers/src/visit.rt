@@ -11,48 +11,40 @@ use std::sync::Wait;
 const MOST_STEPS: u32 = 64;
 
 // Steps a task, and rings where that was an event.
-fn step<T: Drop, R: Wait, W: Work<T>>(rt: &R, work: &W, bell: &Bell, task: T) -> (T, Progress)
-    requires { W.can work.now (W.key task) }
-    ensures key { W.key result.0 ≡ W.key task }
-    ensures over { result.1 ≡ Over → W.is_over result.0 }
+fn step<T, R: Wait, W: Work<T>>(rt: &R, work: &W, bell: &Bell, task: &mut T) -> Progress
+    requires { W.can work.now (W.key task.old) }
+    ensures key { W.key task.new ≡ W.key task.old }
+    ensures over { result ≡ Over → W.is_over task.new }
 {
-    let (task, came) = work.step(rt, task);
+    let came = work.step(rt, task);
     if came == Progress::Event {
         bell.ring();
     }
-    (task, came)
+    came
 }
 
 // Steps a task that has had an event until it meets none, or until the visit has had its steps.
-fn step_on<T: Drop, R: Wait, W: Work<T>>(rt: &R, work: &W, bell: &Bell, task: T) -> T
-    requires { W.can work.now (W.key task) }
-    ensures { W.key result ≡ W.key task }
+fn step_on<T, R: Wait, W: Work<T>>(rt: &R, work: &W, bell: &Bell, task: &mut T)
+    requires { W.can work.now (W.key task.old) }
+    ensures { W.key task.new ≡ W.key task.old }
 {
-    let mut task = task;
     for _ in 1..MOST_STEPS {
-        let (next, came) = step(rt, work, bell, task);
-        task = next;
-        if came != Progress::Event {
+        if step(rt, work, bell, task) != Progress::Event {
             break;
         }
     }
-    task
 }
 
-/// Steps a task, and steps it on while that meets events, so often at most. Rings behind each of them. Answers what the first step came to.
-pub(crate) fn visit<T: Drop, R: Wait, W: Work<T>>(
-    rt: &R,
-    work: &W,
-    bell: &Bell,
-    task: T,
-) -> (T, Progress)
-    requires { W.can work.now (W.key task) }
-    ensures key { W.key result.0 ≡ W.key task }
-    ensures over { result.1 ≡ Over → W.is_over result.0 }
+/// Steps a task where it stands, and steps it on while that meets events, so often at most. Rings behind each of them. Answers what the first
+/// step came to.
+pub(crate) fn visit<T, R: Wait, W: Work<T>>(rt: &R, work: &W, bell: &Bell, task: &mut T) -> Progress
+    requires { W.can work.now (W.key task.old) }
+    ensures key { W.key task.new ≡ W.key task.old }
+    ensures over { result ≡ Over → W.is_over task.new }
 {
-    let (task, came) = step(rt, work, bell, task);
+    let came = step(rt, work, bell, task);
     if came == Progress::Event {
-        return (step_on(rt, work, bell, task), came);
+        step_on(rt, work, bell, task);
     }
-    (task, came)
+    came
 }

@@ -51,9 +51,9 @@ pub trait Work<T> {
     fn number(&self, task: &T) -> u32
         ensures { result ≡ number (key task.now) };
 
-    /// Steps a task once.
-    fn step<R: Wait>(&self, rt: &R, task: T) -> (T, Progress)
-        requires { can self.now (key task) }
-        ensures key { key result.0 ≡ key task }
-        ensures over { result.1 ≡ Over → is_over result.0 };
+    /// Steps a task once, where it stands.
+    fn step<R: Wait>(&self, rt: &R, task: &mut T) -> Progress
+        requires { can self.now (key task.old) }
+        ensures key { key task.new ≡ key task.old }
+        ensures over { result ≡ Over → is_over task.new };
 }

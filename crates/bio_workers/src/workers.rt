@@ -59,12 +59,12 @@ impl<'a, G: Gate> Work<Ran> for Crew<'a, G> {
         task.number()
     }
 
-    fn step<R: Wait>(&self, rt: &R, task: Ran) -> (Ran, Progress) {
+    fn step<R: Wait>(&self, rt: &R, task: &mut Ran) -> Progress {
         let id = task.id();
         self.gate.before(id);
-        let (task, step) = task.step(rt, self.locks, &mut Oldest);
+        let step = task.step(rt, self.locks, &mut Oldest);
         self.gate.after(id);
-        (task, progress(&step))
+        progress(&step)
     }
 }
 

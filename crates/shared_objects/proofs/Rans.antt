@@ -115,24 +115,21 @@ module _ (ran : RanState) (holds : RanHolds ran) (task : TaskOf) (seats : TaskSe
         ran = steps_keep_ran stage ran.first ran.task task (desk_of ran.seats) (desk_of seats) step ran.events ran.stopped ran.noted noted holds.ran turns same goes;
       }
 
--- The same of what a desk tells, that was made of these locks and gives back these seats.
-module _ (ran : RanState) (holds : RanHolds ran) (task : TaskOf) (step : Step) (locks left : Locks) (before after seats : TaskSeats)
-    (at_home : locks ≡ ran.home) (with_seats : before ≡ ran.seats) (back : seats ≡ after) (stays : left ≡ locks)
-    (turns : Turns DeskServes (Owes (stage_at locks)) (routing_setup ran.task.routing) ran.task.state (desk_of before) task.state (desk_of after) step) where
+-- The same of what is told of the step by who called at these locks, and left those.
+module _ (ran : RanState) (holds : RanHolds ran) (task : TaskOf) (step : Step) (locks left : Locks) (seats : TaskSeats) (at_home : locks ≡ ran.home) (stays : left ≡ locks)
+    (turns : Turns DeskServes (Owes (stage_at locks)) (routing_setup ran.task.routing) ran.task.state (desk_of ran.seats) task.state (desk_of seats) step) where
   turns_home_with : Turns DeskServes (Owes (stage_at ran.home)) (routing_setup ran.task.routing) ran.task.state (desk_of ran.seats) task.state (desk_of seats) step
   turns_home_with =
-      subst (λ s. Turns DeskServes (Owes (stage_at ran.home)) (routing_setup ran.task.routing) ran.task.state (desk_of ran.seats) task.state (desk_of s) step) (sym back)
-      (subst (λ s. Turns DeskServes (Owes (stage_at ran.home)) (routing_setup ran.task.routing) ran.task.state (desk_of s) task.state (desk_of after) step) with_seats
-      (subst (λ l. Turns DeskServes (Owes (stage_at l)) (routing_setup ran.task.routing) ran.task.state (desk_of before) task.state (desk_of after) step) at_home turns))
+      subst (λ l. Turns DeskServes (Owes (stage_at l)) (routing_setup ran.task.routing) ran.task.state (desk_of ran.seats) task.state (desk_of seats) step) at_home turns
 
-  pub desk_keeps_number : seats.number ≡ ran.seats.number
-  desk_keeps_number = number_stays ran holds task seats step turns_home_with
+  pub calls_keep_number : seats.number ≡ ran.seats.number
+  calls_keep_number = number_stays ran holds task seats step turns_home_with
 
-  pub desk_keeps : DeskHolds left after → task.routing ≡ ran.task.routing → (events : ℕ) (stopped : Bool) (noted : Option Noted)
+  pub calls_keep : DeskHolds left seats → task.routing ≡ ran.task.routing → (events : ℕ) (stopped : Bool) (noted : Option Noted)
       → events ≡ events_after step ran.events → stopped ≡ stopped_after step ran.stopped → NotesStep step (seen_by seats.pass) ran.noted noted
       → RanHolds (record { task = task; seats = seats; first = ran.first; home = ran.home; events = events; stopped = stopped; noted = noted })
-  desk_keeps desk same events stopped noted events_is stopped_is goes =
-      let kept = subst (λ s. DeskHolds ran.home s) (sym back) (subst (λ l. DeskHolds l after) (stays ∙ at_home) desk) in
+  calls_keep desk same events stopped noted events_is stopped_is goes =
+      let kept = subst (λ l. DeskHolds l seats) (stays ∙ at_home) desk in
       subst (λ e. RanHolds (record { task = task; seats = seats; first = ran.first; home = ran.home; events = e; stopped = stopped; noted = noted })) (sym events_is)
       (subst (λ s. RanHolds (record { task = task; seats = seats; first = ran.first; home = ran.home; events = events_after step ran.events; stopped = s; noted = noted })) (sym stopped_is)
       (step_holds ran holds task seats step turns_home_with kept same noted goes))

@@ -1,29 +1,20 @@
-//! The objects, as one task asks them.
-ghost use Rattle.std.specs.Prelude.{◌≡◌, IsTrue};
-ghost use Rattle.bio_records.specs.Clear.{IsClearBody};
-ghost use Rattle.run_machine.specs.Laws.{OfPool, OfRescuer, OfDisk, OfBook, OfTally, object_of};
-ghost use Rattle.task_steps.specs.Stage.{RequestFits, Owes, has_book, has_disk, has_rescuer, is_bios, is_slips};
-ghost use Rattle.object_things.specs.Books.{BookAskAlone, BookSays, book_asked, book_replied};
-ghost use Rattle.object_things.specs.Disks.{DiskAskAlone, DiskSays, disk_asked, disk_replied};
-ghost use Rattle.object_things.specs.Lists.{ListSays, list_asked, list_replied};
-ghost use Rattle.object_things.specs.Pools.{PoolAskFits, PoolSays, pool_asked, pool_replied};
-ghost use Rattle.object_things.specs.Tallies.{TallySays, tally_asked, tally_replied};
-ghost use Rattle.shared_objects.specs.Desks.{HasCalled};
-ghost use Rattle.shared_objects.specs.Holding.{DeskHolds, IsClearSlip, IsClearVector, desk_of, stage_at};
+//! The desk of a task.
+ghost use Rattle.std.specs.Prelude.{◌≡◌};
+ghost use Rattle.task_steps.specs.Homes.{IsTaskOf};
+ghost use Rattle.task_steps.specs.Routed.{routing_setup};
+ghost use Rattle.task_steps.specs.Stage.{Owes};
+ghost use Rattle.task_steps.specs.TaskViews.{ChosenBy};
+ghost use Rattle.task_steps.specs.Turns.{Turns};
+ghost use Rattle.shared_objects.specs.Desks.{DeskPicks, DeskServes};
+ghost use Rattle.shared_objects.specs.Holding.{DeskHolds, desk_of, stage_at};
 
 pub mod objects;
-pub mod steps;
 
-use crate::calls::{call, call_at};
+use crate::caller::Caller;
 use crate::locks::Locks;
 use crate::seats::TaskSeats;
-use bio_records::{BioBody, Pad, Slip, Vector};
-use object_things::{
-    BookAsk, BookSaid, DiskAsk, DiskSaid, ListAsk, ListSaid, PoolAsk, PoolSaid, TallyAsk, TallySaid,
-};
-use stack_base::DevId;
 use std::sync::Wait;
-use task_core::place;
+use task_steps::{Chooser, Step, Task};
 
 /// The objects, as one task asks them: by its seats, each call in a turn of its own, with a ticket where it changes the object.
 #[derive(Drop)]
@@ -53,168 +44,22 @@ impl<'a, R: Wait> Desk<'a, R> {
         seats
     }
 
-    // Asks the pool of bios of this number.
-    fn ask_bios(&mut self, number: u32, ask: PoolAsk<BioBody<Pad>>) -> PoolSaid<BioBody<Pad>>
+    /// The next step of the task whose desk it is. What the desk tells of it is kept in the task's calls.
+    pub fn step<C: Chooser>(&mut self, task: &mut Task, chooser: &mut C) -> Step
         requires holds { DeskHolds self.old.locks.now self.old.seats }
-        requires pool { IsTrue (is_bios (stage_at self.old.locks.now) number) }
-        requires named { object_of (pool_asked ask) ≡ OfPool number }
-        requires fits { PoolAskFits (stage_at self.old.locks.now) ask }
-        ensures calls { HasCalled (desk_of self.old.seats) (pool_asked ask) (pool_replied result) (desk_of self.new.seats) }
-        ensures says { PoolSays IsClearBody ((stage_at self.old.locks.now).ledger number) ask result }
-        ensures kept { DeskHolds self.old.locks.now self.new.seats }
-        ensures same { self.new.locks.now ≡ self.old.locks.now }
+        requires routing { task.old.routing ≡ (stage_at self.old.locks.now).routing }
+        requires task { IsTaskOf (stage_at self.old.locks.now) task.old.state }
+        ensures turns { Turns DeskServes (Owes (stage_at self.old.locks.now)) (routing_setup task.old.routing) task.old.state (desk_of self.old.seats) task.new.state (desk_of self.new.seats) result }
+        ensures chosen { ChosenBy task.old.state C.chooses DeskPicks chooser.old result chooser.new }
+        ensures kept { DeskHolds self.new.locks.now self.new.seats × (stage_at self.new.locks.now ≡ stage_at self.old.locks.now) }
+        ensures same { task.new.routing ≡ task.old.routing }
+        ensures locks { self.new.locks.now ≡ self.old.locks.now }
     {
-        let locks = self.locks;
-        let seats = &mut self.seats;
-        let at = place(&locks.index.bios, number);
-        call_at(
-            self.rt,
-            &locks.bios,
-            &mut seats.bios,
-            &mut seats.pass,
-            at,
-            ask,
-        )
-    }
-
-    // Asks the pool of vectors.
-    fn ask_vecs(&mut self, ask: PoolAsk<Vector>) -> PoolSaid<Vector>
-        requires holds { DeskHolds self.old.locks.now self.old.seats }
-        requires named { object_of (pool_asked ask) ≡ OfPool 64 }
-        requires fits { PoolAskFits (stage_at self.old.locks.now) ask }
-        ensures calls { HasCalled (desk_of self.old.seats) (pool_asked ask) (pool_replied result) (desk_of self.new.seats) }
-        ensures says { PoolSays IsClearVector ((stage_at self.old.locks.now).ledger 64) ask result }
-        ensures kept { DeskHolds self.old.locks.now self.new.seats }
-        ensures same { self.new.locks.now ≡ self.old.locks.now }
-    {
-        let seats = &mut self.seats;
-        call(
-            self.rt,
-            &self.locks.vecs,
-            &mut seats.vecs,
-            &mut seats.pass,
-            ask,
-        )
-    }
-
-    // Asks the pool of records of this number.
-    fn ask_records(&mut self, number: u32, ask: PoolAsk<Slip>) -> PoolSaid<Slip>
-        requires holds { DeskHolds self.old.locks.now self.old.seats }
-        requires pool { IsTrue (is_slips (stage_at self.old.locks.now) number) }
-        requires named { object_of (pool_asked ask) ≡ OfPool number }
-        requires fits { PoolAskFits (stage_at self.old.locks.now) ask }
-        ensures calls { HasCalled (desk_of self.old.seats) (pool_asked ask) (pool_replied result) (desk_of self.new.seats) }
-        ensures says { PoolSays IsClearSlip ((stage_at self.old.locks.now).ledger number) ask result }
-        ensures kept { DeskHolds self.old.locks.now self.new.seats }
-        ensures same { self.new.locks.now ≡ self.old.locks.now }
-    {
-        let locks = self.locks;
-        let seats = &mut self.seats;
-        let at = place(&locks.index.records, number);
-        call_at(
-            self.rt,
-            &locks.records,
-            &mut seats.records,
-            &mut seats.pass,
-            at,
-            ask,
-        )
-    }
-
-    // Asks the list of a device's rescuer.
-    fn ask_list(&mut self, dev: DevId, ask: ListAsk) -> ListSaid
-        requires holds { DeskHolds self.old.locks.now self.old.seats }
-        requires rescuer { IsTrue (has_rescuer (stage_at self.old.locks.now) dev) }
-        requires named { object_of (list_asked ask) ≡ OfRescuer dev.0 }
-        requires fits { RequestFits (stage_at self.old.locks.now) (list_asked ask) }
-        ensures calls { HasCalled (desk_of self.old.seats) (list_asked ask) (list_replied result) (desk_of self.new.seats) }
-        ensures owed { Owes (stage_at self.old.locks.now) (list_asked ask) (list_replied result) }
-        ensures says { ListSays ask result }
-        ensures kept { DeskHolds self.old.locks.now self.new.seats }
-        ensures same { self.new.locks.now ≡ self.old.locks.now }
-    {
-        let locks = self.locks;
-        let seats = &mut self.seats;
-        let at = place(&locks.index.lists, dev.0);
-        call_at(
-            self.rt,
-            &locks.lists,
-            &mut seats.lists,
-            &mut seats.pass,
-            at,
-            ask,
-        )
-    }
-
-    // Asks a disk.
-    fn ask_disk(&mut self, disk: DevId, ask: DiskAsk) -> DiskSaid
-        requires holds { DeskHolds self.old.locks.now self.old.seats }
-        requires disk { IsTrue (has_disk (stage_at self.old.locks.now) disk) }
-        requires named { object_of (disk_asked ask) ≡ OfDisk disk.0 }
-        requires fits { RequestFits (stage_at self.old.locks.now) (disk_asked ask) }
-        requires alone { DiskAskAlone ask }
-        ensures calls { HasCalled (desk_of self.old.seats) (disk_asked ask) (disk_replied result) (desk_of self.new.seats) }
-        ensures says { DiskSays (stage_at self.old.locks.now) ask result }
-        ensures kept { DeskHolds self.old.locks.now self.new.seats }
-        ensures same { self.new.locks.now ≡ self.old.locks.now }
-    {
-        let locks = self.locks;
-        let seats = &mut self.seats;
-        let at = place(&locks.index.disks, disk.0);
-        call_at(
-            self.rt,
-            &locks.disks,
-            &mut seats.disks,
-            &mut seats.pass,
-            at,
-            ask,
-        )
-    }
-
-    // Asks the book of a writer.
-    fn ask_book(&mut self, writer: u32, ask: BookAsk) -> BookSaid
-        requires holds { DeskHolds self.old.locks.now self.old.seats }
-        requires book { IsTrue (has_book (stage_at self.old.locks.now) writer) }
-        requires named { object_of (book_asked ask) ≡ OfBook writer }
-        requires fits { RequestFits (stage_at self.old.locks.now) (book_asked ask) }
-        requires alone { BookAskAlone ask }
-        ensures calls { HasCalled (desk_of self.old.seats) (book_asked ask) (book_replied result) (desk_of self.new.seats) }
-        ensures owed { Owes (stage_at self.old.locks.now) (book_asked ask) (book_replied result) }
-        ensures says { BookSays ask result }
-        ensures kept { DeskHolds self.old.locks.now self.new.seats }
-        ensures same { self.new.locks.now ≡ self.old.locks.now }
-    {
-        let locks = self.locks;
-        let seats = &mut self.seats;
-        let at = place(&locks.index.books, writer);
-        call_at(
-            self.rt,
-            &locks.books,
-            &mut seats.books,
-            &mut seats.pass,
-            at,
-            ask,
-        )
-    }
-
-    // Asks the tally.
-    fn ask_tally(&mut self, ask: TallyAsk) -> TallySaid
-        requires holds { DeskHolds self.old.locks.now self.old.seats }
-        requires named { object_of (tally_asked ask) ≡ OfTally }
-        requires fits { RequestFits (stage_at self.old.locks.now) (tally_asked ask) }
-        ensures calls { HasCalled (desk_of self.old.seats) (tally_asked ask) (tally_replied result) (desk_of self.new.seats) }
-        ensures owed { Owes (stage_at self.old.locks.now) (tally_asked ask) (tally_replied result) }
-        ensures says { TallySays ask result }
-        ensures kept { DeskHolds self.old.locks.now self.new.seats }
-        ensures same { self.new.locks.now ≡ self.old.locks.now }
-    {
-        let seats = &mut self.seats;
-        call(
-            self.rt,
-            &self.locks.tally,
-            &mut seats.tally,
-            &mut seats.pass,
-            ask,
-        )
+        let mut caller = Caller {
+            rt: self.rt,
+            locks: self.locks,
+            seats: &mut self.seats,
+        };
+        caller.step(task, chooser)
     }
 }

@@ -5,6 +5,7 @@ ghost use Rattle.shared_objects.specs.Logs.{seen_by};
 ghost use Rattle.shared_objects.specs.Noting.{IsBlank, NotesStep};
 ghost use Rattle.shared_objects.specs.Rans.{events_after, stopped_after};
 
+use crate::caller::Caller;
 use crate::closed::ClosedTask;
 use crate::closing::join_seats;
 use crate::locks::Locks;
@@ -102,39 +103,27 @@ impl Ran {
         }
     }
 
-    /// Steps the task once, at a desk of the locks that its seats are of. Where that is wanted, it notes its event, with the ticket.
-    pub fn step<R: Wait, C: Chooser>(self, rt: &R, locks: &Locks, chooser: &mut C) -> (Ran, Step)
-        requires home { self.home ≡ locks.now }
-        ensures turns { Turns DeskServes (Owes (stage_at locks.now)) (routing_setup self.task.routing) self.task.state (desk_of self.seats) result.0.task.state (desk_of result.0.seats) result.1 }
-        ensures chosen { ChosenBy self.task.state C.chooses DeskPicks chooser.old result.1 chooser.new }
-        ensures key { ran_key result.0 ≡ ran_key self }
-        ensures events { result.0.events ≡ events_after result.1 self.events }
-        ensures stopped { result.0.stopped ≡ stopped_after result.1 self.stopped }
-        ensures noted { NotesStep result.1 (seen_by result.0.seats.pass) self.noted result.0.noted }
+    /// Steps the task once, where it stands, at the locks that its seats are of. Where that is wanted, it notes its event, with the ticket.
+    pub fn step<R: Wait, C: Chooser>(&mut self, rt: &R, locks: &Locks, chooser: &mut C) -> Step
+        requires home { self.old.home ≡ locks.now }
+        ensures turns { Turns DeskServes (Owes (stage_at locks.now)) (routing_setup self.old.task.routing) self.old.task.state (desk_of self.old.seats) self.new.task.state (desk_of self.new.seats) result }
+        ensures chosen { ChosenBy self.old.task.state C.chooses DeskPicks chooser.old result chooser.new }
+        ensures key { ran_key self.new ≡ ran_key self.old }
+        ensures events { self.new.events ≡ events_after result self.old.events }
+        ensures stopped { self.new.stopped ≡ stopped_after result self.old.stopped }
+        ensures noted { NotesStep result (seen_by self.new.seats.pass) self.old.noted self.new.noted }
     {
-        let Ran {
-            mut task,
-            seats,
-            first,
-            home,
-            events,
-            stopped,
-            noted,
-        } = self;
-        let mut desk = locks.desk(rt, seats);
-        let step = desk.step(&mut task, chooser);
-        let seats = desk.back();
-        let seen = seen_by(&seats.pass);
-        let ran = Ran {
-            task,
-            seats,
-            first,
-            home,
-            events: events_after(step, events),
-            stopped: stopped_after(step, stopped),
-            noted: noted_after(step, seen, noted),
+        let mut caller = Caller {
+            rt,
+            locks,
+            seats: &mut self.seats,
         };
-        (ran, step)
+        let step = caller.step(&mut self.task, chooser);
+        let seen = seen_by(&self.seats.pass);
+        self.events = events_after(step, self.events);
+        self.stopped = stopped_after(step, self.stopped);
+        note_step(&mut self.noted, step, seen);
+        step
     }
 
     /// Puts the task away, and joins its seats into the first ones.
@@ -231,18 +220,15 @@ fn noted_for(alloc: Global, trace: bool) -> Option<Noted>
     if trace { Some(Noted::new(alloc)) } else { None }
 }
 
-// What is noted behind a step, with the ticket that its event drew. The pass has seen that one last.
-fn noted_after(step: Step, ticket: u64, noted: Option<Noted>) -> Option<Noted>
-    ensures { NotesStep step ticket noted result }
+// Notes a step, with the ticket that its event drew. The pass has seen that one last.
+fn note_step(noted: &mut Option<Noted>, step: Step, ticket: u64)
+    ensures { NotesStep step ticket noted.old noted.new }
 {
-    let Some(mut list) = noted else {
-        return None;
+    let Some(list) = noted else {
+        return;
     };
     match step {
-        Step::Stepped(event) => {
-            list.note(ticket, event);
-            Some(list)
-        }
-        Step::Blocked(_) | Step::Waiting | Step::Ended | Step::Broken(_) => Some(list),
+        Step::Stepped(event) => list.note(ticket, event),
+        Step::Blocked(_) | Step::Waiting | Step::Ended | Step::Broken(_) => {}
     }
 }

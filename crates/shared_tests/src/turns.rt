@@ -33,7 +33,8 @@ fn turn<R: Wait>(
     requires { AreStillOut shared.old.told.value shared.old (ran ∷ out.old.items) }
     ensures { OnOk result (AreStillOut shared.old.told.value shared.new out.new.items) }
 {
-    let (ran, _) = ran.step(rt, shared.locks(), &mut Oldest);
+    let mut ran = ran;
+    let _ = ran.step(rt, shared.locks(), &mut Oldest);
     if ran.stopped() {
         shared.put_task(ran);
         return Ok(());

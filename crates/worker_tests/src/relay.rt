@@ -39,23 +39,17 @@ impl Work<Runner> for Relay {
         task.number
     }
 
-    fn step<R: Wait>(&self, _rt: &R, task: Runner) -> (Runner, Progress) {
-        let Runner { number, left } = task;
-        if left == 0 {
-            return (Runner { number, left }, Progress::Over);
+    fn step<R: Wait>(&self, _rt: &R, task: &mut Runner) -> Progress {
+        if task.left == 0 {
+            return Progress::Over;
         }
         let handed = self.handed.load(Ordering::SeqCst);
-        if handed % self.runners.max(1) != u64::from(number) {
-            return (Runner { number, left }, Progress::Nothing);
+        if handed % self.runners.max(1) != u64::from(task.number) {
+            return Progress::Nothing;
         }
         self.handed.fetch_add(1, Ordering::SeqCst);
-        (
-            Runner {
-                number,
-                left: left - 1,
-            },
-            Progress::Event,
-        )
+        task.left -= 1;
+        Progress::Event
     }
 }
 

@@ -1,120 +1,15 @@
-//! A desk as the objects of its task.
-ghost use Rattle.std.specs.Prelude.{◌≡◌, IfErr};
-ghost use Rattle.stack_base.specs.declared.ids.PoolId.TheVariants.{FsVecs, Records};
-ghost use Rattle.bioset_pools.specs.Sets.{bios_of};
-ghost use Rattle.run_machine.specs.Requests.{Complete, LeftOver, Resize};
-ghost use Rattle.task_steps.specs.declared.objects.Unmade.TheVariants as unmade;
-ghost use Rattle.task_steps.specs.Stage.{RequestFits};
-ghost use Rattle.task_steps.specs.Views.{completed_reply, resized_reply};
-ghost use Rattle.object_things.specs.declared.disk.DiskAsk.TheVariants as asks;
-ghost use Rattle.object_things.specs.declared.disk.DiskSaid.TheVariants as says;
-ghost use Rattle.object_things.specs.Disks.{DiskSays};
-ghost use Rattle.shared_objects.specs.Desks.{HasCalled};
-ghost use Rattle.shared_objects.specs.Holding.{DeskHolds, desk_of, stage_at};
+//! A desk as the objects of its task: each call is one by the seats that it has.
+ghost use Rattle.std.specs.Prelude.{◌≡◌};
 
+use crate::caller::Caller;
 use crate::desk::Desk;
 use bio_books::{Dropped, Link};
 use bio_records::{BioBody, BioElement, BioList, Pad, Slip, SlipElement, VecElement, Vector};
 use mempool_core::Taken;
 use model_disks::Done;
-use object_things::{
-    BookAsk, BookSaid, DiskAsk, DiskSaid, ListAsk, ListSaid, PoolAsk, PoolSaid, TallyAsk, TallySaid,
-};
 use stack_base::{DevId, PoolId, SetId, Status};
 use std::sync::Wait;
-use task_core::dev_of;
 use task_steps::{Ask, Chooser, Objects, Unmade};
-
-// The pool of a set's bios.
-fn pool_of(set: SetId) -> PoolId
-    ensures { result ≡ bios_of set }
-{
-    match set {
-        SetId::Fs => PoolId::FsBios,
-        SetId::Of(dev) => PoolId::Bios(dev),
-    }
-}
-
-impl<'a, R: Wait> Desk<'a, R> {
-    // How many bios wait in a disk.
-    fn look_at(&mut self, disk: DevId) -> u64
-        requires holds { DeskHolds self.old.locks.now self.old.seats }
-        requires fits { RequestFits (stage_at self.old.locks.now) (Complete disk) }
-        ensures calls { HasCalled (desk_of self.old.seats) (Complete disk) (LeftOver result) (desk_of self.new.seats) }
-        ensures kept { DeskHolds self.old.locks.now self.new.seats }
-        ensures same { self.new.locks.now ≡ self.old.locks.now }
-    {
-        match self.ask_disk(disk, DiskAsk::Look { disk }) {
-            DiskSaid::Waiting(count) => count,
-            DiskSaid::Pushed(_) | DiskSaid::Completed(_) => unreachable!(),
-        }
-    }
-
-    // Completes the bio at this place of those that wait, or the last one where there are fewer by now.
-    fn complete_at(&mut self, disk: DevId, index: u64) -> Result<Option<(u64, Done)>, Unmade>
-        requires holds { DeskHolds self.old.locks.now self.old.seats }
-        requires fits { RequestFits (stage_at self.old.locks.now) (Complete disk) }
-        ensures calls { HasCalled (desk_of self.old.seats) (Complete disk) (completed_reply result) (desk_of self.new.seats) }
-        ensures says { DiskSays (stage_at self.old.locks.now) (asks.Complete disk index) (says.Completed result) }
-        ensures kept { DeskHolds self.old.locks.now self.new.seats }
-        ensures same { self.new.locks.now ≡ self.old.locks.now }
-    {
-        match self.ask_disk(disk, DiskAsk::Complete { disk, index }) {
-            DiskSaid::Completed(result) => result,
-            DiskSaid::Pushed(_) | DiskSaid::Waiting(_) => unreachable!(),
-        }
-    }
-
-    // Sets the reserve of a set's pool of bios, where nothing of it is out.
-    #[tactic(auto, using(crate::proofs::Takes::set_has_pool))]
-    fn resize_bios(&mut self, set: SetId, min: u32) -> Result<u64, Unmade>
-        requires holds { DeskHolds self.old.locks.now self.old.seats }
-        requires fits { RequestFits (stage_at self.old.locks.now) (Resize (bios_of set) min) }
-        ensures calls { HasCalled (desk_of self.old.seats) (Resize (bios_of set) min) (resized_reply result) (desk_of self.new.seats) }
-        ensures back { IfErr result (λ back. back ≡ unmade.Nothing) }
-        ensures kept { DeskHolds self.old.locks.now self.new.seats }
-        ensures same { self.new.locks.now ≡ self.old.locks.now }
-    {
-        let pool = pool_of(set);
-        match self.ask_bios(pool.no(), PoolAsk::Resize { pool, min }) {
-            PoolSaid::Resized(result) => result,
-            PoolSaid::Took { .. } | PoolSaid::Gave(_) => unreachable!(),
-        }
-    }
-
-    // The same of the pool of vectors.
-    fn resize_vecs(&mut self, min: u32) -> Result<u64, Unmade>
-        requires holds { DeskHolds self.old.locks.now self.old.seats }
-        requires fits { RequestFits (stage_at self.old.locks.now) (Resize FsVecs min) }
-        ensures calls { HasCalled (desk_of self.old.seats) (Resize FsVecs min) (resized_reply result) (desk_of self.new.seats) }
-        ensures back { IfErr result (λ back. back ≡ unmade.Nothing) }
-        ensures kept { DeskHolds self.old.locks.now self.new.seats }
-        ensures same { self.new.locks.now ≡ self.old.locks.now }
-    {
-        let pool = PoolId::FsVecs;
-        match self.ask_vecs(PoolAsk::Resize { pool, min }) {
-            PoolSaid::Resized(result) => result,
-            PoolSaid::Took { .. } | PoolSaid::Gave(_) => unreachable!(),
-        }
-    }
-
-    // The same of the pool of a mirror's records.
-    #[tactic(auto, using(crate::proofs::Takes::mirror_is_pool))]
-    fn resize_records(&mut self, dev: DevId, min: u32) -> Result<u64, Unmade>
-        requires holds { DeskHolds self.old.locks.now self.old.seats }
-        requires fits { RequestFits (stage_at self.old.locks.now) (Resize (Records dev) min) }
-        ensures calls { HasCalled (desk_of self.old.seats) (Resize (Records dev) min) (resized_reply result) (desk_of self.new.seats) }
-        ensures back { IfErr result (λ back. back ≡ unmade.Nothing) }
-        ensures kept { DeskHolds self.old.locks.now self.new.seats }
-        ensures same { self.new.locks.now ≡ self.old.locks.now }
-    {
-        let pool = PoolId::Records(dev);
-        match self.ask_records(pool.no(), PoolAsk::Resize { pool, min }) {
-            PoolSaid::Resized(result) => result,
-            PoolSaid::Took { .. } | PoolSaid::Gave(_) => unreachable!(),
-        }
-    }
-}
 
 impl<'a, R: Wait> Objects for Desk<'a, R> {
     ghost use Rattle.shared_objects.specs.Desks.{DeskPicks, DeskServes};
@@ -128,83 +23,85 @@ impl<'a, R: Wait> Objects for Desk<'a, R> {
 
     ghost picks = { λ desk. DeskPicks };
 
-    #[tactic(auto, using(crate::proofs::Takes::take_named, crate::proofs::Takes::bios_waits, crate::proofs::Takes::set_is_pool, crate::proofs::Takes::bio_served, crate::proofs::Takes::bio_owed, crate::proofs::Takes::bio_clear, crate::proofs::Takes::back_none, crate::proofs::Takes::desk_numbered))]
     fn take_bio(&mut self, set: SetId, waits: bool) -> Result<Taken<BioBody<Pad>>, Unmade> {
-        let pool = pool_of(set);
-        match self.ask_bios(pool.no(), PoolAsk::Take { pool, waits }) {
-            PoolSaid::Took { pool: _, result } => result,
-            PoolSaid::Gave(_) | PoolSaid::Resized(_) => unreachable!(),
-        }
+        let mut caller = Caller {
+            rt: self.rt,
+            locks: self.locks,
+            seats: &mut self.seats,
+        };
+        caller.take_bio(set, waits)
     }
 
-    #[tactic(auto, using(crate::proofs::Takes::vec_served, crate::proofs::Takes::vec_owed, crate::proofs::Takes::back_none, crate::proofs::Takes::desk_numbered))]
     fn take_vec(&mut self) -> Result<Taken<Vector>, Unmade> {
-        let pool = PoolId::FsVecs;
-        match self.ask_vecs(PoolAsk::Take { pool, waits: true }) {
-            PoolSaid::Took { pool: _, result } => result,
-            PoolSaid::Gave(_) | PoolSaid::Resized(_) => unreachable!(),
-        }
+        let mut caller = Caller {
+            rt: self.rt,
+            locks: self.locks,
+            seats: &mut self.seats,
+        };
+        caller.take_vec()
     }
 
-    #[tactic(auto, using(crate::proofs::Takes::mirror_is_pool, crate::proofs::Takes::slip_served, crate::proofs::Takes::slip_owed, crate::proofs::Takes::back_none, crate::proofs::Takes::desk_numbered))]
     fn take_slip(&mut self, dev: DevId) -> Result<Taken<Slip>, Unmade> {
-        let pool = PoolId::Records(dev);
-        match self.ask_records(pool.no(), PoolAsk::Take { pool, waits: true }) {
-            PoolSaid::Took { pool: _, result } => result,
-            PoolSaid::Gave(_) | PoolSaid::Resized(_) => unreachable!(),
-        }
+        let mut caller = Caller {
+            rt: self.rt,
+            locks: self.locks,
+            seats: &mut self.seats,
+        };
+        caller.take_slip(dev)
     }
 
     fn give_bio(&mut self, el: BioElement) -> Result<(), Unmade> {
-        // The element knows its pool. The name says only that it is one of bios, as all of a pool's history does.
-        let pool = PoolId::FsBios;
-        match self.ask_bios(el.no(), PoolAsk::Give { pool, el }) {
-            PoolSaid::Gave(Ok(())) => Ok(()),
-            PoolSaid::Gave(Err(el)) => Err(Unmade::Bio(el)),
-            PoolSaid::Took { .. } | PoolSaid::Resized(_) => unreachable!(),
-        }
+        let mut caller = Caller {
+            rt: self.rt,
+            locks: self.locks,
+            seats: &mut self.seats,
+        };
+        caller.give_bio(el)
     }
 
     fn give_vec(&mut self, el: VecElement) -> Result<(), Unmade> {
-        let pool = PoolId::FsVecs;
-        match self.ask_vecs(PoolAsk::Give { pool, el }) {
-            PoolSaid::Gave(Ok(())) => Ok(()),
-            PoolSaid::Gave(Err(el)) => Err(Unmade::Vec(el)),
-            PoolSaid::Took { .. } | PoolSaid::Resized(_) => unreachable!(),
-        }
+        let mut caller = Caller {
+            rt: self.rt,
+            locks: self.locks,
+            seats: &mut self.seats,
+        };
+        caller.give_vec(el)
     }
 
     fn give_slip(&mut self, el: SlipElement) -> Result<(), Unmade> {
-        let number = el.no();
-        // The pools of records have odd numbers.
-        let pool = PoolId::Records(DevId(number / 2));
-        match self.ask_records(number, PoolAsk::Give { pool, el }) {
-            PoolSaid::Gave(Ok(())) => Ok(()),
-            PoolSaid::Gave(Err(el)) => Err(Unmade::Slip(el)),
-            PoolSaid::Took { .. } | PoolSaid::Resized(_) => unreachable!(),
-        }
+        let mut caller = Caller {
+            rt: self.rt,
+            locks: self.locks,
+            seats: &mut self.seats,
+        };
+        caller.give_slip(el)
     }
 
     fn punt(&mut self, dev: DevId, moved: BioList) -> Result<(), Unmade> {
-        match self.ask_list(dev, ListAsk::Punt { dev, moved }) {
-            ListSaid::Punted(result) => result,
-            ListSaid::Popped(_) => unreachable!(),
-        }
+        let mut caller = Caller {
+            rt: self.rt,
+            locks: self.locks,
+            seats: &mut self.seats,
+        };
+        caller.punt(dev, moved)
     }
 
     fn pop(&mut self, dev: DevId) -> Result<Option<BioElement>, Unmade> {
-        match self.ask_list(dev, ListAsk::Pop { dev }) {
-            ListSaid::Popped(result) => result,
-            ListSaid::Punted(_) => unreachable!(),
-        }
+        let mut caller = Caller {
+            rt: self.rt,
+            locks: self.locks,
+            seats: &mut self.seats,
+        };
+        caller.pop(dev)
     }
 
     fn push(&mut self, el: BioElement) -> Result<(), Unmade> {
-        let disk = dev_of(&el);
-        match self.ask_disk(disk, DiskAsk::Push { el }) {
-            DiskSaid::Pushed(result) => result,
-            DiskSaid::Waiting(_) | DiskSaid::Completed(_) => unreachable!(),
-        }
+        let mut caller = Caller {
+            rt: self.rt,
+            locks: self.locks,
+            seats: &mut self.seats,
+        };
+        caller.push(el)
     }
 
     fn complete<C: Chooser>(
@@ -212,19 +109,21 @@ impl<'a, R: Wait> Objects for Desk<'a, R> {
         disk: DevId,
         chooser: &mut C,
     ) -> Result<Option<(u64, Done)>, Unmade> {
-        let pending = self.look_at(disk);
-        if pending == 0 {
-            return Ok(None);
-        }
-        let index = chooser.choose(pending);
-        self.complete_at(disk, index)
+        let mut caller = Caller {
+            rt: self.rt,
+            locks: self.locks,
+            seats: &mut self.seats,
+        };
+        caller.complete(disk, chooser)
     }
 
     fn link(&mut self, writer: u32, ask: Ask) -> Result<Link, Unmade> {
-        match self.ask_book(writer, BookAsk::Link { writer, ask }) {
-            BookSaid::Linked(result) => result,
-            BookSaid::Dropped(_) => unreachable!(),
-        }
+        let mut caller = Caller {
+            rt: self.rt,
+            locks: self.locks,
+            seats: &mut self.seats,
+        };
+        caller.link(writer, ask)
     }
 
     fn drop_one(
@@ -234,52 +133,56 @@ impl<'a, R: Wait> Objects for Desk<'a, R> {
         status: Status,
         part: Option<BioElement>,
     ) -> Result<Dropped, Unmade> {
-        let ask = BookAsk::Drop {
-            writer,
-            node,
-            status,
-            part,
+        let mut caller = Caller {
+            rt: self.rt,
+            locks: self.locks,
+            seats: &mut self.seats,
         };
-        match self.ask_book(writer, ask) {
-            BookSaid::Dropped(result) => result,
-            BookSaid::Linked(_) => unreachable!(),
-        }
+        caller.drop_one(writer, node, status, part)
     }
 
     fn done(&mut self, write: u32, status: Status) -> Result<(), Unmade> {
-        match self.ask_tally(TallyAsk::Done { write, status }) {
-            TallySaid::Did(result) => result,
-            TallySaid::Round(_) | TallySaid::Left(_) => unreachable!(),
-        }
+        let mut caller = Caller {
+            rt: self.rt,
+            locks: self.locks,
+            seats: &mut self.seats,
+        };
+        caller.done(write, status)
     }
 
     fn resize(&mut self, pool: PoolId, min: u32) -> Result<u64, Unmade> {
-        match pool {
-            PoolId::FsBios => self.resize_bios(SetId::Fs, min),
-            PoolId::FsVecs => self.resize_vecs(min),
-            PoolId::Bios(dev) => self.resize_bios(SetId::Of(dev), min),
-            PoolId::Records(dev) => self.resize_records(dev, min),
-        }
+        let mut caller = Caller {
+            rt: self.rt,
+            locks: self.locks,
+            seats: &mut self.seats,
+        };
+        caller.resize(pool, min)
     }
 
     fn next_round(&mut self) -> Result<(), Unmade> {
-        match self.ask_tally(TallyAsk::Next) {
-            TallySaid::Did(result) => result,
-            TallySaid::Round(_) | TallySaid::Left(_) => unreachable!(),
-        }
+        let mut caller = Caller {
+            rt: self.rt,
+            locks: self.locks,
+            seats: &mut self.seats,
+        };
+        caller.next_round()
     }
 
     fn left(&mut self) -> u32 {
-        match self.ask_tally(TallyAsk::Left) {
-            TallySaid::Left(count) => count,
-            TallySaid::Did(_) | TallySaid::Round(_) => unreachable!(),
-        }
+        let mut caller = Caller {
+            rt: self.rt,
+            locks: self.locks,
+            seats: &mut self.seats,
+        };
+        caller.left()
     }
 
     fn round(&mut self) -> u32 {
-        match self.ask_tally(TallyAsk::Round) {
-            TallySaid::Round(round) => round,
-            TallySaid::Did(_) | TallySaid::Left(_) => unreachable!(),
-        }
+        let mut caller = Caller {
+            rt: self.rt,
+            locks: self.locks,
+            seats: &mut self.seats,
+        };
+        caller.round()
     }
 }

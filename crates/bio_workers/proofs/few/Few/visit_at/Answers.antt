@@ -14,14 +14,14 @@ unreachable-requires g c =
     let some = c.in_default.ensures.variant.1 (omega arith) in
     absurd (cc)
 
-pub visit-task-requires : goal.visit-task-requires
-visit-task-requires g c =
+pub visit-requires : goal.visit-requires
+visit-requires g c =
     let slots = c.self.inside.slots.items in
     let same = ap length c.self.view_is in
     let long = as_long slots c.self.invariant in
     let below = c.requires.at in
-    let task = c.in-Some-take.task in
-    let here = sym c.in-Some.ensures.value ∙ sym c.take.ensures.value ∙ c.in-Some-take.is in
+    let task = c.in-Some-slot.task in
+    let here = sym c.in-Some.ensures.value ∙ c.in-Some-slot.is in
     let stands = some_at slots c.args.at task task c.in-Some.slot.now c.self.invariant (omega arith) here in
     let stands_now = subst (λ l. slice_index_or l c.args.at task ≡ task) c.self.view_is stands in
     let keyed = mapped_at g.W.Work.key c.args.self.now c.args.at task stands_now in
@@ -33,11 +33,11 @@ returns-clause-keys g c =
     let same = ap length c.self.view_is in
     let long = as_long slots c.self.invariant in
     let below = c.requires.at in
-    let task = c.in-Some-take.task in
-    let here = sym c.in-Some.ensures.value ∙ sym c.take.ensures.value ∙ c.in-Some-take.is in
+    let task = c.in-Some-slot.task in
+    let here = sym c.in-Some.ensures.value ∙ c.in-Some-slot.is in
     let stands = some_at slots c.args.at task task c.in-Some.slot.now c.self.invariant (omega arith) here in
-    ap (map g.W.Work.key) (some_set slots c.args.at c.visit-task.result.0 c.self.invariant)
-    ∙ map-set_same g.W.Work.key (somes slots) c.args.at c.visit-task.result.0 task (c.visit-task.ensures.key ∙ ap g.W.Work.key (sym stands))
+    ap (map g.W.Work.key) (some_set slots c.args.at c.visit.new.task c.self.invariant)
+    ∙ map-set_same g.W.Work.key (somes slots) c.args.at c.visit.new.task task (c.visit.ensures.key ∙ ap g.W.Work.key (sym stands))
     ∙ ap (map g.W.Work.key) c.self.view_is
 
 pub returns-clause-over : goal.returns-clause-over
@@ -46,5 +46,5 @@ returns-clause-over g c = λ over before.
     let same = ap length c.self.view_is in
     let long = as_long slots c.self.invariant in
     let below = c.requires.at in
-    subst (λ l. All g.W.Work.is_over (take (c.args.at + 1) l)) (sym (some_set slots c.args.at c.visit-task.result.0 c.self.invariant))
-    (more_over g.W.Work.is_over (somes slots) c.args.at c.visit-task.result.0 (omega arith) (subst (λ l. All g.W.Work.is_over (take c.args.at l)) (sym c.self.view_is) before) (c.visit-task.ensures.over over))
+    subst (λ l. All g.W.Work.is_over (take (c.args.at + 1) l)) (sym (some_set slots c.args.at c.visit.new.task c.self.invariant))
+    (more_over g.W.Work.is_over (somes slots) c.args.at c.visit.new.task (omega arith) (subst (λ l. All g.W.Work.is_over (take c.args.at l)) (sym c.self.view_is) before) (c.visit.ensures.over over))

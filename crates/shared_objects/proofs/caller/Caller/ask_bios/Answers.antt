@@ -1,0 +1,27 @@
+use Rattle.std.proofs.Common.{rules}
+use Rattle.shared_objects.proofs.DeskedPools.{bios_seated, bios_fits, bios_called, bios_holds, bios_says}
+use Rattle.shared_objects.proofs.caller.Caller.ask_bios.Goals as goal
+
+pub call_at-requires-clause-seated : goal.call_at-requires-clause-seated
+call_at-requires-clause-seated g c =
+    bios_seated c.args.self.now.locks.now c.args.self.now.seats.now c.requires.holds c.deref.result.now c.deref.ensures.value c.args.number c.place-at.result c.requires.pool c.place-at.ensures c.args.ask c.requires.named
+
+pub call_at-requires-clause-fits : goal.call_at-requires-clause-fits
+call_at-requires-clause-fits g c =
+    bios_fits c.args.self.now.locks.now c.args.self.now.seats.now c.requires.holds c.deref.result.now c.deref.ensures.value c.args.number c.place-at.result c.requires.pool c.place-at.ensures c.args.ask c.requires.named
+    c.requires.fits
+
+pub returns-clause-calls : goal.returns-clause-calls
+returns-clause-calls g c =
+    bios_called c.args.self.now.locks.now c.args.self.now.seats.now c.requires.holds c.deref.result.now c.deref.ensures.value c.args.number c.place-at.result c.requires.pool c.place-at.ensures c.args.ask c.requires.named
+    c.call_at.result c.call_at.new.seats c.call_at.new.pass c.call_at.ensures
+
+pub returns-clause-kept : goal.returns-clause-kept
+returns-clause-kept g c =
+    bios_holds c.args.self.now.locks.now c.args.self.now.seats.now c.requires.holds c.deref.result.now c.deref.ensures.value c.args.number c.place-at.result c.requires.pool c.place-at.ensures c.args.ask c.requires.named
+    c.call_at.result c.call_at.new.seats c.call_at.new.pass c.call_at.ensures
+
+pub returns-clause-says : goal.returns-clause-says
+returns-clause-says g c =
+    bios_says c.args.self.now.locks.now c.args.self.now.seats.now c.requires.holds c.deref.result.now c.deref.ensures.value c.args.number c.place-at.result c.requires.pool c.place-at.ensures c.args.ask c.requires.named
+    c.call_at.result c.call_at.new.seats c.call_at.new.pass c.call_at.ensures

@@ -1,0 +1,26 @@
+use Rattle.std.proofs.Common.{rules}
+use Rattle.shared_objects.proofs.Desked.{tally_fits, tally_called, tally_holds, tally_owed, tally_says}
+use Rattle.shared_objects.proofs.caller.Caller.ask_tally.Goals as goal
+
+pub call-requires-clause-fits : goal.call-requires-clause-fits
+call-requires-clause-fits g c = tally_fits c.args.self.now.locks.now c.args.self.now.seats.now c.requires.holds c.args.ask c.requires.named c.requires.fits
+
+pub returns-clause-calls : goal.returns-clause-calls
+returns-clause-calls g c =
+    tally_called c.args.self.now.locks.now c.args.self.now.seats.now c.requires.holds c.args.ask c.requires.named
+    c.call.result c.call.new.seat c.call.new.pass c.call.ensures.of c.call.ensures.asked
+
+pub returns-clause-kept : goal.returns-clause-kept
+returns-clause-kept g c =
+    tally_holds c.args.self.now.locks.now c.args.self.now.seats.now c.requires.holds c.args.ask c.requires.named
+    c.call.result c.call.new.seat c.call.new.pass c.call.ensures.of c.call.ensures.asked
+
+pub returns-clause-owed : goal.returns-clause-owed
+returns-clause-owed g c =
+    tally_owed c.args.self.now.locks.now c.args.self.now.seats.now c.requires.holds c.args.ask c.requires.named
+    c.call.result c.call.new.seat c.call.new.pass c.call.ensures.of c.call.ensures.asked
+
+pub returns-clause-says : goal.returns-clause-says
+returns-clause-says g c =
+    tally_says c.args.self.now.locks.now c.args.self.now.seats.now c.requires.holds c.args.ask c.requires.named
+    c.call.result c.call.new.seat c.call.new.pass c.call.ensures.of c.call.ensures.asked

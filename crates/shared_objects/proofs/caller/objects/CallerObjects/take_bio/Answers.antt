@@ -1,0 +1,12 @@
+use Rattle.std.proofs.Common.{rules}
+use Rattle.shared_objects.specs.Holding.{desk_of, stage_at}
+use Rattle.shared_objects.proofs.Takes.{bio_served}
+use Rattle.shared_objects.proofs.caller.objects.CallerObjects.take_bio.Goals as goal
+
+pub returns-clause-serves : goal.returns-clause-serves
+returns-clause-serves g c = (
+  bio_served (desk_of c.args.self.now.seats.now) (desk_of c.ask_bios.new.self.seats.now) c.pool_of-pool.result c.in-Took.pool c.in-Took.ensures.says.0 c.args.set c.args.waits
+      ((stage_at c.args.self.now.locks.now).ledger c.no.result) c.in-Took.result c.pool_of-pool.ensures c.in-Took.ensures.says.1 c.in-Took.ensures.calls,
+  c.in-Took.ensures.same,
+  c.in-Took.ensures.lent,
+)

@@ -1,0 +1,290 @@
+//! Who calls, as the objects of its task.
+ghost use Rattle.std.specs.Prelude.{◌≡◌, IfErr};
+ghost use Rattle.stack_base.specs.declared.ids.PoolId.TheVariants.{FsVecs, Records};
+ghost use Rattle.bioset_pools.specs.Sets.{bios_of};
+ghost use Rattle.run_machine.specs.Requests.{Complete, LeftOver, Resize};
+ghost use Rattle.task_steps.specs.declared.objects.Unmade.TheVariants as unmade;
+ghost use Rattle.task_steps.specs.Stage.{RequestFits};
+ghost use Rattle.task_steps.specs.Views.{completed_reply, resized_reply};
+ghost use Rattle.object_things.specs.declared.disk.DiskAsk.TheVariants as asks;
+ghost use Rattle.object_things.specs.declared.disk.DiskSaid.TheVariants as says;
+ghost use Rattle.object_things.specs.Disks.{DiskSays};
+ghost use Rattle.shared_objects.specs.Desks.{HasCalled};
+ghost use Rattle.shared_objects.specs.Holding.{DeskHolds, desk_of, stage_at};
+
+use crate::caller::Caller;
+use bio_books::{Dropped, Link};
+use bio_records::{BioBody, BioElement, BioList, Pad, Slip, SlipElement, VecElement, Vector};
+use mempool_core::Taken;
+use model_disks::Done;
+use object_things::{
+    BookAsk, BookSaid, DiskAsk, DiskSaid, ListAsk, ListSaid, PoolAsk, PoolSaid, TallyAsk, TallySaid,
+};
+use stack_base::{DevId, PoolId, SetId, Status};
+use std::sync::Wait;
+use task_core::dev_of;
+use task_steps::{Ask, Chooser, Objects, Unmade};
+
+// The pool of a set's bios.
+fn pool_of(set: SetId) -> PoolId
+    ensures { result ≡ bios_of set }
+{
+    match set {
+        SetId::Fs => PoolId::FsBios,
+        SetId::Of(dev) => PoolId::Bios(dev),
+    }
+}
+
+impl<'a, R: Wait> Caller<'a, R> {
+    // How many bios wait in a disk.
+    fn look_at(&mut self, disk: DevId) -> u64
+        requires holds { DeskHolds self.old.locks.now self.old.seats.now }
+        requires fits { RequestFits (stage_at self.old.locks.now) (Complete disk) }
+        ensures calls { HasCalled (desk_of self.old.seats.now) (Complete disk) (LeftOver result) (desk_of self.new.seats.now) }
+        ensures kept { DeskHolds self.old.locks.now self.new.seats.now }
+        ensures same { self.new.locks.now ≡ self.old.locks.now }
+        ensures lent { self.new.seats.ghost_name ≡ self.old.seats.ghost_name }
+    {
+        match self.ask_disk(disk, DiskAsk::Look { disk }) {
+            DiskSaid::Waiting(count) => count,
+            DiskSaid::Pushed(_) | DiskSaid::Completed(_) => unreachable!(),
+        }
+    }
+
+    // Completes the bio at this place of those that wait, or the last one where there are fewer by now.
+    fn complete_at(&mut self, disk: DevId, index: u64) -> Result<Option<(u64, Done)>, Unmade>
+        requires holds { DeskHolds self.old.locks.now self.old.seats.now }
+        requires fits { RequestFits (stage_at self.old.locks.now) (Complete disk) }
+        ensures calls { HasCalled (desk_of self.old.seats.now) (Complete disk) (completed_reply result) (desk_of self.new.seats.now) }
+        ensures says { DiskSays (stage_at self.old.locks.now) (asks.Complete disk index) (says.Completed result) }
+        ensures kept { DeskHolds self.old.locks.now self.new.seats.now }
+        ensures same { self.new.locks.now ≡ self.old.locks.now }
+        ensures lent { self.new.seats.ghost_name ≡ self.old.seats.ghost_name }
+    {
+        match self.ask_disk(disk, DiskAsk::Complete { disk, index }) {
+            DiskSaid::Completed(result) => result,
+            DiskSaid::Pushed(_) | DiskSaid::Waiting(_) => unreachable!(),
+        }
+    }
+
+    // Sets the reserve of a set's pool of bios, where nothing of it is out.
+    #[tactic(auto, using(crate::proofs::Takes::set_has_pool))]
+    fn resize_bios(&mut self, set: SetId, min: u32) -> Result<u64, Unmade>
+        requires holds { DeskHolds self.old.locks.now self.old.seats.now }
+        requires fits { RequestFits (stage_at self.old.locks.now) (Resize (bios_of set) min) }
+        ensures calls { HasCalled (desk_of self.old.seats.now) (Resize (bios_of set) min) (resized_reply result) (desk_of self.new.seats.now) }
+        ensures back { IfErr result (λ back. back ≡ unmade.Nothing) }
+        ensures kept { DeskHolds self.old.locks.now self.new.seats.now }
+        ensures same { self.new.locks.now ≡ self.old.locks.now }
+        ensures lent { self.new.seats.ghost_name ≡ self.old.seats.ghost_name }
+    {
+        let pool = pool_of(set);
+        match self.ask_bios(pool.no(), PoolAsk::Resize { pool, min }) {
+            PoolSaid::Resized(result) => result,
+            PoolSaid::Took { .. } | PoolSaid::Gave(_) => unreachable!(),
+        }
+    }
+
+    // The same of the pool of vectors.
+    fn resize_vecs(&mut self, min: u32) -> Result<u64, Unmade>
+        requires holds { DeskHolds self.old.locks.now self.old.seats.now }
+        requires fits { RequestFits (stage_at self.old.locks.now) (Resize FsVecs min) }
+        ensures calls { HasCalled (desk_of self.old.seats.now) (Resize FsVecs min) (resized_reply result) (desk_of self.new.seats.now) }
+        ensures back { IfErr result (λ back. back ≡ unmade.Nothing) }
+        ensures kept { DeskHolds self.old.locks.now self.new.seats.now }
+        ensures same { self.new.locks.now ≡ self.old.locks.now }
+        ensures lent { self.new.seats.ghost_name ≡ self.old.seats.ghost_name }
+    {
+        let pool = PoolId::FsVecs;
+        match self.ask_vecs(PoolAsk::Resize { pool, min }) {
+            PoolSaid::Resized(result) => result,
+            PoolSaid::Took { .. } | PoolSaid::Gave(_) => unreachable!(),
+        }
+    }
+
+    // The same of the pool of a mirror's records.
+    #[tactic(auto, using(crate::proofs::Takes::mirror_is_pool))]
+    fn resize_records(&mut self, dev: DevId, min: u32) -> Result<u64, Unmade>
+        requires holds { DeskHolds self.old.locks.now self.old.seats.now }
+        requires fits { RequestFits (stage_at self.old.locks.now) (Resize (Records dev) min) }
+        ensures calls { HasCalled (desk_of self.old.seats.now) (Resize (Records dev) min) (resized_reply result) (desk_of self.new.seats.now) }
+        ensures back { IfErr result (λ back. back ≡ unmade.Nothing) }
+        ensures kept { DeskHolds self.old.locks.now self.new.seats.now }
+        ensures same { self.new.locks.now ≡ self.old.locks.now }
+        ensures lent { self.new.seats.ghost_name ≡ self.old.seats.ghost_name }
+    {
+        let pool = PoolId::Records(dev);
+        match self.ask_records(pool.no(), PoolAsk::Resize { pool, min }) {
+            PoolSaid::Resized(result) => result,
+            PoolSaid::Took { .. } | PoolSaid::Gave(_) => unreachable!(),
+        }
+    }
+}
+
+impl<'a, R: Wait> Objects for Caller<'a, R> {
+    ghost use Rattle.shared_objects.specs.Desks.{DeskPicks, DeskServes};
+    ghost use Rattle.shared_objects.specs.Holding.{DeskHolds, desk_of, stage_at};
+
+    ghost stage = { λ caller. stage_at caller.locks.now };
+
+    ghost holds = { λ caller. DeskHolds caller.locks.now caller.seats.now };
+
+    ghost serves = { λ old request reply new. DeskServes (desk_of old.seats.now) request reply (desk_of new.seats.now) × (new.locks.now ≡ old.locks.now) × (new.seats.ghost_name ≡ old.seats.ghost_name) };
+
+    ghost picks = { λ caller. DeskPicks };
+
+    #[tactic(auto, using(crate::proofs::Takes::take_named, crate::proofs::Takes::bios_waits, crate::proofs::Takes::set_is_pool, crate::proofs::Takes::bio_served, crate::proofs::Takes::bio_owed, crate::proofs::Takes::bio_clear, crate::proofs::Takes::back_none, crate::proofs::Takes::desk_numbered))]
+    fn take_bio(&mut self, set: SetId, waits: bool) -> Result<Taken<BioBody<Pad>>, Unmade> {
+        let pool = pool_of(set);
+        match self.ask_bios(pool.no(), PoolAsk::Take { pool, waits }) {
+            PoolSaid::Took { pool: _, result } => result,
+            PoolSaid::Gave(_) | PoolSaid::Resized(_) => unreachable!(),
+        }
+    }
+
+    #[tactic(auto, using(crate::proofs::Takes::vec_served, crate::proofs::Takes::vec_owed, crate::proofs::Takes::back_none, crate::proofs::Takes::desk_numbered))]
+    fn take_vec(&mut self) -> Result<Taken<Vector>, Unmade> {
+        let pool = PoolId::FsVecs;
+        match self.ask_vecs(PoolAsk::Take { pool, waits: true }) {
+            PoolSaid::Took { pool: _, result } => result,
+            PoolSaid::Gave(_) | PoolSaid::Resized(_) => unreachable!(),
+        }
+    }
+
+    #[tactic(auto, using(crate::proofs::Takes::mirror_is_pool, crate::proofs::Takes::slip_served, crate::proofs::Takes::slip_owed, crate::proofs::Takes::back_none, crate::proofs::Takes::desk_numbered))]
+    fn take_slip(&mut self, dev: DevId) -> Result<Taken<Slip>, Unmade> {
+        let pool = PoolId::Records(dev);
+        match self.ask_records(pool.no(), PoolAsk::Take { pool, waits: true }) {
+            PoolSaid::Took { pool: _, result } => result,
+            PoolSaid::Gave(_) | PoolSaid::Resized(_) => unreachable!(),
+        }
+    }
+
+    fn give_bio(&mut self, el: BioElement) -> Result<(), Unmade> {
+        // The element knows its pool. The name says only that it is one of bios, as all of a pool's history does.
+        let pool = PoolId::FsBios;
+        match self.ask_bios(el.no(), PoolAsk::Give { pool, el }) {
+            PoolSaid::Gave(Ok(())) => Ok(()),
+            PoolSaid::Gave(Err(el)) => Err(Unmade::Bio(el)),
+            PoolSaid::Took { .. } | PoolSaid::Resized(_) => unreachable!(),
+        }
+    }
+
+    fn give_vec(&mut self, el: VecElement) -> Result<(), Unmade> {
+        let pool = PoolId::FsVecs;
+        match self.ask_vecs(PoolAsk::Give { pool, el }) {
+            PoolSaid::Gave(Ok(())) => Ok(()),
+            PoolSaid::Gave(Err(el)) => Err(Unmade::Vec(el)),
+            PoolSaid::Took { .. } | PoolSaid::Resized(_) => unreachable!(),
+        }
+    }
+
+    fn give_slip(&mut self, el: SlipElement) -> Result<(), Unmade> {
+        let number = el.no();
+        // The pools of records have odd numbers.
+        let pool = PoolId::Records(DevId(number / 2));
+        match self.ask_records(number, PoolAsk::Give { pool, el }) {
+            PoolSaid::Gave(Ok(())) => Ok(()),
+            PoolSaid::Gave(Err(el)) => Err(Unmade::Slip(el)),
+            PoolSaid::Took { .. } | PoolSaid::Resized(_) => unreachable!(),
+        }
+    }
+
+    fn punt(&mut self, dev: DevId, moved: BioList) -> Result<(), Unmade> {
+        match self.ask_list(dev, ListAsk::Punt { dev, moved }) {
+            ListSaid::Punted(result) => result,
+            ListSaid::Popped(_) => unreachable!(),
+        }
+    }
+
+    fn pop(&mut self, dev: DevId) -> Result<Option<BioElement>, Unmade> {
+        match self.ask_list(dev, ListAsk::Pop { dev }) {
+            ListSaid::Popped(result) => result,
+            ListSaid::Punted(_) => unreachable!(),
+        }
+    }
+
+    fn push(&mut self, el: BioElement) -> Result<(), Unmade> {
+        let disk = dev_of(&el);
+        match self.ask_disk(disk, DiskAsk::Push { el }) {
+            DiskSaid::Pushed(result) => result,
+            DiskSaid::Waiting(_) | DiskSaid::Completed(_) => unreachable!(),
+        }
+    }
+
+    fn complete<C: Chooser>(
+        &mut self,
+        disk: DevId,
+        chooser: &mut C,
+    ) -> Result<Option<(u64, Done)>, Unmade> {
+        let pending = self.look_at(disk);
+        if pending == 0 {
+            return Ok(None);
+        }
+        let index = chooser.choose(pending);
+        self.complete_at(disk, index)
+    }
+
+    fn link(&mut self, writer: u32, ask: Ask) -> Result<Link, Unmade> {
+        match self.ask_book(writer, BookAsk::Link { writer, ask }) {
+            BookSaid::Linked(result) => result,
+            BookSaid::Dropped(_) => unreachable!(),
+        }
+    }
+
+    fn drop_one(
+        &mut self,
+        writer: u32,
+        node: u32,
+        status: Status,
+        part: Option<BioElement>,
+    ) -> Result<Dropped, Unmade> {
+        let ask = BookAsk::Drop {
+            writer,
+            node,
+            status,
+            part,
+        };
+        match self.ask_book(writer, ask) {
+            BookSaid::Dropped(result) => result,
+            BookSaid::Linked(_) => unreachable!(),
+        }
+    }
+
+    fn done(&mut self, write: u32, status: Status) -> Result<(), Unmade> {
+        match self.ask_tally(TallyAsk::Done { write, status }) {
+            TallySaid::Did(result) => result,
+            TallySaid::Round(_) | TallySaid::Left(_) => unreachable!(),
+        }
+    }
+
+    fn resize(&mut self, pool: PoolId, min: u32) -> Result<u64, Unmade> {
+        match pool {
+            PoolId::FsBios => self.resize_bios(SetId::Fs, min),
+            PoolId::FsVecs => self.resize_vecs(min),
+            PoolId::Bios(dev) => self.resize_bios(SetId::Of(dev), min),
+            PoolId::Records(dev) => self.resize_records(dev, min),
+        }
+    }
+
+    fn next_round(&mut self) -> Result<(), Unmade> {
+        match self.ask_tally(TallyAsk::Next) {
+            TallySaid::Did(result) => result,
+            TallySaid::Round(_) | TallySaid::Left(_) => unreachable!(),
+        }
+    }
+
+    fn left(&mut self) -> u32 {
+        match self.ask_tally(TallyAsk::Left) {
+            TallySaid::Left(count) => count,
+            TallySaid::Did(_) | TallySaid::Round(_) => unreachable!(),
+        }
+    }
+
+    fn round(&mut self) -> u32 {
+        match self.ask_tally(TallyAsk::Round) {
+            TallySaid::Round(round) => round,
+            TallySaid::Did(_) | TallySaid::Left(_) => unreachable!(),
+        }
+    }
+}
