@@ -15,7 +15,7 @@ use Rattle.run_machine.specs.Scenario.{scenario_of}
 use Rattle.block_core.specs.Runnable.{IsRunnable}
 use Rattle.block_core.proofs.claim.Runnable.{accepted_texts_are_runnable}
 use Rattle.plain_core.specs.Cores.{CoreState, scene_of_core, state_of_core}
-use Rattle.plain_core.specs.Opening.{IsOpenedCore}
+use Rattle.plain_core.specs.opening.Opening.{IsOpenedCore}
 use Rattle.report_text.specs.Pools.{told_pools}
 use Rattle.trace_text.specs.Names.{DevicesAreNamed}
 use Rattle.trace_replay.specs.Answer.{replay_text}

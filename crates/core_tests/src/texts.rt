@@ -10,7 +10,7 @@ ghost use Rattle.layout_model.specs.Writes.{IsWrite};
 ghost use Rattle.work_text.specs.declared.Resize.{Resize as Resizes};
 ghost use Rattle.run_machine.specs.ReadBehind.{IsReadBehind};
 ghost use Rattle.trace_text.specs.Names.{DevicesAreNamed};
-ghost use Rattle.plain_core.specs.Opening.{CanOpen};
+ghost use Rattle.plain_core.specs.opening.Opening.{CanOpen};
 
 use decl_text::{Accepted, ReadFault, read_decl};
 use fail_script::Script;

@@ -11,11 +11,11 @@ use Rattle.run_machine.specs.Opened.{most_writers, no_task}
 use Rattle.task_steps.specs.Routed.{Routing, routing_setup}
 use Rattle.task_steps.specs.Within.{TaskFits}
 use Rattle.run_machine.specs.declared.event.What.{What}
-use Rattle.plain_core.specs.declared.task.Task.{Task}
-use Rattle.plain_core.specs.Views.{task_of_plain}
-use Rattle.plain_core.specs.Steps.{Submits, TaskMoves}
-use Rattle.plain_core.specs.Ledgers.{ledger_of}
-use Rattle.plain_core.specs.Plain.{CoreObjects, objects_of_core}
+use Rattle.plain_core.specs.declared.steps.task.Task.{Task}
+use Rattle.plain_core.specs.steps.Views.{task_of_plain}
+use Rattle.plain_core.specs.steps.Moves.{Submits, TaskMoves}
+use Rattle.plain_core.specs.objects.Ledgers.{ledger_of}
+use Rattle.plain_core.specs.objects.Plain.{CoreObjects, objects_of_core}
 use Rattle.plain_core.specs.declared.fault.CoreFault.{CoreFault}
 use Rattle.plain_core.specs.declared.fault.CoreFault.TheVariants as fault
 

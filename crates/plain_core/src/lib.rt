@@ -3,42 +3,24 @@
 //! No element stands behind it: a bio, a vector or a record that is out of a pool is told by the pool's number.
 #![tactic(auto)]
 
-mod asks;
-mod book;
-mod disk;
 mod fault;
-mod free;
 pub mod laws;
-mod line;
-mod lists;
-mod need;
-mod node;
 mod objects;
 mod opening;
-mod part;
-mod pool;
-mod rounds;
-mod seats;
-mod seen_objects;
-mod seen_tasks;
 mod state;
-mod step;
-mod tally;
-mod task;
-mod todos;
-mod told;
+mod steps;
 
-pub use book::{Book, Ended};
-pub use disk::Disk;
 pub use fault::CoreFault;
-pub use lists::{Lists, Rescue};
-pub use node::{Closed, Holding, Node};
 pub use objects::Objects;
-pub use part::{Data, Hand, Part, Slip, Vector};
-pub use pool::Pool;
+pub use objects::book::{Book, Ended};
+pub use objects::disk::Disk;
+pub use objects::lists::{Lists, Rescue};
+pub use objects::node::{Closed, Holding, Node};
+pub use objects::part::{Data, Hand, Part, Slip, Vector};
+pub use objects::pool::Pool;
+pub use objects::tally::Tally;
 pub use state::Core;
-pub use tally::Tally;
-pub use task::{
+pub use steps::task::{
     Ask, Carried, Completer, Copying, Doing, Duty, Keeper, Line, Rescuer, Taken, Task, Todo, Want,
     Writer,
 };

@@ -1,20 +1,28 @@
 //! The objects of a run as plain data.
-ghost use Rattle.std.specs.Prelude.{◌≡◌, ℕ, ◌+◌, ◌-◌, ◌<◌, ◌==◌, length, sum, Option, None, Some, MatchBool, MatchOption};
+ghost use Rattle.std.specs.Prelude.{◌≡◌, ℕ, ◌+◌, ◌-◌, ◌<◌, ◌==◌, length, sum, Option, None, Some};
 ghost use Rattle.std.specs.List.{list_all};
 ghost use Rattle.stack_base.specs.PoolId.{pool_number};
-ghost use Rattle.mempool_core.specs.Move.{takes_spare, CanMove};
 ghost use Rattle.bio_books.specs.Books.{node_at};
 ghost use Rattle.bio_books.specs.Links.{IsVacant};
-ghost use Rattle.plain_core.specs.Free.{IsCountAt, IsShort, IsDecisionOf};
-ghost use Rattle.plain_core.specs.Plain.{HasPlacesForStack, core_book_at, core_disk_at, is_home, core_pool_at, core_rescue_at};
+ghost use Rattle.plain_core.specs.objects.Questions.{IsDecisionOf, TellsSpare, TellsCount};
+ghost use Rattle.plain_core.specs.objects.Plain.{HasPlacesForStack, core_book_at, core_disk_at, is_home, core_pool_at, core_rescue_at};
 
+pub(crate) mod book;
+pub(crate) mod disk;
+mod links;
+pub(crate) mod lists;
 mod moves;
+pub(crate) mod node;
+pub(crate) mod part;
+pub(crate) mod pool;
+pub(crate) mod tally;
+pub(crate) mod told;
 
-use crate::book::Book;
-use crate::disk::Disk;
-use crate::lists::Rescue;
-use crate::pool::Pool;
-use crate::tally::Tally;
+use crate::objects::book::Book;
+use crate::objects::disk::Disk;
+use crate::objects::lists::Rescue;
+use crate::objects::pool::Pool;
+use crate::objects::tally::Tally;
 use mempool_core::Facts;
 use stack_base::{DevId, PoolId};
 use std::marker::Model;
@@ -48,7 +56,7 @@ pub struct Objects {
 }
 
 impl Model for Objects {
-    ghost use Rattle.plain_core.specs.Plain.{CoreObjects, HasPlacesForStack};
+    ghost use Rattle.plain_core.specs.objects.Plain.{CoreObjects, HasPlacesForStack};
 
     ghost Value = { CoreObjects };
 
@@ -131,7 +139,7 @@ impl Objects {
 
     /// Whether a take of this pool can have a spare.
     pub fn has_spare(&self, pool: PoolId) -> bool
-        ensures { MatchBool result (CanMove (core_pool_at self.now (pool_number pool)) takes_spare) (IsShort (core_pool_at self.now (pool_number pool))) }
+        ensures { TellsSpare result (core_pool_at self.now (pool_number pool)) }
     {
         match self.pools.get(number_of(pool) as usize) {
             None => false,
@@ -206,7 +214,7 @@ impl Objects {
 
     /// How many ends the node at a place of the writer's book waits for, if one is open there.
     pub fn count_at(&self, writer: u32, place: u32) -> Option<u64>
-        ensures { MatchOption result (node_at (core_book_at self.now writer) place ≡ None) (IsCountAt (node_at (core_book_at self.now writer) place)) }
+        ensures { TellsCount result (node_at (core_book_at self.now writer) place) }
     {
         self.books.get(writer as usize)?.count_at(place)
     }

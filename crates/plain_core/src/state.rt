@@ -3,24 +3,24 @@ ghost use Rattle.std.specs.Prelude.{◌≡◌, ◌<◌, map, length, slice_get, 
 ghost use Rattle.task_steps.specs.Routed.{routing_setup};
 ghost use Rattle.task_steps.specs.Within.{TaskFits};
 ghost use Rattle.task_core.specs.opened.OfOne.{IsOpened as AreTheFirst, scenario_in};
-ghost use Rattle.plain_core.specs.Views.{task_of_plain};
-ghost use Rattle.plain_core.specs.Opening.{CanOpen, IsOpenedCore, scenario_by};
+ghost use Rattle.plain_core.specs.steps.Views.{task_of_plain};
+ghost use Rattle.plain_core.specs.opening.Opening.{CanOpen, IsOpenedCore, scenario_by};
 ghost use Rattle.stack_base.specs.PoolId.{pool_number};
 ghost use Rattle.run_machine.specs.Runs.{HasEnded, HasFree, unfinished};
-ghost use Rattle.plain_core.specs.Free.{IsFirstFree};
+ghost use Rattle.plain_core.specs.steps.Free.{IsFirstFree};
 ghost use Rattle.plain_core.specs.Cores.{scene_of_core, state_of_core, task_at, AreFound, IsPlaceOfTask, HasNoTask, StepsAt, Applies};
 
 use crate::fault::CoreFault;
-use crate::free::task_is_free;
 use crate::objects::{Objects, number_of};
-use crate::opening::open_objects;
-use crate::rounds::{counts_of, duties_of};
-use crate::seats::{seat_all, slot_of};
-use crate::seen_objects::objects_seen;
-use crate::seen_tasks::tasks_seen;
-use crate::step::task_step;
-use crate::task::Task;
-use crate::todos::places;
+use crate::opening::objects::open_objects;
+use crate::opening::rounds::{counts_of, duties_of};
+use crate::opening::seats::{seat_all, slot_of};
+use crate::opening::seen_objects::objects_seen;
+use crate::opening::seen_tasks::tasks_seen;
+use crate::opening::todos::places;
+use crate::steps::free::task_is_free;
+use crate::steps::task::Task;
+use crate::steps::task_step;
 use fail_script::Script;
 use mempool_core::Facts;
 use stack_base::{PoolId, Stack};
@@ -43,7 +43,7 @@ pub struct Core {
 
 impl Model for Core {
     ghost use Rattle.std.specs.Prelude.{map};
-    ghost use Rattle.plain_core.specs.Views.{task_of_plain};
+    ghost use Rattle.plain_core.specs.steps.Views.{task_of_plain};
     ghost use Rattle.plain_core.specs.Cores.{CoreState, IsCore};
 
     ghost Value = { CoreState };

@@ -13,8 +13,8 @@ use Rattle.run_machine.specs.Runs.{State, Happens, IsRun}
 use Rattle.run_machine.proofs.Apart.{runs_lead_to_one_state}
 use Rattle.run_machine.proofs.OneState.{events_lead_to_one_state}
 use Rattle.plain_core.specs.Cores.{CoreState, scene_of_core, state_of_core}
-use Rattle.plain_core.specs.Ledgers.{ledger_of}
-use Rattle.plain_core.specs.Opening.{IsOpenedCore}
+use Rattle.plain_core.specs.objects.Ledgers.{ledger_of}
+use Rattle.plain_core.specs.opening.Opening.{IsOpenedCore}
 use Rattle.trace_replay.specs.Names.{Names, names_after, event_placed, no_names}
 use Rattle.trace_replay.specs.Replay.{AreLinesOf, IsReplay, StopsAt, TellsEvent}
 use Rattle.trace_replay.specs.Exact.{IsReplayOf, RunsHaveNoBadLine, TellRun}

@@ -2,7 +2,7 @@
 use Rattle.std.proofs.Common.{refl, subst}
 use Rattle.run_machine.specs.Opened.{scene}
 use Rattle.block_core.proofs.stuck.NeverStuck.{no_allowed_state_is_stuck}
-use Rattle.plain_core.specs.Ledgers.{ledger_of}
+use Rattle.plain_core.specs.objects.Ledgers.{ledger_of}
 use Rattle.trace_replay.specs.Exact.{NoneIsStuck}
 use Rattle.trace_replay.specs.Replay.{IsFinish}
 use Rattle.trace_replay.specs.declared.walk.Finish.{Finish}

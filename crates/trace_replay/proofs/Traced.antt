@@ -20,7 +20,7 @@ use Rattle.block_core.specs.Scenarios.{IsScenario, IsNaming}
 use Rattle.trace_text.specs.Laws.{IsEventLine, EventsAreApart, LinesAreText}
 use Rattle.trace_text.specs.Lines.{line_of_event}
 use Rattle.trace_text.specs.Names.{DevicesAreNamed}
-use Rattle.plain_core.specs.Ledgers.{ledger_of}
+use Rattle.plain_core.specs.objects.Ledgers.{ledger_of}
 use Rattle.report_text.specs.Report.{report}
 use Rattle.trace_replay.specs.Exact.{IsReplayOf, TellRun, RunsHaveNoBadLine}
 use Rattle.trace_replay.specs.Lines.{is_told, told_in}

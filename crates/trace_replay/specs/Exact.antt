@@ -6,7 +6,7 @@ use Rattle.run_machine.specs.declared.event.Event.{Event}
 use Rattle.run_machine.specs.Opened.{Scenario, scene, start}
 use Rattle.run_machine.specs.Runs.{State, IsRun}
 use Rattle.block_core.specs.Runnable.{IsRunnable}
-use Rattle.plain_core.specs.Ledgers.{ledger_of}
+use Rattle.plain_core.specs.objects.Ledgers.{ledger_of}
 use Rattle.trace_replay.specs.Names.{Names, no_names}
 use Rattle.trace_replay.specs.Replay.{AreLinesOf, IsReplay}
 use Rattle.trace_replay.specs.declared.walk.Finish.TheVariants.{Stuck}

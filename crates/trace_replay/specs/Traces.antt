@@ -16,7 +16,7 @@ use Rattle.run_machine.specs.Runs.{State, IsRun, IsEnabled, HasEnded}
 use Rattle.block_core.specs.Scenarios.{IsScenario, IsNaming}
 use Rattle.trace_text.specs.Lines.{line_of_event}
 use Rattle.trace_text.specs.Names.{DevicesAreNamed}
-use Rattle.plain_core.specs.Ledgers.{ledger_of}
+use Rattle.plain_core.specs.objects.Ledgers.{ledger_of}
 use Rattle.report_text.specs.Report.{Reported, report}
 use Rattle.trace_replay.specs.Exact.{IsReplayOf, TellRun}
 use Rattle.trace_replay.specs.Lines.{is_told, told_in}

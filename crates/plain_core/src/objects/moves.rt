@@ -1,31 +1,24 @@
 //! What events make of the objects: each call is handed the event, and refuses it where it is none that the object can do.
-ghost use Rattle.std.specs.Prelude.{◌≡◌, ℕ, ◌+◌, ◌-◌, ◌<◌, ◌≤◌, ◌==◌, true, length, Option, None, Some, IsSomeAnd, MatchOption, OnOk, OnErr};
+ghost use Rattle.std.specs.Prelude.{◌≡◌, ℕ, ◌+◌, ◌-◌, ◌<◌, ◌≤◌, ◌==◌, true, length, Option, None, Some, IsSomeAnd, OnOk, OnErr};
 ghost use Rattle.stack_base.specs.PoolId.{pool_number};
 ghost use Rattle.stack_base.specs.Tree.{tree};
-ghost use Rattle.bio_records.specs.declared.bio.Pad.{Pad};
-ghost use Rattle.bio_records.specs.Items.{Item};
 ghost use Rattle.mempool_core.specs.Move.{gives, resizes};
-ghost use Rattle.model_disks.specs.Disks.{DiskState};
 ghost use Rattle.run_machine.specs.declared.event.What.TheVariants as told;
 ghost use Rattle.run_machine.specs.Events.{pool_of};
-ghost use Rattle.run_machine.specs.Requests.{Write, Chain, Master, Leg};
-ghost use Rattle.run_machine.specs.Objects.{done_one};
 ghost use Rattle.run_machine.specs.Scene.{keeps_data};
 ghost use Rattle.task_steps.specs.Within.{IsWithinDevice, ListsAreWithin};
-ghost use Rattle.plain_core.specs.Lists.{lists_of, ListsHaveCapacity};
-ghost use Rattle.plain_core.specs.Plain.{Gives, HasSize};
-ghost use Rattle.plain_core.specs.Told.{Takes, MovesAs, Punts, Pops, Pushes, PushesIn, IsComplete, CompletesIn, Links, Joins, IsDrop};
+ghost use Rattle.plain_core.specs.objects.Lists.{lists_of, ListsHaveCapacity};
+ghost use Rattle.plain_core.specs.objects.Plain.{HasSize};
+ghost use Rattle.plain_core.specs.objects.Told.{Takes, MovesAs, Punts, Pops, Pushes, PushesIn, IsComplete, CompletesInOrNot, Finishes, StartsRound};
 
-use crate::book::Ended;
-use crate::disk::Disk;
 use crate::fault::CoreFault;
-use crate::lists::Lists;
-use crate::objects::Objects;
-use crate::part::{Part, Slip, Vector};
-use crate::told;
+use crate::objects::disk::Disk;
+use crate::objects::lists::Lists;
+use crate::objects::part::Part;
+use crate::objects::{Objects, told};
 use stack_base::{DevId, PoolId, Status};
 use std::alloc::AllocError;
-use task_core::{Got, How, What};
+use task_core::{Got, What};
 
 // A bio comes to a disk.
 fn push_to(slot: &mut Option<Disk>, part: Part) -> Result<(), AllocError>
@@ -41,9 +34,7 @@ fn push_to(slot: &mut Option<Disk>, part: Part) -> Result<(), AllocError>
 
 // A disk, if it is one, ends a bio that waits in it.
 fn complete_in(slot: &mut Option<Disk>, index: u64, status: Status) -> Option<Part>
-    ensures completes { MatchOption result
-        ((slot.new ≡ slot.old) × ((part : Item Pad) (new : Option DiskState) → CompletesIn slot.old index part status new → ⊥))
-        (λ part. CompletesIn slot.old index part status slot.new) }
+    ensures completes { CompletesInOrNot slot.old index status result slot.new }
     ensures size { (sectors : ℕ) → HasSize sectors slot.old → HasSize sectors slot.new }
 {
     match slot {
@@ -169,129 +160,9 @@ impl Objects {
         }
     }
 
-    /// A write's node is opened.
-    pub fn open_write(
-        &mut self,
-        writer: u32,
-        write: u32,
-        vector: Option<Vector>,
-        what: &What,
-    ) -> Result<u32, CoreFault>
-        ensures { Links self.old writer (Write write vector) what.now result self.new }
-    {
-        let Some(place) = told::linked_of(what, writer, How::Write) else {
-            return Err(CoreFault::NotEnabled);
-        };
-        let Some(book) = self.books.get_mut(writer as usize) else {
-            return Err(CoreFault::NotEnabled);
-        };
-        if !book.open_write(write, vector, place) {
-            return Err(CoreFault::NotEnabled);
-        }
-        Ok(place)
-    }
-
-    /// The node of the front of a bio that is split is opened (`bio_chain`, `block/bio.c`). Where it is, the lists have room for what comes of it.
-    pub fn open_chain(
-        &mut self,
-        writer: u32,
-        parent: u32,
-        lists: &mut Lists,
-        what: &What,
-    ) -> Result<u32, CoreFault>
-        ensures joins { Joins self.old writer (Chain parent) what.now result self.new }
-        ensures same { lists_of lists.new ≡ lists_of lists.old }
-        ensures room { OnOk result (ListsHaveCapacity 2 lists.new) }
-    {
-        let Some(place) = told::linked_of(what, writer, How::Chain) else {
-            return Err(CoreFault::NotEnabled);
-        };
-        let Some(book) = self.books.get_mut(writer as usize) else {
-            return Err(CoreFault::NotEnabled);
-        };
-        match book.open_chain(parent, place, lists) {
-            Err(fault) => Err(fault),
-            Ok(()) => Ok(place),
-        }
-    }
-
-    /// A mirror's master is opened for a bio (`alloc_r1bio`, `drivers/md/raid1.c`). Where it is, the lists have room for what comes of it.
-    pub fn open_master(
-        &mut self,
-        part: &Part,
-        slip: &Slip,
-        legs: u32,
-        lists: &mut Lists,
-        what: &What,
-    ) -> Result<u32, CoreFault>
-        ensures joins { Joins self.old part.now.bio.writer (Master part.now.bio.node part.now slip.now legs) what.now result self.new }
-        ensures same { lists_of lists.new ≡ lists_of lists.old }
-        ensures room { OnOk result (ListsHaveCapacity 2 lists.new) }
-    {
-        let bio = part.bio();
-        let Some(place) = told::linked_of(what, bio.writer, How::Master) else {
-            return Err(CoreFault::NotEnabled);
-        };
-        let Some(book) = self.books.get_mut(bio.writer as usize) else {
-            return Err(CoreFault::NotEnabled);
-        };
-        match book.open_master(bio.node, part, slip, legs, place, lists) {
-            Err(fault) => Err(fault),
-            Ok(()) => Ok(place),
-        }
-    }
-
-    /// The node of a leg is opened. Where it is, the lists have room for what comes of it.
-    pub fn open_leg(
-        &mut self,
-        writer: u32,
-        master: u32,
-        lists: &mut Lists,
-        what: &What,
-    ) -> Result<u32, CoreFault>
-        ensures joins { Joins self.old writer (Leg master) what.now result self.new }
-        ensures same { lists_of lists.new ≡ lists_of lists.old }
-        ensures room { OnOk result (ListsHaveCapacity 2 lists.new) }
-    {
-        let Some(place) = told::linked_of(what, writer, How::Leg) else {
-            return Err(CoreFault::NotEnabled);
-        };
-        let Some(book) = self.books.get_mut(writer as usize) else {
-            return Err(CoreFault::NotEnabled);
-        };
-        match book.open_leg(master, place, lists) {
-            Err(fault) => Err(fault),
-            Ok(()) => Ok(place),
-        }
-    }
-
-    /// The node at this place is told of an end (`bio_endio`, `block/bio.c`).
-    pub fn tell(
-        &mut self,
-        writer: u32,
-        place: u32,
-        status: Status,
-        part: Option<Part>,
-        what: &What,
-    ) -> Result<Ended, CoreFault>
-        ensures { IsDrop self.old writer place status part what.now result self.new }
-    {
-        let Some(end) = told::dropped_of(what, writer, place, status) else {
-            return Err(CoreFault::NotEnabled);
-        };
-        match self.books.get_mut(writer as usize) {
-            None => Err(CoreFault::NotEnabled),
-            Some(book) => match book.tell(place, status, part, end) {
-                None => Err(CoreFault::NotEnabled),
-                Some(ended) => Ok(ended),
-            },
-        }
-    }
-
     /// A write is done.
     pub fn done(&mut self, write: u32, status: Status, what: &What) -> Result<(), CoreFault>
-        ensures { Gives self.old (λ done new. (what.now ≡ told.Done write status)
-            × (new ≡ record self.old { tally = done_one write status self.old.tally })) (what.now ≡ told.Done write status → ⊥) result self.new }
+        ensures { Finishes self.old write status what.now result self.new }
     {
         if !told::is_done(what, write, status) {
             return Err(CoreFault::NotEnabled);
@@ -302,9 +173,7 @@ impl Objects {
 
     /// The round behind the present one starts, which has this number.
     pub fn next_round(&mut self, round: u32, what: &What) -> Result<(), CoreFault>
-        ensures { Gives self.old (λ done new. (what.now ≡ told.Round round) × (self.old.tally.round + 1 < length self.old.tally.left)
-            × (new ≡ record self.old { tally = record self.old.tally { round = self.old.tally.round + 1 } }))
-            (what.now ≡ told.Round round → self.old.tally.round + 1 < length self.old.tally.left → ⊥) result self.new }
+        ensures { StartsRound self.old round what.now result self.new }
     {
         if !told::starts(what, round) || !self.tally.has_next() {
             return Err(CoreFault::NotEnabled);

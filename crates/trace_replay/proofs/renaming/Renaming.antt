@@ -21,7 +21,7 @@ use Rattle.run_machine.specs.declared.event.What.TheVariants as what
 use Rattle.run_machine.specs.Lines.{Want, Takes, Punts, Links, Ask, ToPush, ToCut, ToRecord, ToMaster, Doing, Rests, Drives, Copies, Breaks, Line}
 use Rattle.run_machine.specs.Tasks.{Taken, NoBio, HasBio, HasBoth, Carried, Empty, Brings, Carries, Fails, TaskState, Writer, Rescuer, Completer, Keeper}
 use Rattle.run_machine.specs.Requests.{Request, Reply, Opening, Write, Chain, Master, Leg, GiveBio, GiveVec, GiveSlip, Punt, Push, Link, Drop, HadBio, HadVec, HadSlip, Popped, Completed, LinkedTo, DroppedTo}
-use Rattle.plain_core.specs.Ledgers.{ledger_of}
+use Rattle.plain_core.specs.objects.Ledgers.{ledger_of}
 
 -- by writer and place, the other place of the node that is open there
 abbrev pub Places : Type 0

@@ -34,7 +34,7 @@ use Rattle.run_machine.proofs.Frames.{one_object_changes, upd_own}
 use Rattle.run_machine.proofs.OneObject.{one_object_decides}
 use Rattle.block_core.proofs.moves.Sums.{upd-same}
 use Rattle.block_core.proofs.moves.Deltas.{vacant_at}
-use Rattle.plain_core.specs.Ledgers.{ledger_of}
+use Rattle.plain_core.specs.objects.Ledgers.{ledger_of}
 use Rattle.trace_replay.specs.Names.{Names, names_after, placed}
 use Rattle.trace_replay.proofs.renaming.Renaming.{Places, bio_to, item_to, hand_to, vector_to, slip_to, disk_to, opening_to, request_to, writer_in, ended_to, reply_to, what_to}
 use Rattle.trace_replay.proofs.renaming.Books.{BookAlike, left_to, up_to, top_to, opened_to}

@@ -1,4 +1,4 @@
-use Rattle.plain_core.proofs.Readable.{can_open}
+use Rattle.plain_core.proofs.opening_lemmas.Readable.{can_open}
 use Rattle.plain_core.proofs.laws.accepted_texts_can_open.Goals as goal
 
 pub returns : goal.returns

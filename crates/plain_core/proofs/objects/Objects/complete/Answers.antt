@@ -1,7 +1,7 @@
 use Rattle.std.proofs.Common.{◌≡◌, rules, subst, None}
 use Rattle.std.specs.Prelude.{slice_index_or}
-use Rattle.plain_core.specs.Plain.{HasSize}
-use Rattle.plain_core.proofs.Places.{disked}
+use Rattle.plain_core.specs.objects.Plain.{HasSize}
+use Rattle.plain_core.proofs.object_lemmas.Places.{disked}
 use Rattle.plain_core.proofs.objects.Objects.complete.Goals as goal
 
 pub invariant_of-self-2 : goal.invariant_of-self-2

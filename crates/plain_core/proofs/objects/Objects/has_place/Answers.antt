@@ -2,8 +2,8 @@ use Rattle.std.proofs.Common.{◌≡◌, ℕ, [], rules, subst, sym}
 use Rattle.std.specs.Prelude.{slice_index_or}
 use Rattle.bio_books.specs.Books.{BookState}
 use Rattle.bio_books.specs.Links.{IsVacant}
-use Rattle.plain_core.specs.Free.{IsDecisionOf}
-use Rattle.plain_core.specs.Plain.{CoreObjects, core_book_at}
+use Rattle.plain_core.specs.objects.Questions.{IsDecisionOf}
+use Rattle.plain_core.specs.objects.Plain.{CoreObjects, core_book_at}
 use Rattle.plain_core.proofs.objects.Objects.has_place.Goals as goal
 
 pub returns-in-Some : goal.returns-in-Some

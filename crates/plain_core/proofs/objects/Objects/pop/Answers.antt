@@ -2,7 +2,7 @@ use Rattle.std.proofs.Common.{◌≡◌, rules, sym, subst, []}
 use Rattle.std.specs.Prelude.{slice_index_or}
 use Rattle.std.proofs.lemmas.List.Elements.{All-drop}
 use Rattle.task_steps.specs.Within.{AreWithin, IsItemWithin}
-use Rattle.plain_core.proofs.Places.{rescued}
+use Rattle.plain_core.proofs.object_lemmas.Places.{rescued}
 use Rattle.plain_core.proofs.objects.Objects.pop.Goals as goal
 
 pub invariant_of-self-2 : goal.invariant_of-self-2

@@ -2,9 +2,9 @@ use Rattle.std.proofs.Common.{◌≡◌, rules, sym, subst, []}
 use Rattle.std.specs.Prelude.{slice_index_or}
 use Rattle.std.proofs.lemmas.List.Elements.{All-append}
 use Rattle.task_steps.specs.Within.{AreWithin, IsItemWithin, ListsAreWithin}
-use Rattle.plain_core.specs.Lists.{lists_of}
-use Rattle.plain_core.specs.Plain.{CoreObjects}
-use Rattle.plain_core.proofs.Places.{rescued, punted_within}
+use Rattle.plain_core.specs.objects.Lists.{lists_of}
+use Rattle.plain_core.specs.objects.Plain.{CoreObjects}
+use Rattle.plain_core.proofs.object_lemmas.Places.{rescued, punted_within}
 use Rattle.plain_core.proofs.objects.Objects.punt.Goals as goal
 
 pub invariant_of-self-2 : goal.invariant_of-self-2

@@ -1,12 +1,12 @@
 -- The task of the event's name, if there is one, makes its step, or the event is none.
 use Rattle.std.proofs.Common.{List, map, subst, Err}
-use Rattle.plain_core.specs.declared.task.Task.{Task}
+use Rattle.plain_core.specs.declared.steps.task.Task.{Task}
 use Rattle.plain_core.specs.declared.fault.CoreFault.TheVariants as fault
-use Rattle.plain_core.specs.Views.{task_of_plain}
+use Rattle.plain_core.specs.steps.Views.{task_of_plain}
 use Rattle.stack_base.specs.Stack.{IsStack}
 use Rattle.task_steps.specs.Routed.{Routing}
 use Rattle.plain_core.specs.Cores.{CoreState, IsPlaceOfTask, HasNoTask, StepsAt, Applies}
-use Rattle.plain_core.proofs.Cores.{stepped, core_kept, applies_at, applies_none}
+use Rattle.plain_core.proofs.step_lemmas.Cores.{stepped, core_kept, applies_at, applies_none}
 use Rattle.plain_core.proofs.state.Core.apply.Goals as goal
 
 pub returns-in_default : goal.returns-in_default

@@ -3,9 +3,10 @@ use Rattle.run_machine.specs.Events.{id_of}
 use Rattle.std.proofs.lemmas.List.{length-map}
 use Rattle.std.proofs.lemmas.Option.{same_Some, slice_get_read}
 use Rattle.plain_core.specs.Cores.{CoreState}
-use Rattle.plain_core.specs.Free.{IsFirstFree, IsFreeAt, TaskIsFree, IsDecisionOf}
-use Rattle.plain_core.specs.Views.{task_of_plain}
-use Rattle.plain_core.proofs.FirstFree.{found_free, found_not, next_is_not, none_is_free}
+use Rattle.plain_core.specs.objects.Questions.{IsDecisionOf}
+use Rattle.plain_core.specs.steps.Free.{IsFirstFree, IsFreeAt, TaskIsFree}
+use Rattle.plain_core.specs.steps.Views.{task_of_plain}
+use Rattle.plain_core.proofs.step_lemmas.FirstFree.{found_free, found_not, next_is_not, none_is_free}
 use Rattle.plain_core.proofs.state.Core.free.Goals as goal
 
 pub returns-then-task_is_free : goal.returns-then-task_is_free

@@ -1,5 +1,5 @@
 use Rattle.std.proofs.Common.{◌<◌, ℕ}
-use Rattle.plain_core.specs.Free.{IsFreeAt}
+use Rattle.plain_core.specs.steps.Free.{IsFreeAt}
 use Rattle.plain_core.proofs.state.Core.free.Given as goal
 
 -- no task before this one can

@@ -1,12 +1,11 @@
-use Rattle.std.proofs.Common.{◌≡◌, ◌∙◌, ap, replicate, [], length, map, arith}
-use Rattle.stack_base.specs.declared.ids.Status.TheVariants as status
+use Rattle.std.proofs.Common.{◌≡◌, ◌∙◌, ap, length, map, arith}
 use Rattle.task_steps.specs.Routed.{Routing}
-use Rattle.plain_core.specs.Opening.{counts_of, new_books, new_disks, new_pools, tasks_of}
-use Rattle.plain_core.specs.Plain.{CoreObjects}
-use Rattle.plain_core.specs.Views.{task_of_plain}
-use Rattle.plain_core.proofs.Counted.{count_rounds, last_le}
-use Rattle.plain_core.proofs.Listed.{few_writes}
-use Rattle.plain_core.proofs.Opened.{is_core, opened_so}
+use Rattle.plain_core.specs.opening.Opening.{new_core_objects, new_tally, counts_of, tasks_of}
+use Rattle.plain_core.specs.objects.Plain.{CoreObjects}
+use Rattle.plain_core.specs.steps.Views.{task_of_plain}
+use Rattle.plain_core.proofs.opening_lemmas.Counted.{count_rounds, last_le}
+use Rattle.plain_core.proofs.opening_lemmas.Listed.{few_writes}
+use Rattle.plain_core.proofs.opening_lemmas.Opened.{is_core, opened_so}
 use Rattle.plain_core.proofs.state.Core.plain.Goals as goal
 
 pub counts_of-requires : goal.counts_of-requires
@@ -51,12 +50,5 @@ returns c =
     opened_so stack c.args.scripts.now work c.requires places c.in_ok-places.ensures
     (record { routing = c.in_ok-new.field-0.value; objects = c.in_ok-objects.objects; tasks = map task_of_plain c.in_ok-tasks.tasks.items })
     (c.in_ok-new.ensures.ok ∙ c.in_ok-routes.ensures)
-    (c.in_ok-objects.ensures ∙ (λ k. record {
-      stack = stack;
-      pools = new_pools stack c.args.scripts.now 66;
-      rescues = replicate (length stack.devices.items) [];
-      disks = new_disks stack (length stack.devices.items);
-      books = new_books (kept k) 8;
-      tally = record { round = 0; left = counts k; statuses = replicate (written k) status.Ok };
-    }))
+    (c.in_ok-objects.ensures ∙ (λ k. new_core_objects stack c.args.scripts.now (kept k) (new_tally (counts k) (written k))))
     (c.in_ok-tasks.ensures.0 ∙ ap (tasks_of stack work) c.in_ok-duties.ensures)

@@ -1,5 +1,0 @@
-use Rattle.plain_core.proofs.Served as served
-use Rattle.plain_core.proofs.asks.pop.Goals as goal
-
-pub returns : goal.returns
-returns c = served.pop c.args.objects.now c.pop.new.self c.args.dev c.args.what.now c.pop.result c.pop.ensures

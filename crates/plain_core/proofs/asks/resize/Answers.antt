@@ -1,5 +1,0 @@
-use Rattle.plain_core.proofs.Served as served
-use Rattle.plain_core.proofs.asks.resize.Goals as goal
-
-pub returns : goal.returns
-returns c = served.resize c.args.objects.now c.resize.new.self c.args.pool c.args.min c.args.what.now c.resize.result c.resize.ensures

@@ -1,0 +1,9 @@
+pub mod Sectors
+pub mod Sifted
+pub mod Places
+pub mod Updated
+pub mod Booked
+pub mod Vacancies
+pub mod Served
+pub mod Taken
+pub mod Home

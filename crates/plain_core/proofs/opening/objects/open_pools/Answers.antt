@@ -1,0 +1,12 @@
+use Rattle.std.proofs.Common.{ap, ◌∙◌}
+use Rattle.mempool_core.specs.Move.{opened}
+use Rattle.run_machine.specs.Opened.{reserve_of}
+use Rattle.plain_core.specs.opening.Opening.{new_pool}
+use Rattle.plain_core.proofs.opening_lemmas.Counted.{mapped_more}
+use Rattle.plain_core.proofs.opening.objects.open_pools.Goals as goal
+
+pub opening-preserved : goal.opening-preserved
+opening-preserved c =
+    mapped_more (new_pool c.args.stack.now c.args.scripts.now) c.opening.pools.items c.push.new.self.items c.opening.number c.new.result c.in_ok-push.ensures.items
+    c.opening.invariant
+    (c.new.ensures ∙ (λ k. opened ((c.reserve_of.ensures ∙ ap (reserve_of c.args.stack.now) c.pool_of.ensures) k) (c.in_ok-script.ensures k)))

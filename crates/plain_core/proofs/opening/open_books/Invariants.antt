@@ -1,6 +1,0 @@
-use Rattle.std.proofs.Common.{◌≡◌}
-use Rattle.plain_core.specs.Opening.{new_books}
-use Rattle.plain_core.proofs.opening.open_books.Given as goal
-
-abbrev pub invariant-opening : goal.invariant-opening
-invariant-opening l = l.books.items ≡ new_books l.routes.places l.writer

@@ -1,0 +1,8 @@
+pub mod Listed
+pub mod Counted
+pub mod Seated
+pub mod Opened
+pub mod Readable
+pub mod Seen
+pub mod Risen
+pub mod SeenCores

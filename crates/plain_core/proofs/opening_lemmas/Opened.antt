@@ -1,0 +1,223 @@
+-- What is opened of a text is the state in which its runs begin.
+use Rattle.std.proofs.Common.{◌≡◌, ◌+◌, ◌-◌, ◌/◌, ◌%◌, ◌<◌, ◌≤◌, ◌==◌, ◌⊎◌, inl, inr, ℕ, Bool, true, false, cond, List, [], ◌∷◌, length, map, find, replicate, refl, sym, ap, ◌∙◌, subst, arith, Option, None, Some}
+use Rattle.std.specs.Prelude.{All, slice_get, slice_index_or, filter}
+use Rattle.std.specs.List.{range_with_len}
+use Rattle.std.specs.Option.{option_map_or}
+use Rattle.std.proofs.lemmas.Bool.Decides.{nat_tests}
+use Rattle.std.proofs.lemmas.List.{get_or-replicate, get_or_past, length-replicate}
+use Rattle.std.proofs.lemmas.List.Elements.{All-append, All-cons, All-head, All-map, All-nil, All-tail}
+use Rattle.std.proofs.lemmas.List.FromFn.{get_or-map-range_with_len, length-map-range_with_len}
+use Rattle.std.proofs.lemmas.Option.{slice_get_past}
+use Rattle.fail_script.specs.Script.{Answers, only_tail}
+use Rattle.stack_base.specs.declared.ids.PoolId.{PoolId}
+use Rattle.stack_base.specs.declared.ids.PoolId.TheVariants.{FsBios, FsVecs, Bios, Records}
+use Rattle.stack_base.specs.declared.ids.Status.TheVariants as status
+use Rattle.stack_base.specs.declared.stack.Device.{Device}
+use Rattle.stack_base.specs.declared.stack.Stack.{Stack}
+use Rattle.stack_base.specs.PoolId.{IsOfStack, pool_number}
+use Rattle.stack_base.specs.Tree.{size, tree}
+use Rattle.layout_model.specs.Writes.{IsWrite}
+use Rattle.mempool_core.specs.Move.{PoolState, opened}
+use Rattle.bio_records.specs.declared.bio.Pad.{Pad}
+use Rattle.bio_records.specs.Items.{Item}
+use Rattle.model_disks.specs.Disks.{DiskState}
+use Rattle.work_text.specs.declared.Work.{Work}
+use Rattle.run_machine.specs.Events.{pool_of}
+use Rattle.run_machine.specs.Lines.{rests}
+use Rattle.run_machine.specs.Opened.{at, is_by, is_numbered, keepers, no_task, objects, records_of, reserve_of, tasks}
+use Rattle.run_machine.specs.Opened as opening
+use Rattle.task_steps.specs.Routed.{Routing, places_at, routing_setup}
+use Rattle.run_machine.specs.Scene.{keeps_data, setup_of}
+use Rattle.run_machine.specs.Tasks.{Duty, TaskState, Todo, Writer, Rescuer, Completer, Keeper, Keeps, NoBio, Empty}
+use Rattle.task_steps.specs.Within.{AreWithin, IsItemWithin, LineFits, TaskFits}
+use Rattle.plain_core.specs.Cores.{CoreState, AreFound, IsCore}
+use Rattle.plain_core.specs.objects.Ledgers.{ledger_of}
+use Rattle.plain_core.specs.opening.Opening.{new_core_objects, new_tally, CanOpen, IsOpenedCore, completers_of_stack, counts_of, duties_up_to, stack_has_rescuer, has_write, stack_has_disk, last_round_of, listed, new_book, new_books, new_disk, new_disks, new_pool, new_pools, nodes_of, rescuers_of_stack, scenario_by, tasks_of, todos_by, writers_of_work}
+use Rattle.plain_core.specs.objects.Plain.{CoreObjects, HasPlacesForStack, HasSize, disk_or, no_core_pool, objects_of_core, opened_disk}
+use Rattle.plain_core.proofs.opening_lemmas.Listed.{any_by, none_by, served_by}
+
+abbrev no_bios : List (Item Pad)
+no_bios = []
+
+within_or_past : (k n : ℕ) → (k < n) ⊎ (n ≤ k)
+within_or_past k n = search arith
+
+from_none : (k : ℕ) → 0 + k ≡ k
+from_none k = omega arith
+
+-- pools of no stack have no reserve and no script
+small_number : (pool : PoolId) → IsOfStack pool → pool_number pool ≤ 65
+small_number FsBios is = omega arith
+small_number FsVecs is = omega arith
+small_number (Bios dev) is = omega (arith, is)
+small_number (Records dev) is = omega (arith, is)
+
+is_false : (a b : ℕ) → a ≤ 65 → 66 ≤ b → (a == b) ≡ false
+is_false a b small great = grind (arith, nat_tests)
+
+no_script : (scripts : List (PoolId × Answers)) (number : ℕ) → All (λ (script : PoolId × Answers). IsOfStack script.0) scripts → 66 ≤ number
+    → find (is_numbered number) scripts ≡ None
+no_script [] number are great = refl
+no_script (x ∷ xs) number are great =
+    let e = is_false (pool_number x.0) number (small_number x.0 (All-head (λ (script : PoolId × Answers). IsOfStack script.0) x xs are)) great in
+    rw (e) (no_script xs number (All-tail (λ (script : PoolId × Answers). IsOfStack script.0) x xs are) great)
+
+not_number : (number fixed : ℕ) → fixed ≤ 65 → 66 ≤ number → (number == fixed) ≡ false
+not_number number fixed small great = grind (arith, nat_tests)
+
+no_reserve : (stack : Stack) (number : ℕ) → length stack.devices.items ≤ 32 → 66 ≤ number → reserve_of stack (pool_of number) ≡ 0
+no_reserve stack number few great = by_test (number % 2 == 0) refl
+  where
+    half : 33 ≤ number / 2
+    half = omega (arith, great)
+
+    none : slice_get stack.devices.items (number / 2) ≡ None
+    none = slice_get_past stack.devices.items (number / 2) (omega (arith, few, half))
+
+    by_test : (b : Bool) → (number % 2 == 0) ≡ b → reserve_of stack (pool_of number) ≡ 0
+    by_test true e = rw (not_number number 65 (omega arith) great, not_number number 64 (omega arith) great, e)
+        (ap (λ o. option_map_or (λ (device : Device). device.reserve) o 0) none)
+    by_test false e = rw (not_number number 65 (omega arith) great, not_number number 64 (omega arith) great, e)
+        (ap (λ o. option_map_or (λ (device : Device). records_of device.kind) o 0) none)
+
+module _ (stack : Stack) (scripts : List (PoolId × Answers)) where
+  rescue_is : (dev : ℕ) → slice_index_or (replicate (length stack.devices.items) []) dev [] ≡ no_bios
+  rescue_is dev = elim (within_or_past dev (length stack.devices.items)) [
+    | inl lt ↦ get_or-replicate (length stack.devices.items) dev [] [] lt
+    | inr le ↦ get_or_past (replicate (length stack.devices.items) []) dev [] (omega (arith, le, length-replicate {A = List (Item Pad)} (length stack.devices.items) []))
+  ]
+
+  either_disk : (b : Bool) (d : DiskState) → disk_or (cond b (Some d) None) d ≡ d
+  either_disk true d = refl
+  either_disk false d = refl
+
+  disk_is : (dev : ℕ) → disk_or (slice_index_or (new_disks stack (length stack.devices.items)) dev None) (opened_disk stack dev) ≡ opened_disk stack dev
+  disk_is dev = elim (within_or_past dev (length stack.devices.items)) [
+    | inl lt ↦
+        ap (λ o. disk_or o (opened_disk stack dev)) (get_or-map-range_with_len (new_disk stack) 0 (length stack.devices.items) dev dev None lt (from_none dev))
+        ∙ either_disk (keeps_data (tree stack dev)) (opened_disk stack dev)
+    | inr le ↦
+        ap (λ o. disk_or o (opened_disk stack dev))
+        (get_or_past (new_disks stack (length stack.devices.items)) dev None (omega (arith, le, length-map-range_with_len (new_disk stack) 0 (length stack.devices.items))))
+  ]
+
+  -- there is a place for all
+  pub has_places : (pools : List PoolState) (rescues : List (List (Item Pad))) (disks : List (Option DiskState)) → pools ≡ new_pools stack scripts 66
+      → rescues ≡ replicate (length stack.devices.items) [] → disks ≡ new_disks stack (length stack.devices.items) → HasPlacesForStack stack pools rescues disks
+  has_places pools rescues disks are_pools are_rescues are_disks = record {
+    pool = omega (arith, ap length are_pools, length-map-range_with_len (new_pool stack scripts) 0 66);
+    rescue = omega (arith, ap length are_rescues, length-replicate {A = List (Item Pad)} (length stack.devices.items) []);
+    disk = λ dev lt keeps.
+        subst (HasSize (size (tree stack dev)))
+        (sym (ap (λ ds. slice_index_or ds dev None) are_disks
+        ∙ get_or-map-range_with_len (new_disk stack) 0 (length stack.devices.items) dev dev None lt (from_none dev)
+        ∙ ap (λ b. cond b (Some (opened_disk stack dev)) None) keeps))
+        (length-replicate (size (tree stack dev)) _);
+    within = λ dev. subst (AreWithin stack) (sym (ap (λ rs. slice_index_or rs dev []) are_rescues ∙ rescue_is dev)) (All-nil (IsItemWithin stack));
+  }
+
+module _ (stack : Stack) (scripts : List (PoolId × Answers)) (work : Work) (can : CanOpen stack scripts work) where
+  pool_is : (number : ℕ) → slice_index_or (new_pools stack scripts 66) number no_core_pool ≡ new_pool stack scripts number
+  pool_is number = elim (within_or_past number 66) [
+    | inl lt ↦ get_or-map-range_with_len (new_pool stack scripts) 0 66 number number no_core_pool lt (from_none number)
+    | inr le ↦
+        get_or_past (new_pools stack scripts 66) number no_core_pool (omega (arith, le, length-map-range_with_len (new_pool stack scripts) 0 66))
+        ∙ ap (λ n. opened n (only_tail true)) (sym (no_reserve stack number can.is_stack.few le))
+        ∙ ap (λ o. opened (reserve_of stack (pool_of number)) (option_map_or (λ (script : PoolId × Answers). script.1) o (only_tail true))) (sym (no_script scripts number can.pools le))
+  ]
+
+  module _ (places : List ℕ) (placed : (writer : ℕ) → places_at places writer ≡ nodes_of stack (todos_by work writer)) where
+    book_is : (writer : ℕ) → slice_index_or (new_books places 8) writer (record { writer = writer; nodes = [] })
+        ≡ record { writer = writer; nodes = replicate (nodes_of stack (todos_by work writer)) None }
+    book_is writer = elim (within_or_past writer 8) [
+      | inl lt ↦
+          get_or-map-range_with_len (new_book places) 0 8 writer writer (record { writer = writer; nodes = [] }) lt (from_none writer)
+          ∙ ap (λ n. record { writer = writer; nodes = replicate n None }) (placed writer)
+      | inr le ↦
+          get_or_past (new_books places 8) writer (record { writer = writer; nodes = [] }) (omega (arith, le, length-map-range_with_len (new_book places) 0 8))
+          ∙ ap (λ (todos : List Todo). record { writer = writer; nodes = replicate (nodes_of stack todos) None })
+          (sym (none_by 0 work.rounds.items work.writes.items writer can.writers le))
+    ]
+
+    last_is : 1 + last_round_of work.rounds.items - 1 ≡ last_round_of work.rounds.items
+    last_is = omega arith
+
+    pub tasks_is : tasks_of stack work (duties_up_to work (last_round_of work.rounds.items)) ≡ tasks (scenario_by stack scripts work)
+    tasks_is = ap (λ n. tasks_of stack work (duties_up_to work n)) (sym last_is)
+
+    setup_is : setup_of stack (places_at places) ≡ opening.setup (scenario_by stack scripts work)
+    setup_is = λ k. setup_of stack (λ writer. placed writer k)
+
+    -- the whole
+    pub opened_so : (core : CoreState) → core.routing ≡ record { stack = stack; places = places }
+        → core.objects ≡ new_core_objects stack scripts places (new_tally (counts_of work.rounds.items) (length work.writes.items))
+        → core.tasks ≡ tasks_of stack work (duties_up_to work (last_round_of work.rounds.items)) → IsOpenedCore (scenario_by stack scripts work) core
+    opened_so core is_routing is_objects is_tasks =
+        let all = is_tasks ∙ tasks_is in
+        let written = ap (λ (o : CoreObjects). length o.tally.statuses) is_objects ∙ length-replicate (length work.writes.items) status.Ok in
+        record {
+          scene = λ k. record {
+            setup = (ap routing_setup is_routing ∙ setup_is) k;
+            tasks = length (all k);
+            books = 8;
+            writes = written k;
+            ledger = ledger_of;
+          };
+          state = λ k. record {
+            objects = (ap objects_of_core is_objects ∙ objects_are) k;
+            task = λ place. slice_index_or (all k) place no_task;
+          };
+        }
+      where
+        objects_are : objects_of_core (new_core_objects stack scripts places (new_tally (counts_of work.rounds.items) (length work.writes.items))) ≡ objects (scenario_by stack scripts work)
+        objects_are = λ k. record {
+          pool = λ number. pool_is number k;
+          rescue = λ dev. rescue_is stack scripts dev k;
+          disk = λ dev. disk_is stack scripts dev k;
+          book = λ writer. book_is writer k;
+          tally = record { round = 0; left = counts_of work.rounds.items; statuses = replicate (length work.writes.items) status.Ok };
+        }
+
+-- all tasks are within the stack
+rest_fits : (stack : Stack) → LineFits stack rests
+rest_fits stack = record { doing = tt; lists = (All-nil (IsItemWithin stack), All-nil (IsItemWithin stack)) }
+
+keeper_fits : (stack : Stack) (duties : List Duty) → All (TaskFits stack) (keepers duties)
+keeper_fits stack [] = All-nil (TaskFits stack)
+keeper_fits stack (duty ∷ duties) = All-cons (TaskFits stack) (Keeper (Keeps (duty ∷ duties))) [] tt (All-nil (TaskFits stack))
+
+pub tasks_fit : (stack : Stack) (work : Work) (duties : List Duty) → All (IsWrite stack) work.writes.items → All (TaskFits stack) (tasks_of stack work duties)
+tasks_fit stack work duties served =
+    let devs = range_with_len 0 (length stack.devices.items) in
+    All-append (TaskFits stack) (writers_of_work work (range_with_len 0 8)) _
+    (All-map (TaskFits stack) (λ writer. Writer writer (todos_by work writer) NoBio rests) (filter (has_write work) (range_with_len 0 8))
+    (λ k d lt. (served_by stack work.rounds.items work.writes.items _ served, rest_fits stack)))
+    (All-append (TaskFits stack) (rescuers_of_stack stack devs) _
+    (All-map (TaskFits stack) (λ dev. Rescuer (at dev) rests) (filter (stack_has_rescuer stack) devs) (λ k d lt. rest_fits stack))
+    (All-append (TaskFits stack) (completers_of_stack stack devs) (keepers duties)
+    (All-map (TaskFits stack) (λ dev. Completer (at dev) Empty) (filter (stack_has_disk stack) devs) (λ k d lt. tt))
+    (keeper_fits stack duties)))
+
+-- the core keeps what it stands on
+pub is_core : (stack : Stack) (scripts : List (PoolId × Answers)) (work : Work) (duties : List Duty) (routing : Routing) (objects : CoreObjects) (all : List TaskState) (places : List ℕ)
+    → CanOpen stack scripts work → routing.stack ≡ stack → objects.stack ≡ stack → all ≡ tasks_of stack work duties → AreFound places all → IsCore routing objects all places
+is_core stack scripts work duties routing objects all places can is_routing is_objects is_all found = record {
+  stack = is_objects ∙ sym is_routing;
+  fits = subst (λ s. All (TaskFits s) all) (sym is_routing) (subst (All (TaskFits stack)) (sym is_all) (tasks_fit stack work duties can.served));
+  found = found;
+}
+
+-- a writer with a write, and one without
+pub one_writer : (work : Work) (writer : ℕ) → 0 < length (todos_by work writer) → writers_of_work work (writer ∷ []) ≡ Writer writer (todos_by work writer) NoBio rests ∷ []
+one_writer work writer some =
+    ap (λ b. map (λ w. Writer w (todos_by work w) NoBio rests) (cond b (writer ∷ []) []))
+    ((any_by (is_by writer) (listed work.rounds.items work.writes.items)).1 some)
+
+pub no_writer : (work : Work) (writer : ℕ) → todos_by work writer ≡ [] → writers_of_work work (writer ∷ []) ≡ []
+no_writer work writer none =
+    ap (λ b. map (λ w. Writer w (todos_by work w) NoBio rests) (cond b (writer ∷ []) []))
+    ((any_by (is_by writer) (listed work.rounds.items work.writes.items)).0 none)
+
+pub is_nothing : {X : Type 0} (xs : List X) → length xs ≡ 0 → xs ≡ []
+is_nothing [] e = refl
+is_nothing (x ∷ xs) e = absurd (omega (arith, e))

@@ -1,0 +1,179 @@
+-- Opened tasks have not begun, and their slots rise.
+use Rattle.std.proofs.Common.{◌≡◌, ◌+◌, ◌<◌, ◌≤◌, ◌++◌, ◌&&◌, ℕ, zero, suc, Bool, true, false, List, [], ◌∷◌, length, map, take, drop, get_or, refl, sym, ap, ◌∙◌, subst, arith}
+use Rattle.std.specs.Prelude.{All, IsTrue, filter, nat_lt}
+use Rattle.std.specs.List.{list_any, range_with_len}
+use Rattle.std.proofs.lemmas.Bool.Decides.{nat_tests}
+use Rattle.std.proofs.lemmas.List.{at_drop_more, get_or-map, length-map, take_more}
+use Rattle.std.proofs.lemmas.List.Elements.{All-append, All-cons, All-map, All-nil, All-weaker}
+use Rattle.stack_base.specs.declared.ids.PoolId.{PoolId}
+use Rattle.stack_base.specs.declared.ids.PoolId.TheVariants.{FsBios, FsVecs, Bios, Records}
+use Rattle.stack_base.specs.PoolId.{IsOfStack}
+use Rattle.stack_base.specs.Stack.{IsStack}
+use Rattle.task_core.specs.declared.opening.Opened.{Opened}
+use Rattle.run_machine.specs.Events.{id_of}
+use Rattle.task_steps.specs.Homes.{DutyFits, IsTaskOf}
+use Rattle.run_machine.specs.Lines.{rests}
+use Rattle.task_core.specs.opened.OfOne.{IsOpened as AreTheFirst, scenario_in, states}
+use Rattle.run_machine.specs.Opened.{Scenario, at, duties, is_by, keepers, no_task, setup, tasks, todos, todos_of, writers}
+use Rattle.task_core.specs.Plains.{stage_of}
+use Rattle.run_machine.specs.Scene.{is_disk}
+use Rattle.task_steps.specs.Stage.{Stage, is_pool}
+use Rattle.task_steps.specs.TaskViews.{TaskOf}
+use Rattle.run_machine.specs.Tasks.{TaskState, Duty, Resizes, Starts, NoBio, Empty, Keeps, Writer, Rescuer, Completer, Keeper}
+use Rattle.plain_core.specs.declared.steps.task.Task.{Task}
+use Rattle.plain_core.specs.Cores.{slot_of}
+use Rattle.plain_core.specs.opening.Opening.{AreTasksSeated, Seats}
+use Rattle.plain_core.specs.opening.Seen.{HasNothingAtHand, IsOfPool, Rises}
+use Rattle.plain_core.specs.steps.Views.{task_of_plain}
+use Rattle.plain_core.proofs.opening_lemmas.Seated.{seated_on}
+use Rattle.plain_core.proofs.opening_lemmas.Seen.{can}
+
+-- a lower start, and a higher end
+rises_from : (low more : ℕ) (ts : List TaskState) (high : ℕ) → low ≤ more → Rises more ts high → Rises low ts high
+rises_from low more [] high le rises = omega (arith, le, rises)
+rises_from low more (t ∷ ts) high le rises = (let first = rises.0 in omega (arith, le, first), rises.1)
+
+rises_past : (low : ℕ) (ts : List TaskState) (high more : ℕ) → high ≤ more → Rises low ts high → Rises low ts more
+rises_past low [] high more le rises = omega (arith, le, rises)
+rises_past low (t ∷ ts) high more le rises = (rises.0, rises_past (slot_of (id_of t) + 1) ts high more le rises.1)
+
+pub rises_to : (low : ℕ) (ts : List TaskState) (high : ℕ) → Rises low ts high → low ≤ high
+rises_to low [] high rises = rises
+rises_to low (t ∷ ts) high rises = let rest = rises_to (slot_of (id_of t) + 1) ts high rises.1 in let first = rises.0 in omega (arith, first, rest)
+
+-- one list behind another
+rises_then : (low : ℕ) (ts : List TaskState) (mid : ℕ) (us : List TaskState) (high : ℕ) → Rises low ts mid → Rises mid us high → Rises low (ts ++ us) high
+rises_then low [] mid us high first second = rises_from low mid us high first second
+rises_then low (t ∷ ts) mid us high first second = (first.0, rises_then (slot_of (id_of t) + 1) ts mid us high first.1 second)
+
+-- tasks by numbers
+module _ (f : ℕ → TaskState) (base : ℕ) (p : ℕ → Bool) (slots : (k : ℕ) → slot_of (id_of (f k)) ≡ base + k) where
+  rises_by : (a n low high : ℕ) → low ≤ base + a → base + a + n ≤ high → Rises low (map f (filter p (range_with_len a n))) high
+  rises_by a zero low high le end = omega (arith, le, end)
+  rises_by a (suc n) low high le end = by_test (rises_by (a + 1) n) (p a) refl
+    where
+      here : slot_of (id_of (f a)) ≡ base + a
+      here = slots a
+
+      by_test : ((more most : ℕ) → more ≤ base + (a + 1) → base + (a + 1) + n ≤ most → Rises more (map f (filter p (range_with_len (a + 1) n))) most)
+          → (b : Bool) → p a ≡ b → Rises low (map f (filter p (a ∷ range_with_len (a + 1) n))) high
+      by_test rest true e = rw (e) (omega (arith, le, here), rest (slot_of (id_of (f a)) + 1) high (omega (arith, here)) (omega (arith, end)))
+      by_test rest false e = rw (e) (rest low high (omega (arith, le)) (omega (arith, end)))
+
+of_pool : (stage : Stage) → IsStack stage.routing.stack → (pool : PoolId) → IsTrue (is_pool stage pool) → IsOfStack pool
+of_pool stage good FsBios is = tt
+of_pool stage good FsVecs is = tt
+of_pool stage good (Bios dev) is = below dev.0 (length stage.routing.stack.devices.items) good.few _ is
+  where
+    below : (k n : ℕ) → n ≤ 32 → (b : Bool) → IsTrue (nat_lt k n && b) → k < 32
+    below k n few b both = grind (few, both, arith, nat_tests)
+of_pool stage good (Records dev) is = below dev.0 (length stage.routing.stack.devices.items) good.few _ is
+  where
+    below : (k n : ℕ) → n ≤ 32 → (b : Bool) → IsTrue (nat_lt k n && b) → k < 32
+    below k n few b both = grind (few, both, arith, nat_tests)
+
+duty_of_pool : (stage : Stage) → IsStack stage.routing.stack → (duty : Duty) → DutyFits stage duty → IsOfPool duty
+duty_of_pool stage good (Resizes pool min later) fits = of_pool stage good pool fits.0
+duty_of_pool stage good (Starts round later) fits = tt
+
+module _ (o : Opened) (is : AreTheFirst o) where
+  abbrev s : Scenario
+  s = scenario_in o
+
+  abbrev stage : Stage
+  stage = stage_of o.objects
+
+  good : IsStack stage.routing.stack
+  good = subst IsStack (sym is.stack) (can o is).is_stack
+
+  abbrev Begins : TaskState → Type 0
+  Begins task = IsTaskOf stage task → HasNothingAtHand task
+
+  keepers_begin : (ds : List Duty) → All Begins (keepers ds)
+  keepers_begin [] = All-nil Begins
+  keepers_begin (d ∷ ds) =
+      All-cons Begins (Keeper (Keeps (d ∷ ds))) [] (λ home. All-weaker (DutyFits stage) IsOfPool (duty_of_pool stage good) (d ∷ ds) home) (All-nil Begins)
+
+  begin : All Begins (tasks s)
+  begin =
+      All-append Begins (map (λ writer. Writer writer (todos_of s writer) NoBio rests) (writers s)) _
+      (All-map Begins (λ writer. Writer writer (todos_of s writer) NoBio rests) (writers s) (λ k d lt home. (refl, refl)))
+      (All-append Begins (map (λ dev. Rescuer (at dev) rests) (filter (setup s).rescuer (range_with_len 0 (setup s).count))) _
+      (All-map Begins (λ dev. Rescuer (at dev) rests) (filter (setup s).rescuer (range_with_len 0 (setup s).count)) (λ k d lt home. refl))
+      (All-append Begins (map (λ dev. Completer (at dev) Empty) (filter (is_disk (setup s)) (range_with_len 0 (setup s).count))) _
+      (All-map Begins (λ dev. Completer (at dev) Empty) (filter (is_disk (setup s)) (range_with_len 0 (setup s).count)) (λ k d lt home. refl))
+      (keepers_begin (duties s))))
+
+  home : All (IsTaskOf stage) (states o.tasks.items)
+  home = All-map (IsTaskOf stage) (λ (task : TaskOf). task.state) o.tasks.items is.one.home
+
+  pub firsts : All HasNothingAtHand (states o.tasks.items)
+  firsts =
+      let begun = subst (All Begins) (sym is.tasks) begin in
+      λ k d lt. begun k d lt (home k d lt)
+
+  keepers_rise : (ds : List Duty) → Rises 72 (keepers ds) 73
+  keepers_rise [] = omega arith
+  keepers_rise (d ∷ ds) = (omega arith, omega arith)
+
+  few : (setup s).count ≤ 32
+  few = (can o is).is_stack.few
+
+  rise : Rises 0 (tasks s) 73
+  rise =
+      rises_then 0 (map (λ writer. Writer writer (todos_of s writer) NoBio rests) (writers s)) 8 _ 73
+      (rises_by (λ writer. Writer writer (todos_of s writer) NoBio rests) 0 (λ writer. list_any (is_by writer) (todos s)) (λ k. omega arith) 0 8 0 8 (omega arith) (omega arith))
+      (rises_then 8 (map (λ dev. Rescuer (at dev) rests) (filter (setup s).rescuer (range_with_len 0 (setup s).count))) 40 _ 73
+      (rises_by (λ dev. Rescuer (at dev) rests) 8 (setup s).rescuer (λ k. omega arith) 0 (setup s).count 8 40 (omega arith) (omega (arith, few)))
+      (rises_then 40 (map (λ dev. Completer (at dev) Empty) (filter (is_disk (setup s)) (range_with_len 0 (setup s).count))) 72 _ 73
+      (rises_by (λ dev. Completer (at dev) Empty) 40 (is_disk (setup s)) (λ k. omega arith) 0 (setup s).count 40 72 (omega arith) (omega (arith, few)))
+      (keepers_rise (duties s))))
+
+  pub risen : Rises 0 (states o.tasks.items) 73
+  risen = subst (λ ts. Rises 0 ts 73) (sym is.tasks) rise
+
+-- the state of a task
+module _ (tasks : List TaskOf) (count : ℕ) (task : TaskOf) (lt : count < length tasks) (is : task ≡ get_or tasks count task) where
+  pub state_at : task.state ≡ get_or (states tasks) count no_task
+  state_at = ap (λ (t : TaskOf). t.state) is ∙ sym (get_or-map (λ (t : TaskOf). t.state) tasks count task no_task lt)
+
+  pub first_at : All HasNothingAtHand (states tasks) → HasNothingAtHand task.state
+  first_at all = subst HasNothingAtHand (sym state_at) (all count no_task (omega (arith, lt, length-map tasks (λ (t : TaskOf). t.state))))
+
+-- one task more is seated
+pub record AreSeen (all : List TaskState) (count : ℕ) (seen : List Task) (places : List ℕ) : Type 0 where
+  pub told : map task_of_plain seen ≡ take count all
+  pub low : ℕ
+  pub seated : AreTasksSeated (map task_of_plain seen) places low
+  pub rest : Rises low (drop count all) 73
+
+module _ (tasks : List TaskOf) (count : ℕ) (seen : List Task) (places : List ℕ) (so_far : AreSeen (states tasks) count seen places) (lt : count < length tasks) where
+  abbrev next : TaskState
+  next = get_or (states tasks) count no_task
+
+  here : count < length (states tasks)
+  here = omega (arith, lt, length-map tasks (λ (task : TaskOf). task.state))
+
+  rest_rises : Rises so_far.low (next ∷ drop (count + 1) (states tasks)) 73
+  rest_rises = subst (λ ts. Rises so_far.low ts 73) (at_drop_more (λ ts. ts) (states tasks) count no_task here) so_far.rest
+
+  module _ (task : TaskState) (is : task ≡ next) where
+    pub seat_small : slot_of (id_of task) < 73
+    seat_small =
+        let past = rises_to (slot_of (id_of next) + 1) (drop (count + 1) (states tasks)) 73 rest_rises.1 in
+        let same = ap (λ t. slot_of (id_of t)) is in
+        omega (arith, past, same)
+
+    pub seat_ready : AreTasksSeated (map task_of_plain seen) places (slot_of (id_of task))
+    seat_ready =
+        let first = rest_rises.0 in
+        let same = ap (λ t. slot_of (id_of t)) is in
+        seated_on (map task_of_plain seen) places so_far.low (slot_of (id_of task)) (omega (arith, first, same)) so_far.seated
+
+    pub one_seen : (after : List Task) (table : List ℕ) → Seats seen (task ∷ []) after table (slot_of (id_of task) + 1) → AreSeen (states tasks) (count + 1) after table
+    one_seen after table seats = record {
+      told = seats.0 ∙ ap (λ ts. ts ++ task ∷ []) so_far.told ∙ ap (λ t. take count (states tasks) ++ t ∷ []) is ∙ sym (take_more (states tasks) count no_task here);
+      low = slot_of (id_of task) + 1;
+      seated = seats.1;
+      rest = subst (λ (t : TaskState). Rises (slot_of (id_of t) + 1) (drop (count + 1) (states tasks)) 73) (sym is) rest_rises.1;
+    }

@@ -1,0 +1,14 @@
+use Rattle.std.proofs.Common.{◌≡◌, ◌+◌, ◌∷◌, List, drop, ap, sym, subst, ◌∙◌, nat_le}
+use Rattle.run_machine.specs.Tasks.{Todo}
+use Rattle.plain_core.specs.steps.Views.{taken_of_plain, line_of_plain}
+use Rattle.plain_core.proofs.step_lemmas.Needed.{writer_let}
+use Rattle.plain_core.proofs.steps.free.write_is_let.Goals as goal
+
+pub returns-in-NoBio : goal.returns-in-NoBio
+returns-in-NoBio c =
+    let w = c.args.writer.now in
+    let next = c.in-Some.next.now in
+    let here = subst (λ (ts : List Todo). drop w.begun ts ≡ next ∷ drop (w.begun + 1) ts) c.deref.ensures.value c.in-Some.ensures in
+    writer_let c.args.objects.now w.number (drop w.begun w.todo.items) next (drop (w.begun + 1) w.todo.items) (taken_of_plain w.taken) (line_of_plain w.line) _ here
+    (ap taken_of_plain c.in-NoBio.is) c.requires
+    (ap (nat_le next.round) (sym c.round.ensures) ∙ ap (λ (t : Todo). nat_le t.round c.round.result) (sym c.next.view_is))

@@ -1,0 +1,43 @@
+-- What an event tells of a node that was told of an end.
+use Rattle.std.specs.Prelude.{◌≡◌, ℕ, Option, None, Some, Result, Ok, Err}
+use Rattle.stack_base.specs.declared.ids.Status.{Status}
+use Rattle.bio_records.specs.declared.bio.Pad.{Pad}
+use Rattle.bio_records.specs.Items.{Item}
+use Rattle.bio_books.specs.Books.{BookState}
+use Rattle.bio_books.specs.Drops.{Drops, Closed}
+use Rattle.bio_books.specs.Drops as drop
+use Rattle.run_machine.specs.declared.event.End.{End}
+use Rattle.run_machine.specs.declared.event.End.TheVariants as told
+use Rattle.plain_core.specs.declared.objects.book.Ended.{Ended}
+use Rattle.plain_core.specs.declared.objects.book.Ended.TheVariants as ended
+use Rattle.plain_core.specs.declared.fault.CoreFault.{CoreFault}
+use Rattle.plain_core.specs.declared.fault.CoreFault.TheVariants as fault
+
+-- what an end left of a node, and how an event tells it
+abbrev pub ended_of_plain : Ended → drop.Ended
+ended_of_plain ended.Left = drop.Left
+ended_of_plain (ended.Up closed) = drop.Up closed
+ended_of_plain (ended.Top closed) = drop.Top closed
+
+abbrev pub end_of : Ended → End
+end_of ended.Left = told.Left
+end_of (ended.Up closed) = told.Up
+end_of (ended.Top closed) = told.Top
+
+abbrev pub IsToldBy : End → drop.Ended → Type 0
+IsToldBy told.Left drop.Left = Unit {0}
+IsToldBy told.Up (drop.Up closed) = Unit {0}
+IsToldBy told.Top (drop.Top closed) = Unit {0}
+IsToldBy end ended = ⊥
+
+-- a node was told of an end, or can't be told so that the event tells it
+abbrev pub IsEndTold : BookState → ℕ → Status → Option (Item Pad) → End → Option Ended → BookState → Type 0
+IsEndTold old place status part end None new =
+    (new ≡ old) × ((answer : drop.Ended) (new : BookState) → IsToldBy end answer → Drops old place status part answer new → ⊥)
+IsEndTold old place status part end (Some ended) new = IsToldBy end (ended_of_plain ended) × Drops old place status part (ended_of_plain ended) new
+
+-- A node was opened so, or none can be, or one could be but for memory.
+abbrev pub OpensSo : BookState → (BookState → Type 0) → Result (Unit {0}) CoreFault → BookState → Type 0
+OpensSo old Does (Ok done) new = Does new
+OpensSo old Does (Err fault.NotEnabled) new = (new ≡ old) × ((next : BookState) → Does next → ⊥)
+OpensSo old Does (Err fault.Memory) new = (new ≡ old) × (next : BookState) × Does next

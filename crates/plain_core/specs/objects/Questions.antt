@@ -1,0 +1,29 @@
+-- What the objects are asked, and what events are asked.
+use Rattle.std.specs.Prelude.{◌≡◌, ◌⊎◌, ◌-◌, ◌^◌, ℕ, Bool, MatchBool, MatchOption, Option, None, Some}
+use Rattle.mempool_core.specs.Move.{PoolState, takes_spare, CanMove}
+use Rattle.bio_books.specs.Books.{Node}
+use Rattle.run_machine.specs.declared.event.What.{What}
+
+-- yes where it is so, and no where it is not
+abbrev pub IsDecisionOf : Bool → Type 0 → Type 0
+IsDecisionOf answer P = MatchBool answer P (P → ⊥)
+
+-- what an event tells, if it is one of these
+abbrev pub IsReadAs : {X : Type 0} → (X → What) → What → Option X → Type 0
+IsReadAs tell what read = MatchOption read ((x : _) → what ≡ tell x → ⊥) (λ x. what ≡ tell x)
+
+-- a pool has neither a spare to give nor room for one more to be out
+abbrev pub IsShort : PoolState → Type 0
+IsShort pool = (pool.facts.spares ≡ 0) ⊎ (pool.facts.out ≡ 2 ^ 64 - 1)
+
+-- whether a take of the pool can have a spare
+abbrev pub TellsSpare : Bool → PoolState → Type 0
+TellsSpare answer pool = MatchBool answer (CanMove pool takes_spare) (IsShort pool)
+
+-- how many ends the node at a place waits for, if one is open there
+abbrev pub IsCountAt : Option Node → ℕ → Type 0
+IsCountAt None count = ⊥
+IsCountAt (Some node) count = node.count ≡ count
+
+abbrev pub TellsCount : Option ℕ → Option Node → Type 0
+TellsCount count node = MatchOption count (node ≡ None) (IsCountAt node)

@@ -1,0 +1,64 @@
+-- What a step of a task makes of it and of the objects, and where there is none.
+use Rattle.std.specs.Prelude.{◌≡◌, ◌+◌, ℕ, List, [], ◌∷◌, drop, Result, Ok, Err}
+use Rattle.bio_records.specs.declared.bio.Pad.{Pad}
+use Rattle.bio_records.specs.Items.{Item}
+use Rattle.run_machine.specs.declared.event.What.{What}
+use Rattle.run_machine.specs.Requests.{Reply, Did, OutIs}
+use Rattle.run_machine.specs.Lines as line
+use Rattle.run_machine.specs.Tasks as task
+use Rattle.run_machine.specs.Tasks.{TaskState, request, answered, look_of}
+use Rattle.run_machine.specs.Runs.{IsLet}
+use Rattle.task_steps.specs.Routed.{Routing, routing_setup}
+use Rattle.plain_core.specs.declared.steps.task.Writer.{Writer}
+use Rattle.plain_core.specs.objects.Ledgers.{ledger_of}
+use Rattle.plain_core.specs.objects.Plain.{CoreObjects, objects_of_core}
+use Rattle.plain_core.specs.steps.Views.{writer_of}
+use Rattle.plain_core.specs.steps.Answers.{IsAnswer, Refuses, HasAnswer}
+use Rattle.plain_core.specs.steps.Submissions.{IsSubmitting}
+use Rattle.plain_core.specs.declared.fault.CoreFault.{CoreFault}
+use Rattle.plain_core.specs.declared.fault.CoreFault.TheVariants as fault
+
+-- a writer or a rescuer with a submission under way: these alone take memory
+abbrev pub Submits : TaskState → Type 0
+Submits (task.Writer number todo taken l) = IsSubmitting l.doing
+Submits (task.Rescuer dev l) = IsSubmitting l.doing
+Submits state = ⊥
+
+-- a task goes on with an answer to what it asks for, where what it looks at lets it ask; it lacks memory only where it could go on so
+abbrev pub TaskMoves : Routing → CoreObjects → TaskState → What → Result (Unit {0}) CoreFault → CoreObjects → TaskState → Type 0
+TaskMoves r old before what (Ok done) new after =
+    (reply : Reply)
+    × IsLet ledger_of (objects_of_core old) before (look_of before)
+    × IsAnswer old (request (routing_setup r) before) what reply new
+    × (after ≡ answered (routing_setup r) before reply)
+TaskMoves r old before what (Err fault.NotEnabled) new after =
+    (new ≡ old) × (after ≡ before) × (IsLet ledger_of (objects_of_core old) before (look_of before) → Refuses old (request (routing_setup r) before) what)
+TaskMoves r old before what (Err fault.Memory) new after =
+    (new ≡ old)
+    × (after ≡ before)
+    × Submits before
+    × IsLet ledger_of (objects_of_core old) before (look_of before)
+    × HasAnswer old (request (routing_setup r) before) what
+
+-- what the keeper's duty is answered with
+abbrev pub duty_reply : task.Duty → Reply
+duty_reply (task.Resizes pool min later) = OutIs 0
+duty_reply (task.Starts round later) = Did
+
+-- this one is next of a list of which so many are done
+abbrev pub IsNextAt : {X : Type 0} → List X → ℕ → X → Type 0
+IsNextAt all done next = drop done all ≡ next ∷ drop (done + 1) all
+
+-- a writer that has begun its next write with this bio
+abbrev pub begun_with : Routing → Writer → Item Pad → TaskState
+begun_with r writer part =
+    task.Writer writer.number (drop (writer.begun + 1) writer.todo.items) task.NoBio (line.settled (routing_setup r) (part ∷ []))
+
+-- a writer goes on, in any case or where its next write is so
+abbrev pub WriterMoves : Routing → CoreObjects → Writer → What → Result (Unit {0}) CoreFault → CoreObjects → Writer → Type 0
+WriterMoves r old before what result new after = TaskMoves r old (writer_of before) what result new (writer_of after)
+
+abbrev pub WriterMovesFor : (task.Todo → Type 0) → CoreObjects → Writer → What → Result (Unit {0}) CoreFault → CoreObjects → Writer → Type 0
+WriterMovesFor IsSo old before what result new after =
+    (r : Routing) (next : task.Todo) (later : List task.Todo)
+    → drop before.begun before.todo.items ≡ next ∷ later → IsSo next → WriterMoves r old before what result new after

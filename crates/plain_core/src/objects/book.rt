@@ -1,0 +1,294 @@
+//! Books of nodes that hold plain elements.
+ghost use Rattle.std.specs.Prelude.{◌≡◌, ℕ, ◌^◌, ◌-◌, ◌<◌, IfOk, OnOk, IsSome, MatchBool, MatchOption, None, Some, replicate};
+ghost use Rattle.bio_books.specs.Books.{BookState, Node as Open, parent_of, told, lowered, raised, keeping, node_at, with_node};
+ghost use Rattle.bio_books.specs.Links.{Made, IsVacant, Opens, Chains, Masters, Legs};
+ghost use Rattle.bio_books.specs.Drops.{closed_of};
+ghost use Rattle.plain_core.specs.objects.Books.{IsEndTold, OpensSo};
+ghost use Rattle.plain_core.specs.objects.Lists.{lists_of, ListsHaveCapacity};
+ghost use Rattle.plain_core.specs.objects.Questions.{IsDecisionOf, TellsCount};
+
+use crate::fault::CoreFault;
+use crate::objects::lists::Lists;
+use crate::objects::node::{Closed, Node, parent_of};
+use crate::objects::part::{Part, Slip, Vector};
+use bio_books::Role;
+use stack_base::Status;
+use std::alloc::{AllocError, Global};
+use std::marker::Model;
+use task_core::End;
+
+/// What an end made of an open node.
+#[derive(Drop)]
+pub enum Ended {
+    /// It waits for others.
+    Left,
+    /// It closed, and is to be told to its parent.
+    Up(Closed),
+    /// It closed, and its write with it.
+    Top(Closed),
+}
+
+/// The nodes of a writer's writes, each at a place.
+#[derive(Drop)]
+pub struct Book {
+    writer: u32,
+    nodes: Vec<Option<Node>>,
+    // At how many places no node is open, so that whether there is one is no search (`has_place`).
+    vacant: usize,
+}
+
+impl Model for Book {
+    ghost use Rattle.std.specs.Prelude.{◌≡◌, count_by, is_none};
+    ghost use Rattle.bio_books.specs.Books.{BookState};
+
+    ghost Value = { BookState };
+
+    ghost view = { λ b. record { writer = b.writer; nodes = b.nodes.items } };
+
+    ghost invariant = { λ b. count_by is_none b.nodes.items ≡ b.vacant };
+}
+
+impl Book {
+    /// A book of so many places, in which no node is open.
+    ///
+    /// # Errors
+    /// Where there is no memory.
+    pub fn open(alloc: Global, writer: u32, places: u32) -> Result<Book, AllocError>
+        ensures { IfOk result (λ book. book ≡ record { writer = writer; nodes = replicate places None }) }
+    {
+        let mut nodes = Vec::with_capacity(alloc, places as usize)?;
+        for _ in 0..places {
+            nodes.push(None)?;
+        }
+        Ok(Book {
+            writer,
+            nodes,
+            vacant: places as usize,
+        })
+    }
+
+    // The node at a place, if one is open there.
+    fn node(&self, place: u32) -> Option<&Node>
+        ensures { MatchOption result (node_at self.now place ≡ None) (λ node. node_at self.now place ≡ Some node.now) }
+    {
+        match self.nodes.get(place as usize) {
+            Some(Some(node)) => Some(node),
+            _ => None,
+        }
+    }
+
+    // The node at a place waits for one end more.
+    fn raise(&mut self, place: u32)
+        requires { IsSome (node_at self.old place) }
+        ensures { (node : Open) → node_at self.old place ≡ Some node → node.count < 2 ^ 64 - 1 → self.new ≡ with_node self.old place (Some (raised node)) }
+    {
+        let Some(slot) = self.nodes.get_mut(place as usize) else {
+            unreachable!()
+        };
+        let Some(node) = slot else { unreachable!() };
+        node.raise();
+    }
+
+    // The node at a place is told of an end, and waits for others.
+    fn lower(&mut self, place: u32, status: Status, part: Option<Part>)
+        requires { IsSome (node_at self.old place) }
+        ensures { (node : Open) → node_at self.old place ≡ Some node → 1 < node.count → self.new ≡ with_node self.old place (Some (lowered (told node status part))) }
+    {
+        let Some(slot) = self.nodes.get_mut(place as usize) else {
+            unreachable!()
+        };
+        let Some(node) = slot else { unreachable!() };
+        node.tell(status, part);
+        node.count = node.count.saturating_sub(1);
+    }
+
+    // The node at a place is told of its last end, and closes.
+    fn close(&mut self, place: u32, status: Status, part: Option<Part>) -> Closed
+        requires { IsSome (node_at self.old place) }
+        ensures { (node : Open) → node_at self.old place ≡ Some node → (result ≡ closed_of (told node status part)) × (self.new ≡ with_node self.old place None) }
+    {
+        let Some(slot) = self.nodes.get_mut(place as usize) else {
+            unreachable!()
+        };
+        let Some(node) = slot.take() else {
+            unreachable!()
+        };
+        self.vacant += 1;
+        node.told(status, part).close()
+    }
+
+    // The node at a place keeps this part.
+    fn keep(&mut self, place: u32, part: &Part)
+        requires { IsSome (node_at self.old place) }
+        ensures { (node : Open) → node_at self.old place ≡ Some node → self.new ≡ with_node self.old place (Some (keeping part.now node)) }
+    {
+        let Some(slot) = self.nodes.get_mut(place as usize) else {
+            unreachable!()
+        };
+        let Some(node) = slot else { unreachable!() };
+        node.keep(part);
+    }
+
+    /// How many ends the node at a place waits for, if one is open there.
+    pub fn count_at(&self, place: u32) -> Option<u64>
+        ensures { TellsCount result (node_at self.now place) }
+    {
+        match self.nodes.get(place as usize) {
+            Some(Some(node)) => Some(node.count),
+            _ => None,
+        }
+    }
+
+    /// Whether no node is open at some place.
+    pub fn has_place(&self) -> bool
+        ensures { IsDecisionOf result ((place : ℕ) × IsVacant self.now place) }
+    {
+        self.vacant > 0
+    }
+
+    // Whether no node is open at a place of the book.
+    fn is_vacant(&self, place: u32) -> bool
+        ensures { MatchBool result (IsVacant self.now place) (IsVacant self.now place → ⊥) }
+    {
+        matches!(self.nodes.get(place as usize), Some(None))
+    }
+
+    // A node is opened at a vacant place.
+    #[tactic(auto, using(crate::proofs::object_lemmas::Vacancies::filled))]
+    fn put(&mut self, place: u32, node: Node)
+        requires { IsVacant self.old place }
+        ensures { self.new ≡ with_node self.old place (Some node) }
+    {
+        self.nodes[place as usize] = Some(node);
+        self.vacant -= 1;
+    }
+
+    /// Opens the node of a write at this place, where it is vacant.
+    pub fn open_write(&mut self, write: u32, vector: Option<Vector>, place: u32) -> bool
+        ensures { MatchBool result (Opens self.old write vector (Made place) self.new)
+            ((self.new ≡ self.old) × (IsVacant self.old place → ⊥)) }
+    {
+        if !self.is_vacant(place) {
+            return false;
+        }
+        self.put(place, Node::new(Role::Top, write, vector));
+        true
+    }
+
+    /// Opens a child of an open node, which waits for it (`bio_chain`, `block/bio.c`), and makes room in the lists for what comes of it.
+    ///
+    /// # Errors
+    /// `NotEnabled` where it can't be opened, and `Memory` where only room lacks. Nothing is changed then.
+    #[tactic(auto, using(crate::proofs::object_lemmas::Booked::stays, crate::proofs::object_lemmas::Booked::chained))]
+    pub fn open_chain(
+        &mut self,
+        parent: u32,
+        place: u32,
+        lists: &mut Lists,
+    ) -> Result<(), CoreFault>
+        ensures opens { OpensSo self.old (Chains self.old parent (Made place)) result self.new }
+        ensures same { lists_of lists.new ≡ lists_of lists.old }
+        ensures room { OnOk result (ListsHaveCapacity 2 lists.new) }
+    {
+        let Some(node) = self.node(parent) else {
+            return Err(CoreFault::NotEnabled);
+        };
+        let (count, write) = (node.count, node.write);
+        if count == u64::MAX || !self.is_vacant(place) {
+            return Err(CoreFault::NotEnabled);
+        }
+        lists.reserve()?;
+        self.put(place, Node::new(Role::Chain { parent }, write, None));
+        self.raise(parent);
+        Ok(())
+    }
+
+    /// Opens a master, which stands for the own part of an open node, and which keeps that part (`raid1_write_request`,
+    /// `drivers/md/raid1.c`), and makes room in the lists for what comes of it.
+    ///
+    /// # Errors
+    /// `NotEnabled` where it can't be opened, and `Memory` where only room lacks. Nothing is changed then.
+    #[tactic(auto, using(crate::proofs::object_lemmas::Booked::stays))]
+    pub fn open_master(
+        &mut self,
+        parent: u32,
+        part: &Part,
+        slip: &Slip,
+        legs: u32,
+        place: u32,
+        lists: &mut Lists,
+    ) -> Result<(), CoreFault>
+        ensures opens { OpensSo self.old (Masters self.old parent part.now slip.now legs (Made place)) result self.new }
+        ensures same { lists_of lists.new ≡ lists_of lists.old }
+        ensures room { OnOk result (ListsHaveCapacity 2 lists.new) }
+    {
+        let Some(node) = self.node(parent) else {
+            return Err(CoreFault::NotEnabled);
+        };
+        let write = node.write;
+        if !self.is_vacant(place) {
+            return Err(CoreFault::NotEnabled);
+        }
+        lists.reserve()?;
+        self.put(place, Node::master(parent, write, slip, legs));
+        self.keep(parent, part);
+        Ok(())
+    }
+
+    /// Opens a leg of an open node, which has counted it already, and makes room in the lists for what comes of it.
+    ///
+    /// # Errors
+    /// `NotEnabled` where it can't be opened, and `Memory` where only room lacks. Nothing is changed then.
+    #[tactic(auto, using(crate::proofs::object_lemmas::Booked::legged))]
+    pub fn open_leg(&mut self, master: u32, place: u32, lists: &mut Lists) -> Result<(), CoreFault>
+        ensures opens { OpensSo self.old (Legs self.old master (Made place)) result self.new }
+        ensures same { lists_of lists.new ≡ lists_of lists.old }
+        ensures room { OnOk result (ListsHaveCapacity 2 lists.new) }
+    {
+        let Some(node) = self.node(master) else {
+            return Err(CoreFault::NotEnabled);
+        };
+        let write = node.write;
+        if !self.is_vacant(place) {
+            return Err(CoreFault::NotEnabled);
+        }
+        lists.reserve()?;
+        self.put(place, Node::new(Role::Leg { parent: master }, write, None));
+        Ok(())
+    }
+
+    /// Tells an open node of an end, where that leaves this of it (`bio_endio`, `block/bio.c`).
+    pub fn tell(
+        &mut self,
+        place: u32,
+        status: Status,
+        part: Option<Part>,
+        end: End,
+    ) -> Option<Ended>
+        ensures { IsEndTold self.old place status part end result self.new }
+    {
+        let node = self.node(place)?;
+        let (count, role) = (node.count, node.role);
+        match end {
+            End::Left => {
+                if count < 2 {
+                    return None;
+                }
+                self.lower(place, status, part);
+                Some(Ended::Left)
+            }
+            End::Up => {
+                if count != 1 || parent_of(role).is_none() {
+                    return None;
+                }
+                Some(Ended::Up(self.close(place, status, part)))
+            }
+            End::Top => {
+                if count != 1 || parent_of(role).is_some() {
+                    return None;
+                }
+                Some(Ended::Top(self.close(place, status, part)))
+            }
+        }
+    }
+}

@@ -1,0 +1,190 @@
+//! The objects of a text, as runs begin with them, kind by kind.
+ghost use Rattle.std.specs.Prelude.{◌≡◌, ◌<◌, ◌^◌, [], All, IfOk, length, replicate};
+ghost use Rattle.stack_base.specs.PoolId.{IsOfStack};
+ghost use Rattle.stack_base.specs.Stack.{IsStack};
+ghost use Rattle.stack_base.specs.declared.ids.PoolId.{PoolId as Pools};
+ghost use Rattle.stack_base.specs.declared.ids.Status.TheVariants.{Ok as Well};
+ghost use Rattle.fail_script.specs.Script.{Answers};
+ghost use Rattle.run_machine.specs.Opened.{records_of, reserve_of, script_at};
+ghost use Rattle.plain_core.specs.opening.Opening.{new_books, new_disk, new_disks, new_pools, new_core_objects, new_tally};
+
+use crate::objects::Objects;
+use crate::objects::book::Book;
+use crate::objects::disk::Disk;
+use crate::objects::lists::Rescue;
+use crate::objects::pool::Pool;
+use crate::objects::tally::Tally;
+use crate::objects::told::pool_of;
+use fail_script::Script;
+use stack_base::{DevId, Kind, PoolId, Stack, Status};
+use std::alloc::{AllocError, Global};
+use task_core::Routes;
+
+// The reserve of the records of a device, which a mirror alone has.
+fn records_of(kind: &Kind) -> u32
+    ensures { result ≡ records_of kind.now }
+{
+    match *kind {
+        Kind::Disk { .. } => 0,
+        Kind::Linear => 0,
+        Kind::Stripe { .. } => 0,
+        Kind::Zoned { .. } => 0,
+        Kind::Limit { .. } => 0,
+        Kind::Mirror { records } => records,
+    }
+}
+
+// The reserve of a pool, of which a device that the stack does not have has none.
+fn reserve_of(stack: &Stack, pool: PoolId) -> u32
+    ensures { result ≡ reserve_of stack.now pool }
+{
+    match pool {
+        PoolId::FsBios => stack.fs_bios,
+        PoolId::FsVecs => stack.fs_vecs,
+        PoolId::Bios(dev) => match stack.devices.get(dev.0 as usize) {
+            None => 0,
+            Some(device) => device.reserve,
+        },
+        PoolId::Records(dev) => match stack.devices.get(dev.0 as usize) {
+            None => 0,
+            Some(device) => records_of(&device.kind),
+        },
+    }
+}
+
+/// The same script once more.
+///
+/// # Errors
+/// Where there is no memory.
+pub fn copy_of(alloc: Global, script: &Script) -> Result<Script, AllocError>
+    ensures { IfOk result (λ copy. copy ≡ script.now) }
+{
+    let mut entries = Vec::with_capacity(alloc, script.entries() as usize)?;
+    'copying: for pos in 0..script.entries() {
+        entries.push(script.allows(pos))?;
+    }
+    Ok(Script::new(entries, script.tail()))
+}
+
+// The script of the pool with this number. Where there is none, each take may have ordinary memory.
+fn script_of(alloc: Global, scripts: &[(PoolId, Script)], number: u32) -> Result<Script, AllocError>
+    requires { All (λ (script : Pools × Answers). IsOfStack script.0) scripts.now }
+    ensures { IfOk result (λ script. script ≡ script_at scripts.now number) }
+{
+    'looking: for i in 0..scripts.len() {
+        if scripts[i].0.no() == number {
+            return copy_of(alloc, &scripts[i].1);
+        }
+    }
+    Ok(Script::new(Vec::new(alloc), true))
+}
+
+// Opens the pools, by their numbers.
+fn open_pools(
+    alloc: Global,
+    stack: &Stack,
+    scripts: &[(PoolId, Script)],
+) -> Result<Vec<Pool>, AllocError>
+    requires { All (λ (script : Pools × Answers). IsOfStack script.0) scripts.now }
+    ensures { IfOk result (λ pools. pools.items ≡ new_pools stack.now scripts.now 66) }
+{
+    let mut pools = Vec::with_capacity(alloc, 66)?;
+    'opening: for number in 0..66 {
+        let script = script_of(alloc, scripts, number)?;
+        pools.push(Pool::new(reserve_of(stack, pool_of(number)), script))?;
+    }
+    Ok(pools)
+}
+
+/// Opens the lists of bios that wait for the rescuers of so many devices.
+///
+/// # Errors
+/// Where there is no memory.
+pub fn open_rescues(alloc: Global, count: usize) -> Result<Vec<Rescue>, AllocError>
+    ensures { IfOk result (λ rescues. rescues.items ≡ replicate count []) }
+{
+    let mut rescues = Vec::with_capacity(alloc, count)?;
+    'opening: for _ in 0..count {
+        rescues.push(Rescue::new(alloc))?;
+    }
+    Ok(rescues)
+}
+
+// Opens the disk that a device is, if it is one.
+fn open_disk(alloc: Global, stack: &Stack, dev: DevId) -> Result<Option<Disk>, AllocError>
+    requires stack { IsStack stack.now }
+    requires device { dev.0 < length stack.now.devices.items }
+    ensures { IfOk result (λ disk. disk ≡ new_disk stack.now dev.0) }
+{
+    match &stack.device(dev).kind {
+        Kind::Disk { sectors: _, bad } => {
+            Ok(Some(Disk::open(alloc, dev, stack.size(dev), bad)?))
+        }
+        Kind::Linear => Ok(None),
+        Kind::Stripe { chunk: _ } => Ok(None),
+        Kind::Zoned { chunk: _ } => Ok(None),
+        Kind::Limit { max: _, chunk: _ } => Ok(None),
+        Kind::Mirror { records: _ } => Ok(None),
+    }
+}
+
+// Opens the disks of a stack, by their devices.
+fn open_disks(alloc: Global, stack: &Stack) -> Result<Vec<Option<Disk>>, AllocError>
+    requires { IsStack stack.now }
+    ensures { IfOk result (λ disks. disks.items ≡ new_disks stack.now (length stack.now.devices.items)) }
+{
+    let mut disks = Vec::with_capacity(alloc, stack.devices.len())?;
+    'opening: for number in 0..stack.devices.len() {
+        disks.push(open_disk(alloc, stack, DevId(number as u32))?)?;
+    }
+    Ok(disks)
+}
+
+/// Opens the books of the writers, with the places that these routes have for each.
+///
+/// # Errors
+/// Where there is no memory.
+pub fn open_books(alloc: Global, routes: &Routes) -> Result<Vec<Book>, AllocError>
+    ensures { IfOk result (λ books. books.items ≡ new_books routes.now.places 8) }
+{
+    let mut books = Vec::with_capacity(alloc, 8)?;
+    'opening: for writer in 0..8 {
+        books.push(Book::open(alloc, writer, routes.places(writer))?)?;
+    }
+    Ok(books)
+}
+
+// The statuses of so many writes, none of which is done.
+fn open_statuses(alloc: Global, count: usize) -> Result<Vec<Status>, AllocError>
+    ensures { IfOk result (λ statuses. statuses.items ≡ replicate count Well) }
+{
+    let mut statuses = Vec::new(alloc);
+    statuses.resize(count, Status::Ok)?;
+    Ok(statuses)
+}
+
+/// Opens the objects of a stack, where the books of writers have the places of its routes and so many writes are of each round.
+///
+/// # Errors
+/// Where there is no memory.
+pub fn open_objects(
+    alloc: Global,
+    stack: &Stack,
+    routes: &Routes,
+    scripts: &[(PoolId, Script)],
+    counts: Vec<u64>,
+    writes: usize,
+) -> Result<Objects, AllocError>
+    requires same { routes.now.stack ≡ stack.now }
+    requires stack { IsStack stack.now }
+    requires scripts { All (λ (script : Pools × Answers). IsOfStack script.0) scripts.now }
+    requires rounds { length counts.items < 2 ^ 32 }
+    ensures { IfOk result (λ objects. objects ≡ new_core_objects stack.now scripts.now routes.now.places (new_tally counts.items writes)) }
+{
+    let pools = open_pools(alloc, stack, scripts)?;
+    let rescues = open_rescues(alloc, stack.devices.len())?;
+    let disks = open_disks(alloc, stack)?;
+    let books = open_books(alloc, routes)?;
+    let tally = Tally::new(counts, open_statuses(alloc, writes)?);
+    Ok(Objects::new(routes, pools, rescues, disks, books, tally))
+}

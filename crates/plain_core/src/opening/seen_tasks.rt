@@ -1,0 +1,127 @@
+//! Opened tasks as plain data.
+ghost use Rattle.std.specs.Prelude.{◌≡◌, IfOk, All, map};
+ghost use Rattle.task_steps.specs.KeeperViews.{duty_of as keeps};
+ghost use Rattle.task_core.specs.opened.OfOne.{states};
+ghost use Rattle.run_machine.specs.Tasks.{Keeper as Keeping};
+ghost use Rattle.task_steps.specs.WriterViews.{writer_task};
+ghost use Rattle.plain_core.specs.opening.Seen.{HasNothingAtHand, IsOfPool, Rises};
+ghost use Rattle.plain_core.specs.steps.Views.{keeper_of, task_of_plain, writer_of};
+ghost use Rattle.plain_core.specs.opening.Opening.{IsSeating};
+
+use crate::opening::seats::{open_slots, resting, seat};
+use crate::steps::task::{Carried, Completer, Duty, Keeper, Rescuer, Taken, Task, Todo, Writer};
+use std::alloc::{AllocError, Global};
+use task_core as opened;
+use task_core::Kind;
+
+// The same writes once more.
+fn todos_seen(alloc: Global, rest: &[opened::Todo]) -> Result<Vec<Todo>, AllocError>
+    ensures { IfOk result (λ todo. todo.items ≡ rest.now) }
+{
+    let mut todos = Vec::with_capacity(alloc, rest.len())?;
+    'seeing: for i in 0..rest.len() {
+        let todo = rest[i];
+        todos.push(Todo {
+            number: todo.number,
+            round: todo.round,
+            write: todo.write,
+        })?;
+    }
+    Ok(todos)
+}
+
+// The same duty once more.
+fn duty_seen(duty: opened::Duty) -> Duty
+    requires { IsOfPool (keeps duty) }
+    ensures { result ≡ keeps duty }
+{
+    match duty {
+        opened::Duty::Resizes { pool, min, later } => Duty {
+            pool: Some(pool),
+            number: min,
+            later: u64::from(later),
+        },
+        opened::Duty::Starts { round, later } => Duty {
+            pool: None,
+            number: round,
+            later: u64::from(later),
+        },
+    }
+}
+
+// The same duties once more.
+fn duties_seen(alloc: Global, rest: &[opened::Duty]) -> Result<Vec<Duty>, AllocError>
+    requires { All IsOfPool (map keeps rest.now) }
+    ensures { IfOk result (λ duties. duties.items ≡ map keeps rest.now) }
+{
+    let mut duties = Vec::with_capacity(alloc, rest.len())?;
+    'seeing: for i in 0..rest.len() {
+        duties.push(duty_seen(rest[i]))?;
+    }
+    Ok(duties)
+}
+
+// A writer that has not begun.
+fn writer_seen(alloc: Global, writer: &opened::Writer) -> Result<Writer, AllocError>
+    requires { HasNothingAtHand (writer_task writer.now) }
+    ensures { IfOk result (λ seen. writer_of seen ≡ writer_task writer.now) }
+{
+    Ok(Writer {
+        number: writer.number(),
+        todo: todos_seen(alloc, writer.todo().rest())?,
+        begun: 0,
+        taken: Taken::NoBio,
+        line: resting(alloc),
+    })
+}
+
+// A keeper that has not begun.
+fn keeper_seen(alloc: Global, keeper: &opened::Keeper) -> Result<Keeper, AllocError>
+    requires { HasNothingAtHand (Keeping keeper.now) }
+    ensures { IfOk result (λ seen. keeper_of seen ≡ Keeping keeper.now) }
+{
+    Ok(Keeper {
+        duties: duties_seen(alloc, keeper.duties())?,
+        done: 0,
+    })
+}
+
+// A task that has not begun.
+fn task_seen(alloc: Global, task: &opened::Task) -> Result<Task, AllocError>
+    requires { HasNothingAtHand task.now.state }
+    ensures { IfOk result (λ seen. task_of_plain seen ≡ task.now.state) }
+{
+    match task.kind() {
+        Kind::Writer(writer) => Ok(Task::Writer(writer_seen(alloc, writer)?)),
+        Kind::Rescuer(rescuer) => Ok(Task::Rescuer(Rescuer {
+            dev: rescuer.dev(),
+            line: resting(alloc),
+        })),
+        Kind::Completer { disk, carried: _ } => Ok(Task::Completer(Completer {
+            disk: *disk,
+            carried: Carried::Empty,
+        })),
+        Kind::Keeper(keeper) => Ok(Task::Keeper(keeper_seen(alloc, keeper)?)),
+    }
+}
+
+/// The tasks that were opened of a text in their order, as plain data, and the place of each by its slot.
+///
+/// # Errors
+/// Where there is no memory.
+pub fn tasks_seen(
+    alloc: Global,
+    tasks: &[opened::Task],
+) -> Result<(Vec<Task>, Vec<u32>), AllocError>
+    requires first { All HasNothingAtHand (states tasks.now) }
+    requires rising { Rises 0 (states tasks.now) 73 }
+    ensures { IfOk result (λ seen. IsSeating seen.0.items seen.1.items (states tasks.now)) }
+{
+    let mut seen = Vec::with_capacity(alloc, tasks.len())?;
+    let mut places = open_slots(alloc)?;
+    'seeing: for i in 0..tasks.len() {
+        let task = task_seen(alloc, &tasks[i])?;
+        seat(&mut seen, &mut places, task)?;
+    }
+    Ok((seen, places))
+}

@@ -1,0 +1,72 @@
+//! Steps of tasks.
+ghost use Rattle.std.specs.Prelude.{◌≡◌, ◌<◌};
+ghost use Rattle.task_steps.specs.Within.{TaskFits};
+ghost use Rattle.plain_core.specs.steps.Views.{task_of_plain, rescuer_of};
+ghost use Rattle.plain_core.specs.steps.Moves.{TaskMoves};
+
+pub(crate) mod asks;
+pub(crate) mod completer;
+pub(crate) mod free;
+pub(crate) mod keeper;
+pub(crate) mod line;
+pub(crate) mod need;
+pub(crate) mod task;
+pub(crate) mod writer;
+
+use crate::fault::CoreFault;
+use crate::objects::Objects;
+use crate::steps::completer::completer_step;
+use crate::steps::keeper::keeper_step;
+use crate::steps::line::line_step;
+use crate::steps::task::{Completer, Keeper, Rescuer, Task, Writer};
+use crate::steps::writer::{start, writer_step};
+use task_core::{Routes, What};
+
+/// The rescuer of a device's set goes on with what the event tells (`bio_alloc_rescue`, `block/bio.c`).
+///
+/// # Errors
+/// Where it can't, or where it can, but there is no memory for it. Then nothing is changed.
+pub fn rescuer_step(
+    routes: &Routes,
+    objects: &mut Objects,
+    rescuer: &mut Rescuer,
+    what: &What,
+) -> Result<(), CoreFault>
+    requires stack { objects.old.stack ≡ routes.now.stack }
+    requires fits { TaskFits routes.now.stack (rescuer_of rescuer.old) }
+    ensures { TaskMoves routes.now objects.old (rescuer_of rescuer.old) what.now result objects.new (rescuer_of rescuer.new) }
+{
+    if !rescuer.line.rests() {
+        return line_step(routes, objects, &mut rescuer.line, what);
+    }
+    objects.known();
+    match asks::pop(objects, rescuer.dev, what) {
+        Err(fault) => Err(fault),
+        Ok(part) => {
+            start(routes, part, &mut rescuer.line);
+            Ok(())
+        }
+    }
+}
+
+/// A task goes on with what the event tells, where its next request can be answered so.
+///
+/// # Errors
+/// Where it can't, or where it can, but there is no memory for it. Then nothing is changed.
+pub fn task_step(
+    routes: &Routes,
+    objects: &mut Objects,
+    task: &mut Task,
+    what: &What,
+) -> Result<(), CoreFault>
+    requires stack { objects.old.stack ≡ routes.now.stack }
+    requires fits { TaskFits routes.now.stack (task_of_plain task.old) }
+    ensures { TaskMoves routes.now objects.old (task_of_plain task.old) what.now result objects.new (task_of_plain task.new) }
+{
+    match task {
+        Task::Writer(writer) => writer_step(routes, objects, writer, what),
+        Task::Rescuer(rescuer) => rescuer_step(routes, objects, rescuer, what),
+        Task::Completer(completer) => completer_step(objects, completer, what),
+        Task::Keeper(keeper) => keeper_step(objects, keeper, what),
+    }
+}

@@ -1,0 +1,103 @@
+//! Requests of tasks to objects, a call each. The object does what the event tells, and the call answers with what came of it. Where the
+//! object can't do so, or the event is none of this request, the answer is `NotEnabled`, and nothing is changed. No call here takes memory.
+ghost use Rattle.std.specs.Prelude.{◌<◌};
+ghost use Rattle.run_machine.specs.Requests.{GiveBio, GiveVec, GiveSlip, Pop, Complete, Drop, Done, Resize, NextRound, Link, Write, LinkedTo, Did, Popped, Completed, DroppedTo, OutIs};
+ghost use Rattle.bio_books.specs.Links.{Made};
+ghost use Rattle.stack_base.specs.PoolId.{pool_number};
+ghost use Rattle.plain_core.specs.objects.Books.{ended_of_plain};
+ghost use Rattle.plain_core.specs.steps.Answers.{AnswersRequest};
+
+use crate::fault::CoreFault;
+use crate::objects::Objects;
+use crate::objects::book::Ended;
+use crate::objects::part::{Part, Slip, Vector};
+use stack_base::{DevId, PoolId, Status};
+use task_core::What;
+
+/// A bio goes back to its pool.
+pub fn give_part(objects: &mut Objects, part: &Part, what: &What) -> Result<(), CoreFault>
+    ensures { AnswersRequest objects.old (GiveBio part.now) what.now (λ done. Did) result objects.new }
+{
+    objects.give(part.pool(), what)
+}
+
+/// A vector goes back to its pool.
+pub fn give_vector(objects: &mut Objects, vector: &Vector, what: &What) -> Result<(), CoreFault>
+    ensures { AnswersRequest objects.old (GiveVec vector.now) what.now (λ done. Did) result objects.new }
+{
+    objects.give(vector.pool(), what)
+}
+
+/// A record goes back to its pool.
+pub fn give_slip(objects: &mut Objects, slip: &Slip, what: &What) -> Result<(), CoreFault>
+    ensures { AnswersRequest objects.old (GiveSlip slip.now) what.now (λ done. Did) result objects.new }
+{
+    objects.give(slip.pool(), what)
+}
+
+/// A reserve changes.
+pub fn resize(objects: &mut Objects, pool: PoolId, min: u32, what: &What) -> Result<(), CoreFault>
+    requires { pool_number pool < 66 }
+    ensures { AnswersRequest objects.old (Resize pool min) what.now (λ done. OutIs 0) result objects.new }
+{
+    objects.resize(pool, min, what)
+}
+
+/// A round starts.
+pub fn next_round(objects: &mut Objects, round: u32, what: &What) -> Result<(), CoreFault>
+    ensures { AnswersRequest objects.old (NextRound round) what.now (λ done. Did) result objects.new }
+{
+    objects.next_round(round, what)
+}
+
+/// A rescuer takes a bio.
+pub fn pop(objects: &mut Objects, dev: DevId, what: &What) -> Result<Part, CoreFault>
+    ensures { AnswersRequest objects.old (Pop dev) what.now Popped result objects.new }
+{
+    objects.pop(dev, what)
+}
+
+/// A disk ends a bio.
+pub fn complete(
+    objects: &mut Objects,
+    disk: DevId,
+    what: &What,
+) -> Result<(u64, Part, Status), CoreFault>
+    ensures { AnswersRequest objects.old (Complete disk) what.now (λ done. Completed done.0 done.1 done.2) result objects.new }
+{
+    objects.complete(disk, what)
+}
+
+/// A node is told of an end.
+pub fn tell(
+    objects: &mut Objects,
+    writer: u32,
+    place: u32,
+    status: Status,
+    part: Option<Part>,
+    what: &What,
+) -> Result<Ended, CoreFault>
+    ensures { AnswersRequest objects.old (Drop writer place status part) what.now (λ ended. DroppedTo (ended_of_plain ended)) result objects.new }
+{
+    objects.tell(writer, place, status, part, what)
+}
+
+/// A write is done.
+pub fn done(objects: &mut Objects, write: u32, status: Status, what: &What) -> Result<(), CoreFault>
+    ensures { AnswersRequest objects.old (Done write status) what.now (λ done. Did) result objects.new }
+{
+    objects.done(write, status, what)
+}
+
+/// A write's node is opened.
+pub fn open_write(
+    objects: &mut Objects,
+    writer: u32,
+    write: u32,
+    vector: Option<Vector>,
+    what: &What,
+) -> Result<u32, CoreFault>
+    ensures { AnswersRequest objects.old (Link writer (Write write vector)) what.now (λ node. LinkedTo (Made node)) result objects.new }
+{
+    objects.open_write(writer, write, vector, what)
+}

@@ -1,0 +1,177 @@
+//! Steps of completers.
+ghost use Rattle.std.specs.Prelude.{◌≡◌, ℕ, ◌<◌, true, false, None};
+ghost use Rattle.plain_core.specs.steps.Views.{carried_of_plain, completer_of};
+ghost use Rattle.run_machine.specs.Tasks.{after_drop};
+ghost use Rattle.task_steps.specs.Routed.{Routing};
+ghost use Rattle.plain_core.specs.objects.Books.{ended_of_plain};
+ghost use Rattle.plain_core.specs.steps.Moves.{TaskMoves};
+ghost use Rattle.plain_core.specs.steps.Closing.{GivesFirst, PassesOn, ClosesOn, IsCarried};
+
+use crate::fault::CoreFault;
+use crate::objects::Objects;
+use crate::objects::book::Ended;
+use crate::objects::node::{Closed, Holding};
+use crate::objects::part::{Part, Slip};
+use crate::steps::asks;
+use crate::steps::task::{Carried, Completer};
+use stack_base::DevId;
+use task_core::What;
+
+// What a completer carries when a node was told of an end.
+fn after_drop(writer: u32, ended: Ended) -> Carried
+    ensures { (node : ℕ) → carried_of_plain result ≡ after_drop writer node (ended_of_plain ended) }
+{
+    match ended {
+        Ended::Left => Carried::Empty,
+        Ended::Up(closed) => Carried::Carries(writer, closed),
+        Ended::Top(closed) => Carried::Carries(writer, closed),
+    }
+}
+
+// A closed node that holds nothing any more is told to its parent, or its write is done. What `closed` may still hold is not looked at.
+fn pass_on(
+    objects: &mut Objects,
+    writer: u32,
+    closed: &Closed,
+    what: &What,
+) -> Result<Carried, CoreFault>
+    ensures { PassesOn objects.old writer closed.now what.now result objects.new }
+{
+    match closed.parent {
+        None => match asks::done(objects, closed.write, closed.status, what) {
+            Err(fault) => Err(fault),
+            Ok(()) => Ok(Carried::Empty),
+        },
+        Some(parent) => match asks::tell(objects, writer, parent, closed.status, None, what) {
+            Err(fault) => Err(fault),
+            Ok(ended) => Ok(after_drop(writer, ended)),
+        },
+    }
+}
+
+// The record that a closed node holds goes back. It answers whether there was one.
+fn give_slip(objects: &mut Objects, slip: &mut Option<Slip>, what: &What) -> Result<bool, CoreFault>
+    ensures { GivesFirst objects.old None None slip.old what.now result objects.new None None slip.new }
+{
+    match slip {
+        None => Ok(false),
+        Some(held) => match asks::give_slip(objects, held, what) {
+            Err(fault) => Err(fault),
+            Ok(()) => {
+                *slip = None;
+                Ok(true)
+            }
+        },
+    }
+}
+
+// The bio that a closed node holds goes back, or the record where there is none.
+fn give_part(
+    objects: &mut Objects,
+    bio: &mut Option<Part>,
+    slip: &mut Option<Slip>,
+    what: &What,
+) -> Result<bool, CoreFault>
+    ensures { GivesFirst objects.old None bio.old slip.old what.now result objects.new None bio.new slip.new }
+{
+    match bio {
+        None => give_slip(objects, slip, what),
+        Some(held) => match asks::give_part(objects, held, what) {
+            Err(fault) => Err(fault),
+            Ok(()) => {
+                *bio = None;
+                Ok(true)
+            }
+        },
+    }
+}
+
+// The first of what a closed node holds goes back, vector, bio or record (`bio_free`, `block/bio.c`, and `free_r1bio`,
+// `drivers/md/raid1.c`). It answers whether there was anything.
+fn give_first(objects: &mut Objects, held: &mut Holding, what: &What) -> Result<bool, CoreFault>
+    ensures { GivesFirst objects.old held.old.vector held.old.bio held.old.slip what.now result objects.new held.new.vector held.new.bio held.new.slip }
+{
+    match &held.vector {
+        None => give_part(objects, &mut held.bio, &mut held.slip, what),
+        Some(vector) => match asks::give_vector(objects, vector, what) {
+            Err(fault) => Err(fault),
+            Ok(()) => {
+                held.vector = None;
+                Ok(true)
+            }
+        },
+    }
+}
+
+// A closed node gives what it holds, one element at a time, and is passed on once it holds nothing. It answers what is carried then, where
+// it is no more the node.
+fn close(
+    objects: &mut Objects,
+    writer: u32,
+    closed: &mut Closed,
+    what: &What,
+) -> Result<Option<Carried>, CoreFault>
+    ensures { ClosesOn objects.old writer closed.old what.now result objects.new closed.new }
+{
+    match give_first(objects, &mut closed.held, what) {
+        Err(fault) => Err(fault),
+        Ok(true) => Ok(None),
+        Ok(false) => match pass_on(objects, writer, closed, what) {
+            Err(fault) => Err(fault),
+            Ok(after) => Ok(Some(after)),
+        },
+    }
+}
+
+// A completer goes on.
+fn carry(
+    objects: &mut Objects,
+    disk: DevId,
+    carried: &mut Carried,
+    what: &What,
+) -> Result<(), CoreFault>
+    ensures { IsCarried objects.old disk (carried_of_plain carried.old) what.now result objects.new (carried_of_plain carried.new) }
+{
+    match carried {
+        Carried::Empty => match asks::complete(objects, disk, what) {
+            Err(fault) => Err(fault),
+            Ok((_, part, status)) => {
+                *carried = Carried::Brings(part, status);
+                Ok(())
+            }
+        },
+        Carried::Brings(part, status) => {
+            let bio = part.bio();
+            let told = Some(part.again());
+            match asks::tell(objects, bio.writer, bio.node, *status, told, what) {
+                Err(fault) => Err(fault),
+                Ok(ended) => {
+                    *carried = after_drop(bio.writer, ended);
+                    Ok(())
+                }
+            }
+        }
+        Carried::Carries(writer, closed) => match close(objects, *writer, closed, what) {
+            Err(fault) => Err(fault),
+            Ok(None) => Ok(()),
+            Ok(Some(after)) => {
+                *carried = after;
+                Ok(())
+            }
+        },
+    }
+}
+
+/// A completer goes on with what the event tells.
+///
+/// # Errors
+/// Where it can't. Then nothing is changed.
+pub fn completer_step(
+    objects: &mut Objects,
+    completer: &mut Completer,
+    what: &What,
+) -> Result<(), CoreFault>
+    ensures { (r : Routing) → TaskMoves r objects.old (completer_of completer.old) what.now result objects.new (completer_of completer.new) }
+{
+    carry(objects, completer.disk, &mut completer.carried, what)
+}

@@ -1,0 +1,115 @@
+//! Which task can go on without ordinary memory.
+ghost use Rattle.std.specs.Prelude.{◌≡◌};
+ghost use Rattle.run_machine.specs.Lines.{Rests as AtRest};
+ghost use Rattle.task_steps.specs.Routed.{Routing};
+ghost use Rattle.plain_core.specs.objects.Questions.{IsDecisionOf};
+ghost use Rattle.plain_core.specs.steps.Free.{NeedIsMet, TaskIsFree, TaskIsLet};
+ghost use Rattle.plain_core.specs.steps.Views.{doing_of_plain, keeper_of, task_of_plain, writer_of};
+ghost use Rattle.plain_core.specs.declared.steps.need.Need.TheVariants as need;
+
+use crate::objects::{Objects, number_of};
+use crate::steps::keeper::next_duty;
+use crate::steps::need::{Need, task_need};
+use crate::steps::task::{Keeper, Taken, Task, Writer};
+use crate::steps::writer::next_todo;
+
+// Whether the writer's book has a vacant place, and the node at the place of a parent can wait for one more end.
+fn can_chain(objects: &Objects, writer: u32, parent: u32) -> bool
+    ensures { IsDecisionOf result (NeedIsMet objects.now (need.Chain writer parent)) }
+{
+    match objects.count_at(writer, parent) {
+        None => false,
+        Some(count) => count < u64::MAX && objects.has_place(writer),
+    }
+}
+
+// Whether the writer's book has a vacant place, and the node at the place of a parent is open.
+fn can_hang(objects: &Objects, writer: u32, parent: u32) -> bool
+    ensures { IsDecisionOf result (NeedIsMet objects.now (need.Child writer parent)) }
+{
+    match objects.count_at(writer, parent) {
+        None => false,
+        Some(_) => objects.has_place(writer),
+    }
+}
+
+// Whether the node at a place of the writer's book is open, and waits for an end.
+fn can_end(objects: &Objects, writer: u32, place: u32) -> bool
+    ensures { IsDecisionOf result (NeedIsMet objects.now (need.End writer place)) }
+{
+    match objects.count_at(writer, place) {
+        None => false,
+        Some(count) => count > 0,
+    }
+}
+
+// Whether the objects meet a need.
+fn is_met(objects: &Objects, need: Need) -> bool
+    ensures { IsDecisionOf result (NeedIsMet objects.now need) }
+{
+    match need {
+        Need::Nothing => true,
+        Need::Never => false,
+        Need::Spare { pool, waits } => objects.has_spare(pool) || !waits,
+        Need::Out(number) => objects.out(u64::from(number)) > 0,
+        Need::Home(pool) => objects.out(number_of(pool)) == 0,
+        Need::Rescued(dev) => objects.has_rescued(dev),
+        Need::Pending(disk) => objects.has_pending(disk),
+        Need::Place(writer) => objects.has_place(writer),
+        Need::Chain { writer, parent } => can_chain(objects, writer, parent),
+        Need::Child { writer, parent } => can_hang(objects, writer, parent),
+        Need::End { writer, place } => can_end(objects, writer, place),
+        Need::Round => objects.has_next(),
+    }
+}
+
+// Whether the round of a writer at rest has come, if it has a write to begin.
+fn write_is_let(objects: &Objects, writer: &Writer) -> bool
+    requires { doing_of_plain writer.now.line.doing ≡ AtRest }
+    ensures { IsDecisionOf result (TaskIsLet objects.now (writer_of writer.now)) }
+{
+    let Some(next) = next_todo(&writer.todo, writer.begun) else {
+        return true;
+    };
+    match &writer.taken {
+        Taken::NoBio => objects.round() >= next.round,
+        Taken::HasBio(_) => true,
+        Taken::HasBoth(_, _) => true,
+    }
+}
+
+// Whether what a writer looks at lets it ask.
+fn writer_is_let(objects: &Objects, writer: &Writer) -> bool
+    ensures { IsDecisionOf result (TaskIsLet objects.now (writer_of writer.now)) }
+{
+    !writer.line.rests() || write_is_let(objects, writer)
+}
+
+// Whether what the keeper looks at lets it ask.
+fn keeper_is_let(objects: &Objects, keeper: &Keeper) -> bool
+    ensures { IsDecisionOf result (TaskIsLet objects.now (keeper_of keeper.now)) }
+{
+    match next_duty(&keeper.duties, keeper.done) {
+        None => true,
+        Some(duty) => objects.leaves(duty.later()),
+    }
+}
+
+// Whether what a task looks at lets it ask.
+fn task_is_let(objects: &Objects, task: &Task) -> bool
+    ensures { IsDecisionOf result (TaskIsLet objects.now (task_of_plain task.now)) }
+{
+    match task {
+        Task::Writer(writer) => writer_is_let(objects, writer),
+        Task::Rescuer(_) => true,
+        Task::Completer(_) => true,
+        Task::Keeper(keeper) => keeper_is_let(objects, keeper),
+    }
+}
+
+/// Whether a task can go on without ordinary memory.
+pub fn task_is_free(objects: &Objects, task: &Task) -> bool
+    ensures { (r : Routing) → IsDecisionOf result (TaskIsFree r objects.now (task_of_plain task.now)) }
+{
+    task_is_let(objects, task) && is_met(objects, task_need(task))
+}

@@ -1,0 +1,234 @@
+//! What tasks need so that they can go on without ordinary memory.
+ghost use Rattle.std.specs.Prelude.{◌≡◌, None, Some};
+ghost use Rattle.run_machine.specs.Lines.{line_request, Rests as AtRest};
+ghost use Rattle.run_machine.specs.Scene.{Setup};
+ghost use Rattle.run_machine.specs.Tasks.{closed_request, request};
+ghost use Rattle.plain_core.specs.steps.Free.{need_of, IsNeedOfDoing, IsNeedOfTask};
+ghost use Rattle.plain_core.specs.objects.Lists.{lists_of};
+ghost use Rattle.plain_core.specs.steps.Submissions.{copies_for, cuts_for, drives_for};
+ghost use Rattle.plain_core.specs.steps.Views.{ask_of_plain, completer_of, doing_of_plain, keeper_of, rescuer_of, task_of_plain, want_of_plain, writer_of};
+ghost use Rattle.plain_core.specs.steps.Closing.{closed_asks};
+
+use crate::objects::node::Closed;
+use crate::objects::part::Part;
+use crate::steps::keeper::next_duty;
+use crate::steps::task::{
+    Ask, Carried, Completer, Copying, Doing, Keeper, Line, Rescuer, Taken, Task, Want, Writer,
+};
+use crate::steps::writer::{needs_vector, next_todo};
+use stack_base::{DevId, PoolId};
+
+/// What a request needs so that it can be answered, and told as an event that needs no ordinary memory.
+#[derive(Clone, Copy)]
+pub enum Need {
+    Nothing,
+    /// There is no such answer.
+    Never,
+    /// A spare of the pool. A take that does not wait may also miss.
+    Spare { pool: PoolId, waits: bool },
+    /// An element of the pool of this number is out.
+    Out(u32),
+    /// None of the pool is.
+    Home(PoolId),
+    /// A bio waits for the rescuer of this device's set.
+    Rescued(DevId),
+    /// A bio waits in the disk.
+    Pending(DevId),
+    /// The writer's book has a vacant place.
+    Place(u32),
+    /// Besides, the node at the place of the parent is open, and can wait for one more end.
+    Chain { writer: u32, parent: u32 },
+    /// Besides, the node at the place of the parent is open.
+    Child { writer: u32, parent: u32 },
+    /// The node at this place is open, and waits for an end.
+    End { writer: u32, place: u32 },
+    /// A round is behind the present one.
+    Round,
+}
+
+// What a driver needs that cuts a bio.
+fn cut_need(part: &Part, want: &Want) -> Need
+    ensures { IsNeedOfDoing result (cuts_for part.now (want_of_plain want.now)) }
+{
+    let bio = part.bio();
+    match want {
+        Want::Takes(waits) => Need::Spare {
+            pool: PoolId::Bios(bio.dev),
+            waits: *waits,
+        },
+        Want::Punts => Need::Nothing,
+        Want::Links(_) => Need::Chain {
+            writer: bio.writer,
+            parent: bio.node,
+        },
+    }
+}
+
+// What the driver of a bio's device needs.
+fn drive_need(part: &Part, ask: &Ask) -> Need
+    ensures { IsNeedOfDoing result (drives_for part.now (ask_of_plain ask.now)) }
+{
+    let bio = part.bio();
+    match ask {
+        Ask::ToPush => Need::Nothing,
+        Ask::ToCut(want) => cut_need(part, want),
+        Ask::ToRecord => Need::Spare {
+            pool: PoolId::Records(bio.dev),
+            waits: true,
+        },
+        Ask::ToMaster(_) => Need::Child {
+            writer: bio.writer,
+            parent: bio.node,
+        },
+    }
+}
+
+// What a mirror needs that copies a bio.
+fn copy_need(copying: &Copying, want: &Want) -> Need
+    ensures { IsNeedOfDoing result (copies_for copying.now (want_of_plain want.now)) }
+{
+    let bio = copying.bio;
+    match want {
+        Want::Takes(waits) => Need::Spare {
+            pool: PoolId::Bios(bio.dev),
+            waits: *waits,
+        },
+        Want::Punts => Need::Nothing,
+        Want::Links(_) => Need::Child {
+            writer: bio.writer,
+            parent: copying.master,
+        },
+    }
+}
+
+// What a submission needs.
+fn line_need(line: &Line) -> Need
+    ensures { (s : Setup) → result ≡ need_of (line_request s (doing_of_plain line.now.doing) (lists_of line.now.lists)) }
+{
+    match &line.doing {
+        Doing::Rests => Need::Never,
+        Doing::Drives(part, ask) => drive_need(part, ask),
+        Doing::Copies(copying, want) => copy_need(copying, want),
+    }
+}
+
+// What a writer at rest needs.
+fn write_need(writer: &Writer) -> Need
+    requires { doing_of_plain writer.now.line.doing ≡ AtRest }
+    ensures { IsNeedOfTask result (writer_of writer.now) }
+{
+    let Some(next) = next_todo(&writer.todo, writer.begun) else {
+        return Need::Never;
+    };
+    match &writer.taken {
+        Taken::NoBio => Need::Spare {
+            pool: PoolId::FsBios,
+            waits: true,
+        },
+        Taken::HasBio(_) => {
+            if needs_vector(&next.write) {
+                Need::Spare {
+                    pool: PoolId::FsVecs,
+                    waits: true,
+                }
+            } else {
+                Need::Place(writer.number)
+            }
+        }
+        Taken::HasBoth(_, _) => Need::Place(writer.number),
+    }
+}
+
+// What a writer needs.
+fn writer_need(writer: &Writer) -> Need
+    ensures { IsNeedOfTask result (writer_of writer.now) }
+{
+    if writer.line.rests() {
+        write_need(writer)
+    } else {
+        line_need(&writer.line)
+    }
+}
+
+// What the rescuer of a device's set needs.
+fn rescuer_need(rescuer: &Rescuer) -> Need
+    ensures { IsNeedOfTask result (rescuer_of rescuer.now) }
+{
+    if rescuer.line.rests() {
+        Need::Rescued(rescuer.dev)
+    } else {
+        line_need(&rescuer.line)
+    }
+}
+
+// What a closed node needs that holds nothing.
+fn passed_need(writer: u32, closed: &Closed) -> Need
+    ensures { result ≡ need_of (closed_request writer closed.now None None None closed.now.parent) }
+{
+    match closed.parent {
+        None => Need::Nothing,
+        Some(parent) => Need::End {
+            writer,
+            place: parent,
+        },
+    }
+}
+
+// What a closed node needs: the pool of what it still holds, or its parent.
+fn closed_need(writer: u32, closed: &Closed) -> Need
+    ensures { result ≡ need_of (closed_asks writer closed.now) }
+{
+    let held = &closed.held;
+    match &held.vector {
+        Some(vector) => Need::Out(vector.pool()),
+        None => match &held.bio {
+            Some(part) => Need::Out(part.pool()),
+            None => match &held.slip {
+                Some(slip) => Need::Out(slip.pool()),
+                None => passed_need(writer, closed),
+            },
+        },
+    }
+}
+
+// What the completer of a disk needs.
+fn completer_need(completer: &Completer) -> Need
+    ensures { IsNeedOfTask result (completer_of completer.now) }
+{
+    match &completer.carried {
+        Carried::Empty => Need::Pending(completer.disk),
+        Carried::Brings(part, _) => {
+            let bio = part.bio();
+            Need::End {
+                writer: bio.writer,
+                place: bio.node,
+            }
+        }
+        Carried::Carries(writer, closed) => closed_need(*writer, closed),
+    }
+}
+
+// What the keeper needs.
+fn keeper_need(keeper: &Keeper) -> Need
+    ensures { IsNeedOfTask result (keeper_of keeper.now) }
+{
+    match next_duty(&keeper.duties, keeper.done) {
+        None => Need::Never,
+        Some(duty) => match duty.pool {
+            Some(pool) => Need::Home(pool),
+            None => Need::Round,
+        },
+    }
+}
+
+/// What a task needs.
+pub fn task_need(task: &Task) -> Need
+    ensures { IsNeedOfTask result (task_of_plain task.now) }
+{
+    match task {
+        Task::Writer(writer) => writer_need(writer),
+        Task::Rescuer(rescuer) => rescuer_need(rescuer),
+        Task::Completer(completer) => completer_need(completer),
+        Task::Keeper(keeper) => keeper_need(keeper),
+    }
+}

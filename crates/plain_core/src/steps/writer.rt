@@ -1,0 +1,249 @@
+//! Steps of writers.
+ghost use Rattle.std.specs.Prelude.{◌≡◌, ◌+◌, ◌<◌, [], ◌∷◌, true, false, drop, length, None, MatchOption};
+ghost use Rattle.layout_model.specs.Writes.{IsWrite};
+ghost use Rattle.run_machine.specs.Lines.{settled, Rests as AtRest};
+ghost use Rattle.task_steps.specs.Routed.{routing_setup};
+ghost use Rattle.run_machine.specs.Tasks.{needs_vector, first_bio, NoBio, HasBio, HasBoth};
+ghost use Rattle.task_steps.specs.Within.{IsWithinDevice, TaskFits};
+ghost use Rattle.plain_core.specs.steps.Views.{line_of_plain, doing_of_plain, taken_of_plain, writer_of};
+ghost use Rattle.plain_core.specs.steps.Moves.{IsNextAt, begun_with, WriterMoves, WriterMovesFor};
+ghost use Rattle.plain_core.specs.steps.Takes.{TakesVector};
+
+use crate::fault::CoreFault;
+use crate::objects::Objects;
+use crate::objects::part::{Data, Hand, Part, Vector};
+use crate::steps::asks;
+use crate::steps::line::take::take_part;
+use crate::steps::line::{drive, line_step};
+use crate::steps::task::{Line, Taken, Todo, Writer};
+use bio_records::{Bio, Iter, Pad};
+use layout_model::Write;
+use stack_base::{PoolId, Range, SetId};
+use task_core::{Got, Routes, What};
+
+/// Whether a write needs a vector of segments.
+pub fn needs_vector(write: &Write) -> bool
+    ensures { result ≡ needs_vector write.now }
+{
+    write.count > 32
+}
+
+// The bio of a write, at its device, with the node at this place.
+fn first_bio(writer: u32, todo: &Todo, node: u32) -> Bio
+    ensures { result ≡ first_bio writer todo.now node }
+{
+    let write = &todo.write;
+    Bio {
+        write: todo.number,
+        writer,
+        node,
+        dev: write.dev,
+        range: Range {
+            start: write.start,
+            len: write.count,
+        },
+        word: write.tag,
+        at: Iter {
+            segment: 0,
+            done: 0,
+        },
+        set: SetId::Fs,
+    }
+}
+
+// A bio is submitted.
+pub(crate) fn start(routes: &Routes, part: Part, line: &mut Line)
+    requires { IsWithinDevice routes.now.stack part.bio }
+    ensures { line_of_plain line.new ≡ settled (routing_setup routes.now) (part ∷ []) }
+{
+    line.lists.clear();
+    drive(routes, part, line);
+}
+
+/// The next write, if one is still to begin.
+pub fn next_todo(todo: &[Todo], begun: usize) -> Option<&Todo>
+    ensures { MatchOption result (drop begun todo.now ≡ []) (λ next. IsNextAt todo.now begun next.now) }
+{
+    todo.get(begun)
+}
+
+// An attempt at a vector.
+fn take_vector(objects: &mut Objects, what: &What) -> Result<Option<Vector>, CoreFault>
+    ensures { TakesVector objects.old what.now result objects.new }
+{
+    match objects.take(PoolId::FsVecs, true, what) {
+        Err(fault) => Err(fault),
+        Ok(Got::Missed) => Ok(None),
+        Ok(Got::Ordinary) => Ok(Some(Vector::clear(64))),
+        Ok(Got::Spare) => Ok(Some(Vector::clear(64))),
+    }
+}
+
+// The data of a write.
+fn data_of(write: &Write) -> Data
+    ensures { result ≡ record { first = write.now.tag; count = write.now.count } }
+{
+    Data {
+        first: write.tag,
+        count: write.count,
+    }
+}
+
+// The top node of the next write is open: its bio is submitted, and it is begun.
+fn begin(routes: &Routes, writer: &mut Writer, part: Part)
+    requires within { IsWithinDevice routes.now.stack part.bio }
+    requires next { writer.old.begun < length writer.old.todo.items }
+    ensures { writer_of writer.new ≡ begun_with routes.now writer.old part }
+{
+    start(routes, part, &mut writer.line);
+    writer.taken = Taken::NoBio;
+    writer.begun += 1;
+}
+
+// A writer without a bio for its next write takes one, where the write's round has come.
+fn take_step(
+    objects: &mut Objects,
+    writer: &mut Writer,
+    round: u32,
+    what: &What,
+) -> Result<(), CoreFault>
+    requires rests { doing_of_plain writer.old.line.doing ≡ AtRest }
+    requires taken { taken_of_plain writer.old.taken ≡ NoBio }
+    ensures { WriterMovesFor (λ next. next.round ≡ round) objects.old writer.old what.now result objects.new writer.new }
+{
+    if objects.round() < round {
+        return Err(CoreFault::NotEnabled);
+    }
+    match take_part(objects, SetId::Fs, true, what) {
+        Err(fault) => Err(fault),
+        Ok(None) => Ok(()),
+        Ok(Some(hand)) => {
+            writer.taken = Taken::HasBio(hand);
+            Ok(())
+        }
+    }
+}
+
+// A writer with a bio takes a vector.
+fn vector_step(
+    objects: &mut Objects,
+    writer: &mut Writer,
+    hand: &Hand,
+    what: &What,
+) -> Result<(), CoreFault>
+    requires rests { doing_of_plain writer.old.line.doing ≡ AtRest }
+    requires taken { taken_of_plain writer.old.taken ≡ HasBio hand.now }
+    ensures { WriterMovesFor (λ next. needs_vector next.write ≡ true) objects.old writer.old what.now result objects.new writer.new }
+{
+    match take_vector(objects, what) {
+        Err(fault) => Err(fault),
+        Ok(None) => Ok(()),
+        Ok(Some(vector)) => {
+            writer.taken = Taken::HasBoth(hand.again(), vector);
+            Ok(())
+        }
+    }
+}
+
+// A writer with a bio that needs no vector begins its next write.
+fn short_step(
+    routes: &Routes,
+    objects: &mut Objects,
+    writer: &mut Writer,
+    next: &Todo,
+    hand: &Hand,
+    what: &What,
+) -> Result<(), CoreFault>
+    requires rests { doing_of_plain writer.old.line.doing ≡ AtRest }
+    requires taken { taken_of_plain writer.old.taken ≡ HasBio hand.now }
+    requires next { IsNextAt writer.old.todo.items writer.old.begun next.now }
+    requires write { IsWrite routes.now.stack next.now.write }
+    requires needs { needs_vector next.now.write ≡ false }
+    ensures { WriterMoves routes.now objects.old writer.old what.now result objects.new writer.new }
+{
+    match asks::open_write(objects, writer.number, next.number, None, what) {
+        Err(fault) => Err(fault),
+        Ok(node) => {
+            let bio = first_bio(writer.number, next, node);
+            begin(routes, writer, hand.with_data(bio, data_of(&next.write)));
+            Ok(())
+        }
+    }
+}
+
+// A writer with a bio and a vector begins its next write.
+fn long_step(
+    routes: &Routes,
+    objects: &mut Objects,
+    writer: &mut Writer,
+    next: &Todo,
+    hand: &Hand,
+    vector: &Vector,
+    what: &What,
+) -> Result<(), CoreFault>
+    requires rests { doing_of_plain writer.old.line.doing ≡ AtRest }
+    requires taken { taken_of_plain writer.old.taken ≡ HasBoth hand.now vector.now }
+    requires next { IsNextAt writer.old.todo.items writer.old.begun next.now }
+    requires write { IsWrite routes.now.stack next.now.write }
+    ensures { WriterMoves routes.now objects.old writer.old what.now result objects.new writer.new }
+{
+    let full = vector.filled(data_of(&next.write));
+    match asks::open_write(objects, writer.number, next.number, Some(full), what) {
+        Err(fault) => Err(fault),
+        Ok(node) => {
+            let bio = first_bio(writer.number, next, node);
+            begin(routes, writer, hand.with(bio, Pad { leg: 0 }));
+            Ok(())
+        }
+    }
+}
+
+// A writer at rest goes on to its next write.
+fn write_step(
+    routes: &Routes,
+    objects: &mut Objects,
+    writer: &mut Writer,
+    what: &What,
+) -> Result<(), CoreFault>
+    requires rests { doing_of_plain writer.old.line.doing ≡ AtRest }
+    requires fits { TaskFits routes.now.stack (writer_of writer.old) }
+    ensures { WriterMoves routes.now objects.old writer.old what.now result objects.new writer.new }
+{
+    let Some(next) = next_todo(&writer.todo, writer.begun) else {
+        return Err(CoreFault::NotEnabled);
+    };
+    let next = next.again();
+    match writer.taken.again() {
+        Taken::NoBio => take_step(objects, writer, next.round, what),
+        Taken::HasBio(hand) => {
+            if needs_vector(&next.write) {
+                vector_step(objects, writer, &hand, what)
+            } else {
+                short_step(routes, objects, writer, &next, &hand, what)
+            }
+        }
+        Taken::HasBoth(hand, vector) => {
+            long_step(routes, objects, writer, &next, &hand, &vector, what)
+        }
+    }
+}
+
+/// A writer goes on with what the event tells.
+///
+/// # Errors
+/// Where it can't, or where it can, but there is no memory for it. Then nothing is changed.
+pub fn writer_step(
+    routes: &Routes,
+    objects: &mut Objects,
+    writer: &mut Writer,
+    what: &What,
+) -> Result<(), CoreFault>
+    requires stack { objects.old.stack ≡ routes.now.stack }
+    requires fits { TaskFits routes.now.stack (writer_of writer.old) }
+    ensures { WriterMoves routes.now objects.old writer.old what.now result objects.new writer.new }
+{
+    if !writer.line.rests() {
+        return line_step(routes, objects, &mut writer.line, what);
+    }
+    write_step(routes, objects, writer, what)
+}
