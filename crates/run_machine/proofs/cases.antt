@@ -1,6 +1,7 @@
 -- Runs that are worked out, event by event.
 pub mod OneDisk
 pub mod OneWrite
+pub mod OneMirror
 pub mod MirrorRun
 pub mod SplitRun
 pub mod RoundsRun

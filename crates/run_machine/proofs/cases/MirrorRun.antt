@@ -1,26 +1,19 @@
 -- A mirror of two, with one bio and one record in reserve and no ordinary memory: 25 events, in one of which a bio is punted, after which the state
 -- has ended.
-use Rattle.std.proofs.Common.{◌≡◌, ◌+◌, ◌==◌, ◌++◌, if◌then◌else◌, ℕ, zero, suc, Bool, inl, List, [], ◌∷◌, length, replicate, sum_by, slice_index_or, codes, Option, None, Some, refl, subst, arith, false, true}
+use Rattle.std.proofs.Common.{◌≡◌, ◌+◌, ◌==◌, ◌++◌, ℕ, Bool, inl, List, [], ◌∷◌, length, slice_index_or, codes, Option, None, Some, refl, subst, arith, false, true}
 use Rattle.std.specs.Global.{Global}
 use Rattle.elem_ledger.specs.Ledger.{LedgerId}
-use Rattle.fail_script.specs.Script.{Answers, only_tail}
 use Rattle.stack_base.specs.declared.ids.DevId.{DevId}
-use Rattle.stack_base.specs.declared.ids.PoolId.{PoolId}
-use Rattle.stack_base.specs.declared.ids.PoolId.TheVariants.{FsBios, FsVecs, Bios, Records}
+use Rattle.stack_base.specs.declared.ids.PoolId.TheVariants.{FsBios, Bios, Records}
 use Rattle.stack_base.specs.declared.ids.Status.TheVariants.{Ok}
-use Rattle.stack_base.specs.declared.stack.Kind.TheVariants.{Mirror}
-use Rattle.stack_base.specs.declared.stack.Stack.{Stack}
 use Rattle.stack_base.specs.Mapping.{size_of, smallest}
-use Rattle.stack_base.specs.Tree.{Tree, Leaf, Mirrored, tree, tree_below, over_shape, member_at, size}
+use Rattle.stack_base.specs.Tree.{tree_below, over_shape}
 use Rattle.decl_text.specs.Text.{without_empty_end, is_name, number_of}
 use Rattle.decl_text.specs.Commands.{command_of}
 use Rattle.decl_text.specs.Items.{meaning}
 use Rattle.decl_text.specs.Known.{pool_of as pool_at}
 use Rattle.decl_text.specs.Refusals.{refusal, first_found}
-use Rattle.layout_model.specs.declared.write.Write.{Write}
-use Rattle.layout_model.specs.May.{bads_of}
 use Rattle.layout_model.specs.Need.{needed, begun as begins}
-use Rattle.layout_model.specs.Needs.{nodes as nodes_of}
 use Rattle.mempool_core.specs.Move.{opened, takes_spare, misses, gives}
 use Rattle.bio_records.specs.declared.bio.Pad.{Pad}
 use Rattle.bio_records.specs.Items.{Item}
@@ -39,75 +32,23 @@ use Rattle.run_machine.specs.declared.event.End.TheVariants as left
 use Rattle.run_machine.specs.declared.event.What.{What}
 use Rattle.run_machine.specs.declared.event.What.TheVariants as what
 use Rattle.run_machine.specs.Maps.{upd}
-use Rattle.run_machine.specs.Scene.{Setup, Scene}
+use Rattle.run_machine.specs.Scene.{Scene}
 use Rattle.run_machine.specs.Requests.{HadBio, HadSlip, Missed as missed, LinkedTo, Did, Popped, Completed, DroppedTo, Present}
 use Rattle.run_machine.specs.Lines.{rests, leg_at}
-use Rattle.run_machine.specs.Tasks.{Todo, TaskState, Writer, Rescuer, Completer, NoBio, Empty, filled_short}
+use Rattle.run_machine.specs.Tasks.{TaskState, Writer, Rescuer, Completer, NoBio, Empty, filled_short}
 use Rattle.run_machine.specs.Objects.{clear_bio, clear_slip, done_one}
-use Rattle.run_machine.specs.Events.{pool_of}
-use Rattle.run_machine.specs.Opened.{Scenario, at, no_task, places_of, reserve_of, script_at}
+use Rattle.run_machine.specs.Opened.{at, no_task}
 use Rattle.run_machine.specs.Opened as texts
 use Rattle.run_machine.specs.Runs.{State, IsRun, HasEnded}
-use Rattle.run_machine.proofs.Texts.{device, disk as disk_of, stack_of, Says, sound_at}
+pub use Rattle.run_machine.proofs.cases.OneMirror.{a, b, m, mirror, setup, write, todo, reserve, scripts, objects, stack, scenario, setup_is, objects_are}
+use Rattle.run_machine.proofs.Texts.{Says, sound_at}
 use Rattle.run_machine.proofs.Turns.{Turn, follow, AreTurns, turns_run, takes, rescues, on_disk, in_book}
-
-abbrev pub a : DevId
-a = at 0
-
-abbrev pub b : DevId
-b = at 1
-
-abbrev pub m : DevId
-m = at 2
-
-abbrev pub mirror : Tree
-mirror = Mirrored 2 (8 ∷ 8 ∷ []) (member_at 2 (Leaf 0 8 ∷ Leaf 1 8 ∷ []))
-
--- whether the mirror's set has a rescuer
-abbrev pub setup : Bool → Setup
-setup rescuer = record {
-  count = 3;
-  tree = λ dev. slice_index_or (Leaf 0 8 ∷ Leaf 1 8 ∷ mirror ∷ []) dev (Leaf dev 0);
-  rescuer = λ dev. slice_index_or (false ∷ false ∷ rescuer ∷ []) dev false;
-  places = λ writer. if 0 == writer then 4 else 0;
-}
-
-abbrev pub write : Write
-write = record { task = 0; dev = m; start = 0; count = 1; tag = 0 }
-
-abbrev pub todo : Todo
-todo = record { number = 0; round = 0; write = write }
 
 abbrev pub tasks : List TaskState
 tasks = Writer 0 (todo ∷ []) NoBio rests ∷ Rescuer m rests ∷ Completer a Empty ∷ Completer b Empty ∷ []
 
--- the reserves of the writers' pools, and those of the mirror's bios and records
-abbrev pub reserve : PoolId → ℕ
-reserve FsBios = 2
-reserve FsVecs = 2
-reserve (Bios dev) = slice_index_or (0 ∷ 0 ∷ 1 ∷ []) dev.0 0
-reserve (Records dev) = slice_index_or (0 ∷ 0 ∷ 1 ∷ []) dev.0 0
-
--- no pool has ordinary memory
-abbrev pub scripts : List (PoolId × Answers)
-scripts =
-    (FsBios, only_tail false)
-    ∷ (FsVecs, only_tail false)
-    ∷ (Records m, only_tail false)
-    ∷ (Bios m, only_tail false)
-    ∷ []
-
 abbrev pub start : State
-start = record {
-  objects = record {
-    pool = λ number. opened (reserve (pool_of number)) (script_at scripts number);
-    rescue = λ dev. [];
-    disk = λ dev. disk.opened (at dev) (size ((setup true).tree dev)) [];
-    book = λ writer. record { writer = writer; nodes = replicate ((setup true).places writer) None };
-    tally = record { round = 0; left = 1 ∷ []; statuses = Ok ∷ [] };
-  };
-  task = λ place. slice_index_or tasks place no_task;
-}
+start = record { objects = objects; task = λ place. slice_index_or tasks place no_task }
 
 module _ (some : LedgerId) where
   abbrev pub ledger : ℕ → LedgerId
@@ -306,102 +247,29 @@ module _ (some : LedgerId) where
 abbrev text : List ℕ
 text = codes "disk a 8\ndisk b 8\nmirror m a b reserve=1 records=1\nmemory none\nwrite 0 m 0 1 0"
 
--- The text says this scenario with a rescuer, and the run begins in the state in which its runs are opened. Without one there is no task of the
--- rescuer's, and all else is the same.
+-- the text says this scenario with a rescuer, and the run begins in the state in which its runs are opened
 module _ (memory : Global) where
-  abbrev pub stack : Bool → Stack
-  stack rescuer =
-      stack_of memory
-      (disk_of memory (codes "a") 8 ∷ disk_of memory (codes "b") 8 ∷ device memory (codes "m") (Mirror 1) (0 ∷ 1 ∷ []) 1 rescuer ∷ [])
-      refl (8 ∷ 8 ∷ 8 ∷ []) 2
-
-  abbrev pub scenario : Bool → Scenario
-  scenario rescuer = record { stack = stack rescuer; scripts = scripts; writes = write ∷ []; rounds = 0 ∷ []; changes = [] }
-
-  module _ (rescuer : Bool) where
-    tree_is : (dev : ℕ) → (setup rescuer).tree dev ≡ tree (stack rescuer) dev
-    unfolding tree_below over_shape
-    tree_is zero = refl
-    tree_is (suc zero) = refl
-    tree_is (suc (suc zero)) = refl
-    tree_is (suc (suc (suc n))) = let e : suc (suc (suc n)) + 1 ≡ suc (suc (suc (suc n))) = omega arith in rw e refl
-
-    rescuer_is : (dev : ℕ) → (setup rescuer).rescuer dev ≡ (texts.setup (scenario rescuer)).rescuer dev
-    rescuer_is zero = refl
-    rescuer_is (suc zero) = refl
-    rescuer_is (suc (suc zero)) = refl
-    rescuer_is (suc (suc (suc n))) = refl
-
-    places_if : (own : Bool) → (if own then 4 else 0) ≡ sum_by (λ (todo : Todo). nodes_of (stack rescuer) todo.write) (if own then todo ∷ [] else [])
-    unfolding tree_below over_shape needed begins
-    places_if true = refl
-    places_if false = refl
-
-    places_are : (writer : ℕ) → (setup rescuer).places writer ≡ places_of (scenario rescuer) writer
-    places_are writer = places_if (0 == writer)
-
-    pub setup_is : setup rescuer ≡ texts.setup (scenario rescuer)
-    setup_is = λ k. record {
-      count = 3;
-      tree = λ dev. tree_is dev k;
-      rescuer = λ dev. rescuer_is dev k;
-      places = λ writer. places_are writer k;
-    }
-
-    bads_are : (dev : ℕ) → [] ≡ bads_of (stack rescuer) dev
-    bads_are zero = refl
-    bads_are (suc zero) = refl
-    bads_are (suc (suc zero)) = refl
-    bads_are (suc (suc (suc n))) = refl
-
-    bios_are : (dev : ℕ) → reserve (Bios (at dev)) ≡ reserve_of (stack rescuer) (Bios (at dev))
-    bios_are zero = refl
-    bios_are (suc zero) = refl
-    bios_are (suc (suc zero)) = refl
-    bios_are (suc (suc (suc n))) = refl
-
-    records_are : (dev : ℕ) → reserve (Records (at dev)) ≡ reserve_of (stack rescuer) (Records (at dev))
-    records_are zero = refl
-    records_are (suc zero) = refl
-    records_are (suc (suc zero)) = refl
-    records_are (suc (suc (suc n))) = refl
-
-    reserve_is : (pool : PoolId) → reserve pool ≡ reserve_of (stack rescuer) pool
-    reserve_is FsBios = refl
-    reserve_is FsVecs = refl
-    reserve_is (Bios dev) = bios_are dev.0
-    reserve_is (Records dev) = records_are dev.0
-
-    pub objects_are : start.objects ≡ texts.objects (scenario rescuer)
-    objects_are = λ k. record {
-      pool = λ number. opened (reserve_is (pool_of number) k) (script_at scripts number);
-      rescue = λ dev. [];
-      disk = λ dev. disk.opened (at dev) (size (tree_is dev k)) (bads_are dev k);
-      book = λ writer. record { writer = writer; nodes = replicate (places_are writer k) None };
-      tally = start.objects.tally;
-    }
-
-  tasks_are : tasks ≡ texts.tasks (scenario true)
+  tasks_are : tasks ≡ texts.tasks (scenario memory true)
   unfolding tree_below over_shape
   tasks_are = refl
 
-  start_is : start ≡ texts.start (scenario true)
-  start_is = λ k. record { objects = objects_are true k; task = λ place. slice_index_or (tasks_are k) place no_task }
+  start_is : start ≡ texts.start (scenario memory true)
+  start_is = λ k. record { objects = objects_are memory true k; task = λ place. slice_index_or (tasks_are k) place no_task }
 
-  scene_is : (some : LedgerId) → scene some ≡ texts.scene (scenario true) (ledger some)
-  scene_is some = λ k. record { setup = setup_is true k; tasks = length (tasks_are k); books = 8; writes = 1; ledger = ledger some }
+  scene_is : (some : LedgerId) → scene some ≡ texts.scene (scenario memory true) (ledger some)
+  scene_is some = λ k. record { setup = setup_is memory true k; tasks = length (tasks_are k); books = 8; writes = 1; ledger = ledger some }
 
-  text_runs : (some : LedgerId) → IsRun (texts.scene (scenario true) (ledger some)) (texts.start (scenario true)) (events some) (follow (setup true) start (turns some))
+  text_runs : (some : LedgerId) → IsRun (texts.scene (scenario memory true) (ledger some)) (texts.start (scenario memory true)) (events some) (follow (setup true) start (turns some))
   text_runs some = subst (λ (x : Scene × State). IsRun x.0 x.1 (events some) (follow (setup true) start (turns some)))
       (λ k. (scene_is some k, start_is k)) (mirror_runs some)
 
-  says : Says text (scenario true)
+  says : Says text (scenario memory true)
   unfolding refusal without_empty_end first_found command_of is_name number_of meaning pool_at over_shape size_of smallest needed begins
   says = record {
     right = refl;
     means = record {
       devices = refl;
-      bad = sound_at (scenario true).stack.devices.items (refl, (refl, (refl, tt)));
+      bad = sound_at (scenario memory true).stack.devices.items (refl, (refl, (refl, tt)));
       fs_bios = refl;
       fs_vecs = refl;
       scripts = refl;

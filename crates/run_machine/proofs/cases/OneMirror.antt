@@ -1,0 +1,152 @@
+-- A mirror of two disks of eight sectors, with one bio and one record in reserve and no ordinary memory, and one write of its first sector: what
+-- runs with a rescuer for the mirror's set and without one have in common.
+use Rattle.std.proofs.Common.{◌≡◌, ◌+◌, ◌==◌, if◌then◌else◌, ℕ, zero, suc, Bool, List, [], ◌∷◌, replicate, sum_by, slice_index_or, codes, None, refl, arith, false, true}
+use Rattle.std.specs.Global.{Global}
+use Rattle.fail_script.specs.Script.{Answers, only_tail}
+use Rattle.stack_base.specs.declared.ids.DevId.{DevId}
+use Rattle.stack_base.specs.declared.ids.PoolId.{PoolId}
+use Rattle.stack_base.specs.declared.ids.PoolId.TheVariants.{FsBios, FsVecs, Bios, Records}
+use Rattle.stack_base.specs.declared.ids.Status.TheVariants.{Ok}
+use Rattle.stack_base.specs.declared.stack.Kind.TheVariants.{Mirror}
+use Rattle.stack_base.specs.declared.stack.Stack.{Stack}
+use Rattle.stack_base.specs.Tree.{Tree, Leaf, Mirrored, tree, tree_below, over_shape, member_at, size}
+use Rattle.layout_model.specs.declared.write.Write.{Write}
+use Rattle.layout_model.specs.May.{bads_of}
+use Rattle.layout_model.specs.Need.{needed, begun as begins}
+use Rattle.layout_model.specs.Needs.{nodes as nodes_of}
+use Rattle.mempool_core.specs.Move.{opened}
+use Rattle.model_disks.specs.Moves as disk
+use Rattle.run_machine.specs.Scene.{Setup}
+use Rattle.run_machine.specs.Tasks.{Todo}
+use Rattle.run_machine.specs.Objects.{Objects}
+use Rattle.run_machine.specs.Events.{pool_of}
+use Rattle.run_machine.specs.Opened.{Scenario, at, places_of, reserve_of, script_at}
+use Rattle.run_machine.specs.Opened as texts
+use Rattle.run_machine.proofs.Texts.{device, disk as disk_of, stack_of}
+
+abbrev pub a : DevId
+a = at 0
+
+abbrev pub b : DevId
+b = at 1
+
+abbrev pub m : DevId
+m = at 2
+
+abbrev pub mirror : Tree
+mirror = Mirrored 2 (8 ∷ 8 ∷ []) (member_at 2 (Leaf 0 8 ∷ Leaf 1 8 ∷ []))
+
+-- whether the mirror's set has a rescuer
+abbrev pub setup : Bool → Setup
+setup rescuer = record {
+  count = 3;
+  tree = λ dev. slice_index_or (Leaf 0 8 ∷ Leaf 1 8 ∷ mirror ∷ []) dev (Leaf dev 0);
+  rescuer = λ dev. slice_index_or (false ∷ false ∷ rescuer ∷ []) dev false;
+  places = λ writer. if 0 == writer then 4 else 0;
+}
+
+abbrev pub write : Write
+write = record { task = 0; dev = m; start = 0; count = 1; tag = 0 }
+
+abbrev pub todo : Todo
+todo = record { number = 0; round = 0; write = write }
+
+-- the reserves of the writers' pools, and those of the mirror's bios and records
+abbrev pub reserve : PoolId → ℕ
+reserve FsBios = 2
+reserve FsVecs = 2
+reserve (Bios dev) = slice_index_or (0 ∷ 0 ∷ 1 ∷ []) dev.0 0
+reserve (Records dev) = slice_index_or (0 ∷ 0 ∷ 1 ∷ []) dev.0 0
+
+-- no pool has ordinary memory
+abbrev pub scripts : List (PoolId × Answers)
+scripts =
+    (FsBios, only_tail false)
+    ∷ (FsVecs, only_tail false)
+    ∷ (Records m, only_tail false)
+    ∷ (Bios m, only_tail false)
+    ∷ []
+
+-- the objects as runs begin with them
+abbrev pub objects : Objects
+objects = record {
+  pool = λ number. opened (reserve (pool_of number)) (script_at scripts number);
+  rescue = λ dev. [];
+  disk = λ dev. disk.opened (at dev) (size ((setup true).tree dev)) [];
+  book = λ writer. record { writer = writer; nodes = replicate ((setup true).places writer) None };
+  tally = record { round = 0; left = 1 ∷ []; statuses = Ok ∷ [] };
+}
+
+-- The scenario with a rescuer for the mirror's set, and without one: runs of both begin with these objects.
+module _ (memory : Global) where
+  abbrev pub stack : Bool → Stack
+  stack rescuer =
+      stack_of memory
+      (disk_of memory (codes "a") 8 ∷ disk_of memory (codes "b") 8 ∷ device memory (codes "m") (Mirror 1) (0 ∷ 1 ∷ []) 1 rescuer ∷ [])
+      refl (8 ∷ 8 ∷ 8 ∷ []) 2
+
+  abbrev pub scenario : Bool → Scenario
+  scenario rescuer = record { stack = stack rescuer; scripts = scripts; writes = write ∷ []; rounds = 0 ∷ []; changes = [] }
+
+  module _ (rescuer : Bool) where
+    tree_is : (dev : ℕ) → (setup rescuer).tree dev ≡ tree (stack rescuer) dev
+    unfolding tree_below over_shape
+    tree_is zero = refl
+    tree_is (suc zero) = refl
+    tree_is (suc (suc zero)) = refl
+    tree_is (suc (suc (suc n))) = let e : suc (suc (suc n)) + 1 ≡ suc (suc (suc (suc n))) = omega arith in rw e refl
+
+    rescuer_is : (dev : ℕ) → (setup rescuer).rescuer dev ≡ (texts.setup (scenario rescuer)).rescuer dev
+    rescuer_is zero = refl
+    rescuer_is (suc zero) = refl
+    rescuer_is (suc (suc zero)) = refl
+    rescuer_is (suc (suc (suc n))) = refl
+
+    places_if : (own : Bool) → (if own then 4 else 0) ≡ sum_by (λ (todo : Todo). nodes_of (stack rescuer) todo.write) (if own then todo ∷ [] else [])
+    unfolding tree_below over_shape needed begins
+    places_if true = refl
+    places_if false = refl
+
+    places_are : (writer : ℕ) → (setup rescuer).places writer ≡ places_of (scenario rescuer) writer
+    places_are writer = places_if (0 == writer)
+
+    pub setup_is : setup rescuer ≡ texts.setup (scenario rescuer)
+    setup_is = λ k. record {
+      count = 3;
+      tree = λ dev. tree_is dev k;
+      rescuer = λ dev. rescuer_is dev k;
+      places = λ writer. places_are writer k;
+    }
+
+    bads_are : (dev : ℕ) → [] ≡ bads_of (stack rescuer) dev
+    bads_are zero = refl
+    bads_are (suc zero) = refl
+    bads_are (suc (suc zero)) = refl
+    bads_are (suc (suc (suc n))) = refl
+
+    bios_are : (dev : ℕ) → reserve (Bios (at dev)) ≡ reserve_of (stack rescuer) (Bios (at dev))
+    bios_are zero = refl
+    bios_are (suc zero) = refl
+    bios_are (suc (suc zero)) = refl
+    bios_are (suc (suc (suc n))) = refl
+
+    records_are : (dev : ℕ) → reserve (Records (at dev)) ≡ reserve_of (stack rescuer) (Records (at dev))
+    records_are zero = refl
+    records_are (suc zero) = refl
+    records_are (suc (suc zero)) = refl
+    records_are (suc (suc (suc n))) = refl
+
+    reserve_is : (pool : PoolId) → reserve pool ≡ reserve_of (stack rescuer) pool
+    reserve_is FsBios = refl
+    reserve_is FsVecs = refl
+    reserve_is (Bios dev) = bios_are dev.0
+    reserve_is (Records dev) = records_are dev.0
+
+    pub objects_are : objects ≡ texts.objects (scenario rescuer)
+    objects_are = λ k. record {
+      pool = λ number. opened (reserve_is (pool_of number) k) (script_at scripts number);
+      rescue = λ dev. [];
+      disk = λ dev. disk.opened (at dev) (size (tree_is dev k)) (bads_are dev k);
+      book = λ writer. record { writer = writer; nodes = replicate (places_are writer k) None };
+      tally = objects.tally;
+    }
