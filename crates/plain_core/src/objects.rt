@@ -117,10 +117,10 @@ impl Objects {
     }
 
     /// Whether exactly so many writes are unfinished, of all rounds together.
-    pub fn leaves(&self, count: u64) -> bool
+    pub fn has_left(&self, count: u64) -> bool
         ensures { result ≡ (sum self.now.tally.left == count) }
     {
-        self.tally.leaves(count)
+        self.tally.has_left(count)
     }
 
     /// How many writes are unfinished.

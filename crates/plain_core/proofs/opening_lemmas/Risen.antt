@@ -23,7 +23,7 @@ use Rattle.run_machine.specs.Tasks.{TaskState, Duty, Resizes, Starts, NoBio, Emp
 use Rattle.plain_core.specs.declared.steps.task.Task.{Task}
 use Rattle.plain_core.specs.Cores.{slot_of}
 use Rattle.plain_core.specs.opening.Opening.{AreTasksSeated, Seats}
-use Rattle.plain_core.specs.opening.Seen.{HasNothingAtHand, IsOfPool, Rises}
+use Rattle.plain_core.specs.opening.Seen.{HasNotBegun, IsOfPool, Rises}
 use Rattle.plain_core.specs.steps.Views.{task_of_plain}
 use Rattle.plain_core.proofs.opening_lemmas.Seated.{seated_on}
 use Rattle.plain_core.proofs.opening_lemmas.Seen.{can}
@@ -87,7 +87,7 @@ module _ (o : Opened) (is : AreTheFirst o) where
   good = subst IsStack (sym is.stack) (can o is).is_stack
 
   abbrev Begins : TaskState → Type 0
-  Begins task = IsTaskOf stage task → HasNothingAtHand task
+  Begins task = IsTaskOf stage task → HasNotBegun task
 
   keepers_begin : (ds : List Duty) → All Begins (keepers ds)
   keepers_begin [] = All-nil Begins
@@ -107,7 +107,7 @@ module _ (o : Opened) (is : AreTheFirst o) where
   home : All (IsTaskOf stage) (states o.tasks.items)
   home = All-map (IsTaskOf stage) (λ (task : TaskOf). task.state) o.tasks.items is.one.home
 
-  pub firsts : All HasNothingAtHand (states o.tasks.items)
+  pub firsts : All HasNotBegun (states o.tasks.items)
   firsts =
       let begun = subst (All Begins) (sym is.tasks) begin in
       λ k d lt. begun k d lt (home k d lt)
@@ -137,8 +137,8 @@ module _ (tasks : List TaskOf) (count : ℕ) (task : TaskOf) (lt : count < lengt
   pub state_at : task.state ≡ get_or (states tasks) count no_task
   state_at = ap (λ (t : TaskOf). t.state) is ∙ sym (get_or-map (λ (t : TaskOf). t.state) tasks count task no_task lt)
 
-  pub first_at : All HasNothingAtHand (states tasks) → HasNothingAtHand task.state
-  first_at all = subst HasNothingAtHand (sym state_at) (all count no_task (omega (arith, lt, length-map tasks (λ (t : TaskOf). t.state))))
+  pub first_at : All HasNotBegun (states tasks) → HasNotBegun task.state
+  first_at all = subst HasNotBegun (sym state_at) (all count no_task (omega (arith, lt, length-map tasks (λ (t : TaskOf). t.state))))
 
 -- one task more is seated
 pub record AreSeen (all : List TaskState) (count : ℕ) (seen : List Task) (places : List ℕ) : Type 0 where

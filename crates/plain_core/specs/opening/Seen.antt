@@ -13,12 +13,12 @@ IsOfPool (Starts round later) = Unit {0}
 
 -- It has nothing at hand, no element and no submission, as each task that has not begun. Of the keeper, which never has an element, this says that
 -- it has not broken off, and that its changes of reserves name pools that a stack can have.
-abbrev pub HasNothingAtHand : TaskState → Type 0
-HasNothingAtHand (Writer number todo taken line) = (taken ≡ NoBio) × (line ≡ rests)
-HasNothingAtHand (Rescuer dev line) = line ≡ rests
-HasNothingAtHand (Completer disk carried) = carried ≡ Empty
-HasNothingAtHand (Keeper (Keeps duties)) = All IsOfPool duties
-HasNothingAtHand (Keeper (Stops breach)) = ⊥
+abbrev pub HasNotBegun : TaskState → Type 0
+HasNotBegun (Writer number todo taken line) = (taken ≡ NoBio) × (line ≡ rests)
+HasNotBegun (Rescuer dev line) = line ≡ rests
+HasNotBegun (Completer disk carried) = carried ≡ Empty
+HasNotBegun (Keeper (Keeps duties)) = All IsOfPool duties
+HasNotBegun (Keeper (Stops breach)) = ⊥
 
 -- the slots of tasks rise from one number up to below another
 abbrev pub Rises : ℕ → List TaskState → ℕ → Type 0

@@ -82,7 +82,7 @@ impl Tally {
     }
 
     /// Whether exactly so many writes are unfinished, of all rounds together.
-    pub fn leaves(&self, count: u64) -> bool
+    pub fn has_left(&self, count: u64) -> bool
         ensures { result ≡ (sum self.now.left == count) }
     {
         self.all == u128::from(count)

@@ -4,7 +4,7 @@ ghost use Rattle.task_steps.specs.KeeperViews.{duty_of as keeps};
 ghost use Rattle.task_core.specs.opened.OfOne.{states};
 ghost use Rattle.run_machine.specs.Tasks.{Keeper as Keeping};
 ghost use Rattle.task_steps.specs.WriterViews.{writer_task};
-ghost use Rattle.plain_core.specs.opening.Seen.{HasNothingAtHand, IsOfPool, Rises};
+ghost use Rattle.plain_core.specs.opening.Seen.{HasNotBegun, IsOfPool, Rises};
 ghost use Rattle.plain_core.specs.steps.Views.{keeper_of, task_of_plain, writer_of};
 ghost use Rattle.plain_core.specs.opening.Opening.{IsSeating};
 
@@ -63,7 +63,7 @@ fn duties_seen(alloc: Global, rest: &[opened::Duty]) -> Result<Vec<Duty>, AllocE
 
 // A writer that has not begun.
 fn writer_seen(alloc: Global, writer: &opened::Writer) -> Result<Writer, AllocError>
-    requires { HasNothingAtHand (writer_task writer.now) }
+    requires { HasNotBegun (writer_task writer.now) }
     ensures { IfOk result (λ seen. writer_of seen ≡ writer_task writer.now) }
 {
     Ok(Writer {
@@ -77,7 +77,7 @@ fn writer_seen(alloc: Global, writer: &opened::Writer) -> Result<Writer, AllocEr
 
 // A keeper that has not begun.
 fn keeper_seen(alloc: Global, keeper: &opened::Keeper) -> Result<Keeper, AllocError>
-    requires { HasNothingAtHand (Keeping keeper.now) }
+    requires { HasNotBegun (Keeping keeper.now) }
     ensures { IfOk result (λ seen. keeper_of seen ≡ Keeping keeper.now) }
 {
     Ok(Keeper {
@@ -88,7 +88,7 @@ fn keeper_seen(alloc: Global, keeper: &opened::Keeper) -> Result<Keeper, AllocEr
 
 // A task that has not begun.
 fn task_seen(alloc: Global, task: &opened::Task) -> Result<Task, AllocError>
-    requires { HasNothingAtHand task.now.state }
+    requires { HasNotBegun task.now.state }
     ensures { IfOk result (λ seen. task_of_plain seen ≡ task.now.state) }
 {
     match task.kind() {
@@ -113,7 +113,7 @@ pub fn tasks_seen(
     alloc: Global,
     tasks: &[opened::Task],
 ) -> Result<(Vec<Task>, Vec<u32>), AllocError>
-    requires first { All HasNothingAtHand (states tasks.now) }
+    requires first { All HasNotBegun (states tasks.now) }
     requires rising { Rises 0 (states tasks.now) 73 }
     ensures { IfOk result (λ seen. IsSeating seen.0.items seen.1.items (states tasks.now)) }
 {

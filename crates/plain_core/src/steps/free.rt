@@ -91,7 +91,7 @@ fn keeper_is_let(objects: &Objects, keeper: &Keeper) -> bool
 {
     match next_duty(&keeper.duties, keeper.done) {
         None => true,
-        Some(duty) => objects.leaves(duty.later()),
+        Some(duty) => objects.has_left(duty.later()),
     }
 }
 

@@ -39,7 +39,7 @@ pub fn keeper_step(objects: &mut Objects, keeper: &mut Keeper, what: &What) -> R
     let Some(duty) = next_duty(&keeper.duties, keeper.done) else {
         return Err(CoreFault::NotEnabled);
     };
-    if !objects.leaves(duty.later()) {
+    if !objects.has_left(duty.later()) {
         return Err(CoreFault::NotEnabled);
     }
     match keep(objects, duty, what) {

@@ -8,5 +8,5 @@ returns-in-Some c =
     let k = c.args.keeper.now in
     let duty = c.in-Some.duty.now in
     let here = subst (λ (ds : List Duty). drop k.done ds ≡ duty ∷ drop (k.done + 1) ds) c.deref.ensures.value c.in-Some.ensures in
-    keeper_let c.args.objects.now (drop k.done k.duties.items) duty (drop (k.done + 1) k.duties.items) c.leaves.result here
-    (sym (c.leaves.ensures ∙ ap (λ n. sum c.args.objects.now.tally.left == n) c.later.ensures))
+    keeper_let c.args.objects.now (drop k.done k.duties.items) duty (drop (k.done + 1) k.duties.items) c.has_left.result here
+    (sym (c.has_left.ensures ∙ ap (λ n. sum c.args.objects.now.tally.left == n) c.later.ensures))
