@@ -31,7 +31,7 @@ WORK, LOGS = f"{OUT}/work", f"{OUT}/logs"
 PARTS = ("src", "specs", "proofs")
 GIB = 1 << 30
 # minutes of one processor that the dear crates take: what they read or drop counts more than their code
-MINUTES = {"object_things": 3.5, "shared_objects": 9, "bio_workers": 6, "run_merge": 5, "biostack_top": 5, "biostack": 5}
+MINUTES = {"object_things": 3.5, "shared_objects": 25, "bio_workers": 5, "run_merge": 5, "biostack_top": 5, "biostack": 8}
 BYTES_A_MINUTE = 20_000
 START, BEGAN = time.monotonic(), time.time()
 running, stopping = set(), threading.Event()
