@@ -7,7 +7,7 @@
 //! A script says which takes may have ordinary memory at all, so that a run can ask for a shortage of it.
 #![tactic(auto)]
 
-ghost use Rattle.std.specs.Prelude.{◌≡◌, ℕ, ◌<◌, ◌≤◌, All, IfOk, OnOk, OnErr, MatchResult, vec_len, vec_capacity};
+ghost use Rattle.std.specs.Prelude.{◌≡◌, ℕ, ◌<◌, ◌≤◌, IfOk, OnOk, OnErr, MatchResult, vec_len};
 ghost use Rattle.fail_script.specs.Script.{entries_of};
 ghost use Rattle.mempool_core.specs.Position.{uses_entry, next_pos};
 ghost use Rattle.mempool_core.specs.Facts.{AddsUp};
@@ -15,6 +15,9 @@ ghost use Rattle.mempool_core.specs.Move.{gives, resizes, opened};
 ghost use Rattle.mempool_core.specs.Pool.{PoolMoves, widened};
 ghost use Rattle.mempool_core.specs.Taken.{TakeOf};
 
+mod bodies;
+
+use crate::bodies::fresh_bodies;
 use elem_ledger::Ledger;
 pub use elem_ledger::{Element, Fresh};
 use fail_script::Script;
@@ -64,19 +67,6 @@ pub struct Facts {
     pub ordinary: u64,
     /// The takes that had a spare. The count stays at `u64::MAX`.
     pub spare: u64,
-}
-
-// `count` clear bodies, in a vector that has room for as many.
-fn fresh_bodies<P: Fresh + Drop>(alloc: Global, count: usize) -> Result<Vec<Box<P>>, AllocError>
-    ensures len { IfOk result (λ bodies. vec_len bodies ≡ count) }
-    ensures room { IfOk result (λ bodies. count ≤ vec_capacity bodies) }
-    ensures clear { IfOk result (λ bodies. All (λ body. P.is_clear body.value) bodies.items) }
-{
-    let mut bodies = Vec::with_capacity(alloc, count)?;
-    'filling: for _ in 0..count {
-        bodies.push(Box::new(alloc, P::fresh())?).unwrap();
-    }
-    Ok(bodies)
 }
 
 // What a pool counts beside its bodies and its ledger.

@@ -1,5 +1,5 @@
 use Rattle.std.proofs.Common.{◌≡◌, ◌≤◌, All, vec_len, vec_capacity}
-use Rattle.mempool_core.proofs.fresh_bodies.Given as goal
+use Rattle.mempool_core.proofs.bodies.fresh_bodies.Given as goal
 
 abbrev pub invariant-filling : goal.invariant-filling
 invariant-filling g l =
