@@ -12,7 +12,7 @@ use Rattle.seat_lock.specs.declared.view.Rank.{Rank}
 use Rattle.seat_lock.specs.declared.view.Rank.TheVariants.{First, Other, Spent}
 use Rattle.seat_lock.specs.declared.view.Phase.{Phase}
 use Rattle.seat_lock.specs.declared.view.Phase.TheVariants.{Idle, Waiting, Serving}
-use Rattle.seat_lock.specs.History.{indicator, count, IsPrefix, calls_by, Continues, IsLeft}
+use Rattle.seat_lock.specs.History.{indicator, count, IsPrefix, calls_by, Continues, Leads, IsLeft}
 use Rattle.seat_lock.specs.Seats.{split_of, first_seat, split_more, new_seat, joined_with, call_of, IsWhole}
 
 -- as many turns as a word counts until it goes round
@@ -160,6 +160,11 @@ module _ {T A R : Type 0} where
   -- the call of a seat that is served has joined the history, and its turn is over
   abbrev pub after_call : View T A R → A → R → View T A R
   after_call v asked told = record v { known = record v.known { seen = v.known.seen ++ call_of v.known asked told ∷ [] }; phase = Idle; parts = None }
+
+module _ {T D A R : Type 0} (plain : T → D) (answers : D → A → R → D → Type 0) where
+  -- what the seat has seen, with this call last, is a run of the machine from the thing at the start
+  abbrev pub EndsRun : Snapshot T → View T A R → A → R → Type 0
+  EndsRun key v asked told = (after : D) × Leads answers (plain key.value) (after_call v asked told).known.seen after
 
 module _ {T D A R M : Type 0} (plain : T → D) (mark : T → M) (answers : D → A → R → D → Type 0) where
   abbrev pub IsLeftBy : Option (Snapshot T) → List (Entry A R) → T → Type 0

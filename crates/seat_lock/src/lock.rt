@@ -2,7 +2,7 @@
 ghost use Rattle.std.specs.Prelude.{◌≡◌, ◌<◌, true, false, [], ◌∷◌, IfOk, IfErr};
 ghost use Rattle.seat_lock.specs.History.{IsLeft, Leads};
 ghost use Rattle.seat_lock.specs.Seats.{Calls, HasJoined, IsOf, IsWhole, first_seat, is_first, new_seat, own, split_more, split_of};
-ghost use Rattle.seat_lock.specs.Turning.{HasServed, HasThing, IsIdle, after_call};
+ghost use Rattle.seat_lock.specs.Turning.{EndsRun, HasServed, HasThing, IsIdle, after_call};
 ghost use Rattle.seat_lock.specs.declared.view.Rank.TheVariants.{First};
 
 use crate::thing::Thing;
@@ -161,7 +161,7 @@ impl<T: Thing> SeatLock<T> {
         requires fits { T.fits (T.mark self.now.key.value) request }
         ensures of { inner.new.table_id ≡ inner.old.table_id }
         ensures view { inner.new.me ≡ (after_call inner.old.me.0 (T.asked request) (T.told result), []) }
-        ensures run { (after : T.Data) × Leads T.answers (T.plain self.now.key.value) (after_call inner.old.me.0 (T.asked request) (T.told result)).known.seen after }
+        ensures run { EndsRun T.plain T.answers self.now.key inner.old.me.0 (T.asked request) (T.told result) }
         ensures owed { T.owes (T.mark self.now.key.value) request result }
     {
         let table = &self.table;
