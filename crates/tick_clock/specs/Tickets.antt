@@ -81,9 +81,17 @@ abbrev pub IsRising : ℕ → List Ticket → Type 0
 IsRising last [] = Unit {0}
 IsRising last (t ∷ ts) = (t.number ≡ max last t.seen + 1) × IsRising t.number ts
 
+-- so it is of each ticket of a rising row, and of those before it
+abbrev pub EachInRow : (List Ticket → Ticket → Type 0) → Type 0
+EachInRow Holds = (front : List Ticket) (t : Ticket) (back : List Ticket) → IsRising 0 (front ++ t ∷ back) → Holds front t
+
 -- the number is 0 or that of one of the tickets
 abbrev pub IsOneOf : List Ticket → ℕ → Type 0
 IsOneOf ts number = (number ≡ 0) ⊎ ((u : Ticket) × Contains ts u × (number ≡ u.number))
+
+-- no ticket is greater than the number, and it is one of theirs, or 0 where there is none
+abbrev pub IsGreatest : List Ticket → ℕ → Type 0
+IsGreatest ts number = IsOneOf ts number × All (λ t. t.number ≤ number) ts
 
 -- the ticket is one more than 0, than one of the tickets, or than what its pass or its note had seen
 abbrev pub IsOneMore : List Ticket → Ticket → Type 0

@@ -1,7 +1,7 @@
 //! What holds of the tickets of a clock, whoever drew them.
-ghost use Rattle.std.specs.Prelude.{◌≡◌, ◌+◌, ◌<◌, ◌≤◌, List, ◌∷◌, ◌++◌, length, All, IsPermutation};
+ghost use Rattle.std.specs.Prelude.{◌≡◌, ◌+◌, ◌<◌, ◌≤◌, List, length, All, IsPermutation};
 ghost use Rattle.tick_clock.specs.declared.ticking.Ticket.{Ticket};
-ghost use Rattle.tick_clock.specs.Tickets.{PassState, IsRising, last_of, AreApart, IsOneOf, IsOneMore, SeeOwn, ShowsTickets, HasAll};
+ghost use Rattle.tick_clock.specs.Tickets.{PassState, IsRising, EachInRow, last_of, AreApart, IsGreatest, IsOneOf, IsOneMore, SeeOwn, ShowsTickets, HasAll};
 
 use crate::{Clock, Note, Pass};
 
@@ -13,8 +13,8 @@ pub fn no_number_occurs_twice()
 /// Each ticket is greater than those before it, and one more than 0, than the ticket before it, or than what its pass or its note had
 /// seen. Where they had seen no more than the ticket before it, it is one more than that one.
 pub fn each_ticket_is_one_more()
-    ensures above { (front : List Ticket) (t : Ticket) (back : List Ticket) → IsRising 0 (front ++ t ∷ back) → All (λ u. u.number < t.number) front }
-    ensures next { (front : List Ticket) (t : Ticket) (back : List Ticket) → IsRising 0 (front ++ t ∷ back) → t.seen ≤ last_of 0 front → t.number ≡ last_of 0 front + 1 }
+    ensures above { EachInRow (λ front t. All (λ u. u.number < t.number) front) }
+    ensures next { EachInRow (λ front t. t.seen ≤ last_of 0 front → t.number ≡ last_of 0 front + 1) }
     ensures of { (row : List Ticket) → IsRising 0 row → All (IsOneMore row) row }
 {}
 
@@ -34,7 +34,7 @@ pub fn a_pass_has_each_ticket_once()
 /// tickets of the clock alone, the greatest ticket is the number of tickets.
 pub fn the_first_pass_has_all_tickets()
     ensures all { (pass : PassState) → (shown : ShowsTickets pass) → HasAll pass → IsPermutation shown.row pass.drawn }
-    ensures greatest { (pass : PassState) → ShowsTickets pass → HasAll pass → IsOneOf pass.drawn pass.known × All (λ t. t.number ≤ pass.known) pass.drawn }
+    ensures greatest { (pass : PassState) → ShowsTickets pass → HasAll pass → IsGreatest pass.drawn pass.known }
     ensures one_more { (pass : PassState) → ShowsTickets pass → HasAll pass → All (IsOneMore pass.drawn) pass.drawn }
     ensures counted { (pass : PassState) → ShowsTickets pass → HasAll pass → SeeOwn pass.drawn → pass.known ≡ length pass.drawn }
 {}
