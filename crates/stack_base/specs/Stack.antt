@@ -1,5 +1,5 @@
 -- A stack that a declaration may have: what holds of it besides that a mirror of two members has a rescuer.
-use Rattle.std.specs.Prelude.{◌≡◌, ◌<◌, ◌≤◌, ℕ, true, length, slice_get, Some}
+use Rattle.std.specs.Prelude.{◌≡◌, ◌<◌, ◌≤◌, ℕ, true, List, length, map, slice_get, Some}
 use Rattle.stack_base.specs.declared.ids.DevId.{DevId}
 use Rattle.stack_base.specs.declared.stack.Kind.{Kind}
 use Rattle.stack_base.specs.declared.stack.Kind.TheVariants.{Disk, Linear, Stripe, Zoned, Limit, Mirror}
@@ -29,6 +29,10 @@ pub record IsDevice (stack : Stack) (number : ℕ) (device : Device) : Type 0 wh
   pub small : size (tree stack number) ≤ 262144
   -- what begins at one sector is no more than a record and eight clones for each device
   pub narrow : weight (tree stack number) ≤ 288
+
+-- the sizes of the members of a device, in their order
+abbrev pub AreMemberSizes : Stack → ℕ → List ℕ → Type 0
+AreMemberSizes stack d sizes = (device : Device) → slice_get stack.devices.items d ≡ Some device → sizes ≡ map (λ m. size (tree stack m.0)) device.members.items
 
 -- it keeps the size of each device
 abbrev pub KeepsSizes : Stack → Type 0

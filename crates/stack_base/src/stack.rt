@@ -1,7 +1,7 @@
 //! A stack of devices, and how large each of them is.
 ghost use Rattle.std.specs.Prelude.{◌≡◌, ◌<◌, length, map, slice_get};
 ghost use Rattle.stack_base.specs.Mapping.{size_of};
-ghost use Rattle.stack_base.specs.Stack.{IsDevice, IsStack};
+ghost use Rattle.stack_base.specs.Stack.{AreMemberSizes, IsDevice, IsStack};
 ghost use Rattle.stack_base.specs.Tree.{over, size, tree};
 
 use crate::{Bad, DevId};
@@ -82,7 +82,7 @@ impl Stack {
     pub fn member_sizes(&self, d: DevId) -> ArrayVec<u64, 8>
         requires stack { IsStack self.now }
         requires device { d.0 < length self.now.devices.items }
-        ensures { (device : Device) → slice_get self.now.devices.items d.0 ≡ Some device → result.items ≡ map (λ m. size (tree self.now m.0)) device.members.items }
+        ensures { AreMemberSizes self.now d.0 result.items }
     {
         let device = self.device(d);
         let mut sizes = ArrayVec::new();

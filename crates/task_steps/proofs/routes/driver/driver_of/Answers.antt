@@ -1,13 +1,16 @@
-use Rattle.std.proofs.Common.{◌≡◌, ◌≤◌, ◌∷◌, [], List, ℕ, get_or, length, sum, ap, ◌∙◌, subst, sym, arith}
+use Rattle.std.proofs.Common.{Some, ◌≡◌, ◌≤◌, ◌∷◌, [], List, ℕ, get_or, length, sum, ap, ◌∙◌, subst, sym, rules, arith}
 use Rattle.std.proofs.lemmas.List.{get_or-replicate, length-map, length-replicate}
 use Rattle.stack_base.specs.declared.ids.DevId.{DevId}
-use Rattle.stack_base.specs.Stack.{HasShape}
+use Rattle.std.specs.Prelude.{slice_get}
+use Rattle.stack_base.specs.Stack.{AreMemberSizes, HasShape, IsStack}
+use Rattle.stack_base.specs.declared.stack.Stack.{Stack}
+use Rattle.stack_base.specs.declared.stack.Kind.TheVariants.{Linear, Stripe}
 use Rattle.stack_base.specs.Tree.{size, shape_of, tree}
 use Rattle.stack_base.specs.declared.stack.Device.{Device}
-use Rattle.stack_base.specs.Mapping.{smallest}
+use Rattle.stack_base.specs.Mapping.{size_of, smallest}
 use Rattle.stack_base.proofs.MemberSizes.{members_small}
 use Rattle.mirror_map.specs.Legs.{MirrorState}
-use Rattle.task_steps.specs.Routed.{copies_bios}
+use Rattle.task_steps.specs.Routed.{copies_bios, sizes_at}
 use Rattle.task_steps.proofs.Opening.{stripe_small, limit_sizes, mirror_size}
 use Rattle.task_steps.proofs.routes.driver.driver_of.Goals as goal
 
@@ -74,3 +77,43 @@ returns-in-Mirror c device found =
       ap (λ (m : MirrorState). m.size) c.new-in-Mirror.ensures ∙ c.size-in-Mirror.ensures
           ∙ mirror_size c.args.stack.now c.requires.stack c.args.dev.0 device found c.in-Mirror.records kind,
     )
+
+-- the members' sizes are as many as the device asks
+sizes_shape : (stack : Stack) → IsStack stack → (number : ℕ) (device : Device) → slice_get stack.devices.items number ≡ Some device → (sizes : List ℕ)
+    → AreMemberSizes stack number sizes → HasShape device.kind (length sizes)
+sizes_shape stack good number device found sizes are =
+    subst (HasShape device.kind) (sym (ap length (are device found) ∙ length-map device.members.items (λ (m : DevId). size (tree stack m.0)))) (good.each number device found).shape
+
+pub new-requires-clause-shape : goal.new-requires-clause-shape
+new-requires-clause-shape c =
+    let sizes = c.member_sizes.result.items in
+    subst (λ k. HasShape k (length sizes)) c.in-Linear.is
+    (sizes_shape c.args.stack.now c.requires.stack c.args.dev.0 c.device-device.result.now c.device-device.ensures.found sizes c.member_sizes.ensures)
+
+pub new-requires-in-Stripe-clause-shape : goal.new-requires-in-Stripe-clause-shape
+new-requires-in-Stripe-clause-shape c =
+    let sizes = c.member_sizes-sizes.result.items in
+    let count : length sizes ≡ c.len.result = sym c.len.ensures.value in
+    subst (λ n. HasShape (Stripe c.in-Stripe.chunk) n) count (subst (λ k. HasShape k (length sizes)) c.in-Stripe.is
+    (sizes_shape c.args.stack.now c.requires.stack c.args.dev.0 c.device-device.result.now c.device-device.ensures.found sizes c.member_sizes-sizes.ensures))
+
+pub new-requires-in-Zoned-clause-shape : goal.new-requires-in-Zoned-clause-shape
+new-requires-in-Zoned-clause-shape c =
+    let sizes = c.member_sizes-in-Zoned.result.items in
+    subst (λ k. HasShape k (length sizes)) c.in-Zoned.is
+    (sizes_shape c.args.stack.now c.requires.stack c.args.dev.0 c.device-device.result.now c.device-device.ensures.found sizes c.member_sizes-in-Zoned.ensures)
+
+-- a linear device is as large as its members together
+pub new-requires-clause-small : goal.new-requires-clause-small
+new-requires-clause-small c =
+    let device = c.device-device.result.now in
+    let sizes = c.member_sizes.ensures device c.device-device.ensures.found in
+    let all = sizes_at c.args.stack.now device in
+    let small = subst (λ n. n ≤ 262144) c.device-device.ensures.sized c.device-device.ensures.is_device.small in
+    subst (λ (ss : List ℕ). size_of Linear ss ≤ 262144) (sym sizes) (subst (λ k. size_of k all ≤ 262144) c.in-Linear.is small)
+
+pub returns-in-Linear : goal.returns-in-Linear
+returns-in-Linear c device found = search (rules, c.member_sizes.ensures device found)
+
+pub returns-in-Zoned : goal.returns-in-Zoned
+returns-in-Zoned c device found = search (rules, c.member_sizes-in-Zoned.ensures device found)
