@@ -4,10 +4,11 @@ ghost use Rattle.stack_base.specs.Stack.{IsStack};
 ghost use Rattle.stack_base.specs.Tree.{Copies, Cuts, shape_of, size, tree};
 ghost use Rattle.layout_model.specs.Need.{fragments_of, needed};
 ghost use Rattle.layout_model.specs.Needs.{IsNeeds};
+ghost use Rattle.layout_model.specs.Pieces.{IsFirstRun};
 ghost use Rattle.layout_model.specs.Writes.{IsWrite};
 
 use crate::Write;
-use crate::piece::first_piece;
+use crate::piece::{FirstRun, first_piece};
 use stack_base::{DevId, Device, Kind, Stack};
 
 /// The sectors of a segment.
@@ -84,19 +85,49 @@ fn count_pieces(stack: &Stack, device: &Device, dev: DevId, start: u64, len: u64
     ensures needed { result.needed ≡ needed (tree stack.now dev.0) start len }
     ensures fragments { result.fragments ≡ fragments_of (tree stack.now dev.0) start len }
 {
+    let first = first_piece(stack, device, dev, start, len);
+    // Most runs are one piece at most devices: they need what this piece needs, and the way down a chain leaves nothing behind.
+    if first.len == len {
+        return count(stack, first.dev, first.at, len);
+    }
+    count_split(stack, device, dev, start, len, first)
+}
+
+/// What the run needs at a device that cuts it after this first piece.
+#[cycle(counts)]
+fn count_split(
+    stack: &Stack,
+    device: &Device,
+    dev: DevId,
+    start: u64,
+    len: u64,
+    first: FirstRun,
+) -> Counts
+    requires stack { IsStack stack.now }
+    requires found { slice_get stack.now.devices.items dev.0 ≡ Some device.now }
+    requires cuts { shape_of device.now.kind ≡ Cuts }
+    requires within { start + len ≤ size (tree stack.now dev.0) }
+    requires first { IsFirstRun stack.now dev.0 start len first }
+    requires split { first.len < len }
+    ensures needed { result.needed ≡ needed (tree stack.now dev.0) start len }
+    ensures fragments { result.fragments ≡ fragments_of (tree stack.now dev.0) start len }
+{
+    let mut piece = first;
     let mut needed = 0;
     let mut fragments = 0;
     let mut done = 0;
-    while done < len {
-        let piece = first_piece(stack, device, dev, start + done, len - done);
+    loop {
         let below = count(stack, piece.dev, piece.at, piece.len);
         done += piece.len;
-        // The last piece keeps the run's own bio.
-        let split = u64::from(done < len);
-        needed += below.needed + split;
+        needed += below.needed;
         fragments += below.fragments;
+        // The last piece keeps the run's own bio.
+        if done == len {
+            return Counts { needed, fragments };
+        }
+        needed += 1;
+        piece = first_piece(stack, device, dev, start + done, len - done);
     }
-    Counts { needed, fragments }
 }
 
 /// What the run needs at a mirror: a record, a bio for each member, and what the run needs at each of them.

@@ -6,7 +6,7 @@ use Rattle.std.proofs.lemmas.Option.{slice_get-get_or, slice_get_within}
 use Rattle.stack_base.specs.declared.ids.DevId.{DevId}
 use Rattle.stack_base.specs.Tree.{size, tree}
 use Rattle.layout_model.specs.Need.{fragments_of, needed}
-use Rattle.layout_model.proofs.CountSteps.{needed_step, fragments_step, needed_none, fragments_none}
+use Rattle.layout_model.proofs.CountSteps.{needed_step, fragments_step, fragments_none}
 use Rattle.layout_model.proofs.SmallCounts.{needed_small, fragments_small}
 use Rattle.layout_model.proofs.MirrorLemmas.{legs_needed, legs_count, leg_size, disk_needed, disk_count}
 use Rattle.layout_model.proofs.counts.+counts.Goals as goal
@@ -101,74 +101,75 @@ count_legs-returns-clause-fragments t c =
       legs_count c.args.stack.now c.requires.stack c.args.dev.0 device found (c.requires.copies device found) c.args.start c.args.len,
     )
 
--- the rest is within the run
-pub count_pieces-overflow_add-start : goal.count_pieces-overflow_add-start
-count_pieces-overflow_add-start t c =
-    omega (arith, (c.requires.stack.each c.args.dev.0 c.args.device.now c.requires.found).small)
+-- a run that is one piece has the fragments of this piece
+pub count_pieces-returns-then-first-len-clause-fragments :
+    goal.count_pieces-returns-then-first-len-clause-fragments
+count_pieces-returns-then-first-len-clause-fragments t c =
+    let len = c.args.len in
+    omega (
+      arith,
+      c.count.ensures.fragments,
+      rw c.if-first-len.true at c.first_piece-first.ensures.counts,
+      fragments_none (tree c.args.stack.now c.args.dev.0) (c.args.start + len) (len - len) (omega arith),
+    )
 
 -- what was counted is a part of what the run needs
-pub count_pieces-overflow_add-needed : goal.count_pieces-overflow_add-needed
-count_pieces-overflow_add-needed t c =
+pub count_split-overflow_add-needed : goal.count_split-overflow_add-needed
+count_split-overflow_add-needed t c =
     let known = slice_get_within c.args.stack.now.devices.items c.args.dev.0 c.args.device.now c.requires.found in
     omega (
       arith,
-      c.from-split.ensures,
       c.loop-done.invariant.needed,
       c.count-below.ensures.needed,
-      needed_step c.args.stack.now c.args.dev.0 c.args.start c.args.len c.loop-done.done c.first_piece-piece.result c.first_piece-piece.ensures,
+      needed_step c.args.stack.now c.args.dev.0 c.args.start c.args.len c.loop-done.done c.loop-done.piece c.loop-done.invariant.piece,
       needed_small c.args.stack.now c.requires.stack c.args.dev.0 c.args.start c.args.len known c.requires.within,
     )
 
-pub count_pieces-overflow_add-needed-in-loop-done :
-    goal.count_pieces-overflow_add-needed-in-loop-done
-count_pieces-overflow_add-needed-in-loop-done t c =
-    let known = slice_get_within c.args.stack.now.devices.items c.args.dev.0 c.args.device.now c.requires.found in
-    omega (
-      arith,
-      c.from-split.ensures,
-      c.loop-done.invariant.needed,
-      c.count-below.ensures.needed,
-      needed_step c.args.stack.now c.args.dev.0 c.args.start c.args.len c.loop-done.done c.first_piece-piece.result c.first_piece-piece.ensures,
-      needed_small c.args.stack.now c.requires.stack c.args.dev.0 c.args.start c.args.len known c.requires.within,
-    )
-
-pub count_pieces-overflow_add-fragments : goal.count_pieces-overflow_add-fragments
-count_pieces-overflow_add-fragments t c =
+pub count_split-overflow_add-fragments : goal.count_split-overflow_add-fragments
+count_split-overflow_add-fragments t c =
     let known = slice_get_within c.args.stack.now.devices.items c.args.dev.0 c.args.device.now c.requires.found in
     omega (
       arith,
       c.loop-done.invariant.fragments,
       c.count-below.ensures.fragments,
-      fragments_step c.args.stack.now c.args.dev.0 c.args.start c.args.len c.loop-done.done c.first_piece-piece.result c.first_piece-piece.ensures,
-      fragments_small c.args.stack.now c.requires.stack c.args.dev.0 c.args.start c.args.len known c.requires.within c.requires.some,
+      fragments_step c.args.stack.now c.args.dev.0 c.args.start c.args.len c.loop-done.done c.loop-done.piece c.loop-done.invariant.piece,
+      fragments_small c.args.stack.now c.requires.stack c.args.dev.0 c.args.start c.args.len known c.requires.within (omega (arith, c.requires.split)),
     )
 
-pub count_pieces-loop-done-preserved : goal.count_pieces-loop-done-preserved
-count_pieces-loop-done-preserved t c =
-    record {
-      in_run = omega arith;
-      needed = omega (arith, c.from-split.ensures, c.loop-done.invariant.needed, c.count-below.ensures.needed, needed_step c.args.stack.now c.args.dev.0 c.args.start c.args.len c.loop-done.done c.first_piece-piece.result c.first_piece-piece.ensures);
-      fragments = omega (
-        arith,
-        c.loop-done.invariant.fragments,
-        c.count-below.ensures.fragments,
-        fragments_step c.args.stack.now c.args.dev.0 c.args.start c.args.len c.loop-done.done c.first_piece-piece.result c.first_piece-piece.ensures,
-      );
-    }
-
 -- no sector is left
-pub count_pieces-returns-clause-needed : goal.count_pieces-returns-clause-needed
-count_pieces-returns-clause-needed t c =
+pub count_split-returns-then-done-len-clause-fragments :
+    goal.count_split-returns-then-done-len-clause-fragments
+count_split-returns-then-done-len-clause-fragments t c =
+    let done = c.loop-done.done + c.loop-done.piece.len in
+    omega (
+      arith,
+      c.if-done-len.true,
+      c.loop-done.invariant.fragments,
+      c.count-below.ensures.fragments,
+      fragments_step c.args.stack.now c.args.dev.0 c.args.start c.args.len c.loop-done.done c.loop-done.piece c.loop-done.invariant.piece,
+      fragments_none (tree c.args.stack.now c.args.dev.0) (c.args.start + done) (c.args.len - done) (omega arith),
+    )
+
+-- the piece is not the last: the rest needs a bio for it too
+pub count_split-overflow_add-needed-in-loop-done :
+    goal.count_split-overflow_add-needed-in-loop-done
+count_split-overflow_add-needed-in-loop-done t c =
+    let known = slice_get_within c.args.stack.now.devices.items c.args.dev.0 c.args.device.now c.requires.found in
+    let short : c.loop-done.piece.len < c.args.len - c.loop-done.done = omega (arith, c.if-done-len.false, c.loop-done.invariant.left, c.loop-done.invariant.piece.within) in
     omega (
       arith,
       c.loop-done.invariant.needed,
-      needed_none (tree c.args.stack.now c.args.dev.0) (c.args.start + c.loop-done.done) (c.args.len - c.loop-done.done) (omega arith),
+      c.count-below.ensures.needed,
+      c.loop-done.invariant.piece.more short,
+      needed_small c.args.stack.now c.requires.stack c.args.dev.0 c.args.start c.args.len known c.requires.within,
     )
 
-pub count_pieces-returns-clause-fragments : goal.count_pieces-returns-clause-fragments
-count_pieces-returns-clause-fragments t c =
+-- the rest is within the run
+pub count_split-overflow_add-start : goal.count_split-overflow_add-start
+count_split-overflow_add-start t c =
     omega (
       arith,
-      c.loop-done.invariant.fragments,
-      fragments_none (tree c.args.stack.now c.args.dev.0) (c.args.start + c.loop-done.done) (c.args.len - c.loop-done.done) (omega arith),
+      c.loop-done.invariant.left,
+      c.loop-done.invariant.piece.within,
+      (c.requires.stack.each c.args.dev.0 c.args.device.now c.requires.found).small,
     )
