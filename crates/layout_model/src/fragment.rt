@@ -94,6 +94,10 @@ fn cut_pieces(
             start: to.at,
             len: to.len,
         };
+        // The last piece is all that is left, so the way down a chain of devices leaves no frame behind.
+        if to.len == rest.len {
+            return cut(stack, write, to.dev, piece, into);
+        }
         cut(stack, write, to.dev, piece, into)?;
         rest = Run {
             offset: rest.offset + to.len,

@@ -1,4 +1,4 @@
-use Rattle.std.proofs.Common.{rules, ◌≡◌, ◌<◌, ◌∙◌, [], sym, ap, length, ◌++◌, arith}
+use Rattle.std.proofs.Common.{rules, ◌≡◌, ◌+◌, ◌-◌, ◌<◌, ◌∙◌, [], sym, ap, length, ◌++◌, arith}
 use Rattle.std.specs.List.{flat_map}
 use Rattle.std.proofs.lemmas.List.{append-nil, take_all}
 use Rattle.std.proofs.lemmas.Option.{slice_get-get_or}
@@ -47,3 +47,19 @@ cut_pieces-returns t c =
     ap (λ n. frags (tree c.args.stack.now c.args.dev.0) c.args.write rest.offset rest.start n) left
     ∙ cut_none c.args.stack.now c.requires.stack c.args.dev.0 c.args.device.now c.requires.found c.requires.cuts c.args.write rest.offset rest.start in
     sym (append-nil c.cutting.into.items) ∙ ap (λ more. c.cutting.into.items ++ more) (sym nothing) ∙ c.cutting.invariant.so_far
+
+-- what is left is one piece, and has its fragments
+pub cut_pieces-returns-then-to-rest : goal.cut_pieces-returns-then-to-rest
+cut_pieces-returns-then-to-rest t c =
+    let rest = c.cutting.rest in
+    let to = c.first_piece-to.result in
+    let below = frags (tree c.args.stack.now to.dev.0) c.args.write rest.offset to.at to.len in
+    let left : rest.len - to.len ≡ 0 = omega (arith, c.if-to-rest.true) in
+    let nothing : frags (tree c.args.stack.now c.args.dev.0) c.args.write (rest.offset + to.len) (rest.start + to.len) (rest.len - to.len) ≡ [] =
+    ap (λ n. frags (tree c.args.stack.now c.args.dev.0) c.args.write (rest.offset + to.len) (rest.start + to.len) n) left
+    ∙ cut_none c.args.stack.now c.requires.stack c.args.dev.0 c.args.device.now c.requires.found c.requires.cuts c.args.write (rest.offset + to.len) (rest.start + to.len) in
+    let all : frags (tree c.args.stack.now c.args.dev.0) c.args.write rest.offset rest.start rest.len ≡ below =
+    c.first_piece-to.ensures.rest c.args.write rest.offset ∙ ap (λ more. below ++ more) nothing ∙ append-nil below in
+    let whole : c.cutting.into.items ++ below ≡ c.args.into.now.items ++ frags (tree c.args.stack.now c.args.dev.0) c.args.write c.args.run.offset c.args.run.start c.args.run.len =
+    ap (λ more. c.cutting.into.items ++ more) (sym all) ∙ c.cutting.invariant.so_far in
+    rw whole at c.cut.ensures
