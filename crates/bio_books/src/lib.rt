@@ -12,4 +12,5 @@ mod places;
 mod statuses;
 
 pub use book::{Book, Dropped, Link};
-pub use node::{Back, ClosedNode, Node, Role};
+pub use node::{Back, ClosedNode, Node, Role, parent_of};
+pub use statuses::{closing, kept_with};

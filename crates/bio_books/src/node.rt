@@ -67,8 +67,8 @@ impl Model for Node {
     ghost invariant = { λ n. IsOpen n.count n.held.bio };
 }
 
-// The place of the node that a node of a role is a child of, if it is one.
-fn parent_of(role: Role) -> Option<u32>
+/// The place of the node that a node of a role is a child of, if it is one.
+pub fn parent_of(role: Role) -> Option<u32>
     ensures { result ≡ parent_of role }
 {
     match role {

@@ -33,8 +33,8 @@ fn by_mark(mark: Status) -> Status
     }
 }
 
-// The status that a node of a role keeps, with one more end.
-pub(crate) fn kept_with(role: Role, old: Status, new: Status) -> Status
+/// The status that a node of a role keeps, with one more end: of a master one that was well, if one was, and of any other the first that failed.
+pub fn kept_with(role: Role, old: Status, new: Status) -> Status
     ensures { result ≡ kept_with role old new }
 {
     match role {
@@ -43,8 +43,8 @@ pub(crate) fn kept_with(role: Role, old: Status, new: Status) -> Status
     }
 }
 
-// How a node of a role ends as it closes.
-pub(crate) fn closing(role: Role, status: Status) -> Status
+/// How a node of a role ends as it closes, with the status that it kept: a master that is not well ends with `Status::Io`.
+pub fn closing(role: Role, status: Status) -> Status
     ensures { result ≡ closing role status }
 {
     match role {
