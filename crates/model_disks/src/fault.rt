@@ -1,17 +1,16 @@
 //! How a bio ends on a disk with bad ranges.
-ghost use Rattle.std.specs.Prelude.{◌≡◌, ◌+◌, ◌^◌, ◌<◌, All};
+ghost use Rattle.std.specs.Prelude.{◌≡◌};
 ghost use Rattle.stack_base.specs.Fault.{touches, starts_before, fault};
-ghost use Rattle.model_disks.specs.Kept.{IsCountable};
 
 use stack_base::{Bad, Range, Status};
 
-// Whether two ranges share a sector.
+// Whether two ranges share a sector. Their ends may have more than 64 bits.
 fn touches(one: Range, other: Range) -> bool
-    requires one { one.start + one.len < 2 ^ 64 }
-    requires other { other.start + other.len < 2 ^ 64 }
     ensures { result ≡ touches one other }
 {
-    one.start.max(other.start) < (one.start + one.len).min(other.start + other.len)
+    let end = u128::from(one.start) + u128::from(one.len);
+    let other_end = u128::from(other.start) + u128::from(other.len);
+    u128::from(one.start.max(other.start)) < end.min(other_end)
 }
 
 // Whether a bad range starts before the one that was found so far, if any was.
@@ -27,8 +26,6 @@ fn starts_before(bad: Bad, found: Option<Bad>) -> bool
 /// How a bio of these sectors ends: as the bad range says that it touches, and of several the one that starts first, and of these the
 /// earliest; and well where it touches none (`badblocks_check`, `block/badblocks.c`).
 pub fn fault(bads: &[Bad], range: Range) -> Status
-    requires bads { All (λ bad. IsCountable bad.range) bads.now }
-    requires range { IsCountable range }
     ensures { result ≡ fault bads.now range }
 {
     let mut found = None;

@@ -7,7 +7,7 @@
 #![tactic(auto)]
 
 mod disk;
-mod fault;
+pub mod fault;
 mod flags;
 mod image;
 pub mod laws;
