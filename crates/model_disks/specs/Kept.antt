@@ -42,10 +42,6 @@ pub record IsFront (count words_room flags_room : ℕ) (front : List ℕ) (flags
   pub words_fit : 64 * count ≤ words_room
   pub flags_fit : count ≤ flags_room
 
--- the end of a range is a number of 64 bits
-abbrev pub IsCountable : Range → Type 0
-IsCountable range = range.start + range.len < 2 ^ 64
-
 -- a bio ends within a disk of so many sectors
 abbrev pub IsWithin : ℕ → Item Pad → Type 0
 IsWithin sectors item = item.bio.range.start + item.bio.range.len ≤ sectors
