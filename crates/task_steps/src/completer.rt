@@ -15,7 +15,7 @@ ghost use Rattle.task_steps.specs.TaskSteps.{CompleterDoes, TaskReady};
 
 mod closed;
 mod ends;
-mod gives;
+pub(crate) mod gives;
 
 use crate::objects::{Chooser, Objects, Unmade};
 use crate::step::Step;

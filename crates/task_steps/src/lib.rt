@@ -16,6 +16,7 @@ mod todo;
 pub mod within;
 mod writer;
 
+pub use completer::gives::pool_of;
 pub use completer::{Carried, Load};
 pub use keeper::{Duty, Keeper};
 pub use objects::{Ask, Chooser, Objects, Oldest, Unmade};
@@ -29,3 +30,4 @@ pub use task::{Kind, Task};
 pub use todo::{Todo, Todos};
 pub use writer::Writer;
 pub use writer::begin::Taken;
+pub use writer::first_bio::{first_bio, needs_vector};

@@ -11,7 +11,7 @@ ghost use Rattle.task_steps.specs.WriterViews.{writer_task, next_of, tried, IsNe
 ghost use Rattle.task_steps.specs.TaskSteps.{TaskAsks, TaskDoes, TaskReady, TaskTurns};
 
 pub(crate) mod begin;
-mod first_bio;
+pub(crate) mod first_bio;
 
 use crate::objects::Objects;
 use crate::routes::Routes;

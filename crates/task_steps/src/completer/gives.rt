@@ -22,8 +22,8 @@ use bio_records::{BioElement, SlipElement, VecElement};
 use run_machine::{Event, TaskId, What};
 use stack_base::{DevId, PoolId};
 
-// The pool of a number.
-fn pool_of(number: u32) -> PoolId
+/// The pool of a number.
+pub fn pool_of(number: u32) -> PoolId
     ensures { result ≡ pool_of number }
 {
     if number == 65 {

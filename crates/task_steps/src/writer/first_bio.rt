@@ -13,16 +13,14 @@ use bioset_pools::fill_bio;
 use layout_model::Write;
 use stack_base::{Range, SetId};
 
-// How many segments a bio keeps itself (`BIO_INLINE_VECS`, `block/bio.c`).
-const INLINE: u32 = 4;
+// How many sectors the segments have that a bio keeps itself: four (`BIO_INLINE_VECS`, `block/bio.c`) of eight each.
+const INLINE: u64 = 32;
 
-// Whether a write has more segments than its bio keeps itself.
-pub(crate) fn needs_vector(write: &Write) -> bool
-    requires some { 1 ≤ write.now.count }
-    requires few { write.now.count ≤ 2048 }
+/// Whether a write has more segments than its bio keeps itself.
+pub fn needs_vector(write: &Write) -> bool
     ensures { result ≡ needs_vector write.now }
 {
-    segments(write.count) > INLINE
+    write.count > INLINE
 }
 
 // Fills in the segments of a write.
@@ -39,8 +37,8 @@ fn fill_segments<const N: usize>(into: &mut ArrayVec<Segment, N>, write: &Write)
     fill(write.tag, write.count, into.as_mut_slice());
 }
 
-// The bio of a write, at its device, with the node at this place.
-fn first_bio(number: u32, todo: &Todo, node: u32) -> Bio
+/// The bio of a write of this writer, at its device, with the node at this place: all of its sectors, from its first word on.
+pub fn first_bio(number: u32, todo: &Todo, node: u32) -> Bio
     ensures { result ≡ first_bio number todo.now node }
 {
     let write = &todo.write;
