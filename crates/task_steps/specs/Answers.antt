@@ -66,6 +66,16 @@ abbrev pub Does : {S : Type 0} → Ghosts S → Routing → TaskId → Doing →
 Does words routing task doing lists old done after new =
     LineDoes words routing task (record { doing = doing; lists = lists }) old (submission_of done.0 after) new done.1
 
+-- and of a step that does so whatever is known of the devices
+abbrev pub AlwaysDoes : {S : Type 0} → Ghosts S → TaskId → Doing → TaskLists → S → RealDoing × Step → TaskLists → S → Type 0
+AlwaysDoes words task doing lists old done after new = (routing : Routing) → Does words routing task doing lists old done after new
+
+-- A call of these objects came to this. They hold together behind it too, and there are the same of them.
+pub record CallDoes {S : Type 0} (words : Ghosts S) (old : S) (outcome : Type 0) (new : S) : Type 0 where
+  pub came : outcome
+  pub held : words.holds new
+  pub same : words.stage new ≡ words.stage old
+
 -- what is wanted behind an attempt at a bio: what was had is linked, and a miss is followed by what follows it
 abbrev pub WantsOn : Bool → Reply → Want → Type 0
 WantsOn waits (HadBio got hand) want = want ≡ Links hand
@@ -84,19 +94,27 @@ pub record Attempts {S : Type 0} (serves : S → Request → Reply → S → Typ
 abbrev pub IsSpent : {S : Type 0} → (S → Request → Reply → S → Type 0) → (Request → Reply → Type 0) → Request → S → S → Type 0
 IsSpent serves owes asked old new = serves old asked Spent new × owes asked Spent
 
--- an attempt at a bio of a device's set
+-- what came of an attempt at a bio of a device's set
 abbrev pub Attempted : {S : Type 0} → Ghosts S → TaskId → DevId → Bool → S → S → Result (RealWant × Step) Unmade → Type 0
 Attempted words task dev waits old new (Ok made) = Attempts words.serves (Owes (words.stage old)) task dev waits old (want_of made.0) new made.1
 Attempted words task dev waits old new (Err back) =
     IsSpent words.serves (Owes (words.stage old)) (TakeBio (Of dev) waits) old new × (back ≡ unmade.Nothing)
 
--- the bios of a device's set go from these lists to its rescuer
+-- an attempt at such a bio
+abbrev pub AttemptDoes : {S : Type 0} → Ghosts S → TaskId → DevId → Bool → S → Result (RealWant × Step) Unmade → S → Type 0
+AttemptDoes words task dev waits old made new = CallDoes words old (Attempted words task dev waits old new made) new
+
+-- the bios of a device's set went from these lists to its rescuer, or came back
 abbrev pub PuntedAll : {S : Type 0} → Ghosts S → TaskId → DevId → TaskLists → S → TaskLists → S → Result Step Unmade → Type 0
 PuntedAll words task dev lists old after new (Ok step) =
     words.serves old (Punt dev (punted dev lists)) Did new × Owes (words.stage old) (Punt dev (punted dev lists)) Did × (after ≡ not_punted dev lists)
     × (step ≡ Stepped (record { task = task; what = what.Punt dev (min (length (punted dev lists)) (2 ^ 64 - 1)) }))
 PuntedAll words task dev lists old after new (Err back) =
     IsSpent words.serves (Owes (words.stage old)) (Punt dev (punted dev lists)) old new × (after ≡ not_punted dev lists) × (unmade_kept back ≡ map KeptBio (punted dev lists))
+
+-- a punt of these bios
+abbrev pub PuntDoes : {S : Type 0} → Ghosts S → TaskId → DevId → TaskLists → S → Result Step Unmade → TaskLists → S → Type 0
+PuntDoes words task dev lists old done after new = CallDoes words old (PuntedAll words task dev lists old after new done) new
 
 -- why no node was opened, where none was
 abbrev pub refusal : Setup → ℕ → Opening → Reply → Option Breach
@@ -119,9 +137,13 @@ pub record IsRefused {S : Type 0} (serves : S → Request → Reply → S → Ty
   pub refused : refusal setup writer opening reply ≡ Some breach
   pub back : back_kept handed ≡ came_back opening reply
 
--- a node is opened, or is not
+-- a node was opened, or was not
 abbrev pub NodeOpened : {S : Type 0} → Ghosts S → Routing → ℕ → Opening → S → S → Result ℕ (Breach × HandedBack) → Type 0
 NodeOpened words routing writer opening old new (Ok node) =
     words.serves old (Link writer opening) (LinkedTo (Made node)) new × Owes (words.stage old) (Link writer opening) (LinkedTo (Made node))
 NodeOpened words routing writer opening old new (Err refused) =
     IsRefused words.serves (Owes (words.stage old)) (routing_setup routing) writer opening old refused.0 refused.1 new
+
+-- the opening of a node
+abbrev pub OpeningDoes : {S : Type 0} → Ghosts S → Routing → ℕ → Opening → S → Result ℕ (Breach × HandedBack) → S → Type 0
+OpeningDoes words routing writer opening old made new = CallDoes words old (NodeOpened words routing writer opening old new made) new

@@ -62,9 +62,9 @@ with_slip slip rest =
     let closed = closed_node_of rest in
     record closed { held = record closed.held { slip = Some (slip_item slip) } }
 
--- what is left of a closed node of this write whose elements were all given back
-abbrev pub given_back : Option ℕ → ℕ → Status → Closed
-given_back parent write status = record { held = nothing_held; parent = parent; write = write; status = status }
+-- what is left of a closed node of this write whose elements were all given back is carried
+abbrev pub given_back : ℕ → Option ℕ → ℕ → Status → Carried
+given_back writer parent write status = Carries writer (record { held = nothing_held; parent = parent; write = write; status = status })
 
 -- all that it held was given back
 pub record HoldsNothing (node : ClosedNode) : Type 0 where

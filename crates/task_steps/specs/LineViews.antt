@@ -1,8 +1,11 @@
 -- A submission without its boxes.
 use Rattle.std.specs.Prelude.{◌++◌, List, [], ◌∷◌, map, Bool, true, false, Option, None, Some, Result, Ok, Err}
 use Rattle.stack_base.specs.declared.ids.DevId.{DevId}
+use Rattle.elem_ledger.specs.declared.element.Element.{Element}
+use Rattle.bio_records.specs.declared.bio.Pad.{Pad}
+use Rattle.bio_records.specs.declared.body.BioBody.{BioBody}
 use Rattle.bio_records.specs.declared.tasks.TaskLists.{TaskLists}
-use Rattle.bio_records.specs.Items.{item_of, IsAlone}
+use Rattle.bio_records.specs.Items.{Item, item_of, IsAlone}
 use Rattle.bio_books.specs.Views.{slip_item, bio_of, holding_of}
 use Rattle.task_steps.specs.declared.submission.Kept.{Kept as RealKept}
 use Rattle.task_steps.specs.declared.submission.HandedBack.{HandedBack}
@@ -16,9 +19,11 @@ use Rattle.task_steps.specs.declared.submission.DriverAsk.{DriverAsk}
 use Rattle.task_steps.specs.declared.submission.DriverAsk.TheVariants as ask
 use Rattle.task_steps.specs.declared.submission.Doing.{Doing as RealDoing}
 use Rattle.task_steps.specs.declared.submission.Doing.TheVariants as doing
+use Rattle.task_steps.specs.declared.submission.mirror.Copying.{Copying}
 use Rattle.run_machine.specs.Kept.{Kept, KeptBio, KeptVec, KeptSlip, bio_kept, holding_kept, opening_kept}
 use Rattle.task_steps.specs.Views.{vec_item, opening_of}
-use Rattle.run_machine.specs.Lines.{Want, Takes, Punts, Links, Ask, ToPush, ToCut, ToRecord, ToMaster, Doing, Rests, Drives, Copies, Breaks, Line}
+use Rattle.run_machine.specs.Lines.{Want, Takes, Punts, Links, Ask, ToPush, ToCut, ToRecord, ToMaster, Doing, Rests, Drives, Copies, Breaks, Line, driven}
+use Rattle.run_machine.specs.Scene.{Setup}
 
 abbrev pub want_of : RealWant → Want
 want_of (want.Takes waits) = Takes waits
@@ -53,6 +58,16 @@ doing_of (doing.Drives bio ask) = Drives (item_of bio) (ask_of ask)
 doing_of (doing.Copies bio master leg want) = Copies bio master leg (want_of want)
 doing_of (doing.Breaks breach kept) = Breaks breach (kept_of kept)
 
+-- the driver of a bio's device asks for this, one that cuts wants this for the first piece, and a mirror wants this for a leg of a copy
+abbrev pub asking : Element (BioBody Pad) → DriverAsk → Doing
+asking bio ask = Drives (item_of bio) (ask_of ask)
+
+abbrev pub cutting : Element (BioBody Pad) → RealWant → Doing
+cutting bio want = Drives (item_of bio) (ToCut (want_of want))
+
+abbrev pub copying : Copying → RealWant → Doing
+copying run want = Copies run.bio run.master run.leg (want_of want)
+
 -- the device of whose set a bio is taken next, and whether it is waited for, if that is next
 abbrev pub attempt_of : Doing → Option (DevId × Bool)
 attempt_of (Drives bio (ToCut (Takes waits))) = Some (bio.bio.dev, waits)
@@ -67,6 +82,10 @@ wanting doing want = doing
 
 abbrev pub submission_of : RealDoing → TaskLists → Line
 submission_of doing lists = record { doing = doing_of doing; lists = lists }
+
+-- the driver of a bio's device has it, while these wait
+abbrev pub driven_line : Setup → TaskLists → Item Pad → Line
+driven_line setup lists item = record { doing = driven setup lists item; lists = lists }
 
 -- no element that is at hand is in a list
 abbrev pub IsWantAlone : RealWant → Type 0

@@ -1,5 +1,5 @@
 -- A writer outside of its submissions, without its boxes, and what its steps do there.
-use Rattle.std.specs.Prelude.{◌≡◌, ℕ, Bool, true, false, List, [], ◌∷◌, Option, None, Some, Result, Ok, Err, drop}
+use Rattle.std.specs.Prelude.{◌≡◌, ℕ, Bool, true, false, IsTrue, List, [], ◌∷◌, Option, None, Some, Result, Ok, Err, drop}
 use Rattle.stack_base.specs.declared.ids.SetId.TheVariants.{Fs}
 use Rattle.bio_records.specs.declared.bio.Pad.{Pad}
 use Rattle.bio_records.specs.Items.{Item, item_of, IsAlone}
@@ -22,9 +22,10 @@ use Rattle.run_machine.specs.Lines.{Breaks, Line, refused}
 use Rattle.run_machine.specs.Tasks.{Todo, Taken, NoBio, HasBio, HasBoth, TaskState, Writer, filled_vector, write_answered, write_request}
 use Rattle.task_steps.specs.Turns.{step_of}
 use Rattle.task_steps.specs.Routed.{Routing, routing_setup}
-use Rattle.task_steps.specs.Stage.{Owes}
+use Rattle.task_steps.specs.Stage.{Owes, has_book}
+use Rattle.task_steps.specs.Homes.{TodoFits, TakenIsHome}
 use Rattle.task_steps.specs.Views.{vec_item}
-use Rattle.task_steps.specs.Answers.{finds}
+use Rattle.task_steps.specs.Answers.{CallDoes, finds}
 
 -- a writer: its number, the writes that it has still to begin, what it has taken for the first of them, and its submission
 pub record WriterState : Type 0 where
@@ -96,7 +97,14 @@ pub record IsRefusedWrite {S : Type 0} (serves : S → Request → Reply → S �
   pub refused : refused_line setup number opening line reply ≡ Some after
   pub tells : step ≡ step_of setup (id.Writer number) (Link number opening) reply
 
--- the node of a write is opened, or is not
+-- Objects that hold together, and a writer with a book there that is to begin this write of theirs, for which it has taken this.
+pub record WriteReady {S : Type 0} (words : Ghosts S) (objects : S) (number : ℕ) (todo : Todo) (taken : RealTaken) : Type 0 where
+  pub held : words.holds objects
+  pub book : IsTrue (has_book (words.stage objects) number)
+  pub fits : TodoFits (words.stage objects) todo
+  pub home : TakenIsHome (words.stage objects) (taken_of taken)
+
+-- the node of a write was opened, or was not
 abbrev pub WriteOpened : {S : Type 0} → Ghosts S → Routing → ℕ → Opening → Line → S → Line → S → Result ℕ Step → Type 0
 WriteOpened words routing number opening line old after new (Ok node) =
     words.serves old (Link number opening) (LinkedTo (Made node)) new × Owes (words.stage old) (Link number opening) (LinkedTo (Made node))
@@ -104,35 +112,42 @@ WriteOpened words routing number opening line old after new (Ok node) =
 WriteOpened words routing number opening line old after new (Err step) =
     IsRefusedWrite words.serves (Owes (words.stage old)) (routing_setup routing) number opening line old after new step
 
+-- the opening of the node of a write, with this vector if it has one
+abbrev pub OpensWrite : {S : Type 0} → Ghosts S → Routing → ℕ → ℕ → Option VectorItem → Line → S → Result ℕ Step → Line → S → Type 0
+OpensWrite words routing number write vector line old made after new =
+    CallDoes words old (WriteOpened words routing number (Write write vector) line old after new made) new
+
 -- a writer without a bio has tried to take that of its next write, whatever write that is
 abbrev pub TriesBio : {S : Type 0} → Ghosts S → ℕ → S → Attempt × Step → S → Type 0
 TriesBio words number old done new =
-    (setup : Setup) (todo : Todo) (later : List Todo) (line : Line)
+    CallDoes words old ((setup : Setup) (todo : Todo) (later : List Todo) (line : Line)
     → WriteAnswers words.serves (Owes (words.stage old)) setup number (TakeBio Fs true) (todo ∷ later) NoBio line old
-    (tried done.0 number (todo ∷ later) line) new done.1
+    (tried done.0 number (todo ∷ later) line) new done.1) new
 
 -- one with a bio has tried to take the vector of its next write
 abbrev pub TriesVector : {S : Type 0} → Ghosts S → ℕ → Item Pad → Line → S → RealTaken × Step → Line → S → Type 0
 TriesVector words number bio line old done after new =
-    (setup : Setup) (todo : Todo) (later : List Todo)
+    CallDoes words old ((setup : Setup) (todo : Todo) (later : List Todo)
     → WriteAnswers words.serves (Owes (words.stage old)) setup number TakeVec (todo ∷ later) (HasBio bio) line old
-    (Writer number (todo ∷ later) (taken_of done.0) after) new done.1
+    (Writer number (todo ∷ later) (taken_of done.0) after) new done.1) new
 
--- one has asked for the node of its next write, for which it has this bio, and this vector if it needs one
-abbrev pub LinksWrite : {S : Type 0} → Ghosts S → Routing → ℕ → Todo → Item Pad → Option VectorItem → Line → S → Next × Step → Line → S → Type 0
-LinksWrite words routing number todo bio None line old done after new =
-    (later : List Todo) → WriteAnswers words.serves (Owes (words.stage old)) (routing_setup routing) number (Link number (Write todo.number None))
-    (todo ∷ later) (HasBio bio) line old (next_of done.0 number todo later after) new done.1
-LinksWrite words routing number todo bio (Some vector) line old done after new =
-    (later : List Todo) → WriteAnswers words.serves (Owes (words.stage old)) (routing_setup routing) number
-    (Link number (Write todo.number (Some (filled_vector todo vector)))) (todo ∷ later) (HasBoth bio vector) line old
-    (next_of done.0 number todo later after) new done.1
+-- the vector of a write for which this was taken, with its segments, if it has one
+abbrev pub write_vector : Todo → RealTaken → Option VectorItem
+write_vector todo taken.NoBio = None
+write_vector todo (taken.HasBio bio) = None
+write_vector todo (taken.HasBoth bio vector) = Some (filled_vector todo (vec_item vector))
+
+-- one that has taken this for its next write, and needs no more, has asked for the write's node
+abbrev pub LinksWrite : {S : Type 0} → Ghosts S → Routing → ℕ → Todo → RealTaken → Line → S → Next × Step → Line → S → Type 0
+LinksWrite words routing number todo taken line old done after new =
+    CallDoes words old ((later : List Todo) → WriteAnswers words.serves (Owes (words.stage old)) (routing_setup routing) number
+    (Link number (Write todo.number (write_vector todo taken))) (todo ∷ later) (taken_of taken) line old (next_of done.0 number todo later after) new done.1) new
 
 -- one has asked for what its next write needs, for which it has taken this
 abbrev pub WriteGoesOn : {S : Type 0} → Ghosts S → Routing → ℕ → Todo → Taken → Line → S → Next × Step → Line → S → Type 0
 WriteGoesOn words routing number todo taken line old done after new =
-    (later : List Todo) → WriteAnswers words.serves (Owes (words.stage old)) (routing_setup routing) number (write_request number (todo ∷ later) taken)
-    (todo ∷ later) taken line old (next_of done.0 number todo later after) new done.1
+    CallDoes words old ((later : List Todo) → WriteAnswers words.serves (Owes (words.stage old)) (routing_setup routing) number
+    (write_request number (todo ∷ later) taken) (todo ∷ later) taken line old (next_of done.0 number todo later after) new done.1) new
 
 -- whether it has taken a bio
 abbrev pub is_taken : Taken → Bool

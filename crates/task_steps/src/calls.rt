@@ -10,7 +10,7 @@ ghost use Rattle.task_steps.specs.Views.{opening_of, IsAskAlone};
 ghost use Rattle.task_steps.specs.Routed.{routing_setup};
 ghost use Rattle.task_steps.specs.Turns.{named_node, step_by, idle_step};
 ghost use Rattle.task_steps.specs.LineViews.{want_of, IsWantAlone, IsAttemptAlone};
-ghost use Rattle.task_steps.specs.Answers.{Attempted, PuntedAll, NodeOpened, Ready};
+ghost use Rattle.task_steps.specs.Answers.{AttemptDoes, PuntDoes, OpeningDoes, Ready};
 
 use crate::objects::{Ask, Objects, Unmade};
 use crate::routes::Routes;
@@ -85,9 +85,8 @@ pub(crate) fn attempt<O: Objects>(
     waits: bool,
 ) -> Result<(Want, Step), Unmade>
     requires ready { Ready O.Objects objects.old (TakeBio (Of dev) waits) }
-    ensures step { Attempted O.Objects task dev waits objects.old objects.new result }
+    ensures does { AttemptDoes O.Objects task dev waits objects.old result objects.new }
     ensures alone { IsAttemptAlone result }
-    ensures kept { O.holds objects.new × (O.stage objects.new ≡ O.stage objects.old) }
 {
     let pool = PoolId::Bios(dev);
     match objects.take_bio(SetId::Of(dev), waits) {
@@ -111,8 +110,7 @@ pub(crate) fn punt_all<O: Objects>(
     lists: &mut TaskLists,
 ) -> Result<Step, Unmade>
     requires ready { Ready O.Objects objects.old (Punt dev (punted dev lists.old)) }
-    ensures step { PuntedAll O.Objects task dev lists.old objects.old lists.new objects.new result }
-    ensures kept { O.holds objects.new × (O.stage objects.new ≡ O.stage objects.old) }
+    ensures does { PuntDoes O.Objects task dev lists.old objects.old result lists.new objects.new }
 {
     let punted = lists.punt(SetId::Of(dev));
     let moved = punted.len();
@@ -145,8 +143,7 @@ pub(crate) fn open_node<O: Objects>(
 ) -> Result<u32, (Breach, HandedBack)>
     requires ready { Ready O.Objects objects.old (LinkOf writer (opening_of ask)) }
     requires alone { IsAskAlone ask }
-    ensures opens { NodeOpened O.Objects routes.now writer (opening_of ask) objects.old objects.new result }
-    ensures kept { O.holds objects.new × (O.stage objects.new ≡ O.stage objects.old) }
+    ensures does { OpeningDoes O.Objects routes.now writer (opening_of ask) objects.old result objects.new }
 {
     let node = named(&ask);
     match objects.link(writer, ask) {

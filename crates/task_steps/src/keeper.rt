@@ -1,5 +1,5 @@
 //! The keeper of the rounds: it changes reserves between them, and starts them.
-ghost use Rattle.std.specs.Prelude.{◌≡◌, ◌+◌, [], ◌∷◌, ℕ, List, Some, MatchOption, map, drop};
+ghost use Rattle.std.specs.Prelude.{◌≡◌, ℕ, List, Some, map, drop};
 ghost use Rattle.run_machine.specs.declared.event.Breach.TheVariants as Breach';
 ghost use Rattle.run_machine.specs.declared.event.TaskId.TheVariants as TaskId';
 ghost use Rattle.task_steps.specs.declared.step.Step.TheVariants as Step';
@@ -9,7 +9,7 @@ ghost use Rattle.task_steps.specs.Routed.{routing_setup};
 ghost use Rattle.task_steps.specs.Stage.{RequestFits, Owes};
 ghost use Rattle.task_steps.specs.Homes.{DutyFits, IsTaskOf};
 ghost use Rattle.task_steps.specs.Turns.{Asks, Turns};
-ghost use Rattle.task_steps.specs.KeeperViews.{duty_of, keeping_of, duties_from};
+ghost use Rattle.task_steps.specs.KeeperViews.{duty_of, keeping_of, IsDutyAt};
 ghost use Rattle.task_steps.specs.TaskSteps.{KeeperAsks, TaskAsks, TaskDoes, TaskTurns, TaskReady};
 ghost use Rattle.task_steps.specs.Answers.{Ready};
 
@@ -118,8 +118,7 @@ impl Duty {
 // The duty at a place, if there is one.
 #[tactic(auto, using(crate::proofs::KeeperLemmas::duty_there, crate::proofs::KeeperLemmas::duties_over))]
 fn duty_at(duties: &[Duty], next: usize) -> Option<Duty>
-    ensures { MatchOption result (duties_from next duties.now ≡ [])
-        (λ duty. duties_from next duties.now ≡ duty_of duty ∷ duties_from (next + 1) duties.now) }
+    ensures { IsDutyAt duties.now next result }
 {
     duties.get(next).copied()
 }

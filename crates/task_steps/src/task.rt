@@ -1,13 +1,6 @@
 //! Tasks.
 ghost use Rattle.std.specs.Prelude.{◌≡◌};
-ghost use Rattle.stack_base.specs.Stack.{IsStack};
-ghost use Rattle.run_machine.specs.Tasks.{Completer, Empty, Keeper as Keeping};
-ghost use Rattle.task_steps.specs.Routed.{routing_setup};
-ghost use Rattle.task_steps.specs.Stage.{Owes};
-ghost use Rattle.task_steps.specs.Homes.{IsTaskOf};
-ghost use Rattle.task_steps.specs.Turns.{Turns};
-ghost use Rattle.task_steps.specs.WriterViews.{writer_task};
-ghost use Rattle.task_steps.specs.RescuerViews.{rescuer_task};
+ghost use Rattle.task_steps.specs.TaskSteps.{TaskDoes, TaskReady};
 ghost use Rattle.task_steps.specs.TaskViews.{task_of, ChosenBy};
 
 use crate::completer::Carried;
@@ -98,12 +91,10 @@ impl Task {
     /// `Step::Stepped` tells the event that happened. With any other answer the task is as it was, but where it broke off: then it keeps what it
     /// was handed back, and answers the same from then on.
     pub fn step<O: Objects, C: Chooser>(&mut self, objects: &mut O, chooser: &mut C) -> Step
-        requires holds { O.holds objects.old }
         requires routing { self.old.routing ≡ (O.stage objects.old).routing }
-        requires task { IsTaskOf (O.stage objects.old) self.old.state }
-        ensures turns { Turns O.serves (Owes (O.stage objects.old)) (routing_setup self.old.routing) self.old.state objects.old self.new.state objects.new result }
+        requires ready { TaskReady O.Objects objects.old self.old.state }
+        ensures does { TaskDoes O.Objects self.old.routing self.old.state objects.old self.new.state objects.new result }
         ensures chosen { ChosenBy self.old.state C.chooses (O.picks objects.old) chooser.old result chooser.new }
-        ensures kept { O.holds objects.new × (O.stage objects.new ≡ O.stage objects.old) }
         ensures same { self.new.routing ≡ self.old.routing }
     {
         match &mut self.kind {

@@ -1,14 +1,16 @@
 //! Writers: each begins its writes one after the other, when their round has come, and submits the bio of each.
 ghost use Rattle.std.specs.Prelude.{◌≡◌, ◌≢◌, ◌∷◌, [], true, false, drop};
+ghost use Rattle.stack_base.specs.declared.ids.SetId.TheVariants.{Fs};
+ghost use Rattle.run_machine.specs.Requests.{TakeBio, LookRound};
 ghost use Rattle.run_machine.specs.Lines.{Rests, rests};
 ghost use Rattle.run_machine.specs.Tasks.{Todo as TodoState, NoBio};
 ghost use Rattle.run_machine.specs.Scene.{Setup};
 ghost use Rattle.task_steps.specs.Routed.{routing_setup};
 ghost use Rattle.task_steps.specs.Stage.{Owes};
-ghost use Rattle.task_steps.specs.Homes.{IsTaskOf};
 ghost use Rattle.task_steps.specs.Turns.{Asks, Turns};
 ghost use Rattle.task_steps.specs.WriterViews.{writer_task, next_of, tried, IsNextAlone, IsAttemptAtBioAlone, is_taken, writer_next};
 ghost use Rattle.task_steps.specs.TaskSteps.{TaskAsks, TaskDoes, TaskReady, TaskTurns};
+ghost use Rattle.task_steps.specs.Answers.{Ready};
 
 pub(crate) mod begin;
 pub(crate) mod first_bio;
@@ -84,9 +86,8 @@ impl Writer {
 
     // Asks for what its next write needs, whose bio it has taken.
     fn act<O: Objects>(&mut self, objects: &mut O, routes: &Routes, todo: &Todo) -> Step
-        requires holds { O.holds objects.old }
+        requires ready { TaskReady O.Objects objects.old (writer_task self.old) }
         requires routing { (O.stage objects.old).routing ≡ routes.now }
-        requires task { IsTaskOf (O.stage objects.old) (writer_task self.old) }
         requires rests { self.old.line.doing ≡ Rests }
         requires first { self.old.todo ≡ todo.now ∷ drop 1 self.old.todo }
         requires some { is_taken self.old.taken ≡ true }
@@ -100,7 +101,7 @@ impl Writer {
 
     // What came of an attempt at the bio of its next write: it has taken it, or is as before where there was no bio, or breaks off where there
     // was no ticket.
-    fn have(&mut self, attempt: Attempt)
+    fn take_in(&mut self, attempt: Attempt)
         requires rests { self.old.line.doing ≡ Rests }
         requires none { self.old.taken ≡ NoBio }
         requires alone { IsAttemptAtBioAlone attempt }
@@ -115,20 +116,20 @@ impl Writer {
 
     // Asks for the bio of its next write.
     fn take<O: Objects>(&mut self, objects: &mut O) -> Step
-        requires holds { O.holds objects.old }
+        requires ready { Ready O.Objects objects.old (TakeBio Fs true) }
         requires rests { self.old.line.doing ≡ Rests }
         requires none { self.old.taken ≡ NoBio }
         requires some { self.old.todo ≢ [] }
         ensures does { TaskAsks O.Objects (writer_task self.old) objects.old (writer_task self.new) objects.new result }
     {
         let (attempt, step) = take_bio(objects, self.number);
-        self.have(attempt);
+        self.take_in(attempt);
         step
     }
 
     // Asks for a bio, if the round of its next write has come.
     fn look<O: Objects>(&mut self, objects: &mut O, todo: &Todo) -> Step
-        requires holds { O.holds objects.old }
+        requires ready { Ready O.Objects objects.old LookRound }
         requires rests { self.old.line.doing ≡ Rests }
         requires first { self.old.todo ≡ todo.now ∷ drop 1 self.old.todo }
         requires none { is_taken self.old.taken ≡ false }

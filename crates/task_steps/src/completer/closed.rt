@@ -29,8 +29,8 @@ impl Carried {
         status: Status,
     ) -> Step
         requires empty { self.old ≡ Empty }
-        requires ready { TaskReady O.Objects objects.old (Completes disk (Carries writer (given_back None write status))) }
-        ensures does { CompleterDoes O.Objects disk (Carries writer (given_back None write status)) objects.old (self.new, result) objects.new }
+        requires ready { TaskReady O.Objects objects.old (Completes disk (given_back writer None write status)) }
+        ensures does { CompleterDoes O.Objects disk (given_back writer None write status) objects.old (self.new, result) objects.new }
     {
         match objects.done(write, status) {
             Ok(()) => {

@@ -11,7 +11,7 @@ ghost use Rattle.task_steps.specs.declared.step.Step.TheVariants as Step';
 ghost use Rattle.run_machine.specs.Scene.{Setup};
 ghost use Rattle.run_machine.specs.Kept.{bio_kept};
 ghost use Rattle.run_machine.specs.Requests.{Drop as DropOf, DroppedTo};
-ghost use Rattle.run_machine.specs.Tasks.{Brings, Carries, Completer as Completes, Empty, Fails, after_drop};
+ghost use Rattle.run_machine.specs.Tasks.{Brings, Completer as Completes, Empty, Fails, after_drop};
 ghost use Rattle.task_steps.specs.Routed.{routing_setup};
 ghost use Rattle.task_steps.specs.Stage.{Owes};
 ghost use Rattle.task_steps.specs.Homes.{IsTaskOf};
@@ -117,8 +117,8 @@ impl Carried {
         status: Status,
     ) -> Step
         requires empty { self.old ≡ Empty }
-        requires ready { TaskReady O.Objects objects.old (Completes disk (Carries writer (given_back (Some parent) write status))) }
-        ensures does { CompleterDoes O.Objects disk (Carries writer (given_back (Some parent) write status)) objects.old (self.new, result) objects.new }
+        requires ready { TaskReady O.Objects objects.old (Completes disk (given_back writer (Some parent) write status)) }
+        ensures does { CompleterDoes O.Objects disk (given_back writer (Some parent) write status) objects.old (self.new, result) objects.new }
     {
         match objects.drop_one(writer, parent, status, None) {
             Ok(dropped) => self.told(disk, writer, parent, status, dropped),

@@ -5,13 +5,14 @@ ghost use Rattle.bio_records.specs.Items.{item_of, IsAlone};
 ghost use Rattle.bio_split.specs.Split.{split_front, split_rest};
 ghost use Rattle.run_machine.specs.Scene.{Setup, tree_at};
 ghost use Rattle.run_machine.specs.Requests.{Punt, Link as LinkOf, Chain};
-ghost use Rattle.run_machine.specs.Lines.{Drives, ToCut, Punts, Links, punted};
+ghost use Rattle.run_machine.specs.Lines.{punted};
 ghost use Rattle.task_steps.specs.declared.submission.Doing.TheVariants as doing';
+ghost use Rattle.task_steps.specs.declared.submission.Want.TheVariants.{Punts, Links};
 ghost use Rattle.task_steps.specs.Within.{IsWithinDevice, ListsAreWithin, is_cut};
-ghost use Rattle.task_steps.specs.Routed.{routing_setup, sent, Routing};
+ghost use Rattle.task_steps.specs.Routed.{routing_setup, sent};
 ghost use Rattle.task_steps.specs.Stage.{RequestFits, Owes};
-ghost use Rattle.task_steps.specs.LineViews.{submission_of, IsDoingAlone};
-ghost use Rattle.task_steps.specs.Answers.{AnswersSubmission, Ready, Does};
+ghost use Rattle.task_steps.specs.LineViews.{cutting, submission_of, IsDoingAlone};
+ghost use Rattle.task_steps.specs.Answers.{AnswersSubmission, Ready, Does, AlwaysDoes};
 
 use crate::calls::{open_node, punt_all};
 use crate::objects::{Ask, Objects};
@@ -36,7 +37,7 @@ pub(crate) fn punt_to_cut<O: Objects>(
     requires ready { Ready O.Objects objects.old (Punt (item_of bio).bio.dev (punted (item_of bio).bio.dev lists.old)) }
     requires alone { IsAlone bio }
     requires rests { at.old ≡ doing'.Rests }
-    ensures does { (routing : Routing) → Does O.Objects routing task (Drives (item_of bio) (ToCut Punts)) lists.old objects.old (at.new, result) lists.new objects.new }
+    ensures does { AlwaysDoes O.Objects task (cutting bio Punts) lists.old objects.old (at.new, result) lists.new objects.new }
     ensures alone { IsDoingAlone at.new }
 {
     match punt_all(objects, task, bio.body.bio.dev, lists) {
@@ -83,7 +84,7 @@ pub(crate) fn chain<O: Objects>(
     requires within { IsWithinDevice routes.now.stack (item_of bio).bio }
     requires cut { is_cut (tree_at (routing_setup routes.now) (item_of bio).bio.dev) (item_of bio).bio.range ≡ true }
     requires lists { ListsAreWithin routes.now.stack lists.old }
-    ensures does { Does O.Objects routes.now task (Drives (item_of bio) (ToCut (Links (item_of hand)))) lists.old objects.old (at.new, result) lists.new objects.new }
+    ensures does { Does O.Objects routes.now task (cutting bio (Links hand)) lists.old objects.old (at.new, result) lists.new objects.new }
     ensures alone { IsDoingAlone at.new }
 {
     let whole = bio.body.bio;

@@ -3,12 +3,12 @@ ghost use Rattle.std.specs.Prelude.{◌≡◌, ◌<◌, length, true, None};
 ghost use Rattle.bio_records.specs.declared.bio.Pad.{Pad};
 ghost use Rattle.bio_records.specs.Items.{Item, item_of, IsAlone};
 ghost use Rattle.run_machine.specs.Scene.{tree_at};
-ghost use Rattle.run_machine.specs.Lines.{Rests, Drives, Copies as Copies', ToCut, asks_at, driven, goes_on, line_request};
+ghost use Rattle.run_machine.specs.Lines.{Rests, Drives, asks_at, goes_on, line_request};
 ghost use Rattle.task_steps.specs.declared.submission.Doing.TheVariants as doing';
 ghost use Rattle.task_steps.specs.Within.{IsWithinDevice, ListsAreWithin, is_cut, DoingFits, LineFits};
 ghost use Rattle.task_steps.specs.Routed.{routing_setup};
 ghost use Rattle.task_steps.specs.Stage.{RequestFits, Owes};
-ghost use Rattle.task_steps.specs.LineViews.{want_of, attempt_of, ask_of, doing_of, submission_of, IsWantAlone, IsAskOfAlone, IsDoingAlone, is_asking};
+ghost use Rattle.task_steps.specs.LineViews.{asking, cutting, copying, attempt_of, ask_of, doing_of, driven_line, submission_of, IsWantAlone, IsAskOfAlone, IsDoingAlone, is_asking};
 ghost use Rattle.task_steps.specs.Answers.{AnswersSubmission, AsksFirst, Does, LineReady};
 
 use crate::objects::Objects;
@@ -44,7 +44,7 @@ pub(crate) fn serve(routes: &Routes, mut bio: BioElement, at: &mut Doing, lists:
     requires rests { at.old ≡ doing'.Rests }
     requires within { IsWithinDevice routes.now.stack (item_of bio).bio }
     requires alone { IsAlone bio }
-    ensures line { submission_of at.new lists.now ≡ record { doing = driven (routing_setup routes.now) lists.now (item_of bio); lists = lists.now } }
+    ensures line { submission_of at.new lists.now ≡ driven_line (routing_setup routes.now) lists.now (item_of bio) }
     ensures alone { IsDoingAlone at.new }
 {
     bio.body.bio = routes.land(bio.body.bio);
@@ -74,14 +74,14 @@ fn cut<O: Objects>(
     at: &mut Doing,
     lists: &mut TaskLists,
 ) -> Step
-    requires ready { LineReady O.Objects objects.old routes.now (Drives (item_of bio) (ToCut (want_of want))) lists.old }
+    requires ready { LineReady O.Objects objects.old routes.now (cutting bio want) lists.old }
     requires alone { IsAlone bio × IsWantAlone want }
     requires rests { at.old ≡ doing'.Rests }
-    requires no_attempt { attempt_of (Drives (item_of bio) (ToCut (want_of want))) ≡ None }
+    requires no_attempt { attempt_of (cutting bio want) ≡ None }
     requires within { IsWithinDevice routes.now.stack (item_of bio).bio }
     requires cut { is_cut (tree_at (routing_setup routes.now) (item_of bio).bio.dev) (item_of bio).bio.range ≡ true }
     requires lists { ListsAreWithin routes.now.stack lists.old }
-    ensures does { Does O.Objects routes.now task (Drives (item_of bio) (ToCut (want_of want))) lists.old objects.old (at.new, result) lists.new objects.new }
+    ensures does { Does O.Objects routes.now task (cutting bio want) lists.old objects.old (at.new, result) lists.new objects.new }
     ensures alone { IsDoingAlone at.new }
 {
     match want {
@@ -101,13 +101,13 @@ fn drive<O: Objects>(
     at: &mut Doing,
     lists: &mut TaskLists,
 ) -> Step
-    requires ready { LineReady O.Objects objects.old routes.now (Drives (item_of bio) (ask_of ask)) lists.old }
+    requires ready { LineReady O.Objects objects.old routes.now (asking bio ask) lists.old }
     requires alone { IsAlone bio × IsAskOfAlone ask }
     requires rests { at.old ≡ doing'.Rests }
-    requires no_attempt { attempt_of (Drives (item_of bio) (ask_of ask)) ≡ None }
-    requires within { DoingFits routes.now.stack (Drives (item_of bio) (ask_of ask)) }
+    requires no_attempt { attempt_of (asking bio ask) ≡ None }
+    requires within { DoingFits routes.now.stack (asking bio ask) }
     requires lists { ListsAreWithin routes.now.stack lists.old }
-    ensures does { Does O.Objects routes.now task (Drives (item_of bio) (ask_of ask)) lists.old objects.old (at.new, result) lists.new objects.new }
+    ensures does { Does O.Objects routes.now task (asking bio ask) lists.old objects.old (at.new, result) lists.new objects.new }
     ensures alone { IsDoingAlone at.new }
 {
     match ask {
@@ -128,13 +128,13 @@ fn copy<O: Objects>(
     at: &mut Doing,
     lists: &mut TaskLists,
 ) -> Step
-    requires ready { LineReady O.Objects objects.old routes.now (Copies' run.bio run.master run.leg (want_of want)) lists.old }
+    requires ready { LineReady O.Objects objects.old routes.now (copying run want) lists.old }
     requires alone { IsWantAlone want }
     requires rests { at.old ≡ doing'.Rests }
-    requires no_attempt { attempt_of (Copies' run.bio run.master run.leg (want_of want)) ≡ None }
-    requires within { DoingFits routes.now.stack (Copies' run.bio run.master run.leg (want_of want)) }
+    requires no_attempt { attempt_of (copying run want) ≡ None }
+    requires within { DoingFits routes.now.stack (copying run want) }
     requires lists { ListsAreWithin routes.now.stack lists.old }
-    ensures does { Does O.Objects routes.now task (Copies' run.bio run.master run.leg (want_of want)) lists.old objects.old (at.new, result) lists.new objects.new }
+    ensures does { Does O.Objects routes.now task (copying run want) lists.old objects.old (at.new, result) lists.new objects.new }
     ensures alone { IsDoingAlone at.new }
 {
     match want {

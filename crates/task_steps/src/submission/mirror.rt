@@ -2,16 +2,17 @@
 //! (`raid1_write_request`, `drivers/md/raid1.c`).
 ghost use Rattle.std.specs.Prelude.{◌≡◌, ◌<◌, ◌+◌, ◌-◌, true};
 ghost use Rattle.bio_records.specs.Items.{item_of, IsAlone};
-ghost use Rattle.bio_books.specs.Views.{slip_item};
 ghost use Rattle.run_machine.specs.Scene.{Setup, tree_at};
 ghost use Rattle.run_machine.specs.Requests.{TakeSlip, Punt, Link as LinkOf, Master, Leg};
-ghost use Rattle.run_machine.specs.Lines.{Drives, ToRecord, ToMaster, Punts, Links, punted, legs_of, Copies, leg_at, copies};
+ghost use Rattle.run_machine.specs.Lines.{punted, legs_of, leg_at, copies};
 ghost use Rattle.task_steps.specs.declared.submission.Doing.TheVariants as doing';
+ghost use Rattle.task_steps.specs.declared.submission.DriverAsk.TheVariants.{ToRecord, ToMaster};
+ghost use Rattle.task_steps.specs.declared.submission.Want.TheVariants.{Punts, Links};
 ghost use Rattle.task_steps.specs.Within.{IsWithinDevice, ListsAreWithin};
-ghost use Rattle.task_steps.specs.Routed.{routing_setup, Routing};
+ghost use Rattle.task_steps.specs.Routed.{routing_setup};
 ghost use Rattle.task_steps.specs.Stage.{RequestFits, Owes};
-ghost use Rattle.task_steps.specs.LineViews.{submission_of, IsDoingAlone};
-ghost use Rattle.task_steps.specs.Answers.{AnswersSubmission, Ready, Does, LineReady};
+ghost use Rattle.task_steps.specs.LineViews.{asking, copying, submission_of, IsDoingAlone};
+ghost use Rattle.task_steps.specs.Answers.{AnswersSubmission, Ready, Does, AlwaysDoes, LineReady};
 
 use crate::calls::{had, missed, open_node, punt_all};
 use crate::objects::{Ask, Objects};
@@ -37,7 +38,7 @@ pub(crate) fn take_record<O: Objects>(
     requires ready { Ready O.Objects objects.old (TakeSlip (item_of bio).bio.dev) }
     requires alone { IsAlone bio }
     requires rests { at.old ≡ doing'.Rests }
-    ensures does { (routing : Routing) → Does O.Objects routing task (Drives (item_of bio) ToRecord) lists.old objects.old (at.new, result) lists.new objects.new }
+    ensures does { AlwaysDoes O.Objects task (asking bio ToRecord) lists.old objects.old (at.new, result) lists.new objects.new }
     ensures alone { IsDoingAlone at.new }
 {
     let dev = bio.body.bio.dev;
@@ -73,12 +74,12 @@ pub(crate) fn master<O: Objects>(
     at: &mut Doing,
     lists: &mut TaskLists,
 ) -> Step
-    requires ready { LineReady O.Objects objects.old routes.now (Drives (item_of bio) (ToMaster (slip_item slip))) lists.old }
+    requires ready { LineReady O.Objects objects.old routes.now (asking bio (ToMaster slip)) lists.old }
     requires alone { IsAlone bio }
     requires rests { at.old ≡ doing'.Rests }
     requires within { IsWithinDevice routes.now.stack (item_of bio).bio }
     requires lists { ListsAreWithin routes.now.stack lists.old }
-    ensures does { Does O.Objects routes.now task (Drives (item_of bio) (ToMaster (slip_item slip))) lists.old objects.old (at.new, result) lists.new objects.new }
+    ensures does { Does O.Objects routes.now task (asking bio (ToMaster slip)) lists.old objects.old (at.new, result) lists.new objects.new }
     ensures alone { IsDoingAlone at.new }
 {
     let whole = bio.body.bio;
@@ -167,7 +168,7 @@ pub(crate) fn punt_to_copy<O: Objects>(
 ) -> Step
     requires ready { Ready O.Objects objects.old (Punt run.bio.dev (punted run.bio.dev lists.old)) }
     requires rests { at.old ≡ doing'.Rests }
-    ensures does { (routing : Routing) → Does O.Objects routing task (Copies run.bio run.master run.leg Punts) lists.old objects.old (at.new, result) lists.new objects.new }
+    ensures does { AlwaysDoes O.Objects task (copying run Punts) lists.old objects.old (at.new, result) lists.new objects.new }
     ensures alone { IsDoingAlone at.new }
 {
     match punt_all(objects, task, run.bio.dev, lists) {
@@ -219,7 +220,7 @@ pub(crate) fn leg<O: Objects>(
     requires within { IsWithinDevice routes.now.stack run.bio }
     requires leg { run.leg < legs_of (tree_at (routing_setup routes.now) run.bio.dev) }
     requires lists { ListsAreWithin routes.now.stack lists.old }
-    ensures does { Does O.Objects routes.now task (Copies run.bio run.master run.leg (Links (item_of hand))) lists.old objects.old (at.new, result) lists.new objects.new }
+    ensures does { Does O.Objects routes.now task (copying run (Links hand)) lists.old objects.old (at.new, result) lists.new objects.new }
     ensures alone { IsDoingAlone at.new }
 {
     let Copying { bio, master, leg } = run;

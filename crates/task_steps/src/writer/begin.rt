@@ -1,5 +1,5 @@
 //! What a writer does for its next write: it takes a bio, and a vector where the write needs one, links the write, and submits the bio.
-ghost use Rattle.std.specs.Prelude.{◌≡◌, ◌∷◌, List, true, false, IsTrue, Some, None};
+ghost use Rattle.std.specs.Prelude.{◌≡◌, true, false};
 ghost use Rattle.stack_base.specs.declared.ids.SetId.TheVariants.{Fs};
 ghost use Rattle.bio_records.specs.Items.{item_of, IsAlone};
 ghost use Rattle.bio_books.specs.Views.{vector_of, holding_of};
@@ -10,12 +10,10 @@ ghost use Rattle.run_machine.specs.declared.event.TaskId.TheVariants as id;
 ghost use Rattle.run_machine.specs.declared.event.How.TheVariants as how;
 ghost use Rattle.run_machine.specs.declared.event.What.TheVariants as what;
 ghost use Rattle.run_machine.specs.Lines.{Line as LineState, Rests, Breaks};
-ghost use Rattle.run_machine.specs.Tasks.{Todo as TodoState, NoBio, HasBio, HasBoth, Writer as WriterTask, needs_vector, filled, filled_short, filled_vector, write_request};
+ghost use Rattle.run_machine.specs.Tasks.{Todo as TodoState, Writer as WriterTask, needs_vector, filled, filled_short, filled_vector, write_request};
 ghost use Rattle.task_steps.specs.Routed.{routing_setup};
-ghost use Rattle.task_steps.specs.Stage.{RequestFits, Owes, has_book, is_vecs, IsHome};
-ghost use Rattle.task_steps.specs.Homes.{TodoFits, TakenIsHome};
-ghost use Rattle.task_steps.specs.Views.{vec_item};
-ghost use Rattle.task_steps.specs.WriterViews.{taken_of, is_taken, IsTakenAlone, tried, IsAttemptAtBioAlone, next_of, IsNextAlone, WriteAnswers, WriteOpened, LinksWrite, TriesBio, TriesVector, WriteGoesOn};
+ghost use Rattle.task_steps.specs.declared.writer.begin.Taken.TheVariants.{HasBio, HasBoth};
+ghost use Rattle.task_steps.specs.WriterViews.{taken_of, is_taken, IsTakenAlone, tried, IsAttemptAtBioAlone, next_of, IsNextAlone, WriteAnswers, OpensWrite, LinksWrite, TriesBio, TriesVector, WriteGoesOn, WriteReady};
 ghost use Rattle.task_steps.specs.Answers.{Ready};
 
 use crate::calls::{had, missed};
@@ -63,10 +61,9 @@ pub(crate) enum Attempt {
 
 // Takes the bio of a write, and waits for it (`bio_alloc_bioset`, `block/bio.c`).
 pub(crate) fn take_bio<O: Objects>(objects: &mut O, number: u32) -> (Attempt, Step)
-    requires holds { O.holds objects.old }
-    ensures step { TriesBio O.Objects number objects.old result objects.new }
+    requires ready { Ready O.Objects objects.old (TakeBio Fs true) }
+    ensures does { TriesBio O.Objects number objects.old result objects.new }
     ensures alone { IsAttemptAtBioAlone result.0 }
-    ensures kept { O.holds objects.new × (O.stage objects.new ≡ O.stage objects.old) }
 {
     let task = TaskId::Writer(number);
     let pool = PoolId::FsBios;
@@ -88,12 +85,11 @@ fn take_vector<O: Objects>(
     bio: BioElement,
     line: &mut Line,
 ) -> (Taken, Step)
-    requires holds { O.holds objects.old }
+    requires ready { Ready O.Objects objects.old TakeVec }
     requires alone { IsAlone bio }
     requires rests { line.old.doing ≡ Rests }
-    ensures step { TriesVector O.Objects number (item_of bio) line.old objects.old result line.new objects.new }
+    ensures does { TriesVector O.Objects number (item_of bio) line.old objects.old result line.new objects.new }
     ensures alone { IsTakenAlone result.0 }
-    ensures kept { O.holds objects.new × (O.stage objects.new ≡ O.stage objects.old) }
 {
     let task = TaskId::Writer(number);
     let pool = PoolId::FsVecs;
@@ -141,8 +137,7 @@ fn open_write<O: Objects>(
 ) -> Result<u32, Step>
     requires ready { Ready O.Objects objects.old (LinkOf writer (WriteOf write (vector_of vector))) }
     requires rests { line.old.doing ≡ Rests }
-    ensures opens { WriteOpened O.Objects routes.now writer (WriteOf write (vector_of vector)) line.old objects.old line.new objects.new result }
-    ensures kept { O.holds objects.new × (O.stage objects.new ≡ O.stage objects.old) }
+    ensures does { OpensWrite O.Objects routes.now writer write (vector_of vector) line.old objects.old result line.new objects.new }
 {
     match objects.link(writer, Ask::Write { write, vector }) {
         Ok(Link::Made(node)) => Ok(node),
@@ -179,16 +174,13 @@ fn link_short<O: Objects>(
     bio: BioElement,
     line: &mut Line,
 ) -> (Next, Step)
-    requires holds { O.holds objects.old }
+    requires ready { WriteReady O.Objects objects.old number todo.now (HasBio bio) }
     requires routing { (O.stage objects.old).routing ≡ routes.now }
     requires alone { IsAlone bio }
     requires rests { line.old.doing ≡ Rests }
     requires short { needs_vector todo.now.write ≡ false }
-    requires todo { TodoFits (O.stage objects.old) todo.now }
-    requires book { IsTrue (has_book (O.stage objects.old) number) }
-    ensures step { LinksWrite O.Objects routes.now number todo.now (item_of bio) None line.old objects.old result line.new objects.new }
+    ensures does { LinksWrite O.Objects routes.now number todo.now (HasBio bio) line.old objects.old result line.new objects.new }
     ensures alone { IsNextAlone result.0 }
-    ensures kept { O.holds objects.new × (O.stage objects.new ≡ O.stage objects.old) }
 {
     match open_write(objects, routes, number, todo.number, None, line) {
         Ok(node) => {
@@ -210,16 +202,12 @@ fn link_long<O: Objects>(
     vector: VecElement,
     line: &mut Line,
 ) -> (Next, Step)
-    requires holds { O.holds objects.old }
+    requires ready { WriteReady O.Objects objects.old number todo.now (HasBoth bio vector) }
     requires routing { (O.stage objects.old).routing ≡ routes.now }
     requires alone { IsAlone bio }
     requires rests { line.old.doing ≡ Rests }
-    requires todo { TodoFits (O.stage objects.old) todo.now }
-    requires book { IsTrue (has_book (O.stage objects.old) number) }
-    requires home { IsHome (O.stage objects.old) is_vecs vector.share }
-    ensures step { LinksWrite O.Objects routes.now number todo.now (item_of bio) (Some (vec_item vector)) line.old objects.old result line.new objects.new }
+    ensures does { LinksWrite O.Objects routes.now number todo.now (HasBoth bio vector) line.old objects.old result line.new objects.new }
     ensures alone { IsNextAlone result.0 }
-    ensures kept { O.holds objects.new × (O.stage objects.new ≡ O.stage objects.old) }
 {
     let vector = Some(filled_vector(todo, vector));
     match open_write(objects, routes, number, todo.number, vector, line) {
@@ -241,17 +229,13 @@ pub(crate) fn go_on<O: Objects>(
     taken: Taken,
     line: &mut Line,
 ) -> (Next, Step)
-    requires holds { O.holds objects.old }
+    requires ready { WriteReady O.Objects objects.old number todo.now taken }
     requires routing { (O.stage objects.old).routing ≡ routes.now }
     requires alone { IsTakenAlone taken }
     requires some { is_taken (taken_of taken) ≡ true }
     requires rests { line.old.doing ≡ Rests }
-    requires todo { TodoFits (O.stage objects.old) todo.now }
-    requires book { IsTrue (has_book (O.stage objects.old) number) }
-    requires home { TakenIsHome (O.stage objects.old) (taken_of taken) }
-    ensures step { WriteGoesOn O.Objects routes.now number todo.now (taken_of taken) line.old objects.old result line.new objects.new }
+    ensures does { WriteGoesOn O.Objects routes.now number todo.now (taken_of taken) line.old objects.old result line.new objects.new }
     ensures alone { IsNextAlone result.0 }
-    ensures kept { O.holds objects.new × (O.stage objects.new ≡ O.stage objects.old) }
 {
     match taken {
         Taken::HasBio(bio) => {

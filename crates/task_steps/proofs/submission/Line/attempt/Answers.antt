@@ -19,7 +19,7 @@ returns-in-Err g c = record {
       let new = c.attempt.new.objects in
       record {
         answers = subst (λ (next : Line). AnswersSubmission serves owes known c.args.task line.doing line.lists old next new (Broken breach.Spent)) (sym c.spend.ensures)
-            (attempt_spent serves owes known c.args.task line.doing line.lists c.args.dev c.args.waits old new c.requires.attempts c.in-Err.ensures.step.0);
+            (attempt_spent serves owes known c.args.task line.doing line.lists c.args.dev c.args.waits old new c.requires.attempts c.in-Err.ensures.does.came.0);
         held = search rules;
         same = search rules;
       };

@@ -1,4 +1,4 @@
-use Rattle.std.proofs.Common.{◌≡◌, List, ◌∷◌, drop, sym, subst, arith}
+use Rattle.std.proofs.Common.{◌≡◌, List, ◌∷◌, drop, sym, subst, arith, rules}
 use Rattle.std.specs.Prelude.{All}
 use Rattle.task_steps.specs.declared.writer.begin.Taken.{Taken}
 use Rattle.run_machine.specs.Lines.{Rests}
@@ -28,7 +28,7 @@ returns g c =
     let first = subst (λ (s : WriterState). s.todo ≡ todo ∷ drop 1 s.todo) (sym c.self.view_is) c.requires.first in
     let answers =
     subst (λ (taken : Taken). WriteAnswers serves owes known w.number (write_request w.number (todo ∷ later) (taken_of taken)) (todo ∷ later) (taken_of taken) w.line old after new step)
-    c.replace-taken.ensures.value (c.go_on-next.ensures.step later) in
+    c.replace-taken.ensures.value (c.go_on-next.ensures.does.came later) in
     let asks =
     subst (λ (next : TaskState). Asks serves owes known (writer_task c.args.self.now) old next new step) (sym (c.put.ensures todo first))
     (subst (λ (s : WriterState). Asks serves owes known (writer_task s) old after new step) c.self.view_is
@@ -37,13 +37,18 @@ returns g c =
     record {
       does = record {
         turns = taken_turns serves owes known now.number now.todo now.taken now.line old (writer_task c.put.new.self) new step c.requires.some asks;
-        held = c.go_on-next.ensures.kept.0;
-        same = c.go_on-next.ensures.kept.1;
+        held = c.go_on-next.ensures.does.held;
+        same = c.go_on-next.ensures.does.same;
       };
     }
 
 -- its next write is the first of those that fit
-pub go_on-next-requires-clause-todo : goal.go_on-next-requires-clause-todo
-go_on-next-requires-clause-todo g c =
+pub go_on-next-requires-clause-ready : goal.go_on-next-requires-clause-ready
+go_on-next-requires-clause-ready g c =
     let fits : List Todo → Type 0 = All (TodoFits (g.O.Objects.stage c.args.objects.now)) in
-    subst fits c.requires.first c.requires.task.1 0 c.args.todo.now (omega arith)
+    record {
+      held = search rules;
+      book = search rules;
+      fits = subst fits c.requires.first c.requires.ready.1.1 0 c.args.todo.now (omega arith);
+      home = search rules;
+    }
