@@ -18,7 +18,7 @@ use Rattle.seat_lock.specs.declared.view.Entry.{Entry}
 use Rattle.seat_lock.specs.declared.view.Phase.TheVariants.{Idle, Waiting, Serving}
 use Rattle.seat_lock.specs.History.{count, calls_by, Leads, IsLeft}
 use Rattle.seat_lock.specs.Seats.{split_of, own, call_of, Calls}
-use Rattle.seat_lock.specs.Turning.{around, is_live, firsts_of, others_of, out_of, firsts, others, split_by, joined_by, out, has_number, HasTurn, Stands, Knows, IsServed, Place, IsTurning, first_view, Drew, Looked, IsLeftBy, served_view, entries, passed_on, Passed, after_call, HasThing}
+use Rattle.seat_lock.specs.Turning.{around, FoundTurn, WaitsFor, is_live, firsts_of, others_of, out_of, firsts, others, split_by, joined_by, out, has_number, HasTurn, Stands, Knows, IsServed, Place, IsTurning, first_view, Drew, Looked, IsLeftBy, served_view, entries, passed_on, Passed, after_call, HasThing}
 use Rattle.seat_lock.proofs.Sums.{sum_by-put, sum_by-at, sum_by-two, sum_by-most, sum_of, set_at, put_all}
 use Rattle.seat_lock.proofs.Histories.{all_one, calls_by-append, call_is_own, call_is_other, prefix_snoc, prefix_same, leads_snoc}
 use Rattle.seat_lock.proofs.Turns.{true_not, live_out, turn_in, idle_not, waiting_not, later_stands, steps_on, waiting_is, not_next, one_most, below, number_one}
@@ -322,3 +322,26 @@ module _ {T D A R M : Type 0} (plain : T → D) (mark : T → M) (answers : D �
 module _ {T D A R M : Type 0} (plain : T → D) (mark : T → M) (answers : D → A → R → D → Type 0) where
   pub looked_at : (n : ℕ) (m m0 m' : Me T (View T A R)) → m ≡ m0 → Looked plain mark answers (step 1 1 0 0 none) m n m' → Looked plain mark answers (step 1 1 0 0 none) m0 n m'
   looked_at n m m0 m' e l = subst (λ x. Looked plain mark answers (step 1 1 0 0 none) x n m') e l
+
+  -- a look that finds the turn of who waits
+  pub found_at : (n turn : ℕ) (m m0 m' : Me T (View T A R)) → m ≡ m0 → n ≡ turn → Looked plain mark answers (step 1 1 0 0 none) m n m' → FoundTurn plain mark answers turn m0 m'
+  found_at n turn m m0 m' e f l = subst (λ x. FoundTurn plain mark answers x m0 m') f (looked_at n m m0 m' e l)
+
+  -- and one that finds another turn, which leaves all as it is
+  pub not_yet : (n turn k : ℕ) (m m' : Me T (View T A R)) → Looked plain mark answers (step 1 1 0 0 none) m n m' → m.0.phase ≡ Waiting k → turn ≡ k % around → n ≢ turn → m' ≡ m
+  not_yet n turn k m m' l waiting t ne = (l k waiting).0 (λ e. ne (e ∙ sym t))
+
+module _ {T A R : Type 0} where
+  -- who has drawn a turn waits for it
+  pub waits_for : (turn k : ℕ) (m m' : Me T (View T A R)) → m' ≡ (record m.0 { phase = Waiting k }, m.1) → m.1 ≡ [] → turn ≡ k % around → is_live m.0.known.rank ≡ true → WaitsFor turn m'
+  waits_for turn k m m' e none' t live =
+      let is : ◌≡◌ {A = Me T (View T A R)} m' (record m'.0 { phase = Waiting k }, []) = e ∙ ap (λ c. (record m.0 { phase = Waiting k }, c)) none' ∙ sym (ap (λ x. (record x.0 { phase = Waiting k }, [])) e) in
+      (k, is, t, ap (λ x. is_live x.0.known.rank) e ∙ live)
+
+  -- the view of a seat that has drawn, by what it knew
+  pub drawn_from : (known : Known T A R) (k : ℕ) (m m' : Me T (View T A R)) → m' ≡ (record m.0 { phase = Waiting k }, m.1) → m.0.known ≡ known → m.1 ≡ [] → m.0.parts ≡ None
+      → ◌≡◌ {A = Me T (View T A R)} m' (record { known = known; phase = Waiting k; parts = None }, [])
+  drawn_from known k m m' e f g h =
+      e ∙ ap (λ x. (record { known = x; phase = Waiting k; parts = m.0.parts }, m.1)) f
+      ∙ ap (λ x. (record { known = known; phase = Waiting k; parts = m.0.parts }, x)) g
+      ∙ ap (λ x. (record { known = known; phase = Waiting k; parts = x }, [])) h

@@ -4,7 +4,7 @@ use mathlib.Core.Option.{some, none}
 use mathlib.Core.Option as option
 use lib.ListN.{get_elem?}
 use Rattle.std.specs.declared.snapshot.Snapshot.{Snapshot}
-use Rattle.atomic_table.specs.Table.{State, Me, Step}
+use Rattle.atomic_table.specs.Table.{State, Me, Step, step}
 use Rattle.seat_lock.specs.declared.view.View.{View}
 use Rattle.seat_lock.specs.declared.view.Entry.{Entry}
 use Rattle.seat_lock.specs.declared.view.Parts.{Parts}
@@ -178,6 +178,16 @@ module _ {T D A R M : Type 0} (plain : T → D) (mark : T → M) (answers : D �
       × (found ≡ turn % around → (log : List (Entry A R)) × (kept : T) × (after ≡ (served_view before.0 turn log, (0, kept) ∷ before.1))
       × IsPrefix before.0.known.seen log × IsLeftBy before.0.known.start log kept
       × (calls_by before.0.known.numbers log ≡ calls_by before.0.known.numbers before.0.known.seen) × (count before.0.known.number before.0.known.numbers ≡ 1))
+
+module _ {T A R : Type 0} where
+  -- the seat waits for this turn, as the words count it, and has nothing out
+  abbrev pub WaitsFor : ℕ → Me T (View T A R) → Type 0
+  WaitsFor turn me = (k : ℕ) × (me ≡ (record me.0 { phase = Waiting k }, [])) × (turn ≡ k % around) × (is_live me.0.known.rank ≡ true)
+
+module _ {T D A R M : Type 0} (plain : T → D) (mark : T → M) (answers : D → A → R → D → Type 0) where
+  -- a look of a seat that waited has found its turn served
+  abbrev pub FoundTurn : ℕ → Me T (View T A R) → Me T (View T A R) → Type 0
+  FoundTurn turn before after = Looked plain mark answers (step 1 1 0 0 none) before turn after
 
 module _ {A R : Type 0} where
   -- calls of the seat of a number

@@ -2,7 +2,7 @@
 ghost use Rattle.std.specs.Prelude.{◌≡◌, ◌<◌, true, false, [], ◌∷◌, IfOk, IfErr};
 ghost use Rattle.seat_lock.specs.History.{IsLeft, Leads};
 ghost use Rattle.seat_lock.specs.Seats.{Calls, HasJoined, IsOf, IsWhole, first_seat, is_first, new_seat, own, split_more, split_of};
-ghost use Rattle.seat_lock.specs.Turning.{EndsRun, HasServed, HasThing, IsIdle, after_call};
+ghost use Rattle.seat_lock.specs.Turning.{EndsRun, FoundTurn, HasServed, HasThing, IsIdle, WaitsFor, after_call};
 ghost use Rattle.seat_lock.specs.declared.view.Rank.TheVariants.{First};
 
 use crate::thing::Thing;
@@ -128,11 +128,47 @@ impl<T: Thing> SeatLock<T> {
         let table = &self.table;
         let inner = &mut seat.inner;
         let turn = table.shared.fetch_add::<DrawTurn>(inner, DRAWN, 1);
+        self.await_turn(rt, inner, turn);
+        self.serve_in_turn(inner, request)
+    }
+
+    // Waits until the turn that a seat has drawn is served: then it has the thing. Where nobody else wants the lock, the first look finds so.
+    fn await_turn<R: Wait>(
+        &self,
+        rt: &R,
+        inner: &mut atomic_table::Seat<T, View<T, T::Asked, T::Told>>,
+        turn: u64,
+    )
+        requires of { inner.old.table_id ≡ self.now.table }
+        requires waits { WaitsFor turn inner.old.me }
+        ensures of { inner.new.table_id ≡ inner.old.table_id }
+        ensures found { FoundTurn T.plain T.mark T.answers turn inner.old.me inner.new.me }
+    {
+        let table = &self.table;
+        let served = table.shared.load::<LookTurn>(inner, SERVED);
+        if served != turn {
+            self.look_on(rt, inner, turn);
+        }
+    }
+
+    // Looks until the turn is served.
+    fn look_on<R: Wait>(
+        &self,
+        rt: &R,
+        inner: &mut atomic_table::Seat<T, View<T, T::Asked, T::Told>>,
+        turn: u64,
+    )
+        requires of { inner.old.table_id ≡ self.now.table }
+        requires waits { WaitsFor turn inner.old.me }
+        ensures of { inner.new.table_id ≡ inner.old.table_id }
+        ensures found { FoundTurn T.plain T.mark T.answers turn inner.old.me inner.new.me }
+    {
+        let table = &self.table;
         let mut looks = 0;
         for _ in rt.forever() {
             let served = table.shared.load::<LookTurn>(inner, SERVED);
             if served == turn {
-                return self.serve_in_turn(inner, request);
+                return;
             }
             looks = self.wait(rt, served, looks);
         }
