@@ -92,6 +92,10 @@ is_misset words setting =
     nat_lt 1 (times setting.key words) || (setting.wanted && times setting.key words == 0)
     || list_any (λ word. fails (is_word setting.place) (value_of setting.key word)) words
 
+-- an option that has no number that may stand there
+abbrev pub is_missized : List (List ℕ) → Setting → Bool
+is_missized words setting = list_any (λ word. fails (has_number setting.place) (value_of setting.key word)) words
+
 -- a word at its place that is an option, or may not stand there
 abbrev pub is_misplaced : Place → List ℕ → Bool
 is_misplaced place word = is_option word || not (is_word place word)
@@ -108,4 +112,4 @@ is_malformed form words =
 abbrev pub is_misnumbered : Form → List (List ℕ) → Bool
 is_misnumbered form words =
     list_any (λ at. not (has_number at.0 at.1)) (zip form.places words)
-    || list_any (λ setting. list_any (λ word. fails (has_number setting.place) (value_of setting.key word)) (others form words)) form.settings
+    || list_any (is_missized (others form words)) form.settings

@@ -88,13 +88,19 @@ records_of number _ = None
 abbrev pub pool_if : (ℕ → What → Option PoolId) → List Declared → ℕ → Option PoolId
 pool_if pool devices number = option_and_then (λ device. pool number device.what) (slice_get devices number)
 
--- the pool with this name: `fs.bios`, `fs.vecs`, NAME.bios of a device over members, NAME.records of a mirror
+-- the pool with the name NAME.bios of a device over members, and that with the name NAME.records of a mirror
+abbrev pub bios_named : List Declared → List ℕ → Option PoolId
+bios_named devices word = option_and_then (pool_if bios_of devices) (device_before (codes ".bios") devices word)
+
+abbrev pub records_named : List Declared → List ℕ → Option PoolId
+records_named devices word = option_and_then (pool_if records_of devices) (device_before (codes ".records") devices word)
+
+-- the pool with this name: `fs.bios`, `fs.vecs`, or that of a device
 unfoldable pub pool_of : List Declared → List ℕ → Option PoolId
 pool_of devices word =
     if bytes_eq word (codes "fs.bios") then Some FsBios
     else (if bytes_eq word (codes "fs.vecs") then Some FsVecs
-    else option_or (option_and_then (pool_if bios_of devices) (device_before (codes ".bios") devices word))
-    (option_and_then (pool_if records_of devices) (device_before (codes ".records") devices word)))
+    else option_or (bios_named devices word) (records_named devices word))
 
 -- a device with all that is below it, over the trees of all devices before it
 abbrev pub grown : ℕ → What → List Tree → Tree

@@ -1,5 +1,6 @@
 -- A place in a text.
-use Rattle.std.specs.Prelude.{ℕ, List, drop}
+use Rattle.std.specs.Prelude.{◌≡◌, ◌+◌, ℕ, List, [], ◌∷◌, drop, take}
+use Rattle.decl_text.specs.Text.{lines}
 
 pub record At : Type 0 where
   pub text : List ℕ
@@ -8,3 +9,16 @@ pub record At : Type 0 where
 -- what stands from there on
 abbrev pub left : At → List ℕ
 left at = drop at.place at.text
+
+-- no line is left there, and the place stays
+abbrev pub StaysAtEnd : At → At → Type 0
+StaysAtEnd old new = (lines (left old) ≡ []) × (new ≡ old)
+
+-- the line is the next one, and those behind it are left
+abbrev pub IsNext : At → List ℕ → At → Type 0
+IsNext old line new = lines (left old) ≡ line ∷ lines (left new)
+
+-- the same line comes where the text ends at any place behind it
+abbrev pub IsNextOfFront : At → List ℕ → At → Type 0
+IsNextOfFront old line new = (more : ℕ)
+    → lines (drop old.place (take (new.place + more) old.text)) ≡ line ∷ lines (drop new.place (take (new.place + more) old.text))

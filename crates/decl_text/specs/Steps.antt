@@ -1,9 +1,11 @@
 -- A step of reading declarations, line by line.
-use Rattle.std.specs.Prelude.{◌≡◌, ◌+◌, ◌≤◌, true, false, Bool, List, [], ◌∷◌, ◌++◌, ℕ, length, drop, None}
+use Rattle.std.specs.Prelude.{◌≡◌, ◌+◌, ◌≤◌, true, false, Bool, List, [], ◌∷◌, ◌++◌, ℕ, length, drop, Option, None}
+use Rattle.std.specs.Option.{option_map, option_to_list}
 use Rattle.decl_text.specs.Text.{lines}
 use Rattle.decl_text.specs.Read.{AreDeclarations, Read}
 use Rattle.decl_text.specs.Reading.{Formed, IsRead, NonePass, added, formed, declarations, is_wrong, is_work_line}
 use Rattle.decl_text.specs.declared.decl.DeclParts.{DeclParts}
+use Rattle.decl_text.specs.declared.item.Item.{Item}
 
 -- the first element passes, where there is one
 abbrev pub Begins : {X : Type 0} → (X → Bool) → List X → Type 0
@@ -12,6 +14,15 @@ Begins p (x ∷ xs) = p x ≡ true
 
 abbrev pub read_of : DeclParts → Read
 read_of parts = record { items = parts.items.items; fault = parts.fault; rest = parts.rest; line = parts.line }
+
+-- what was read behind a line that says this, or nothing, where the next one begins at that place
+abbrev pub passed : Read → Option Item → ℕ → Read
+passed read said place = record {
+  items = read.items ++ option_to_list (option_map (λ item. record { line = read.line; item = item }) said);
+  fault = read.fault;
+  rest = place;
+  line = read.line + 1;
+}
 
 -- what is read in the end, where these lines are left: what was read so far, and what they say
 abbrev pub whole : Read → List (List ℕ) → Formed

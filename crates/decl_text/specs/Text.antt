@@ -1,5 +1,5 @@
 -- The lines of a text, their words, and what a word may be.
-use Rattle.std.specs.Prelude.{◌^◌, ◌==◌, ◌&&◌, ◌||◌, if◌then◌else◌, nat_lt, nat_le, not, Bool, true, false, List, [], ◌∷◌, ℕ, filter, length, codes, Option, None, Some}
+use Rattle.std.specs.Prelude.{◌≡◌, ◌^◌, ◌==◌, ◌&&◌, ◌||◌, if◌then◌else◌, nat_lt, nat_le, not, Bool, true, false, List, [], ◌∷◌, ℕ, filter, length, codes, Option, None, Some}
 use Rattle.std.specs.List.{slice_split, list_all, list_any, before_first, after_first}
 use Rattle.std.specs.Char.{is_ascii_alphabetic, is_ascii_alphanumeric, is_ascii_digit}
 use Rattle.std.specs.Str.{bytes_eq}
@@ -27,9 +27,13 @@ abbrev pub is_some_text : List ℕ → Bool
 is_some_text [] = false
 is_some_text (byte ∷ bytes) = true
 
+-- the parts of a line between blanks, which may be empty
+abbrev pub parts : List ℕ → List (List ℕ)
+parts line = slice_split is_blank line
+
 -- the words of a line: its maximal parts without blanks
 abbrev pub words : List ℕ → List (List ℕ)
-words line = filter is_some_text (slice_split is_blank line)
+words line = filter is_some_text (parts line)
 
 -- blanks and the visible characters of ASCII
 abbrev pub is_text_byte : ℕ → Bool
@@ -47,6 +51,10 @@ key word = before_first (λ byte. byte == 61) word
 
 abbrev pub value : List ℕ → List ℕ
 value word = after_first (λ byte. byte == 61) word
+
+-- the word is an option, and these are its key and its value
+abbrev pub IsOption : List ℕ → List ℕ → List ℕ → Type 0
+IsOption word front back = (is_option word ≡ true) × (front ≡ key word) × (back ≡ value word)
 
 -- letters, digits, `_` and `-`
 abbrev pub is_name_byte : ℕ → Bool

@@ -1,8 +1,7 @@
 //! The declarations of a text.
 ghost use Rattle.std.specs.Prelude.{◌≡◌, ◌+◌, ◌-◌, ◌^◌, ◌<◌, ◌≤◌, ◌++◌, true, IfErr, IfOk, length};
-ghost use Rattle.std.specs.Option.{option_map, option_to_list};
 ghost use Rattle.decl_text.specs.declared.reason.ReadFault.TheVariants.{Memory};
-ghost use Rattle.decl_text.specs.Steps.{Goes, IsSoFar, read_of};
+ghost use Rattle.decl_text.specs.Steps.{Goes, IsSoFar, passed, read_of};
 ghost use Rattle.decl_text.specs.Read.{AreDeclarations};
 ghost use Rattle.decl_text.specs.Reading.{AreOfLines, ReadsDecl};
 
@@ -124,12 +123,7 @@ impl<'a> DeclParts<'a> {
     // Keeps what a line says, behind which the next one begins at this place.
     fn pass(&mut self, item: Option<Item<'a>>, place: usize) -> Result<(), AllocError>
         requires { self.old.line < 2 ^ 64 - 1 }
-        ensures { IfOk result (λ _. read_of self.new ≡ record {
-          items = self.old.items.items ++ option_to_list (option_map (λ said. record { line = self.old.line; item = said }) item.entry);
-          fault = self.old.fault;
-          rest = place;
-          line = self.old.line + 1;
-        }) }
+        ensures { IfOk result (λ _. read_of self.new ≡ passed (read_of self.old) item.entry place) }
     {
         if let Some(item) = item {
             let line = self.line;

@@ -1,7 +1,7 @@
 //! One line of a text: its words, and what it says.
 ghost use Rattle.std.specs.Prelude.{◌≡◌, ◌<◌, ◌∷◌, ◌++◌, [], false, filter, length, position, slice_get, IfOk, MatchOption, Some};
-ghost use Rattle.std.specs.List.{list_all, slice_split};
-ghost use Rattle.decl_text.specs.Text.{is_blank, is_some_text, is_text, is_text_byte, words, words as words_in};
+ghost use Rattle.std.specs.List.{list_all};
+ghost use Rattle.decl_text.specs.Text.{is_blank, is_some_text, is_text, is_text_byte, parts, words, words as words_in};
 ghost use Rattle.decl_text.specs.Forms.{form, is_malformed, is_misnumbered};
 ghost use Rattle.decl_text.specs.Items.{begins_work, is_comment, is_work, malformed, misnumbered, said};
 ghost use Rattle.decl_text.specs.Lines.{CommandSays, Says, command_first};
@@ -167,8 +167,7 @@ fn blank_place(line: &[u8]) -> Option<usize>
 
 // What stands before the first blank, and what stands behind it, where there is one.
 fn cut(line: &[u8]) -> (&[u8], Option<&[u8]>)
-    ensures parts { MatchOption result.1 (slice_split is_blank line.now ≡ result.0.now ∷ [])
-        (λ rest. slice_split is_blank line.now ≡ result.0.now ∷ slice_split is_blank rest.now) }
+    ensures parts { MatchOption result.1 (parts line.now ≡ result.0.now ∷ []) (λ rest. parts line.now ≡ result.0.now ∷ parts rest.now) }
     ensures shorter { MatchOption result.1 (Unit {0}) (λ rest. length rest.now < length line.now) }
 {
     match blank_place(line) {

@@ -1,8 +1,8 @@
 //! The lines of a text.
-ghost use Rattle.std.specs.Prelude.{◌≡◌, ◌+◌, ◌<◌, ◌≤◌, ◌∷◌, [], ◌==◌, ℕ, length, drop, take, MatchOption, position};
+ghost use Rattle.std.specs.Prelude.{◌≡◌, ◌+◌, ◌<◌, ◌≤◌, ◌∷◌, ◌==◌, ℕ, length, drop, take, MatchOption, position};
 ghost use Rattle.std.specs.List.{position_or_len, slice_split};
 ghost use Rattle.decl_text.specs.Text.{lines};
-ghost use Rattle.decl_text.specs.Places.{left};
+ghost use Rattle.decl_text.specs.Places.{IsNext, IsNextOfFront, StaysAtEnd};
 
 use std::marker::Model;
 
@@ -43,13 +43,12 @@ impl<'a> Lines<'a> {
 
     /// The next line, without the byte 10 that may end it, and nothing at the end of the text.
     pub fn next(&mut self) -> Option<&'a [u8]>
-        ensures line { MatchOption result ((lines (left self.old) ≡ []) × (self.new ≡ self.old)) (λ line. lines (left self.old) ≡ line.now ∷ lines (left self.new)) }
+        ensures line { MatchOption result (StaysAtEnd self.old self.new) (λ line. IsNext self.old line.now self.new) }
         ensures text { self.new.text ≡ self.old.text }
         ensures on { MatchOption result (self.new.place ≡ self.old.place) (λ line. self.old.place < self.new.place) }
         ensures within { self.new.place ≤ length self.old.text }
         // The same line comes where the text ends at any place behind it.
-        ensures cut { MatchOption result (Unit {0}) (λ line. (more : ℕ) → lines (drop self.old.place (take (self.new.place + more) self.old.text))
-            ≡ line.now ∷ lines (drop self.new.place (take (self.new.place + more) self.old.text))) }
+        ensures cut { MatchOption result (Unit {0}) (λ line. IsNextOfFront self.old line.now self.new) }
     {
         let (_, left) = self.text.split_at(self.place);
         if left.is_empty() {

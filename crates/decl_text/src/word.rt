@@ -4,7 +4,7 @@ ghost use Rattle.std.specs.List.{list_all, list_any, position_or_len};
 ghost use Rattle.std.specs.Char.{is_ascii_digit};
 ghost use Rattle.std.specs.Str.{bytes_eq};
 ghost use Rattle.std.specs.Option.{option_map};
-ghost use Rattle.decl_text.specs.Text.{begins_with_letter, is_entry, is_name, is_name_byte, is_number, is_option, is_pattern, key, number_of, value};
+ghost use Rattle.decl_text.specs.Text.{IsOption, begins_with_letter, is_entry, is_name, is_name_byte, is_number, is_option, is_pattern, number_of};
 ghost use Rattle.decl_text.specs.Forms.{value_of};
 ghost use Rattle.decl_text.specs.Items.{entries, number};
 
@@ -76,8 +76,7 @@ impl<'a> Word<'a> {
 
     /// The key and the value, where it is an option.
     pub(crate) fn option(&self) -> Option<(&'a [u8], Word<'a>)>
-        ensures { MatchOption result (is_option self.now ≡ false)
-            (λ parts. (is_option self.now ≡ true) × (parts.0.now ≡ key self.now) × (parts.1 ≡ value self.now)) }
+        ensures { MatchOption result (is_option self.now ≡ false) (λ parts. IsOption self.now parts.0.now parts.1) }
     {
         let (key, value) = key_and_value(self.bytes)?;
         Some((key, Word::of(value)))
@@ -194,8 +193,7 @@ fn equals_place(word: &[u8]) -> Option<usize>
 
 // What stands before the first `=`, and what stands behind it.
 fn key_and_value(word: &[u8]) -> Option<(&[u8], &[u8])>
-    ensures { MatchOption result (is_option word.now ≡ false)
-        (λ parts. (is_option word.now ≡ true) × (parts.0.now ≡ key word.now) × (parts.1.now ≡ value word.now)) }
+    ensures { MatchOption result (is_option word.now ≡ false) (λ parts. IsOption word.now parts.0.now parts.1.now) }
 {
     match equals_place(word) {
         None => None,

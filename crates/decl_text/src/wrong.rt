@@ -3,7 +3,7 @@ ghost use Rattle.std.specs.Prelude.{◌≡◌, ◌&&◌, ◌||◌, not, length, 
 ghost use Rattle.std.specs.List.{list_any};
 ghost use Rattle.std.specs.Str.{bytes_eq};
 ghost use Rattle.decl_text.specs.Words.{has_number, is_word, key_word};
-ghost use Rattle.decl_text.specs.Forms.{fails, form, is_malformed, is_misnumbered, is_misplaced, is_misset, is_setting, is_strange, others, times, value_of};
+ghost use Rattle.decl_text.specs.Forms.{fails, form, is_malformed, is_misnumbered, is_misplaced, is_misset, is_missized, is_setting, is_strange, others, times, value_of};
 
 use crate::form::{Key, Place, Setting};
 use crate::{Command, Word};
@@ -111,13 +111,13 @@ fn any_misspelt(setting: &Setting, others: &[Word<'_>]) -> bool
 
 // Whether an option has no number that may stand there.
 fn any_missized(settings: &[Setting], others: &[Word<'_>]) -> bool
-    ensures { result ≡ list_any (λ setting. list_any (λ word. fails (has_number setting.place) (value_of setting.key word)) others.now) settings.now }
+    ensures { result ≡ list_any (is_missized others.now) settings.now }
 {
     settings.iter().any(|setting| is_missized(setting, others))
 }
 
 fn is_missized(setting: &Setting, others: &[Word<'_>]) -> bool
-    ensures { result ≡ list_any (λ word. fails (has_number setting.now.place) (value_of setting.now.key word)) others.now }
+    ensures { result ≡ is_missized others.now setting.now }
 {
     others.iter().any(|word| match word.value_of(setting.key) {
         Some(value) => !setting.place.counts(&value),
