@@ -1,5 +1,5 @@
 -- What the marks of sectors tell of the writes so far.
-use Rattle.std.specs.Prelude.{◌≡◌, ◌+◌, ◌<◌, ◌≤◌, ◌==◌, ◌&&◌, nat_le, nat_lt, Bool, false, List, ℕ, length, slice_get, slice_index_or, Some}
+use Rattle.std.specs.Prelude.{◌≡◌, ◌+◌, ◌<◌, ◌≤◌, ◌==◌, ◌&&◌, if◌then◌else◌, nat_le, nat_lt, Bool, false, List, ℕ, length, slice_get, slice_index_or, Some}
 use Rattle.std.specs.List.{list_any}
 use Rattle.stack_base.specs.Tree.{tree, size}
 use Rattle.stack_base.specs.declared.stack.Stack.{Stack}
@@ -21,6 +21,10 @@ pub record IsRow (stack : Stack) (mark : ℕ) (writes : List Written) (dev : ℕ
   pub long : is_member stack dev ≡ false → length row ≡ size (tree stack dev)
   pub told : (at : ℕ) → at < length row → (slice_index_or row at 0 == mark) ≡ list_any (covers dev at) writes
   pub past : (at : ℕ) → at < length row → slice_index_or row at 0 ≤ mark
+
+-- the mark stands at `count` places from `start` on, and the others are as before
+abbrev pub IsMarked : ℕ → ℕ → ℕ → List ℕ → List ℕ → Type 0
+IsMarked mark start count old new = (at : ℕ) → slice_index_or new at 0 ≡ (if nat_le start at && nat_lt at (start + count) then mark else slice_index_or old at 0)
 
 pub record AreMarks (stack : Stack) (mark : ℕ) (writes : List Written) (marks : List (List ℕ)) : Type 0 where
   pub count : length marks ≡ length stack.devices.items

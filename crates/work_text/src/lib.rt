@@ -5,8 +5,8 @@ ghost use Rattle.std.specs.Prelude.{◌≡◌, ◌+◌, ◌<◌, ◌≤◌, ◌^
 ghost use Rattle.layout_model.specs.Writes.{IsWrite};
 ghost use Rattle.decl_text.specs.Reading.{declarations};
 ghost use Rattle.work_text.specs.Draft.{IsDraft, known_so_far};
-ghost use Rattle.work_text.specs.Lines.{CanStand, ReadsLines, ReadsNumbered};
-ghost use Rattle.work_text.specs.Reading.{ReadsWork, work_lines};
+ghost use Rattle.work_text.specs.Lines.{CanStand, ReadsNumbered};
+ghost use Rattle.work_text.specs.Reading.{ReadsBehind, ReadsWork, work_lines};
 ghost use Rattle.work_text.specs.Work.{all_entries, last_round};
 
 mod draft;
@@ -90,7 +90,7 @@ fn read_lines(
     requires draft { IsDraft accepted.now.stack draft.old }
     ensures draft { OnOk result (IsDraft accepted.now.stack draft.new) }
     ensures entries { OnOk result (draft.new.work.bound.z ≡ draft.old.work.bound.z) }
-    ensures read { ReadsLines (known_so_far accepted.now.stack draft.old) accepted.now.line (work_lines text.now accepted.now) (known_so_far accepted.now.stack draft.new) result }
+    ensures read { ReadsBehind text.now accepted.now draft.old draft.new result }
 {
     let mut lines = Lines::from(text, accepted.rest as usize);
     let mut number = accepted.line;

@@ -1,8 +1,8 @@
 //! Which sectors of a device have a write of the present round.
-ghost use Rattle.std.specs.Prelude.{◌≡◌, ℕ, ◌+◌, ◌==◌, ◌&&◌, ◌<◌, ◌≤◌, if◌then◌else◌, [], nat_lt, nat_le, IfOk, length, replicate, slice_index_or};
+ghost use Rattle.std.specs.Prelude.{◌≡◌, ◌+◌, ◌==◌, ◌<◌, ◌≤◌, [], IfOk, length, replicate, slice_index_or};
 ghost use Rattle.std.specs.List.{list_any, range_with_len};
 ghost use Rattle.stack_base.specs.Stack.{IsStack};
-ghost use Rattle.work_text.specs.Marks.{AreMarks, IsRow};
+ghost use Rattle.work_text.specs.Marks.{AreMarks, IsMarked, IsRow};
 
 use crate::names::is_member;
 use stack_base::{DevId, Stack};
@@ -72,7 +72,7 @@ impl Marks {
     pub(crate) fn set(&mut self, mark: u32, start: u64, count: u64)
         requires { start + count ≤ length self.old }
         ensures long { length self.new ≡ length self.old }
-        ensures marked { (at : ℕ) → slice_index_or self.new at 0 ≡ (if nat_le start at && nat_lt at (start + count) then mark else slice_index_or self.old at 0) }
+        ensures marked { IsMarked mark start count self.old self.new }
     {
         let sectors = &mut self.sectors;
         for at in start..start + count {

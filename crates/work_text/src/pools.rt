@@ -1,10 +1,9 @@
 //! Pools of a stack, as a text names them.
-ghost use Rattle.std.specs.Prelude.{◌≡◌, ◌≤◌, ◌++◌, IfSome, codes, length, position};
-ghost use Rattle.std.specs.Option.{option_and_then};
+ghost use Rattle.std.specs.Prelude.{◌≡◌, ◌≤◌, ◌++◌, IfSome, length, position};
 ghost use Rattle.std.specs.Str.{bytes_eq};
 ghost use Rattle.stack_base.specs.PoolId.{pool_number};
 ghost use Rattle.decl_text.specs.Accepting.{shown_devices};
-ghost use Rattle.decl_text.specs.Known.{bios_of, device_before, pool_if, pool_of, records_of};
+ghost use Rattle.decl_text.specs.Known.{bios_named, bios_of, device_before, pool_if, pool_of, records_named, records_of};
 
 use decl_text::Word;
 use stack_base::{DevId, Device, Kind, PoolId, Stack};
@@ -31,7 +30,7 @@ pub(crate) fn pool_of(stack: &Stack, word: &Word<'_>) -> Option<PoolId>
 // The pool of bios of this name.
 fn bios_named(stack: &Stack, word: &Word<'_>) -> Option<PoolId>
     requires { length stack.now.devices.items ≤ 32 }
-    ensures pool { result ≡ option_and_then (pool_if bios_of (shown_devices stack.now)) (device_before (codes ".bios") (shown_devices stack.now) word.now) }
+    ensures pool { result ≡ bios_named (shown_devices stack.now) word.now }
     ensures small { IfSome result (λ pool. pool_number pool ≤ 65) }
 {
     let number = number_before(stack, b".bios", word)?;
@@ -41,7 +40,7 @@ fn bios_named(stack: &Stack, word: &Word<'_>) -> Option<PoolId>
 // The pool of records of this name.
 fn records_named(stack: &Stack, word: &Word<'_>) -> Option<PoolId>
     requires { length stack.now.devices.items ≤ 32 }
-    ensures pool { result ≡ option_and_then (pool_if records_of (shown_devices stack.now)) (device_before (codes ".records") (shown_devices stack.now) word.now) }
+    ensures pool { result ≡ records_named (shown_devices stack.now) word.now }
     ensures small { IfSome result (λ pool. pool_number pool ≤ 65) }
 {
     let number = number_before(stack, b".records", word)?;
