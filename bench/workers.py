@@ -5,12 +5,17 @@ usage: bench/workers.py [PROGRAM]                     times the runs below, all 
        bench/workers.py [PROGRAM] --same N [--trace]  runs N random texts by four workers: the images and which writes are ok must be those of the serial
                                                       run; with --trace each is traced, and the trace must replay to its end without a bad line
        bench/workers.py [PROGRAM] --million           the same of one text of a million events, without a trace
+       bench/workers.py [PROGRAM] --starts            runs by sixteen workers that may have so many threads, or so much address space: a thread that cannot be
+                                                      started is made up for by the caller, so the run is to tell what the serial run tells, or that there is
+                                                      no memory to open it. It needs `cc`, for a `pthread_create` that counts
 
 PROGRAM is crates/biostack/out/biostack if left out. The twin has the same tasks over objects behind a `Mutex` each, draws a ticket for each event from an
 atomic counter, and has workers that sweep and sleep as the program's do. To measure beside other work, raise the priority of the whole script.
 """
 import os
 import random
+import resource
+import shutil
 import subprocess
 import sys
 import tempfile
@@ -67,6 +72,126 @@ def same(program, texts, trace):
         print(f"text {number}: the same, {run.steps_of(serial[1].decode())} and {run.steps_of(shared[1].decode())} events", flush=True)
 
 
+# It counts the threads that were started and those that were refused, in two words of the file COUNT, whose third one says that it was loaded. It has the stack
+# grow before, since the system ends a program whose stack cannot grow: sixteen workers take some 2 MB of the caller's.
+COUNTING = r"""
+#define _GNU_SOURCE
+#include <dlfcn.h>
+#include <fcntl.h>
+#include <pthread.h>
+#include <stdatomic.h>
+#include <stdlib.h>
+#include <sys/mman.h>
+
+#define STACK (3 << 20)
+
+static atomic_ulong *counts;
+static int (*real)(pthread_t *, const pthread_attr_t *, void *(*)(void *), void *);
+
+__attribute__((constructor)) static void begin(void) {
+    volatile char grown[STACK];
+    for (int at = STACK; at > 0; at -= 4096) {
+        grown[at - 1] = 0;
+    }
+    void *page = mmap(0, 24, PROT_READ | PROT_WRITE, MAP_SHARED, open(getenv("COUNT"), O_RDWR), 0);
+    if (page == MAP_FAILED) {
+        abort();
+    }
+    counts = page;
+    *(void **)&real = dlsym(RTLD_NEXT, "pthread_create");
+    counts[2] = 1;
+}
+
+int pthread_create(pthread_t *thread, const pthread_attr_t *attributes, void *(*work)(void *), void *argument) {
+    int refused = real(thread, attributes, work, argument);
+    ++counts[refused != 0];
+    return refused;
+}
+"""
+
+# A user who has no other thread: for root no number of threads is a limit.
+NOBODY = 64999
+
+
+def threads_of(user):
+    """How many threads a user has now, each of which counts for its limit."""
+    count = 0
+    for number in filter(str.isdigit, os.listdir("/proc")):
+        try:
+            count += len(os.listdir(f"/proc/{number}/task")) if os.stat(f"/proc/{number}").st_uid == user else 0
+        except OSError:
+            continue
+    return count
+
+
+class Starts:
+    """A program in a folder of its own that any user may run, with a `pthread_create` that counts."""
+
+    def __init__(self, program, folder):
+        os.chmod(folder, 0o755)
+        self.program, self.shim, self.count = (os.path.join(folder, name) for name in ("biostack", "count.so", "count"))
+        shutil.copy(program, self.program)
+        with open(self.shim + ".c", "w") as file:
+            file.write(COUNTING)
+        subprocess.run(["cc", "-shared", "-fPIC", "-O2", "-o", self.shim, self.shim + ".c", "-ldl"], check=True)
+
+    def ran(self, words, text, kind, limit):
+        """The status, output and errors of a run under a limit, or nothing where it was not loaded, and how many threads it started and was refused."""
+        user = NOBODY if os.geteuid() == 0 else os.geteuid()
+        most = limit + threads_of(user) if kind == resource.RLIMIT_NPROC else limit
+        with open(self.count, "wb") as file:
+            file.write(bytes(24))
+        os.chmod(self.count, 0o666)
+
+        def begin():
+            resource.setrlimit(kind, (most, most))
+            if os.geteuid() == 0:
+                os.setuid(user)
+
+        environment = {"LD_PRELOAD": self.shim, "COUNT": self.count}
+        done = subprocess.run([self.program, *words], input=text.encode(), capture_output=True, env=environment, preexec_fn=begin)
+        with open(self.count, "rb") as file:
+            started, refused, loaded = (int.from_bytes(file.read(8), sys.byteorder) for _ in range(3))
+        return (done.returncode, done.stdout, done.stderr) if loaded else None, started, refused
+
+
+# Small disks, so that it is threads that want the address space.
+SMALL = (
+    ("a mirror without memory", "disk a 64\ndisk b 64\nmirror m a b reserve=1 records=1\nmemory none\n" + "".join(f"write {k % 8} m {k} 1 {64 * k}\n" for k in range(64))),
+    ("four writers, a disk each", "".join(f"disk d{k} 64\nlimit l{k} max=4 d{k}\n" for k in range(4)) + "".join(f"write {k} l{k} 0 64 0\n" for k in range(4))),
+)
+
+
+def seen(serial, run, may_lack):
+    """What is seen of a run under a limit, or nothing where it is none of what may be."""
+    if may_lack and run is None:
+        return "the program could not be loaded"
+    if may_lack and run == (6, b"", b"biostack: want of memory\n"):
+        return "no memory to open it"
+    if run is not None and run[0] == serial[0] and told(run[1]) == told(serial[1]) and not run[2]:
+        return "what the serial run tells"
+    return None
+
+
+def starts(program):
+    """Runs by sixteen workers under limits of threads and of address space. Tells where what is seen becomes another."""
+    limits = (("threads", resource.RLIMIT_NPROC, 1, range(1, 18)), ("MiB", resource.RLIMIT_AS, 1 << 20, [half / 2 for half in range(4, 280)]))
+    with tempfile.TemporaryDirectory() as folder:
+        under = Starts(program, folder)
+        for name, text in SMALL:
+            serial = output(program, ["run"], text)
+            for unit, kind, size, numbers in limits:
+                before = None
+                for number in numbers:
+                    ended, started, refused = under.ran(by(["run"], 16), text, kind, int(number * size))
+                    what = seen(serial, ended, kind == resource.RLIMIT_AS)
+                    if what is None:
+                        sys.exit(f"{name}, {number} {unit}: {ended}")
+                    if (what, started) != before:
+                        print(f"{name}, {number:g} {unit}: {what}; {started} threads started, {refused} refused", flush=True)
+                    before = what, started
+
+
 def build_twin(folder):
     path = os.path.join(folder, "twin")
     words = ["--edition", "2021", "-C", "opt-level=3", "-C", "target-cpu=x86-64-v2", "-A", "warnings"]
@@ -89,8 +214,8 @@ def times(program):
 
 def main():
     words = sys.argv[1:]
-    count, million, trace = 0, "--million" in words, "--trace" in words
-    words = [word for word in words if word not in ("--million", "--trace")]
+    count, million, trace, limited = 0, "--million" in words, "--trace" in words, "--starts" in words
+    words = [word for word in words if word not in ("--million", "--trace", "--starts")]
     if "--same" in words:
         at = words.index("--same")
         count = int(words[at + 1])
@@ -102,6 +227,8 @@ def main():
         return same(program, ((seed, random_text(random.Random(seed))) for seed in range(count)), trace)
     if million:
         return same(program, [("of a million events", run.limited("", 72))], False)
+    if limited:
+        return starts(program) if shutil.which("cc") else sys.exit("there is no cc, so no thread is counted")
     times(program)
 
 
