@@ -204,6 +204,8 @@ impl<P: Fresh + Drop> Pool<P> {
     ///
     /// The try may succeed only where the script allows it; where real memory refuses what the script allows, the try is
     /// refused all the same. At `u64::MAX` elements out a take misses.
+    // In shortage most takes miss, and a caller then drops what was answered at once: none of it is to be written.
+    #[inline(always)]
     pub fn take(&mut self) -> Taken<P>
         ensures takes { TakeOf P.is_clear self.old result self.new }
         ensures adds_up { AddsUp self.new.state.facts }

@@ -192,6 +192,7 @@ impl Objects for Plain {
 
     ghost picks = { Picks };
 
+    #[inline(always)] // as `Pool::take`
     fn take_bio(&mut self, set: SetId, waits: bool) -> Result<Taken<BioBody<Pad>>, Unmade> {
         let at = place(&self.index.bios, bios_number(set));
         Ok(self.bios[at].1.take())

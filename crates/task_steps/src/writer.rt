@@ -101,6 +101,8 @@ impl Writer {
 
     // What came of an attempt at the bio of its next write: it has taken it, or is as before where there was no bio, or breaks off where there
     // was no ticket.
+    // As `Pool::take`: in shortage most attempts come to nothing.
+    #[inline(always)]
     fn take_in(&mut self, attempt: Attempt)
         requires rests { self.old.line.doing ≡ Rests }
         requires none { self.old.taken ≡ NoBio }
