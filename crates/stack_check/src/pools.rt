@@ -1,8 +1,7 @@
 //! The pools of the devices so far, by their names.
-ghost use Rattle.std.specs.Prelude.{◌≡◌, ◌≤◌, IfSome, codes};
-ghost use Rattle.std.specs.Option.{option_and_then};
+ghost use Rattle.std.specs.Prelude.{◌≡◌, ◌≤◌, IfSome};
 ghost use Rattle.stack_base.specs.PoolId.{pool_number};
-ghost use Rattle.decl_text.specs.Known.{bios_of, device_before, pool_if, pool_of, records_of};
+ghost use Rattle.decl_text.specs.Known.{bios_named, bios_of, pool_if, pool_of, records_named, records_of};
 
 use crate::devices::Devices;
 use decl_text::{What, Word};
@@ -29,7 +28,7 @@ impl Devices<'_> {
 
     /// The pool of bios of this name.
     fn bios_named(&self, word: &Word<'_>) -> Option<PoolId>
-        ensures pool { result ≡ option_and_then (pool_if bios_of self.now) (device_before (codes ".bios") self.now word.now) }
+        ensures pool { result ≡ bios_named self.now word.now }
         ensures small { IfSome result (λ pool. pool_number pool ≤ 65) }
     {
         let number = self.number_before(b".bios", word)?;
@@ -38,7 +37,7 @@ impl Devices<'_> {
 
     /// The pool of records of this name.
     fn records_named(&self, word: &Word<'_>) -> Option<PoolId>
-        ensures pool { result ≡ option_and_then (pool_if records_of self.now) (device_before (codes ".records") self.now word.now) }
+        ensures pool { result ≡ records_named self.now word.now }
         ensures small { IfSome result (λ pool. pool_number pool ≤ 65) }
     {
         let number = self.number_before(b".records", word)?;
