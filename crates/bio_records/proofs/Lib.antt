@@ -4,3 +4,4 @@ pub mod Detached
 pub mod SegmentLemmas
 pub mod RunLemmas
 pub mod Sorted
+pub mod Sent

@@ -1,5 +1,5 @@
 -- What a list shows of the elements in it, and the list of these.
-use Rattle.std.specs.Prelude.{◌≡◌, List, [], ◌∷◌, Option, None, Some}
+use Rattle.std.specs.Prelude.{◌≡◌, ◌≤◌, ℕ, List, [], ◌∷◌, length, remove, slice_get, Option, None, Some}
 use Rattle.std.specs.Global.{Box}
 use Rattle.elem_ledger.specs.Ledger.{LedgerId}
 use Rattle.elem_ledger.specs.declared.element.Element.{Element}
@@ -40,6 +40,14 @@ item_of {F = F} element = record {
 -- the element is in no list
 abbrev pub IsAlone : {F : Type 0} → Element (BioBody F) → Type 0
 IsAlone {F = F} element = (out-BioBody F element.body.value).next ≡ None
+
+-- no element stands at this place, and all stay
+abbrev pub StaysShort : {F : Type 0} → List (Item F) → ℕ → List (Item F) → Type 0
+StaysShort old index new = (length old ≤ index) × (new ≡ old)
+
+-- the element that stood at this place is in no list now, and the others are where they were
+abbrev pub IsDetached : {F : Type 0} → List (Item F) → ℕ → Element (BioBody F) → List (Item F) → Type 0
+IsDetached old index element new = (slice_get old index ≡ Some (item_of element)) × (new ≡ remove old index) × IsAlone element
 
 -- an element of a list as a walk shows it: the padding, the bio and its own segments
 pub record Plain : Type 0 where

@@ -1,6 +1,6 @@
 //! Chains of elements, each in the box of the one before it.
-ghost use Rattle.std.specs.Prelude.{◌≡◌, ◌++◌, filter, ◌+◌, ◌<◌, ◌≤◌, [], ◌∷◌, length, reverse, remove, slice_get, min, ◌^◌, ◌-◌, MatchOption, None, Some};
-ghost use Rattle.bio_records.specs.Items.{items, item_of, IsAlone};
+ghost use Rattle.std.specs.Prelude.{◌≡◌, ◌++◌, filter, ◌+◌, ◌<◌, [], ◌∷◌, length, reverse, remove, slice_get, min, ◌^◌, ◌-◌, MatchOption, None, Some};
+ghost use Rattle.bio_records.specs.Items.{items, item_of, IsAlone, IsDetached, StaysShort};
 ghost use Rattle.bio_records.specs.Sorting.{is_lower, is_of, is_of_other, is_same, same_set};
 
 use crate::bio::Pad;
@@ -207,8 +207,8 @@ const NEAR: u64 = 64;
 #[cycle(places)]
 fn detach_to<F: Drop>(link: &mut Link<F>, index: u64, taken: &mut Option<Element<BioBody<F>>>)
     requires { taken.old ≡ None }
-    ensures { MatchOption taken.new ((length (items link.old) ≤ index) × (items link.new ≡ items link.old))
-        (λ element. (slice_get (items link.old) index ≡ Some (item_of element)) × (items link.new ≡ remove (items link.old) index) × IsAlone element) }
+    ensures { MatchOption taken.new (StaysShort (items link.old) index (items link.new))
+        (λ element. IsDetached (items link.old) index element (items link.new)) }
 {
     if index == 0 {
         put(taken, detach(link));
@@ -221,8 +221,8 @@ fn detach_to<F: Drop>(link: &mut Link<F>, index: u64, taken: &mut Option<Element
 
 /// Takes the element at a place out of a chain, if it is that long. The others stay where they are.
 pub fn detach_at<F: Drop>(link: &mut Link<F>, index: u64) -> Option<Element<BioBody<F>>>
-    ensures { MatchOption result ((length (items link.old) ≤ index) × (items link.new ≡ items link.old))
-        (λ element. (slice_get (items link.old) index ≡ Some (item_of element)) × (items link.new ≡ remove (items link.old) index) × IsAlone element) }
+    ensures { MatchOption result (StaysShort (items link.old) index (items link.new))
+        (λ element. IsDetached (items link.old) index element (items link.new)) }
 {
     let mut taken = None;
     detach_to(link, index, &mut taken);
