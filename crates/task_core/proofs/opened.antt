@@ -9,5 +9,6 @@ pub mod ScriptsBehind
 pub mod Behind
 pub mod Sharing
 pub mod Rounding
+pub mod Setups
 pub mod Opens
 pub mod Rooms

@@ -2,4 +2,5 @@ pub mod Filled
 pub mod Openings
 pub mod OfOne
 pub mod NewTasks
+pub mod OpenTasks
 pub mod Begins

@@ -7,8 +7,9 @@ mod opening;
 mod plain;
 
 pub use ended::Ended;
-pub use opening::objects::open_objects;
-pub use opening::{Opened, drop_tasks, open};
+pub use opening::objects::{bads_of, is_disk, open_objects};
+pub use opening::pools::{copy_of, is_mirror, records_of, script_of};
+pub use opening::{Opened, drop_tasks, open, open_tasks};
 pub use plain::Plain;
 pub use plain::calls::{dev_of, link_in, resize_home};
 pub use plain::index::{ObjectIndex, place};
@@ -17,5 +18,5 @@ pub use run_machine::{Breach, End, Event, Got, How, TaskId, What};
 pub use task_steps::{
     Ask, Carried, Chooser, Cut, Doing, Driver, DriverAsk, Duty, HandedBack, Keeper, Kept, Kind,
     Line, Load, Manner, Objects, Oldest, Rescuer, Routes, Step, Taken, Task, Todo, Todos, Unmade,
-    Want, Writer, homes, within,
+    Want, Writer, first_bio, homes, needs_vector, pool_of, within,
 };

@@ -1,9 +1,10 @@
 //! What is opened of an accepted text.
-ghost use Rattle.std.specs.Prelude.{◌≡◌, ◌≤◌, ◌^◌, IfOk, OnOk, length, sum};
+ghost use Rattle.std.specs.Prelude.{◌≡◌, ◌≤◌, ◌<◌, ◌^◌, IfOk, OnOk, length, sum};
 ghost use Rattle.std.specs.List.{range_with_len};
 ghost use Rattle.stack_base.specs.Stack.{HasRescuers, IsStack};
 ghost use Rattle.task_core.specs.Leaving.{IsReservedForRun};
-ghost use Rattle.task_core.specs.opened.NewTasks.{left_in, others_in, reserves_in, rounds_in, tally_in, writers_of, AddsTasks, ArePlaced};
+ghost use Rattle.task_core.specs.opened.NewTasks.{left_in, others_in, reserves_in, rounds_in, tally_in, writers_of, AddsTasks, ArePlaced, AreShared};
+ghost use Rattle.task_core.specs.opened.OpenTasks.{AreTasksOf};
 ghost use Rattle.task_core.specs.opened.OfOne.{scenario_in, IsOpened};
 ghost use Rattle.run_machine.specs.ReadBehind.{IsReadBehind};
 ghost use Rattle.task_core.specs.opened.Openings.{AreOpened};
@@ -11,7 +12,7 @@ ghost use Rattle.task_steps.specs.Routed.{routing_setup};
 ghost use Rattle.run_machine.specs.Scenario.{scenario_of};
 
 pub(crate) mod objects;
-mod pools;
+pub(crate) mod pools;
 mod rounds;
 mod tasks;
 mod writers;
@@ -73,38 +74,63 @@ fn room_of(alloc: Global, stack: &Stack, writes: usize) -> Result<Ended, AllocEr
 // Opens the writers, and with the places of their books what all tasks know of devices.
 fn open_routes(
     alloc: Global,
-    accepted: &Accepted,
+    stack: &Stack,
     work: &Work,
     kinds: &mut Vec<Kind>,
 ) -> Result<Routes, AllocError>
-    requires read { IsReadBehind accepted.now work.now }
+    requires stack { IsStack stack.now }
+    requires shared { AreShared stack.now work.now.rounds.items work.now.writes.items }
     ensures kinds { OnOk result (AddsTasks kinds.old.items (writers_of work.now.rounds.items work.now.writes.items (range_with_len 0 8)) kinds.new.items) }
-    ensures routes { IfOk result (λ routes. (routes.stack ≡ accepted.now.stack) × ArePlaced accepted.now.stack work.now.rounds.items work.now.writes.items 8 routes.places) }
+    ensures routes { IfOk result (λ routes. (routes.stack ≡ stack.now) × ArePlaced stack.now work.now.rounds.items work.now.writes.items 8 routes.places) }
 {
     let mut places = [0; 8];
-    open_writers(alloc, &accepted.stack, work, kinds, &mut places)?;
-    Routes::new(alloc, &accepted.stack, places)
+    open_writers(alloc, stack, work, kinds, &mut places)?;
+    Routes::new(alloc, stack, places)
 }
 
 // Opens the tasks of devices, and the keeper of the rounds.
 fn open_others(
     alloc: Global,
-    accepted: &Accepted,
+    stack: &Stack,
     work: &Work,
     routes: &Routes,
     left: &[u32],
     kinds: &mut Vec<Kind>,
 ) -> Result<(), AllocError>
-    requires read { IsReadBehind accepted.now work.now }
-    requires same { routes.now.stack ≡ accepted.now.stack }
+    requires stack { IsStack stack.now }
+    requires same { routes.now.stack ≡ stack.now }
+    requires few { length work.now.rounds.items < 2 ^ 32 }
     requires left { left.now ≡ left_in work.now.rounds.items }
     requires short { rounds_in work.now.rounds.items ≤ 2 ^ 32 }
     ensures { OnOk result (AddsTasks kinds.old.items (others_in (routing_setup routes.now) work.now.rounds.items work.now.resizes.items) kinds.new.items) }
 {
-    open_rescuers(&accepted.stack, routes, kinds)?;
-    open_completers(&accepted.stack, routes, kinds)?;
+    open_rescuers(stack, routes, kinds)?;
+    open_completers(stack, routes, kinds)?;
     open_keeper(alloc, &work.rounds, &work.resizes, left, kinds)?;
     Ok(())
+}
+
+/// The tasks of this work over a stack in their order, as its runs begin with them: what they all know of devices, which they share, the tasks,
+/// and how many writes each round has.
+///
+/// # Errors
+/// Where there is no memory for all of them.
+pub fn open_tasks(
+    alloc: Global,
+    stack: &Stack,
+    work: &Work,
+) -> Result<(Arc<Routes>, Vec<Task>, Vec<u32>), AllocError>
+    requires stack { IsStack stack.now }
+    requires shared { AreShared stack.now work.now.rounds.items work.now.writes.items }
+    ensures { IfOk result (λ opened. AreTasksOf stack.now work.now opened.0.value opened.1.items opened.2.items) }
+{
+    let mut kinds = Vec::new(alloc);
+    let routes = open_routes(alloc, stack, work, &mut kinds)?;
+    let left = left_of(alloc, &work.rounds)?;
+    open_others(alloc, stack, work, &routes, &left, &mut kinds)?;
+    let routes = Arc::new(alloc, routes)?;
+    let tasks = tasks_of(alloc, kinds, &routes)?;
+    Ok((routes, tasks, left))
 }
 
 // Opens the objects, where this is how many writes each round has.
@@ -171,12 +197,7 @@ pub fn open(alloc: Global, accepted: &Accepted, work: &Work) -> Result<Opened, A
     ensures opened { IfOk result IsOpened }
     ensures of { IfOk result (λ o. scenario_in o ≡ scenario_of accepted.now work.now) }
 {
-    let mut kinds = Vec::new(alloc);
-    let routes = open_routes(alloc, accepted, work, &mut kinds)?;
-    let left = left_of(alloc, &work.rounds)?;
-    open_others(alloc, accepted, work, &routes, &left, &mut kinds)?;
-    let routes = Arc::new(alloc, routes)?;
-    let tasks = tasks_of(alloc, kinds, &routes)?;
+    let (routes, tasks, left) = open_tasks(alloc, &accepted.stack, work)?;
     let room = room_of(alloc, &accepted.stack, work.writes.len())?;
     Ok(Opened {
         objects: open_plain(alloc, accepted, work, &routes, left)?,

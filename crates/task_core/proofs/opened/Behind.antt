@@ -31,7 +31,7 @@ use Rattle.run_machine.specs.Opened.{at, records_of as records_at, reserve_of}
 use Rattle.task_core.specs.opened.Openings.{uses_set, uses_slips}
 use Rattle.task_steps.specs.Routed.{Routing, copies_bios, keeps, routing_setup}
 use Rattle.run_machine.specs.Scene.{has_set, is_mirror, keeps_data}
-use Rattle.task_core.proofs.opened.Sharing.{few_writes}
+use Rattle.task_core.proofs.opened.Sharing.{few_rounds}
 use Rattle.task_core.proofs.opened.PoolsBehind.{clash, bios_kept, slips_kept, disks_keep_none, others_have_none, is_below, below_by, data_by, mirror_by, bads_by, number_small}
 pub use Rattle.task_core.proofs.opened.PoolsBehind.{of_stack}
 pub use Rattle.task_core.proofs.opened.ScriptsBehind.{scripts_alone, scripts_of_stack}
@@ -117,7 +117,7 @@ bads_are stack good fit dev = by_found (slice_get stack.devices.items dev) refl
         (bad_of device.kind) (All-contains_itself (bad_of device.kind))))
 
 -- writes
-sum_le : {X : Type 0} (f g : X → ℕ) (xs : List X) → ((x : X) → f x ≤ g x) → sum_by f xs ≤ sum_by g xs
+pub sum_le : {X : Type 0} (f g : X → ℕ) (xs : List X) → ((x : X) → f x ≤ g x) → sum_by f xs ≤ sum_by g xs
 sum_le f g [] le = omega arith
 sum_le f g (x ∷ xs) le =
     let first = le x in
@@ -145,4 +145,4 @@ module _ (accepted : Accepted) (work : Work) (read : IsReadBehind accepted work)
       (λ resize is. number_small accepted.stack accepted.is_stack resize.pool is) work.resizes.items fit_work.pools)
 
   pub rounds_few : length work.rounds.items < 2 ^ 32
-  rounds_few = let few = few_writes accepted.stack work.rounds.items work.writes.items shared in let paired = shared.paired in omega (arith, few, paired)
+  rounds_few = few_rounds accepted.stack work.rounds.items work.writes.items shared

@@ -1,9 +1,9 @@
 -- What was opened of a text of which no line is refused.
-use Rattle.std.proofs.Common.{◌≡◌, ◌⊎◌, inl, inr, ◌-◌, ◌<◌, ◌≤◌, ◌==◌, ◌++◌, ◌&&◌, if◌then◌else◌, ℕ, Bool, true, false, List, [], ◌∷◌, length, map, filter, get_or, max, replicate, None, refl, sym, ap, subst, ◌∙◌, arith}
+use Rattle.std.proofs.Common.{◌≡◌, ◌-◌, ◌<◌, ◌≤◌, ◌==◌, ◌++◌, ◌&&◌, if◌then◌else◌, ℕ, Bool, true, false, List, [], ◌∷◌, length, map, filter, get_or, max, replicate, None, refl, sym, ap, subst, ◌∙◌, arith}
 use Rattle.std.specs.Prelude.{All, IsTrue, nat_lt, sum_by}
 use Rattle.std.specs.List.{list_any, range_with_len}
 use Rattle.std.proofs.lemmas.Bool.Decides.{nat_tests}
-use Rattle.std.proofs.lemmas.List.{get_or_past, length-replicate}
+use Rattle.std.proofs.lemmas.List.{length-replicate}
 use Rattle.std.proofs.lemmas.List.Elements.{All-append, All-cons, All-filter, All-head, All-map, All-nil, All-tail, All-weaker}
 use Rattle.std.proofs.lemmas.List.FromFn.{get_or-range_with_len, length-range_with_len}
 use Rattle.std.proofs.lemmas.List.Sums.{sum_by-cons}
@@ -25,12 +25,12 @@ use Rattle.work_text.specs.Fit.{IsPoolIn}
 use Rattle.work_text.specs.declared.Resize.{Resize}
 use Rattle.work_text.specs.declared.Work.{Work}
 use Rattle.task_core.specs.declared.opening.Opened.{Opened}
-use Rattle.task_steps.specs.declared.task.Kind.{Kind}
 use Rattle.run_machine.specs.Events.{pool_of}
 use Rattle.task_steps.specs.Homes.{TodoFits, IsLineOf, IsOwned, DutyFits, IsTaskOf}
 use Rattle.task_core.specs.Leaving.{IsReservedForRun}
 use Rattle.run_machine.specs.Lines.{rests}
-use Rattle.task_core.specs.opened.NewTasks.{AreShared, ArePlaced, writers_of, others_in, tally_in, reserves_in, shown_tasks, with_routing}
+use Rattle.task_core.specs.opened.NewTasks.{AreShared, writers_of, others_in, tally_in, reserves_in}
+use Rattle.task_core.specs.opened.OpenTasks.{AreTasksOf}
 use Rattle.run_machine.specs.Objects.{Objects, TallyState}
 use Rattle.task_core.specs.opened.OfOne.{states, AreOfOne, IsOpened, scenario_in}
 use Rattle.run_machine.specs.ReadBehind.{IsReadBehind}
@@ -40,7 +40,7 @@ use Rattle.task_core.specs.opened.Openings.{widest, AreOpened, AreRows}
 use Rattle.task_core.specs.Plains.{objects_of, stage_of}
 use Rattle.task_steps.specs.Routed.{Routing, places_at, routing_setup}
 use Rattle.run_machine.specs.Scenario.{change_of}
-use Rattle.run_machine.specs.Scene.{Setup, setup_of, is_disk}
+use Rattle.run_machine.specs.Scene.{Setup, is_disk}
 use Rattle.task_steps.specs.Stage.{Stage, has_book, is_pool}
 use Rattle.task_steps.specs.TaskViews.{TaskOf}
 use Rattle.run_machine.specs.Tasks.{Todo, NoBio, Empty, Duty, Resizes, Starts, TaskState, Writer, Rescuer, Completer, Keeper, Keeps}
@@ -49,6 +49,7 @@ use Rattle.task_core.proofs.opened.Behind.{fit_work, shared}
 use Rattle.task_core.proofs.opened.ScriptsBehind.{all_flat}
 use Rattle.task_core.proofs.opened.PoolsBehind.{is_below, pool_known, pool_there}
 use Rattle.task_core.proofs.opened.NewPools.{widest_least}
+use Rattle.task_core.proofs.opened.Setups as shown
 use Rattle.task_core.proofs.opened.Sharing.{any_some, numbered_all, numbers_below}
 
 -- the largest reserve is no less than each
@@ -82,10 +83,6 @@ all_passing p (x ∷ xs) = by_test (all_passing p xs) (p x) refl
         let is : x ∷ filter p xs ≡ filter p (x ∷ xs) = rw (q) refl in
         subst (All (λ x. p x ≡ true)) is (All-cons (λ x. p x ≡ true) x (filter p xs) q rest)
     by_test rest false q = let is : filter p xs ≡ filter p (x ∷ xs) = rw (q) refl in subst (All (λ x. p x ≡ true)) is rest
-
-none_passing : {X : Type 0} (p : X → Bool) (xs : List X) → All (λ x. p x ≡ false) xs → filter p xs ≡ []
-none_passing p [] all = refl
-none_passing p (x ∷ xs) all = let first = All-head (λ x. p x ≡ false) x xs all in rw (first) (none_passing p xs (All-tail (λ x. p x ≡ false) x xs all))
 
 unmapped : {X Y : Type 0} (P : Y → Type 0) (f : X → Y) (xs : List X) → All P (map f xs) → All (λ x. P (f x)) xs
 unmapped P f [] all = All-nil (λ x. P (f x))
@@ -185,20 +182,12 @@ objects_by stack places scripts tally = record {
   tally = tally;
 }
 
-shown_states : (routing : Routing) (tasks : List TaskState) → states (with_routing routing tasks) ≡ tasks
-shown_states routing [] = refl
-shown_states routing (task ∷ tasks) = ap (λ more. task ∷ more) (shown_states routing tasks)
-
-module _ (o : Opened) (kinds : List Kind) (routing : Routing) (read : IsReadBehind o.accepted.value o.work.value)
+module _ (o : Opened) (routing : Routing) (counts : List ℕ) (read : IsReadBehind o.accepted.value o.work.value)
     (rescuers : HasRescuers o.accepted.value.stack)
-    (same : routing.stack ≡ o.accepted.value.stack)
-    (placed : ArePlaced o.accepted.value.stack o.work.value.rounds.items o.work.value.writes.items 8 routing.places)
+    (are : AreTasksOf o.accepted.value.stack o.work.value routing o.tasks.items counts)
     (objects : AreOpened routing o.accepted.value.scripts.items (reserves_in o.work.value.resizes.items)
     (tally_in o.work.value.rounds.items o.work.value.writes.items) o.objects)
-    (tasks_are : o.tasks.items ≡ with_routing routing (shown_tasks kinds))
     (shared_are : o.routes.value ≡ routing)
-    (kinds_are : shown_tasks kinds ≡ writers_of o.work.value.rounds.items o.work.value.writes.items (range_with_len 0 8)
-    ++ others_in (routing_setup routing) o.work.value.rounds.items o.work.value.resizes.items)
     (room : IsReservedForRun o.accepted.value.stack (length o.work.value.writes.items) o.room) where
   abbrev s : Scenario
   s = scenario_in o
@@ -209,35 +198,14 @@ module _ (o : Opened) (kinds : List Kind) (routing : Routing) (read : IsReadBehi
   sharing : AreShared s.stack s.rounds s.writes
   sharing = shared o.accepted.value o.work.value read
 
-  no_writer : (writer : ℕ) → 8 ≤ writer → places_of s writer ≡ 0
-  no_writer writer le =
-      ap (sum_by (λ (todo : Todo). nodes s.stack todo.write))
-      (none_passing (is_by writer) (todos s) (λ k d lt.
-      let below = numbered_all (λ (write : Write). write.task < 8) 0 s.rounds s.writes sharing.paired sharing.writers k d lt in
-      is_other (get_or (todos s) k d).write.task writer (omega (arith, below, le))))
-    where
-      is_other : (a b : ℕ) → a < b → (a == b) ≡ false
-      is_other a b lt = grind (lt, arith, nat_tests)
-
-  lt_or : (a b : ℕ) → (a < b) ⊎ (b ≤ a)
-  lt_or a b = search arith
-
-  places_are : (writer : ℕ) → places_at routing.places writer ≡ places_of s writer
-  places_are writer = elim (lt_or writer 8) [
-    | inl lt ↦ placed.each writer lt
-    | inr le ↦
-        let eight = placed.eight in
-        get_or_past routing.places writer 0 (omega (arith, le, eight)) ∙ sym (no_writer writer le)
-  ]
+  same : routing.stack ≡ s.stack
+  same = are.stack
 
   all_places : ◌≡◌ {A = ℕ → ℕ} (places_at routing.places) (places_of s)
-  all_places = λ i writer. places_are writer i
-
-  setup_is : routing_setup routing ≡ opened.setup s
-  setup_is = ap (λ (st : Stack). setup_of st (places_at routing.places)) same ∙ ap (setup_of s.stack) all_places
+  all_places = shown.all_places s.stack s.scripts o.work.value sharing routing o.tasks.items counts are
 
   setup_here : routing_setup stage.routing ≡ opened.setup s
-  setup_here = ap routing_setup objects.routing_is ∙ setup_is
+  setup_here = ap routing_setup objects.routing_is ∙ shown.setup_is s.stack s.scripts o.work.value sharing routing o.tasks.items counts are
 
   stack_here : stage.routing.stack ≡ s.stack
   stack_here = ap (λ (r : Routing). r.stack) objects.routing_is ∙ same
@@ -251,9 +219,7 @@ module _ (o : Opened) (kinds : List Kind) (routing : Routing) (read : IsReadBehi
       ∙ ap (λ places. objects_by s.stack places s.scripts (tally_in s.rounds s.writes)) all_places
 
   states_are : states o.tasks.items ≡ tasks s
-  states_are =
-      ap states tasks_are ∙ shown_states routing (shown_tasks kinds) ∙ kinds_are
-      ∙ ap (λ su. writers_of s.rounds s.writes (range_with_len 0 8) ++ others_in su s.rounds o.work.value.resizes.items) setup_is
+  states_are = shown.states_are s.stack s.scripts o.work.value sharing routing o.tasks.items counts are
 
   -- the changes of reserves
   abbrev ChangeFits : Change → Type 0
@@ -282,8 +248,9 @@ module _ (o : Opened) (kinds : List Kind) (routing : Routing) (read : IsReadBehi
   of_one : AreOfOne o.objects o.tasks.items
   of_one = record {
     holds = objects.holds;
-    routing = subst (All (λ (task : TaskOf). task.routing ≡ stage.routing)) (sym tasks_are)
-        (All-map (λ (task : TaskOf). task.routing ≡ stage.routing) (λ (task : TaskState). record { routing = routing; state = task }) (shown_tasks kinds)
+    routing = subst (All (λ (task : TaskOf). task.routing ≡ stage.routing)) (sym are.tasks)
+        (All-map (λ (task : TaskOf). task.routing ≡ stage.routing) (λ (task : TaskState). record { routing = routing; state = task })
+        (writers_of s.rounds s.writes (range_with_len 0 8) ++ others_in (routing_setup routing) s.rounds o.work.value.resizes.items)
         (λ k d lt. sym objects.routing_is));
     home = unmapped (IsTaskOf stage) (λ (task : TaskOf). task.state) o.tasks.items (subst (All (IsTaskOf stage)) (sym states_are)
         (tasks_home s stage stack_here setup_here many sharing.paired sharing.served (fit_work o.accepted.value o.work.value read).segments changes_fit));
@@ -305,16 +272,14 @@ module _ (o : Opened) (kinds : List Kind) (routing : Routing) (read : IsReadBehi
   }
 
 -- the same by what it was opened of
-module _ (o : Opened) (kinds : List Kind) (routing : Routing) where
+module _ (o : Opened) (routing : Routing) (counts : List ℕ) where
   abbrev Facts : Accepted → Work → Type 0
   Facts accepted work =
-      IsReadBehind accepted work × HasRescuers accepted.stack × (routing.stack ≡ accepted.stack) × ArePlaced accepted.stack work.rounds.items work.writes.items 8 routing.places
+      IsReadBehind accepted work × HasRescuers accepted.stack × AreTasksOf accepted.stack work routing o.tasks.items counts
       × AreOpened routing accepted.scripts.items (reserves_in work.resizes.items) (tally_in work.rounds.items work.writes.items) o.objects
-      × (shown_tasks kinds ≡ writers_of work.rounds.items work.writes.items (range_with_len 0 8) ++ others_in (routing_setup routing) work.rounds.items work.resizes.items)
       × IsReservedForRun accepted.stack (length work.writes.items) o.room
 
-  pub opened_of : (accepted : Accepted) (work : Work) → o.accepted.value ≡ accepted → o.work.value ≡ work → o.tasks.items ≡ with_routing routing (shown_tasks kinds)
-      → o.routes.value ≡ routing → Facts accepted work → IsOpened o
-  opened_of accepted work is also tasks_are shared_are given =
+  pub opened_of : (accepted : Accepted) (work : Work) → o.accepted.value ≡ accepted → o.work.value ≡ work → o.routes.value ≡ routing → Facts accepted work → IsOpened o
+  opened_of accepted work is also shared_are given =
       let facts : Facts o.accepted.value o.work.value = subst (λ a. Facts a o.work.value) (sym is) (subst (Facts accepted) (sym also) given) in
-      is_opened o kinds routing facts.0 facts.1 facts.2 facts.3 facts.4 tasks_are shared_are facts.5 facts.6
+      is_opened o routing counts facts.0 facts.1 facts.2 facts.3 shared_are facts.4

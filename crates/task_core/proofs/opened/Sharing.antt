@@ -126,6 +126,9 @@ module _ (stack : Stack) (rounds : List ℕ) (writes : List Write) (shared : Are
   pub few_writes : length writes < 2 ^ 32
   few_writes = let least = writes_few stack writes in let few = shared.few in omega (arith, least, few)
 
+  pub few_rounds : length rounds < 2 ^ 32
+  few_rounds = let few = few_writes in let paired = shared.paired in omega (arith, few, paired)
+
   -- one more book has its places
   pub placed_more : (bound : ℕ) (places new : List ℕ) → ArePlaced stack rounds writes bound places → bound < 8
       → new ≡ set places bound (nodes_of stack (share_of rounds writes bound)) → ArePlaced stack rounds writes (bound + 1) new

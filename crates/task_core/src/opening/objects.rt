@@ -42,8 +42,8 @@ pub(crate) fn seat<T: Drop>(
     Ok(())
 }
 
-// Whether the device keeps data itself.
-pub(crate) fn is_disk(routes: &Routes, dev: DevId) -> bool
+/// Whether the device keeps data itself.
+pub fn is_disk(routes: &Routes, dev: DevId) -> bool
     requires { dev.0 < length routes.now.stack.devices.items }
     ensures { result ≡ keeps_data ((routing_setup routes.now).tree dev.0) }
 {
@@ -54,8 +54,8 @@ pub(crate) fn is_disk(routes: &Routes, dev: DevId) -> bool
     }
 }
 
-// The bad ranges of a device, which a disk alone has.
-fn bads(stack: &Stack, dev: DevId) -> &[Bad]
+/// The bad ranges of a device, which a disk alone has.
+pub fn bads_of(stack: &Stack, dev: DevId) -> &[Bad]
     requires stack { IsStack stack.now }
     requires device { dev.0 < length stack.now.devices.items }
     ensures { result.now ≡ bads_of stack.now dev.0 }
@@ -87,7 +87,7 @@ fn open_disk(
     ensures { OnOk result (NextDisk routes.now dev.0 disks.old.items table.old disks.new.items table.new) }
 {
     if is_disk(routes, dev) {
-        let disk = Disk::open(alloc, dev, stack.size(dev), bads(stack, dev))?;
+        let disk = Disk::open(alloc, dev, stack.size(dev), bads_of(stack, dev))?;
         seat(disks, table, dev.0, disk)?;
     }
     Ok(())

@@ -19,8 +19,11 @@ use stack_base::{DevId, Kind, PoolId, SetId, Stack};
 use std::alloc::{AllocError, Global};
 use task_steps::{Manner, Routes};
 
-// The same script once more.
-fn copy_of(alloc: Global, script: &Script) -> Result<Script, AllocError>
+/// The same script once more.
+///
+/// # Errors
+/// Where there is no memory.
+pub fn copy_of(alloc: Global, script: &Script) -> Result<Script, AllocError>
     ensures { IfOk result (λ copy. copy ≡ script.now) }
 {
     let mut entries = Vec::with_capacity(alloc, script.entries() as usize)?;
@@ -30,8 +33,15 @@ fn copy_of(alloc: Global, script: &Script) -> Result<Script, AllocError>
     Ok(Script::new(entries, script.tail()))
 }
 
-// The script of the pool with this number. Where there is none, each take may have ordinary memory.
-fn script_of(alloc: Global, scripts: &[(PoolId, Script)], number: u32) -> Result<Script, AllocError>
+/// The script of the pool with this number. Where there is none, each take may have ordinary memory.
+///
+/// # Errors
+/// Where there is no memory.
+pub fn script_of(
+    alloc: Global,
+    scripts: &[(PoolId, Script)],
+    number: u32,
+) -> Result<Script, AllocError>
     requires { All (λ script. pool_number script.0 < 2 ^ 32) scripts.now }
     ensures { IfOk result (λ script. script ≡ script_at scripts.now number) }
 {
@@ -140,8 +150,8 @@ pub(crate) fn open_sets(
     Ok(bios)
 }
 
-// Whether the device is a mirror.
-fn is_mirror(routes: &Routes, dev: DevId) -> bool
+/// Whether the device is a mirror.
+pub fn is_mirror(routes: &Routes, dev: DevId) -> bool
     requires { dev.0 < length routes.now.stack.devices.items }
     ensures { result ≡ is_mirror ((routing_setup routes.now).tree dev.0) }
 {
@@ -152,8 +162,8 @@ fn is_mirror(routes: &Routes, dev: DevId) -> bool
     }
 }
 
-// The reserve of the records of a mirror, which another device has none of.
-fn records_of(stack: &Stack, dev: DevId) -> u32
+/// The reserve of the records of a mirror, which another device has none of.
+pub fn records_of(stack: &Stack, dev: DevId) -> u32
     requires stack { IsStack stack.now }
     requires device { dev.0 < length stack.now.devices.items }
     ensures { result ≡ reserve_of stack.now (Records dev) }
