@@ -1,13 +1,11 @@
 //! What is opened of an accepted text.
 ghost use Rattle.std.specs.Prelude.{◌≡◌, ◌≤◌, ◌<◌, ◌^◌, IfOk, OnOk, length, sum};
-ghost use Rattle.std.specs.List.{range_with_len};
 ghost use Rattle.stack_base.specs.Stack.{HasRescuers, IsStack};
 ghost use Rattle.task_core.specs.Leaving.{IsReservedForRun};
-ghost use Rattle.task_core.specs.opened.NewTasks.{left_in, others_in, reserves_in, rounds_in, tally_in, writers_of, AddsTasks, ArePlaced, AreShared};
+ghost use Rattle.task_core.specs.opened.NewTasks.{left_in, others_in, reserves_in, rounds_in, writers_in, AddsTasks, AreShared, IsRoutingFor};
 ghost use Rattle.task_core.specs.opened.OpenTasks.{AreTasksOf};
-ghost use Rattle.task_core.specs.opened.OfOne.{scenario_in, IsOpened};
+ghost use Rattle.task_core.specs.opened.OfOne.{scenario_in, AreOpenedOf, IsOpened};
 ghost use Rattle.run_machine.specs.ReadBehind.{IsReadBehind};
-ghost use Rattle.task_core.specs.opened.Openings.{AreOpened};
 ghost use Rattle.task_steps.specs.Routed.{routing_setup};
 ghost use Rattle.run_machine.specs.Scenario.{scenario_of};
 
@@ -80,8 +78,8 @@ fn open_routes(
 ) -> Result<Routes, AllocError>
     requires stack { IsStack stack.now }
     requires shared { AreShared stack.now work.now.rounds.items work.now.writes.items }
-    ensures kinds { OnOk result (AddsTasks kinds.old.items (writers_of work.now.rounds.items work.now.writes.items (range_with_len 0 8)) kinds.new.items) }
-    ensures routes { IfOk result (λ routes. (routes.stack ≡ stack.now) × ArePlaced stack.now work.now.rounds.items work.now.writes.items 8 routes.places) }
+    ensures kinds { OnOk result (AddsTasks kinds.old.items (writers_in work.now) kinds.new.items) }
+    ensures routes { IfOk result (IsRoutingFor stack.now work.now) }
 {
     let mut places = [0; 8];
     open_writers(alloc, stack, work, kinds, &mut places)?;
@@ -102,7 +100,7 @@ fn open_others(
     requires few { length work.now.rounds.items < 2 ^ 32 }
     requires left { left.now ≡ left_in work.now.rounds.items }
     requires short { rounds_in work.now.rounds.items ≤ 2 ^ 32 }
-    ensures { OnOk result (AddsTasks kinds.old.items (others_in (routing_setup routes.now) work.now.rounds.items work.now.resizes.items) kinds.new.items) }
+    ensures { OnOk result (AddsTasks kinds.old.items (others_in (routing_setup routes.now) work.now) kinds.new.items) }
 {
     open_rescuers(stack, routes, kinds)?;
     open_completers(stack, routes, kinds)?;
@@ -147,7 +145,7 @@ fn open_plain(
     requires left { left.items ≡ left_in work.now.rounds.items }
     requires short { rounds_in work.now.rounds.items ≤ 2 ^ 32 }
     requires all { sum left.items ≡ length work.now.rounds.items }
-    ensures { IfOk result (AreOpened routes.now accepted.now.scripts.items (reserves_in work.now.resizes.items) (tally_in work.now.rounds.items work.now.writes.items)) }
+    ensures { IfOk result (AreOpenedOf accepted.now work.now routes.now) }
 {
     let reserves = reserves_of(alloc, &work.resizes)?;
     let tally = open_tally(alloc, left, work.writes.len())?;

@@ -250,7 +250,7 @@ module _ (o : Opened) (routing : Routing) (counts : List ℕ) (read : IsReadBehi
     holds = objects.holds;
     routing = subst (All (λ (task : TaskOf). task.routing ≡ stage.routing)) (sym are.tasks)
         (All-map (λ (task : TaskOf). task.routing ≡ stage.routing) (λ (task : TaskState). record { routing = routing; state = task })
-        (writers_of s.rounds s.writes (range_with_len 0 8) ++ others_in (routing_setup routing) s.rounds o.work.value.resizes.items)
+        (writers_of s.rounds s.writes (range_with_len 0 8) ++ others_in (routing_setup routing) o.work.value)
         (λ k d lt. sym objects.routing_is));
     home = unmapped (IsTaskOf stage) (λ (task : TaskOf). task.state) o.tasks.items (subst (All (IsTaskOf stage)) (sym states_are)
         (tasks_home s stage stack_here setup_here many sharing.paired sharing.served (fit_work o.accepted.value o.work.value read).segments changes_fit));

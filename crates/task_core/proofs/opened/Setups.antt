@@ -67,5 +67,5 @@ module _ (stack : Stack) (scripts : List (PoolId × Answers)) (work : Work) (sha
     pub states_are : states all ≡ tasks s
     states_are =
         ap states are.tasks
-        ∙ shown_states routing (writers_of s.rounds s.writes (range_with_len 0 8) ++ others_in (routing_setup routing) s.rounds work.resizes.items)
-        ∙ ap (λ su. writers_of s.rounds s.writes (range_with_len 0 8) ++ others_in su s.rounds work.resizes.items) setup_is
+        ∙ shown_states routing (writers_of s.rounds s.writes (range_with_len 0 8) ++ others_in (routing_setup routing) work)
+        ∙ ap (λ su. writers_of s.rounds s.writes (range_with_len 0 8) ++ others_in su work) setup_is

@@ -15,6 +15,10 @@ pub record AreMade {E : Type 0} (key : E → ℕ) (number : ℕ → ℕ) (is_use
       → find (is_entry_of key other) entries ≡ None
   pub order : map key entries ≡ map number (filter is_used (range_with_len 0 bound))
 
+-- an entry was put behind the others, and its place into the table
+abbrev pub IsSeated : {E : Type 0} → List E → List ℕ → ℕ → E → List E → List ℕ → Type 0
+IsSeated entries table number entry more after = (more ≡ entries ++ entry ∷ []) × (after ≡ slice_set table number (length entries))
+
 -- the next index has its entry, where it is used
 abbrev pub IsNext : {E : Type 0} → (E → ℕ) → (ℕ → ℕ) → (ℕ → Bool) → (ℕ → E → Type 0) → ℕ → List E → List ℕ → List E → List ℕ → Type 0
 IsNext {E} key number is_used IsMade index entries table more after =

@@ -8,9 +8,12 @@ use Rattle.layout_model.specs.declared.write.Write.{Write}
 use Rattle.layout_model.specs.Needs.{nodes}
 use Rattle.layout_model.specs.Writes.{IsWrite}
 use Rattle.work_text.specs.declared.Resize.{Resize}
+use Rattle.work_text.specs.declared.Work.{Work}
+use Rattle.task_steps.specs.declared.keeper.Duty as real
 use Rattle.task_steps.specs.declared.task.Kind.{Kind}
 use Rattle.run_machine.specs.Scene.{Setup, is_disk}
-use Rattle.task_steps.specs.Routed.{Routing}
+use Rattle.task_steps.specs.KeeperViews.{duty_of}
+use Rattle.task_steps.specs.Routed.{Routing, routing_setup}
 use Rattle.task_steps.specs.TaskViews.{TaskOf, task_of}
 use Rattle.run_machine.specs.Lines.{rests}
 use Rattle.run_machine.specs.Tasks.{Todo, NoBio, Empty, Duty, Resizes, Starts, TaskState, Writer, Rescuer, Completer}
@@ -66,11 +69,33 @@ abbrev pub writers_of : List ℕ → List Write → List ℕ → List TaskState
 writers_of rounds writes numbers =
     map (λ writer. Writer writer (share_of rounds writes writer) NoBio rests) (filter (is_writer rounds writes) numbers)
 
+-- the writers of a work among these numbers, and all of them
+abbrev pub writers_among : Work → List ℕ → List TaskState
+writers_among work numbers = writers_of work.rounds.items work.writes.items numbers
+
+abbrev pub writers_in : Work → List TaskState
+writers_in work = writers_among work (range_with_len 0 8)
+
+-- how many places the book of a writer of a work has: its writes open so many nodes
+abbrev pub book_places : Stack → Work → ℕ → ℕ
+book_places stack work writer = nodes_of stack (share_of work.rounds.items work.writes.items writer)
+
+-- what tasks know of the devices of a stack, with the places of these books
+abbrev pub IsRoutingFor : Stack → Work → Routing → Type 0
+IsRoutingFor stack work routing = (routing.stack ≡ stack) × ArePlaced stack work.rounds.items work.writes.items 8 routing.places
+
 abbrev pub rescuers_of : Setup → List ℕ → List TaskState
 rescuers_of setup numbers = map (λ dev. Rescuer (at dev) rests) (filter setup.rescuer numbers)
 
 abbrev pub completers_of : Setup → List ℕ → List TaskState
 completers_of setup numbers = map (λ dev. Completer (at dev) Empty) (filter (is_disk setup) numbers)
+
+-- those of all devices of a stack
+abbrev pub rescuers_in : Routing → Stack → List TaskState
+rescuers_in routing stack = rescuers_of (routing_setup routing) (range_with_len 0 (length stack.devices.items))
+
+abbrev pub completers_in : Routing → Stack → List TaskState
+completers_in routing stack = completers_of (routing_setup routing) (range_with_len 0 (length stack.devices.items))
 
 -- tasks with what they know of devices
 abbrev pub with_routing : Routing → List TaskState → List TaskOf
@@ -99,19 +124,29 @@ abbrev pub changes_at : ℕ → ℕ → List Change → List Duty
 changes_at round later changes = map (λ (change : Change). Resizes change.pool change.min later) (filter (is_at round) changes)
 
 -- and then its start
+abbrev pub duties_at : ℕ → ℕ → List Resize → List Duty
+duties_at round later resizes = changes_at round later (map change_of resizes) ++ Starts round later ∷ []
+
 abbrev pub starts_at : List ℕ → List Resize → ℕ → List Duty
-starts_at rounds resizes round =
-    changes_at round (from_round rounds round) (map change_of resizes) ++ Starts round (from_round rounds round) ∷ []
+starts_at rounds resizes round = duties_at round (from_round rounds round) resizes
+
+-- duties that were added to others
+abbrev pub AddsDuties : List real.Duty → List Duty → List real.Duty → Type 0
+AddsDuties old duties new = map duty_of new ≡ map duty_of old ++ duties
 
 -- all of the first rounds behind round 0
 abbrev pub duties_in : List ℕ → List Resize → ℕ → List Duty
 duties_in rounds resizes count = flat_map (starts_at rounds resizes) (range_with_len 1 count)
 
+-- the keeper of the rounds, if there is something to do between them
+abbrev pub keepers_in : List ℕ → List Resize → List TaskState
+keepers_in rounds resizes = keepers (duties_in rounds resizes (rounds_in rounds - 1))
+
 -- the tasks behind the writers
-abbrev pub others_in : Setup → List ℕ → List Resize → List TaskState
-others_in setup rounds resizes =
+abbrev pub others_in : Setup → Work → List TaskState
+others_in setup work =
     rescuers_of setup (range_with_len 0 setup.count)
-    ++ (completers_of setup (range_with_len 0 setup.count) ++ keepers (duties_in rounds resizes (rounds_in rounds - 1)))
+    ++ (completers_of setup (range_with_len 0 setup.count) ++ keepers_in work.rounds.items work.resizes.items)
 
 -- the tally in which every write is unfinished
 abbrev pub tally_in : List ℕ → List Write → TallyState

@@ -1,17 +1,19 @@
 -- Objects and tasks of one scenario, and what was opened of an accepted text.
 use Rattle.std.specs.Prelude.{◌≡◌, ℕ, List, All, map, length, slice_index_or}
+use Rattle.decl_text.specs.declared.accepted.Accepted.{Accepted}
 use Rattle.stack_base.specs.Stack.{HasRescuers}
+use Rattle.work_text.specs.declared.Work.{Work}
 use Rattle.task_core.specs.declared.opening.Opened.{Opened}
 use Rattle.task_core.specs.declared.plain.Plain.{Plain}
 use Rattle.task_steps.specs.Homes.{IsTaskOf}
 use Rattle.task_core.specs.Leaving.{IsReservedForRun}
-use Rattle.task_core.specs.opened.NewTasks.{reserves_in}
-use Rattle.task_core.specs.opened.Openings.{AreRows}
+use Rattle.task_core.specs.opened.NewTasks.{reserves_in, tally_in}
+use Rattle.task_core.specs.opened.Openings.{AreRows, AreOpened}
 use Rattle.run_machine.specs.Opened.{Scenario, objects, tasks, no_task}
 use Rattle.run_machine.specs.Opened as opened
 use Rattle.task_core.specs.Plains.{objects_of, stage_of, Holds}
 use Rattle.task_core.specs.PlainSteps.{state_of_objects}
-use Rattle.task_steps.specs.Routed.{routing_setup}
+use Rattle.task_steps.specs.Routed.{Routing, routing_setup}
 use Rattle.run_machine.specs.Runs.{State}
 use Rattle.run_machine.specs.ReadBehind.{IsReadBehind}
 use Rattle.run_machine.specs.Scenario.{scenario_of}
@@ -33,6 +35,11 @@ pub record AreOfOne (plain : Plain) (tasks : List TaskOf) : Type 0 where
   pub holds : Holds plain
   pub routing : All (λ (task : TaskOf). task.routing ≡ (stage_of plain).routing) tasks
   pub home : All (λ (task : TaskOf). IsTaskOf (stage_of plain) task.state) tasks
+
+-- these are the objects of an accepted text and the work behind it, as they are opened
+abbrev pub AreOpenedOf : Accepted → Work → Routing → Plain → Type 0
+AreOpenedOf accepted work routing plain =
+    AreOpened routing accepted.scripts.items (reserves_in work.resizes.items) (tally_in work.rounds.items work.writes.items) plain
 
 -- what it was opened of
 abbrev pub scenario_in : Opened → Scenario

@@ -23,6 +23,10 @@ use Rattle.task_core.specs.Plains.{set_number, records_number, list_number, disk
 use Rattle.task_steps.specs.Routed.{Routing, places_at, routing_setup}
 use Rattle.run_machine.specs.Scene.{is_device, is_disk, is_mirror, has_set}
 
+-- how many devices a stack has
+abbrev pub device_count : Stack → ℕ
+device_count stack = length stack.devices.items
+
 -- indices are numbers
 abbrev pub itself : ℕ → ℕ
 itself number = number

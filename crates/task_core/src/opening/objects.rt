@@ -1,5 +1,5 @@
 //! The objects of a scenario, as they are opened, kind by kind.
-ghost use Rattle.std.specs.Prelude.{◌≡◌, ◌+◌, ◌<◌, ◌≤◌, ◌++◌, ◌^◌, [], ◌∷◌, ℕ, suc, true, false, All, IfOk, OnOk, length, slice_set};
+ghost use Rattle.std.specs.Prelude.{◌≡◌, ◌+◌, ◌<◌, ◌≤◌, ◌^◌, ℕ, suc, true, false, All, IfOk, OnOk, length};
 ghost use Rattle.stack_base.specs.Stack.{IsStack};
 ghost use Rattle.stack_base.specs.Tree.{size, tree};
 ghost use Rattle.layout_model.specs.May.{bads_of};
@@ -9,6 +9,7 @@ ghost use Rattle.stack_base.specs.declared.ids.PoolId.TheVariants.{Bios, Records
 ghost use Rattle.run_machine.specs.Opened.{at, reserve_of, script_at};
 ghost use Rattle.fail_script.specs.Script.{only_tail};
 ghost use Rattle.task_core.specs.Plains.{tally_of};
+ghost use Rattle.task_core.specs.opened.Filled.{IsSeated};
 ghost use Rattle.task_core.specs.opened.Openings.{has_pool, AreOpened, uses_set, uses_slips, AreDisks, NextDisk, AreLists, NextList, AreBooks, NextBook};
 ghost use Rattle.task_steps.specs.Routed.{routing_setup};
 ghost use Rattle.run_machine.specs.Scene.{keeps_data};
@@ -35,7 +36,7 @@ pub(crate) fn seat<T: Drop>(
 ) -> Result<(), AllocError>
     requires inside { number < length table.old }
     requires few { length entries.old.items < 2 ^ 32 }
-    ensures { OnOk result ((entries.new.items ≡ entries.old.items ++ entry ∷ []) × (table.new ≡ slice_set table.old number (length entries.old.items))) }
+    ensures { OnOk result (IsSeated entries.old.items table.old number entry entries.new.items table.new) }
 {
     table[number as usize] = entries.len() as u32;
     entries.push(entry)?;

@@ -5,7 +5,7 @@ ghost use Rattle.stack_base.specs.Tree.{tree};
 ghost use Rattle.stack_base.specs.PoolId.{pool_number};
 ghost use Rattle.stack_base.specs.declared.ids.PoolId.TheVariants.{Bios, Records};
 ghost use Rattle.run_machine.specs.Opened.{at, reserve_of, script_at};
-ghost use Rattle.task_core.specs.opened.Openings.{widest, IsOpenPool, uses_set, AreSets, NextSet, uses_slips, AreRecords, NextRecords};
+ghost use Rattle.task_core.specs.opened.Openings.{device_count, widest, IsOpenPool, uses_set, AreSets, NextSet, uses_slips, AreRecords, NextRecords};
 ghost use Rattle.task_steps.specs.Routed.{routing_setup};
 ghost use Rattle.run_machine.specs.Scene.{is_mirror};
 
@@ -130,7 +130,7 @@ pub(crate) fn open_sets(
     requires some { (dev : ℕ) → uses_set routes.now (suc dev) ≡ true → 1 ≤ reserve_of stack.now (Bios (at dev)) }
     requires scripts { All (λ script. pool_number script.0 < 2 ^ 32) scripts.now }
     requires reserves { All (λ reserve. pool_number reserve.0 < 2 ^ 32) reserves.now }
-    ensures { IfOk result (λ bios. AreSets routes.now scripts.now reserves.now (suc (length stack.now.devices.items)) bios.items table.new) }
+    ensures { IfOk result (λ bios. AreSets routes.now scripts.now reserves.now (suc (device_count stack.now)) bios.items table.new) }
 {
     let mut bios = Vec::with_capacity(alloc, stack.devices.len() + 1)?;
     let pool = open_pool(alloc, PoolId::FsBios, stack.fs_bios, scripts, reserves)?;
@@ -220,7 +220,7 @@ pub(crate) fn open_records(
     requires some { (dev : ℕ) → uses_slips routes.now dev ≡ true → 1 ≤ reserve_of stack.now (Records (at dev)) }
     requires scripts { All (λ script. pool_number script.0 < 2 ^ 32) scripts.now }
     requires reserves { All (λ reserve. pool_number reserve.0 < 2 ^ 32) reserves.now }
-    ensures { IfOk result (λ records. AreRecords routes.now scripts.now reserves.now (length stack.now.devices.items) records.items table.new) }
+    ensures { IfOk result (λ records. AreRecords routes.now scripts.now reserves.now (device_count stack.now) records.items table.new) }
 {
     let mut records = Vec::with_capacity(alloc, stack.devices.len())?;
     'opening: for number in 0..stack.devices.len() {

@@ -1,12 +1,10 @@
 //! The rounds of a text: how many writes each has, the tally, and what the keeper does between them.
-ghost use Rattle.std.specs.Prelude.{◌≡◌, ◌+◌, ◌-◌, ◌<◌, ◌≤◌, ◌^◌, ◌++◌, [], ◌∷◌, IfOk, OnOk, fold, length, map, max, replicate, sum};
+ghost use Rattle.std.specs.Prelude.{◌≡◌, ◌+◌, ◌-◌, ◌<◌, ◌≤◌, ◌^◌, [], ◌∷◌, IfOk, OnOk, fold, length, map, max, replicate, sum};
 ghost use Rattle.stack_base.specs.declared.ids.Status.TheVariants as status;
-ghost use Rattle.run_machine.specs.Tasks.{Starts};
 ghost use Rattle.task_steps.specs.KeeperViews.{duty_of};
 ghost use Rattle.task_core.specs.Plains.{tally_of};
 ghost use Rattle.run_machine.specs.Scenario.{change_of};
-ghost use Rattle.run_machine.specs.Opened.{keepers};
-ghost use Rattle.task_core.specs.opened.NewTasks.{left_in, rounds_in, changes_at, duties_in, AddsTasks};
+ghost use Rattle.task_core.specs.opened.NewTasks.{left_in, rounds_in, changes_at, duties_at, duties_in, keepers_in, AddsDuties, AddsTasks};
 
 use crate::plain::tally::Tally;
 use stack_base::Status;
@@ -57,7 +55,7 @@ fn add_change(
     round: u32,
     later: u32,
 ) -> Result<(), AllocError>
-    ensures { OnOk result (map duty_of duties.new.items ≡ map duty_of duties.old.items ++ changes_at round later (change_of resize.now ∷ [])) }
+    ensures { OnOk result (AddsDuties duties.old.items (changes_at round later (change_of resize.now ∷ [])) duties.new.items) }
 {
     if resize.round == round {
         duties.push(Duty::Resizes {
@@ -76,7 +74,7 @@ fn add_round(
     round: u32,
     later: u32,
 ) -> Result<(), AllocError>
-    ensures { OnOk result (map duty_of duties.new.items ≡ map duty_of duties.old.items ++ (changes_at round later (map change_of resizes.now) ++ Starts round later ∷ [])) }
+    ensures { OnOk result (AddsDuties duties.old.items (duties_at round later resizes.now) duties.new.items) }
 {
     'changing: for i in 0..resizes.len() {
         add_change(duties, &resizes[i], round, later)?;
@@ -117,7 +115,7 @@ pub(crate) fn open_keeper(
     requires few { length rounds.now < 2 ^ 32 }
     requires short { rounds_in rounds.now ≤ 2 ^ 32 }
     requires left { left.now ≡ left_in rounds.now }
-    ensures { OnOk result (AddsTasks kinds.old.items (keepers (duties_in rounds.now resizes.now (rounds_in rounds.now - 1))) kinds.new.items) }
+    ensures { OnOk result (AddsTasks kinds.old.items (keepers_in rounds.now resizes.now) kinds.new.items) }
 {
     let duties = duties_of(alloc, rounds, resizes, left)?;
     if !duties.is_empty() {

@@ -1,10 +1,9 @@
 //! The tasks of devices, and the list of all tasks.
 ghost use Rattle.std.specs.Prelude.{◌≡◌, ◌<◌, [], ◌∷◌, ◌++◌, IfOk, OnOk, length};
-ghost use Rattle.std.specs.List.{range_with_len};
 ghost use Rattle.stack_base.specs.Stack.{IsStack};
 ghost use Rattle.task_steps.specs.Routed.{routing_setup};
 ghost use Rattle.task_steps.specs.TaskViews.{task_of};
-ghost use Rattle.task_core.specs.opened.NewTasks.{rescuers_of, completers_of, shown_tasks, with_routing, AddsTasks};
+ghost use Rattle.task_core.specs.opened.NewTasks.{rescuers_of, rescuers_in, completers_of, completers_in, shown_tasks, with_routing, AddsTasks};
 
 use crate::opening::objects::is_disk;
 use stack_base::{DevId, Stack};
@@ -31,7 +30,7 @@ pub(crate) fn open_rescuers(
 ) -> Result<(), AllocError>
     requires same { routes.now.stack ≡ stack.now }
     requires stack { IsStack stack.now }
-    ensures { OnOk result (AddsTasks kinds.old.items (rescuers_of (routing_setup routes.now) (range_with_len 0 (length stack.now.devices.items))) kinds.new.items) }
+    ensures { OnOk result (AddsTasks kinds.old.items (rescuers_in routes.now stack.now) kinds.new.items) }
 {
     'opening: for number in 0..stack.devices.len() {
         add_rescuer(routes, DevId(number as u32), kinds)?;
@@ -61,7 +60,7 @@ pub(crate) fn open_completers(
 ) -> Result<(), AllocError>
     requires same { routes.now.stack ≡ stack.now }
     requires stack { IsStack stack.now }
-    ensures { OnOk result (AddsTasks kinds.old.items (completers_of (routing_setup routes.now) (range_with_len 0 (length stack.now.devices.items))) kinds.new.items) }
+    ensures { OnOk result (AddsTasks kinds.old.items (completers_in routes.now stack.now) kinds.new.items) }
 {
     'opening: for number in 0..stack.devices.len() {
         add_completer(routes, DevId(number as u32), kinds)?;

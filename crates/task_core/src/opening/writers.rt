@@ -1,10 +1,9 @@
 //! The writes of a text, shared out among its writers.
 ghost use Rattle.std.specs.Prelude.{◌≡◌, ◌+◌, ◌<◌, ◌^◌, ◌++◌, [], ◌∷◌, All, IfOk, OnOk, filter, length, slice_set};
-ghost use Rattle.std.specs.List.{range_with_len};
 ghost use Rattle.stack_base.specs.Stack.{IsStack};
 ghost use Rattle.layout_model.specs.Writes.{IsWrite};
 ghost use Rattle.run_machine.specs.Opened.{is_by};
-ghost use Rattle.task_core.specs.opened.NewTasks.{share_of, nodes_of, writer_with, writers_of, AddsTasks, AreShared, ArePlaced};
+ghost use Rattle.task_core.specs.opened.NewTasks.{book_places, share_of, nodes_of, writer_with, writers_among, writers_in, AddsTasks, AreShared, ArePlaced};
 
 use layout_model::need;
 use stack_base::Stack;
@@ -77,8 +76,8 @@ fn open_writer(
     requires stack { IsStack stack.now }
     requires shared { AreShared stack.now work.now.rounds.items work.now.writes.items }
     requires small { writer < 8 }
-    ensures kinds { OnOk result (AddsTasks kinds.old.items (writers_of work.now.rounds.items work.now.writes.items (writer ∷ [])) kinds.new.items) }
-    ensures places { OnOk result (places.new ≡ slice_set places.old writer (nodes_of stack.now (share_of work.now.rounds.items work.now.writes.items writer))) }
+    ensures kinds { OnOk result (AddsTasks kinds.old.items (writers_among work.now (writer ∷ [])) kinds.new.items) }
+    ensures places { OnOk result (places.new ≡ slice_set places.old writer (book_places stack.now work.now writer)) }
 {
     let todos = share_of(alloc, work, writer)?;
     places[writer as usize] = nodes_of(stack, &todos);
@@ -96,7 +95,7 @@ pub(crate) fn open_writers(
 ) -> Result<(), AllocError>
     requires stack { IsStack stack.now }
     requires shared { AreShared stack.now work.now.rounds.items work.now.writes.items }
-    ensures kinds { OnOk result (AddsTasks kinds.old.items (writers_of work.now.rounds.items work.now.writes.items (range_with_len 0 8)) kinds.new.items) }
+    ensures kinds { OnOk result (AddsTasks kinds.old.items (writers_in work.now) kinds.new.items) }
     ensures places { OnOk result (ArePlaced stack.now work.now.rounds.items work.now.writes.items 8 places.new) }
 {
     'opening: for writer in 0..8 {

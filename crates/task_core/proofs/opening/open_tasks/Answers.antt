@@ -24,7 +24,7 @@ returns c =
     let routing = c.in_ok-routes.routes in
     let same = c.in_ok-routes-2.ensures.ok in
     let writers = writers_of work.rounds.items work.writes.items (range_with_len 0 8) in
-    let others = others_in (routing_setup routing) work.rounds.items work.resizes.items in
+    let others = others_in (routing_setup routing) work in
     let kinds = c.in_ok-open_others.ensures ∙ ap (λ tasks. tasks ++ others) (c.in_ok-routes.ensures.kinds ∙ ap (λ kinds. shown_tasks kinds ++ writers) c.new-kinds.ensures.items) in
     subst (λ (r : Routing). AreTasksOf c.args.stack.now work r c.in_ok-tasks.tasks.items c.in_ok-left.left.items) (sym same) (record {
       stack = c.in_ok-routes.ensures.routes.0;
