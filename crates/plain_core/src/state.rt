@@ -2,7 +2,7 @@
 ghost use Rattle.std.specs.Prelude.{◌≡◌, ◌<◌, map, length, slice_get, MatchBool, MatchOption, IfOk};
 ghost use Rattle.task_steps.specs.Routed.{routing_setup};
 ghost use Rattle.task_steps.specs.Within.{TaskFits};
-ghost use Rattle.task_core.specs.opened.OfOne.{IsOpened as AreTheFirst, scenario_in};
+ghost use Rattle.task_core.specs.opened.OfOne.{IsOpened, scenario_in};
 ghost use Rattle.plain_core.specs.steps.Views.{task_of_plain};
 ghost use Rattle.plain_core.specs.opening.Opening.{CanOpen, IsOpenedCore, scenario_by};
 ghost use Rattle.stack_base.specs.PoolId.{pool_number};
@@ -131,7 +131,7 @@ impl Core {
     /// # Errors
     /// Where there is no memory.
     pub fn of(alloc: Global, opened: &Opened) -> Result<Core, AllocError>
-        requires { AreTheFirst opened.now }
+        requires { IsOpened opened.now }
         ensures { IfOk result (IsOpenedCore (scenario_in opened.now)) }
     {
         let routes = opened.routes()?;

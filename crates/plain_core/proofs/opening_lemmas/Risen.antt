@@ -13,7 +13,7 @@ use Rattle.task_core.specs.declared.opening.Opened.{Opened}
 use Rattle.run_machine.specs.Events.{id_of}
 use Rattle.task_steps.specs.Homes.{DutyFits, IsTaskOf}
 use Rattle.run_machine.specs.Lines.{rests}
-use Rattle.task_core.specs.opened.OfOne.{IsOpened as AreTheFirst, scenario_in, states}
+use Rattle.task_core.specs.opened.OfOne.{IsOpened, scenario_in, states}
 use Rattle.run_machine.specs.Opened.{Scenario, at, duties, is_by, keepers, no_task, setup, tasks, todos, todos_of, writers}
 use Rattle.task_core.specs.Plains.{stage_of}
 use Rattle.run_machine.specs.Scene.{is_disk}
@@ -76,7 +76,7 @@ duty_of_pool : (stage : Stage) → IsStack stage.routing.stack → (duty : Duty)
 duty_of_pool stage good (Resizes pool min later) fits = of_pool stage good pool fits.0
 duty_of_pool stage good (Starts round later) fits = tt
 
-module _ (o : Opened) (is : AreTheFirst o) where
+module _ (o : Opened) (is : IsOpened o) where
   abbrev s : Scenario
   s = scenario_in o
 

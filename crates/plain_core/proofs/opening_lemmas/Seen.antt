@@ -12,7 +12,7 @@ use Rattle.decl_text.proofs.Fits.{accepted_fit}
 use Rattle.task_core.specs.declared.opening.Opened.{Opened}
 use Rattle.run_machine.specs.Events.{pool_of}
 use Rattle.run_machine.specs.Objects.{Objects}
-use Rattle.task_core.specs.opened.OfOne.{IsOpened as AreTheFirst, scenario_in}
+use Rattle.task_core.specs.opened.OfOne.{IsOpened, scenario_in}
 use Rattle.run_machine.specs.Opened.{Scenario, at, objects, reserve_of, script_at}
 use Rattle.task_core.specs.opened.Openings.{has_pool, uses_slips}
 use Rattle.task_core.specs.Plains.{objects_of, stage_of}
@@ -74,7 +74,7 @@ module _ (routing : Routing) (stage : Stage) (same : stage.routing ≡ routing) 
 full_adds_up : (facts : Facts) (reserve : ℕ) (script : Answers) → facts ≡ (opened reserve script).facts → AddsUp facts
 full_adds_up facts reserve script is = subst AddsUp (sym is) (record { elements = omega arith; spares = omega arith })
 
-module _ (o : Opened) (is : AreTheFirst o) where
+module _ (o : Opened) (is : IsOpened o) where
   abbrev s : Scenario
   s = scenario_in o
 

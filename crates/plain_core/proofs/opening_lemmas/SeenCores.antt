@@ -2,7 +2,7 @@
 use Rattle.std.proofs.Common.{◌≡◌, ℕ, List, sym, ap, ◌∙◌}
 use Rattle.work_text.specs.declared.Work.{Work}
 use Rattle.task_core.specs.declared.opening.Opened.{Opened}
-use Rattle.task_core.specs.opened.OfOne.{IsOpened as AreTheFirst, scenario_in, states}
+use Rattle.task_core.specs.opened.OfOne.{IsOpened, scenario_in, states}
 use Rattle.run_machine.specs.Opened.{Scenario}
 use Rattle.task_core.specs.Plains.{stage_of}
 use Rattle.task_steps.specs.Routed.{Routing, places_at}
@@ -14,7 +14,7 @@ use Rattle.plain_core.specs.objects.Plain.{CoreObjects}
 use Rattle.plain_core.proofs.opening_lemmas.Opened.{is_core, opened_so, tasks_is}
 use Rattle.plain_core.proofs.opening_lemmas.Seen.{can, same}
 
-module _ (o : Opened) (is : AreTheFirst o) where
+module _ (o : Opened) (is : IsOpened o) where
   abbrev s : Scenario
   s = scenario_in o
 

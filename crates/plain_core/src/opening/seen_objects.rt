@@ -1,6 +1,6 @@
 //! Opened objects as plain data.
 ghost use Rattle.std.specs.Prelude.{◌≡◌, ◌<◌, IfOk, length};
-ghost use Rattle.task_core.specs.opened.OfOne.{scenario_in, IsOpened as AreTheFirst};
+ghost use Rattle.task_core.specs.opened.OfOne.{scenario_in, IsOpened};
 ghost use Rattle.run_machine.specs.Opened.{objects as objects_at};
 ghost use Rattle.task_core.specs.Plains.{stage_of};
 ghost use Rattle.task_steps.specs.Routed.{routing_setup};
@@ -63,7 +63,7 @@ fn pool_seen(
     routes: &Routes,
     number: u32,
 ) -> Result<Pool, AllocError>
-    requires opened { AreTheFirst opened.now }
+    requires opened { IsOpened opened.now }
     requires routes { routes.now ≡ (stage_of opened.now.objects).routing }
     ensures { IfOk result (λ pool. pool ≡ new_pool (scenario_in opened.now).stack (scenario_in opened.now).scripts number) }
 {
@@ -77,7 +77,7 @@ fn pool_seen(
 
 // All 66 pools that a stack may have, by their numbers, each as a run begins with it: full.
 fn pools_seen(alloc: Global, opened: &Opened, routes: &Routes) -> Result<Vec<Pool>, AllocError>
-    requires opened { AreTheFirst opened.now }
+    requires opened { IsOpened opened.now }
     requires routes { routes.now ≡ (stage_of opened.now.objects).routing }
     ensures { IfOk result (λ pools. pools.items ≡ new_pools (scenario_in opened.now).stack (scenario_in opened.now).scripts 66) }
 {
@@ -95,7 +95,7 @@ fn disk_seen(
     routes: &Routes,
     dev: DevId,
 ) -> Result<Option<Disk>, AllocError>
-    requires opened { AreTheFirst opened.now }
+    requires opened { IsOpened opened.now }
     requires routes { routes.now ≡ (stage_of opened.now.objects).routing }
     requires device { dev.0 < length (scenario_in opened.now).stack.devices.items }
     ensures { IfOk result (λ disk. disk ≡ new_disk (scenario_in opened.now).stack dev.0) }
@@ -113,7 +113,7 @@ fn disks_seen(
     opened: &Opened,
     routes: &Routes,
 ) -> Result<Vec<Option<Disk>>, AllocError>
-    requires opened { AreTheFirst opened.now }
+    requires opened { IsOpened opened.now }
     requires routes { routes.now ≡ (stage_of opened.now.objects).routing }
     ensures { IfOk result (λ disks. disks.items ≡ new_disks (scenario_in opened.now).stack (length (scenario_in opened.now).stack.devices.items)) }
 {
@@ -137,7 +137,7 @@ fn widened(alloc: Global, numbers: &[u32]) -> Result<Vec<u64>, AllocError>
 
 // The tally, in which every write is unfinished.
 fn tally_seen(alloc: Global, opened: &Opened) -> Result<Tally, AllocError>
-    requires { AreTheFirst opened.now }
+    requires { IsOpened opened.now }
     ensures { IfOk result (λ tally. tally ≡ (objects_at (scenario_in opened.now)).tally) }
 {
     let tally = &opened.objects.tally;
@@ -150,7 +150,7 @@ fn tally_seen(alloc: Global, opened: &Opened) -> Result<Tally, AllocError>
 /// # Errors
 /// Where there is no memory.
 pub fn objects_seen(alloc: Global, opened: &Opened, routes: &Routes) -> Result<Objects, AllocError>
-    requires opened { AreTheFirst opened.now }
+    requires opened { IsOpened opened.now }
     requires routes { routes.now ≡ (stage_of opened.now.objects).routing }
     ensures { IfOk result (λ objects. objects ≡ core_objects_of (scenario_in opened.now) routes.now.places) }
 {
