@@ -1,5 +1,5 @@
 -- How nodes and places are kept. No contract of the public calls speaks of this.
-use Rattle.std.specs.Prelude.{◌≡◌, ◌+◌, ◌^◌, ◌<◌, ◌≤◌, ◌==◌, ℕ, List, [], ◌∷◌, length, Option, None, Some, IsSome, Bool, true, false, slice_get, slice_index_or}
+use Rattle.std.specs.Prelude.{◌≡◌, ◌+◌, ◌^◌, ◌<◌, ◌≤◌, ◌==◌, ℕ, List, [], ◌∷◌, length, Option, None, Some, IsSome, All, Bool, true, false, slice_get, slice_index_or, slice_set}
 use Rattle.slab.specs.Slab.{Slab, get, slab_len}
 use Rattle.elem_ledger.specs.declared.element.Element.{Element}
 use Rattle.bio_records.specs.declared.bio.Pad.{Pad}
@@ -10,6 +10,14 @@ use Rattle.bio_books.specs.Views.{IsAlonePart}
 pub record IsOpen (count : ℕ) (bio : Option (Element (BioBody Pad))) : Type 0 where
   pub some : 1 ≤ count
   pub alone : IsAlonePart bio
+
+-- a value was put at a place where none stood
+abbrev pub FillsVacant : {T : Type 0} → List (Option T) → ℕ → T → List (Option T) → Type 0
+FillsVacant old place value new = (slice_get old place ≡ Some None) × (new ≡ slice_set old place (Some value))
+
+-- a value stands at each place, and stays there
+abbrev pub StaysFull : {T : Type 0} → List (Option T) → List (Option T) → Type 0
+StaysFull old new = (new ≡ old) × All IsSome old
 
 -- the key that is kept beside the number of a place
 abbrev pub key_at : List (Option ℕ) → ℕ → Option ℕ

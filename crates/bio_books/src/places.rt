@@ -1,6 +1,6 @@
 //! Numbered places for values, in memory that is had once.
-ghost use Rattle.std.specs.Prelude.{◌≡◌, ◌↔◌, List, Option, None, Some, All, IsTrue, IsSome, IfOk, MatchOption, MatchResult, length, option_copied, replicate, slice_get, slice_index_or, slice_set};
-ghost use Rattle.bio_books.specs.Kept.{key_at};
+ghost use Rattle.std.specs.Prelude.{◌≡◌, ◌↔◌, List, Option, None, Some, All, IsTrue, IsSome, IfOk, MatchOption, MatchResult, length, option_copied, replicate, slice_index_or, slice_set};
+ghost use Rattle.bio_books.specs.Kept.{FillsVacant, StaysFull, key_at};
 
 use slab::Slab;
 use std::alloc::{AllocError, Global};
@@ -85,9 +85,8 @@ impl<T: Drop> Places<T> {
 
     /// Puts a value at a vacant place, and answers the place, or the value where none is vacant.
     pub fn insert(&mut self, value: T) -> Result<u32, T>
-        ensures { MatchResult result
-            (λ place. (slice_get self.old place ≡ Some None) × (self.new ≡ slice_set self.old place (Some value)))
-            (λ back. (back ≡ value) × (self.new ≡ self.old) × All IsSome self.old) }
+        ensures { MatchResult result (λ place. FillsVacant self.old place value self.new)
+            (λ back. (back ≡ value) × StaysFull self.old self.new) }
     {
         let Some(place) = self.free.pop() else {
             return Err(value);

@@ -1,5 +1,5 @@
 -- What devices show, and where the members of a mirror show other words than its first member.
-use Rattle.std.specs.Prelude.{◌≡◌, ◌==◌, ◌-◌, ◌<◌, not, true, ℕ, Bool, List, [], map, length, find, slice_index_or, IsSomeAnd}
+use Rattle.std.specs.Prelude.{◌≡◌, ◌==◌, ◌+◌, ◌-◌, ◌<◌, not, true, ℕ, Bool, List, [], ◌∷◌, map, length, find, slice_index_or, IsSomeAnd}
 use Rattle.std.specs.List.{range_with_len, count_by}
 use Rattle.std.specs.Option.{option_map_or}
 use Rattle.stack_base.specs.Mapping.{slot}
@@ -67,6 +67,10 @@ unlike_count images mirror k = count_by (λ (unlike : Bool). unlike) (unlikes im
 -- the stretches of such sectors that start at `from` or behind it, each as long as they follow one another
 abbrev pub stretches_from : Images → Tree → ℕ → ℕ → List Range
 stretches_from images mirror k from = runs_from (unlikes images mirror k) from
+
+-- the run is the first of them, and the others start behind it
+abbrev pub IsFirstStretch : Images → Tree → ℕ → ℕ → Range → Type 0
+IsFirstStretch images mirror k from run = stretches_from images mirror k from ≡ run ∷ stretches_from images mirror k (run.start + run.len)
 
 -- for each disk of a stack there is one of these with its number, as large as it is there
 abbrev pub AreDisksOf : Stack → List DiskState → Type 0

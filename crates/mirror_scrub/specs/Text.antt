@@ -27,11 +27,15 @@ differ_line name leg run =
 unfoldable pub differ_lines : List ℕ → ℕ → List Range → List ℕ
 differ_lines name leg runs = flat_map (differ_line name leg) runs
 
+-- the lines of the stretches that are unlike on a member of the mirror with this number
+abbrev pub stretch_lines : Stack → Images → ℕ → ℕ → List ℕ
+stretch_lines stack images mirror leg = differ_lines (name_at stack mirror) leg (stretches_from images (tree stack mirror) leg 0)
+
 -- the lines of a member of the mirror with this number
 abbrev pub leg_lines : Stack → Images → ℕ → ℕ → List ℕ
 leg_lines stack images mirror leg =
     leg_line (name_at stack mirror) leg (unlike_count images (tree stack mirror) leg)
-    ++ differ_lines (name_at stack mirror) leg (stretches_from images (tree stack mirror) leg 0)
+    ++ stretch_lines stack images mirror leg
 
 -- those of all its members but the first, and none for a device that is no mirror
 unfoldable pub mirror_lines : Stack → Images → ℕ → List ℕ

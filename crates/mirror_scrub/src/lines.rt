@@ -3,8 +3,8 @@ ghost use Rattle.std.specs.Prelude.{◌≡◌, ◌<◌, length};
 ghost use Rattle.stack_base.specs.Stack.{IsStack};
 ghost use Rattle.stack_base.specs.Tree.{tree};
 ghost use Rattle.outside_io.specs.Saying.{Says, Writes};
-ghost use Rattle.mirror_scrub.specs.Seen.{AreDisksOf, held, legs, stretches_from};
-ghost use Rattle.mirror_scrub.specs.Text.{differ_line, differ_lines, leg_line, leg_lines, mirror_lines, name_at, scrub_text};
+ghost use Rattle.mirror_scrub.specs.Seen.{AreDisksOf, held, legs};
+ghost use Rattle.mirror_scrub.specs.Text.{differ_line, leg_line, leg_lines, mirror_lines, name_at, scrub_text, stretch_lines};
 
 use crate::mirror::{legs, next_unlike, unlike};
 use itoa::Buffer;
@@ -66,7 +66,7 @@ fn differ_lines<K: Sink>(
     requires mirror { mirror.0 < length stack.now.devices.items }
     requires leg { leg < legs (tree stack.now mirror.0) }
     ensures { Says K.held K.faults out.old pen.old out.new pen.new
-        (differ_lines (name_at stack.now mirror.0) leg (stretches_from (held disks.now) (tree stack.now mirror.0) leg 0)) }
+        (stretch_lines stack.now (held disks.now) mirror.0 leg) }
 {
     let name = name_of(stack, mirror);
     let mut from = 0;

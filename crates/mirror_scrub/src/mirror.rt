@@ -1,9 +1,9 @@
 //! Where the members of mirrors differ from the first.
-ghost use Rattle.std.specs.Prelude.{◌≡◌, ◌==◌, ◌+◌, ◌<◌, ◌≤◌, ◌^◌, [], ◌∷◌, length, MatchOption};
+ghost use Rattle.std.specs.Prelude.{◌≡◌, ◌==◌, ◌+◌, ◌<◌, ◌≤◌, ◌^◌, [], length, MatchOption};
 ghost use Rattle.stack_base.specs.Stack.{IsStack};
 ghost use Rattle.stack_base.specs.Tree.{size as size_of, tree};
 ghost use Rattle.model_disks.specs.Runs.{IsApart};
-ghost use Rattle.mirror_scrub.specs.Seen.{AreDisksOf, held, mirror_member, legs, stretches_from, unlike_count, unlikes};
+ghost use Rattle.mirror_scrub.specs.Seen.{AreDisksOf, IsFirstStretch, held, mirror_member, legs, stretches_from, unlike_count, unlikes};
 ghost use Rattle.mirror_scrub.specs.Stretches.{IsPair, flags_in};
 ghost use Rattle.mirror_scrub.specs.Text.{all_alike, mirror_alike};
 
@@ -82,8 +82,7 @@ pub fn next_unlike(
     requires leg { leg < legs (tree stack.now mirror.0) }
     requires apart { IsApart (unlikes (held disks.now) (tree stack.now mirror.0) leg) from }
     ensures stretches { MatchOption result (stretches_from (held disks.now) (tree stack.now mirror.0) leg from ≡ [])
-        (λ run. stretches_from (held disks.now) (tree stack.now mirror.0) leg from
-        ≡ run ∷ stretches_from (held disks.now) (tree stack.now mirror.0) leg (run.start + run.len)) }
+        (IsFirstStretch (held disks.now) (tree stack.now mirror.0) leg from) }
     ensures place { MatchOption result (Unit {0})
         (λ run. (from < run.start + run.len) × (run.start + run.len ≤ size_of (tree stack.now mirror.0))) }
     ensures apart { MatchOption result (Unit {0})

@@ -9,9 +9,11 @@ use Rattle.bio_books.proofs.places.Places.insert.Goals as goal
 pub returns-in_default : goal.returns-in_default
 returns-in_default g c = (
   refl,
-  c.self.view_is,
-  subst (All IsSome) c.self.view_is (full c.self.inside.slots c.self.inside.keys.items c.self.inside.free.items _ c.self.invariant
-      (omega (arith, c.self.inside.free.ok, c.in_default.ensures.cases.0))),
+  (
+    c.self.view_is,
+    subst (All IsSome) c.self.view_is (full c.self.inside.slots c.self.inside.keys.items c.self.inside.free.items _ c.self.invariant
+        (omega (arith, c.self.inside.free.ok, c.in_default.ensures.cases.0))),
+  ),
 )
 
 pub index_mut-requires : goal.index_mut-requires
