@@ -4,3 +4,4 @@ mod Placed
 mod Numbered
 mod Ends
 mod Examples
+pub mod Sent

@@ -8,3 +8,4 @@ pub mod KeptLemmas
 pub mod PendingLemmas
 pub mod MoveLemmas
 pub mod MaximalLemmas
+pub mod Sent
