@@ -71,8 +71,8 @@ fn ends<E: Sink>(ending: Ending, errors: &mut E) -> Exit {
     ending.exit()
 }
 
-/// Carries words out as the program does. A run by workers is none of them: what the words ask of it here is refused.
-pub fn carry_out<S: Source, K: Sink, E: Sink>(
+// Carries words out as the program does. A run by workers is none of them: what the words ask of it here is refused.
+fn carry_out<S: Source, K: Sink, E: Sink>(
     rt: &impl AllocGlobal,
     words: &[String],
     source: &mut S,

@@ -1,12 +1,15 @@
-//! A fault of the source or of a sink at every call that small runs, a trace, a check, a layout, a scrub, a replay and generated texts make.
-use crate::calls::{ROOM, carry_out, make_call, owned, words_of};
-use crate::scrubs::{ALIKE, ALIKE_LINES};
-use crate::texts::{
-    BAD_SECTOR, BAD_SECTOR_REPORT, ONE_SECTOR, ONE_SECTOR_GIVEN, ONE_SECTOR_REPLAYED,
-    ONE_SECTOR_REPORT, ONE_SECTOR_TRACE, STRIPED, STRIPED_CHECK, STRIPED_LAYOUT,
-};
+//! A fault of the source or of a sink at every call that the program makes of them.
+mod alone;
+mod by_workers;
+
+use crate::calls::{ROOM, owned, words_of};
+use crate::workers::make_call_by;
+use bio_workers::NoGate;
+use biostack_top::biostack;
 use outside_io::{FailSink, FailSource, Sink};
 use std::process::Abort;
+use std::sync::Wait;
+use std::thread::Threads;
 
 const READ_FAULT: &[u8] = b"biostack: read fault\n";
 
@@ -14,58 +17,12 @@ const WRITE_FAULT: &[u8] = b"biostack: write fault\n";
 
 /// A call of the program: its words, the text, and what it writes and ends with where nothing fails.
 #[derive(Clone, Copy)]
-struct Call<'a> {
-    words: &'a [&'a str],
-    text: &'a str,
-    output: &'a str,
-    status: u8,
+pub struct Call<'a> {
+    pub words: &'a [&'a str],
+    pub text: &'a str,
+    pub output: &'a str,
+    pub status: u8,
 }
-
-const CALLS: [Call<'static>; 7] = [
-    Call {
-        words: &["run"],
-        text: ONE_SECTOR,
-        output: ONE_SECTOR_REPORT,
-        status: 0,
-    },
-    // Its write fails, and a fault of the source or of the output hides that.
-    Call {
-        words: &["run"],
-        text: BAD_SECTOR,
-        output: BAD_SECTOR_REPORT,
-        status: 1,
-    },
-    Call {
-        words: &["run", "--trace"],
-        text: ONE_SECTOR,
-        output: ONE_SECTOR_TRACE,
-        status: 0,
-    },
-    Call {
-        words: &["check"],
-        text: STRIPED,
-        output: STRIPED_CHECK,
-        status: 0,
-    },
-    Call {
-        words: &["layout"],
-        text: STRIPED,
-        output: STRIPED_LAYOUT,
-        status: 0,
-    },
-    Call {
-        words: &["scrub"],
-        text: ALIKE,
-        output: ALIKE_LINES,
-        status: 0,
-    },
-    Call {
-        words: &["replay"],
-        text: ONE_SECTOR_GIVEN,
-        output: ONE_SECTOR_REPLAYED,
-        status: 0,
-    },
-];
 
 /// The calls at which the source and the sinks fail, counted from 1 (0: none); how many bytes the output has room for, and how many it
 /// takes a call. The others give and take one byte a call.
@@ -124,20 +81,32 @@ fn front_of(text: &[u8], bytes: &[u8]) -> Option<usize> {
 }
 
 // Makes a call with these faults.
-fn outcome(rt: &(impl Abort + AllocGlobal), call: Call<'_>, faults: Faults) -> Outcome {
+fn outcome(
+    rt: &(impl Abort + AllocGlobal + Threads + Wait + Sync),
+    call: Call<'_>,
+    faults: Faults,
+) -> Outcome {
     let words = words_of(rt, call.words);
     let mut source = source(rt, call.text, faults.source);
     let mut out = sink(rt, faults.room, faults.out, faults.most);
     let mut errors = sink(rt, ROOM, faults.errors, 1);
-    let status = carry_out(rt, &words, &mut source, &mut out, &mut errors).0;
+    let exit = biostack(
+        rt,
+        rt.alloc(),
+        &words,
+        &mut source,
+        &mut out,
+        &mut errors,
+        &mut NoGate::new(),
+    );
     let output = front_of(call.output.as_bytes(), out.held());
-    let line = front_of(line_of(status), errors.held());
-    (status, output, line)
+    let line = front_of(line_of(exit.0), errors.held());
+    (exit.0, output, line)
 }
 
 // A call with these faults has to end with this status, and to write so many bytes to the output and to errors.
 fn ends(
-    rt: &(impl Abort + AllocGlobal),
+    rt: &(impl Abort + AllocGlobal + Threads + Wait + Sync),
     call: Call<'_>,
     faults: Faults,
     (status, output, line): (u8, usize, usize),
@@ -151,26 +120,24 @@ fn whole(call: Call<'_>) -> (u8, usize, usize) {
     (call.status, call.output.len(), 0)
 }
 
-#[test]
-fn a_source_that_fails_at_any_call_ends_with_4(rt: HostRuntime) {
-    for call in CALLS {
-        // One byte a call, and one call that meets the end.
-        let calls = call.text.len() as u64 + 1;
-        for source in 1..calls + 1 {
-            ends(
-                &rt,
-                call,
-                Faults { source, ..NONE },
-                (4, 0, READ_FAULT.len()),
-            );
-        }
-        let source = calls + 1;
-        ends(&rt, call, Faults { source, ..NONE }, whole(call));
+/// A source that fails at any call ends with 4.
+pub fn source_fails(rt: &(impl Abort + AllocGlobal + Threads + Wait + Sync), call: Call<'_>) {
+    // One byte a call, and one call that meets the end.
+    let calls = call.text.len() as u64 + 1;
+    for source in 1..calls + 1 {
+        ends(
+            rt,
+            call,
+            Faults { source, ..NONE },
+            (4, 0, READ_FAULT.len()),
+        );
     }
+    let source = calls + 1;
+    ends(rt, call, Faults { source, ..NONE }, whole(call))
 }
 
-// An output that fails at any call ends with 5, and holds what it was given before.
-fn output_fails(rt: &(impl Abort + AllocGlobal), call: Call<'_>) {
+/// An output that fails at any call ends with 5, and holds what it was given before.
+pub fn output_fails(rt: &(impl Abort + AllocGlobal + Threads + Wait + Sync), call: Call<'_>) {
     for before in 0..call.output.len() {
         let out = before as u64 + 1;
         ends(
@@ -184,8 +151,8 @@ fn output_fails(rt: &(impl Abort + AllocGlobal), call: Call<'_>) {
     ends(rt, call, Faults { out, ..NONE }, whole(call))
 }
 
-// An output that is full at any byte ends with 5, and holds what it had room for.
-fn output_is_full(rt: &(impl Abort + AllocGlobal), call: Call<'_>) {
+/// An output that is full at any byte ends with 5, and holds what it had room for.
+pub fn output_is_full(rt: &(impl Abort + AllocGlobal + Threads + Wait + Sync), call: Call<'_>) {
     let most = ROOM;
     for room in 0..call.output.len() {
         let faults = Faults { room, most, ..NONE };
@@ -195,80 +162,30 @@ fn output_is_full(rt: &(impl Abort + AllocGlobal), call: Call<'_>) {
     ends(rt, call, Faults { room, most, ..NONE }, whole(call))
 }
 
-#[test]
-fn an_output_that_fails_or_is_full_ends_with_5(rt: HostRuntime) {
-    for call in CALLS {
-        output_fails(&rt, call);
-        output_is_full(&rt, call);
-    }
-}
-
-#[test]
-fn errors_that_fail_change_nothing_else(rt: HostRuntime) {
-    for call in CALLS {
-        for held in 0..READ_FAULT.len() {
-            let faults = Faults {
-                source: 1,
-                errors: held as u64 + 1,
-                ..NONE
-            };
-            ends(&rt, call, faults, (4, 0, held));
-        }
+/// Errors that fail hold a front of their line, and change nothing else.
+pub fn errors_fail(rt: &(impl Abort + AllocGlobal + Threads + Wait + Sync), call: Call<'_>) {
+    for held in 0..READ_FAULT.len() {
         let faults = Faults {
-            out: 3,
-            errors: 4,
+            source: 1,
+            errors: held as u64 + 1,
             ..NONE
         };
-        ends(&rt, call, faults, (5, 2, 3));
+        ends(rt, call, faults, (4, 0, held));
     }
+    let faults = Faults {
+        out: 3,
+        errors: 4,
+        ..NONE
+    };
+    ends(rt, call, faults, (5, 2, 3))
 }
 
-// `gen` reads nothing, so a source that fails changes nothing.
-fn reads_nothing(rt: &(impl Abort + AllocGlobal), call: Call<'_>) {
-    ends(rt, call, Faults { source: 1, ..NONE }, whole(call))
-}
-
-// The output of a call that meets no fault.
-fn output_of(rt: &(impl Abort + AllocGlobal), words: &[&str]) -> String {
-    let done = make_call(rt, words, b"", 2 * ROOM);
+/// The output of a call that meets no fault.
+pub fn output_of(
+    rt: &(impl Abort + AllocGlobal + Threads + Wait + Sync),
+    words: &[&str],
+    text: &str,
+) -> String {
+    let done = make_call_by(rt, words, text.as_bytes(), 2 * ROOM, &mut NoGate::new());
     String::from_utf8_lossy(rt.alloc(), done.output.held()).expect(rt, "no output")
-}
-
-#[test]
-fn an_output_that_fails_under_a_generated_text_ends_with_5(rt: HostRuntime) {
-    let words: &[&str] = &["gen", "7", "--text"];
-    let output = output_of(&rt, words);
-    let call = Call {
-        words,
-        text: "",
-        output: output.as_str(),
-        status: 0,
-    };
-    reads_nothing(&rt, call);
-    output_fails(&rt, call);
-}
-
-#[test]
-fn an_output_that_fails_under_a_generated_run_ends_with_5(rt: HostRuntime) {
-    let words: &[&str] = &["gen", "7"];
-    let output = output_of(&rt, words);
-    let call = Call {
-        words,
-        text: "",
-        output: output.as_str(),
-        status: 0,
-    };
-    reads_nothing(&rt, call);
-    let all = call.output.len();
-    for held in [0, 1, all.saturating_sub(1)] {
-        let out = (held as u64).saturating_add(1);
-        ends(
-            &rt,
-            call,
-            Faults { out, ..NONE },
-            (5, held, WRITE_FAULT.len()),
-        );
-    }
-    let out = (all as u64).saturating_add(1);
-    ends(&rt, call, Faults { out, ..NONE }, whole(call));
 }

@@ -28,6 +28,12 @@ pub const BAD_SECTOR: &str = "disk a 64\nbad a 0 1 medium\nwrite 0 a 0 1 0\n";
 pub const BAD_SECTOR_REPORT: &str = "write 0 medium\ndisk a sum 0000000000000000\n\
     pool fs.bios reserve 2 ordinary 1 spare 0\npool fs.vecs reserve 2 ordinary 0 spare 0\nsteps 7 of 10\n";
 
+/// Its output with a trace.
+pub const BAD_SECTOR_TRACE: &str = "event w0 take fs.bios ordinary\nevent w0 link 0 write 0\n\
+    event w0 push a 0 1 leg 0\nevent c:a complete a 0 medium\nevent c:a drop 0 0 medium top\n\
+    event c:a give fs.bios\nevent c:a done 0 medium\nwrite 0 medium\ndisk a sum 0000000000000000\n\
+    pool fs.bios reserve 2 ordinary 1 spare 0\npool fs.vecs reserve 2 ordinary 0 spare 0\nsteps 7 of 10\n";
+
 /// A write to a stripe.
 pub const STRIPED: &str = "disk a 64\ndisk b 64\nstripe s chunk=8 a b\nwrite 0 s 5 20 0\n";
 
