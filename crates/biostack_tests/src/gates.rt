@@ -18,12 +18,50 @@ use task_core::TaskId;
 /// How often a step looks for the other writer, before it gives up.
 const LOOKS: u64 = 100_000_000;
 
+/// The steps of a task, as a gate is told of them.
+#[derive(Drop)]
+struct Steps {
+    begun: AtomicU64,
+    over: AtomicU64,
+}
+
+impl Steps {
+    fn new() -> Steps {
+        Steps {
+            begun: AtomicU64::new(0),
+            over: AtomicU64::new(0),
+        }
+    }
+
+    fn begun(&self) -> u64 {
+        self.begun.load(Ordering::SeqCst)
+    }
+
+    // One more begins. Whether all before it are over.
+    fn begin(&self) -> bool {
+        self.begun.fetch_add(1, Ordering::SeqCst) == self.over.load(Ordering::SeqCst)
+    }
+
+    // One more is over. Whether it has begun, and none behind it has.
+    fn end(&self) -> bool {
+        self.over.fetch_add(1, Ordering::SeqCst).wrapping_add(1) == self.begun()
+    }
+
+    // Whether all are over that have begun, and there were so many at least.
+    fn are_over(&self, least: u64) -> bool {
+        let over = self.over.load(Ordering::SeqCst);
+        over == self.begun() && over >= least
+    }
+}
+
 /// Each of the first three steps of a writer waits until the other writer has come to as many.
 #[derive(Drop)]
 struct Pair {
-    first: AtomicU64,
-    second: AtomicU64,
-    /// How many steps gave up.
+    first: Steps,
+    second: Steps,
+    /// The completer of the disk.
+    completer: Steps,
+    /// How many steps gave up, or were told of out of their order.
     missed: AtomicU64,
     seen: Option<Snapshot<Closed>>,
 }
@@ -33,32 +71,49 @@ impl Pair {
         ensures { ⟦<Pair as Gate>⟧.shown result ≡ None }
     {
         Pair {
-            first: AtomicU64::new(0),
-            second: AtomicU64::new(0),
+            first: Steps::new(),
+            second: Steps::new(),
+            completer: Steps::new(),
             missed: AtomicU64::new(0),
             seen: None,
         }
     }
 
-    fn meet(&self, mine: &AtomicU64, others: &AtomicU64) {
-        let count = mine.fetch_add(1, Ordering::SeqCst).wrapping_add(1);
+    // The steps of a task, of which there are three.
+    fn steps(&self, task: TaskId) -> &Steps {
+        match task {
+            TaskId::Writer(0) => &self.first,
+            TaskId::Writer(_) => &self.second,
+            _ => &self.completer,
+        }
+    }
+
+    fn miss(&self) {
+        self.missed.fetch_add(1, Ordering::SeqCst);
+    }
+
+    // Waits until the others have begun as many steps as this writer, of the first three.
+    fn meet(&self, mine: &Steps, others: &Steps) {
+        let count = mine.begun();
         if count > 3 {
             return;
         }
         for _ in 0..LOOKS {
-            if others.load(Ordering::SeqCst) >= count {
+            if others.begun() >= count {
                 return;
             }
             spin_loop();
         }
-        self.missed.fetch_add(1, Ordering::SeqCst);
+        self.miss();
     }
 
-    // Whether both writers came to three steps and more, and none gave up.
+    // Whether no step gave up, and each was told of before it and behind it. Of a write the writer makes three at least, and the completer four.
     fn have_met(&self) -> bool {
-        let first = self.first.load(Ordering::SeqCst);
-        let second = self.second.load(Ordering::SeqCst);
-        first >= 3 && second >= 3 && self.missed.load(Ordering::SeqCst) == 0
+        let is_missed = self.missed.load(Ordering::SeqCst) != 0;
+        !is_missed
+            && self.first.are_over(3)
+            && self.second.are_over(3)
+            && self.completer.are_over(8)
     }
 }
 
@@ -68,6 +123,9 @@ impl Gate for Pair {
     ghost shown = { λ gate. shown_by gate.seen };
 
     fn before(&self, task: TaskId) {
+        if !self.steps(task).begin() {
+            self.miss();
+        }
         match task {
             TaskId::Writer(0) => self.meet(&self.first, &self.second),
             TaskId::Writer(1) => self.meet(&self.second, &self.first),
@@ -75,7 +133,11 @@ impl Gate for Pair {
         }
     }
 
-    fn after(&self, _task: TaskId) {}
+    fn after(&self, task: TaskId) {
+        if !self.steps(task).end() {
+            self.miss();
+        }
+    }
 
     fn closed(&mut self, closed: &Closed) {
         self.seen = Some(Snapshot::of(closed));
