@@ -1,3 +1,4 @@
+mod Sent
 mod Taken
 mod Told
 mod Turned

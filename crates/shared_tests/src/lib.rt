@@ -1,6 +1,9 @@
-//! Tests of tasks at their desks: runs on one thread, and the order in which tasks are handed out.
+//! Tests of tasks at their desks: runs on one thread, two threads beside each other, and the order in which tasks are
+//! handed out.
 #![tactic(auto)]
 
+#[cfg(test)]
+mod beside;
 #[cfg(test)]
 mod handed;
 #[cfg(test)]

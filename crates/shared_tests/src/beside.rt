@@ -1,0 +1,176 @@
+//! Two completers, each at its desk on a thread of its own, whose choosers wait for each other.
+ghost use Rattle.std.specs.Prelude.{◌≡◌, IfSome};
+ghost use Rattle.shared_objects.specs.Shared.{SharedHolds};
+
+use crate::opened::{TWO_DISKS, shared_of};
+use shared_objects::{Locks, Ran, Shared};
+use std::hint::spin_loop;
+use std::sync::Wait;
+use std::sync::atomic::{AtomicU64, Ordering};
+use std::test::Fail;
+use std::thread;
+use std::thread::Threads;
+use task_core::{Chooser, Event, Oldest, Step, What};
+
+/// How often a chooser looks for the other one, before it gives up.
+const LOOKS: u64 = 100_000_000;
+
+/// More steps than a writer of one write makes.
+const STEPS: u32 = 100;
+
+/// What two choosers tell each other.
+#[derive(Drop)]
+struct Flags {
+    one: AtomicU64,
+    other: AtomicU64,
+    /// How many gave up.
+    missed: AtomicU64,
+}
+
+/// Chooses the bio that has waited longest, once the other chooser is asked too.
+#[derive(Clone, Copy)]
+struct Meets<'a> {
+    mine: &'a AtomicU64,
+    others: &'a AtomicU64,
+    missed: &'a AtomicU64,
+}
+
+impl<'a> Chooser for Meets<'a> {
+    ghost chooses = { λ old pending index new. index ≡ 0 };
+
+    fn choose(&mut self, _pending: u64) -> u64 {
+        self.mine.store(1, Ordering::SeqCst);
+        for _ in 0..LOOKS {
+            if self.others.load(Ordering::SeqCst) == 1 {
+                return 0;
+            }
+            spin_loop();
+        }
+        self.missed.fetch_add(1, Ordering::SeqCst);
+        0
+    }
+}
+
+// Takes the next task.
+fn take_next(shared: &mut Shared) -> Option<Ran>
+    requires { SharedHolds shared.old }
+    ensures holds { SharedHolds shared.new }
+    ensures same { shared.new.locks ≡ shared.old.locks }
+    ensures home { IfSome result (λ ran. ran.home ≡ shared.new.locks) }
+{
+    shared.take_task()
+}
+
+// Whether a task comes to its end by steps of its own.
+fn ends(rt: &impl Wait, locks: &Locks, ran: Ran) -> bool
+    requires { ran.home ≡ locks.now }
+{
+    let mut ran = ran;
+    'stepping: for _ in 0..STEPS {
+        let step = ran.step(rt, locks, &mut Oldest);
+        if matches!(step, Step::Ended) {
+            return true;
+        }
+    }
+    false
+}
+
+// Whether one step of a task completes a bio.
+fn completes(rt: &impl Wait, locks: &Locks, ran: Ran, chooser: Meets<'_>) -> bool
+    requires { ran.home ≡ locks.now }
+{
+    let (mut ran, mut chooser) = (ran, chooser);
+    let step = ran.step(rt, locks, &mut chooser);
+    matches!(
+        step,
+        Step::Stepped(Event {
+            task: _,
+            what: What::Complete { .. }
+        })
+    )
+}
+
+// Whether two tasks complete a bio each in one step, beside each other.
+fn complete_beside<R: Threads + Wait + Sync>(
+    rt: &R,
+    locks: &Locks,
+    one: Ran,
+    other: Ran,
+    flags: &Flags,
+) -> bool
+    requires one { one.home ≡ locks.now }
+    requires other { other.home ≡ locks.now }
+{
+    let first = Meets {
+        mine: &flags.one,
+        others: &flags.other,
+        missed: &flags.missed,
+    };
+    let second = Meets {
+        mine: &flags.other,
+        others: &flags.one,
+        missed: &flags.missed,
+    };
+    let (is_one, is_other) = thread::join(
+        rt,
+        move || -> bool
+            requires { one.home ≡ locks.now }
+        { completes(rt, locks, one, first) },
+        move || -> bool
+            requires { other.home ≡ locks.now }
+        { completes(rt, locks, other, second) },
+    );
+    is_one && is_other && flags.missed.load(Ordering::SeqCst) == 0
+}
+
+// Whether the next task comes to its end. It is nothing where there is none.
+fn end_next(rt: &impl Wait, shared: &mut Shared) -> Option<bool>
+    requires { SharedHolds shared.old }
+    ensures { SharedHolds shared.new }
+{
+    let ran = take_next(shared)?;
+    Some(ends(rt, shared.locks(), ran))
+}
+
+// Whether the next two tasks complete a bio each beside each other.
+fn complete_next<R: Threads + Wait + Sync>(
+    rt: &R,
+    shared: &mut Shared,
+    flags: &Flags,
+) -> Option<bool>
+    requires { SharedHolds shared.old }
+{
+    let one = take_next(shared)?;
+    let other = take_next(shared)?;
+    Some(complete_beside(rt, shared.locks(), one, other, flags))
+}
+
+// Whether two writers come to their ends, one after the other, and then two completers complete a bio each beside each
+// other. It is nothing where there are fewer tasks.
+fn write_and_complete<R: Threads + Wait + Sync>(
+    rt: &R,
+    shared: Shared,
+    flags: &Flags,
+) -> Option<bool>
+    requires { SharedHolds shared }
+{
+    let mut shared = shared;
+    let is_one = end_next(rt, &mut shared)?;
+    let is_other = end_next(rt, &mut shared)?;
+    let are_both = complete_next(rt, &mut shared, flags)?;
+    Some(is_one && is_other && are_both)
+}
+
+// No clause says that two desks work beside each other. It fails where a lock is held over the calls of all desks, and
+// where one thread steps both completers.
+#[test]
+fn two_completers_choose_beside_each_other(rt: HostRuntime) -> Result<(), Fail> {
+    let flags = Flags {
+        one: AtomicU64::new(0),
+        other: AtomicU64::new(0),
+        missed: AtomicU64::new(0),
+    };
+    let shared = shared_of(rt.alloc(), TWO_DISKS)?;
+    assert_eq!(rt; write_and_complete(&rt, shared, &flags), Some(true));
+    Ok(())
+}
