@@ -176,10 +176,10 @@ fn link(book: &mut Book, stamp: &mut Stamp, pass: Pass, writer: u32, what: Ask) 
     ensures of { IsBookOf (stage_in stamp.old.common) book.old.writer book.new }
 {
     let (turn, drawn) = stamp.turn(pass);
-    match drawn {
-        Some(ticket) => turn.reply(Some(ticket), BookSaid::Linked(Ok(link_in(book, what)))),
-        None => turn.reply(None, BookSaid::Linked(Err(Unmade::Ask(what)))),
-    }
+    let Some(ticket) = drawn else {
+        return turn.reply(None, BookSaid::Linked(Err(Unmade::Ask(what))));
+    };
+    turn.reply(Some(ticket), BookSaid::Linked(Ok(link_in(book, what))))
 }
 
 // Tells a node of an end, with a ticket.
@@ -205,13 +205,13 @@ fn drop_one(
     ensures of { IsBookOf (stage_in stamp.old.common) book.old.writer book.new }
 {
     let (turn, drawn) = stamp.turn(pass);
-    match drawn {
-        Some(ticket) => turn.reply(
-            Some(ticket),
-            BookSaid::Dropped(Ok(book.drop_one(node, status, part))),
-        ),
-        None => turn.reply(None, BookSaid::Dropped(Err(unmade_part(part)))),
-    }
+    let Some(ticket) = drawn else {
+        return turn.reply(None, BookSaid::Dropped(Err(unmade_part(part))));
+    };
+    turn.reply(
+        Some(ticket),
+        BookSaid::Dropped(Ok(book.drop_one(node, status, part))),
+    )
 }
 
 // What comes back of a part.
