@@ -4,12 +4,13 @@ ghost use Rattle.stack_base.specs.Stack.{IsStack};
 
 use crate::mirrors::MIRROR;
 use crate::states::{State, opened_of, refused, run, step, steps};
-use crate::texts::{CA, Opened, Scene, W0, can_open, scene_of};
+use crate::texts::{CA, Opened, W0, can_open};
 use decl_text::Accepted;
 use plain_core::Core;
 use stack_base::Stack;
 use std::process::Abort;
 use std::test::Fail;
+use task_tests::texts::{Scene, scene_of};
 
 /// A write of one sector.
 const ONE: &str = "disk a 64\nwrite 0 a 0 1 0\n";

@@ -2,7 +2,7 @@
 ghost use Rattle.std.specs.Prelude.{IfOk};
 ghost use Rattle.trace_text.specs.Names.{DevicesAreNamed};
 
-use crate::texts::{Opened, Scene, scene_of};
+use crate::texts::Opened;
 use plain_core::laws::accepted_texts_can_open;
 use plain_core::{Core, CoreFault};
 use stack_base::Stack;
@@ -10,6 +10,7 @@ use std::alloc::AllocGlobal;
 use std::process::Abort;
 use std::test::Fail;
 use task_core::{Event, TaskId, What, open};
+use task_tests::texts::{Scene, scene_of};
 use trace_text::read_event;
 
 /// The state in which the runs of a text begin that is to be accepted.

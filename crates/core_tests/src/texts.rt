@@ -1,28 +1,22 @@
 //! States as a test writes them, as texts, and events as lines.
-ghost use Rattle.std.specs.Prelude.{◌≡◌, ◌+◌, ◌<◌, ◌≤◌, ◌↔◌, ◌^◌, All, IfOk, IsTrue, length};
+ghost use Rattle.std.specs.Prelude.{◌≡◌, ◌+◌, ◌<◌, ◌≤◌, ◌↔◌, ◌^◌, All, IsTrue, length};
 ghost use Rattle.fail_script.specs.Script.{Answers};
-ghost use Rattle.stack_base.specs.Stack.{HasRescuers, IsStack};
+ghost use Rattle.stack_base.specs.Stack.{IsStack};
 ghost use Rattle.stack_base.specs.PoolId.{IsOfStack};
 ghost use Rattle.stack_base.specs.declared.ids.PoolId.{PoolId as Pools};
 ghost use Rattle.layout_model.specs.declared.write.Write.{Write as Writes};
 ghost use Rattle.layout_model.specs.Bound.{all_elements, most_elements};
 ghost use Rattle.layout_model.specs.Writes.{IsWrite};
 ghost use Rattle.work_text.specs.declared.Resize.{Resize as Resizes};
-ghost use Rattle.run_machine.specs.ReadBehind.{IsReadBehind};
-ghost use Rattle.trace_text.specs.Names.{DevicesAreNamed};
 ghost use Rattle.plain_core.specs.opening.Opening.{CanOpen};
 
-use decl_text::{Accepted, ReadFault, read_decl};
+use decl_text::Accepted;
 use fail_script::Script;
 use layout_model::{Write, need};
 use plain_core::Core;
 use stack_base::{DevId, PoolId, Stack};
-use stack_check::accept;
-use std::alloc::Global;
-use std::test::Fail;
 use task_core::TaskId;
-use trace_text::laws::accepted_stacks_are_named;
-use work_text::{Resize, Work, read_work};
+use work_text::{Resize, Work};
 
 // Whether a stack may have a pool.
 fn is_of_stack(pool: PoolId) -> bool
@@ -120,43 +114,12 @@ pub fn can_open(stack: &Stack, scripts: &[(PoolId, Script)], work: &Work) -> boo
         && have_rounds(&work.rounds)
 }
 
-/// What a text says.
-#[derive(Drop)]
-pub struct Scene {
-    pub accepted: Accepted,
-    pub work: Work,
-}
-
 /// A text that was read, how many writes it has, and the state in which its runs begin.
 #[derive(Drop)]
 pub struct Opened {
     pub accepted: Accepted,
     pub writes: usize,
     pub core: Core,
-}
-
-// What a text says.
-fn read(alloc: Global, text: &[u8]) -> Result<Scene, ReadFault>
-    ensures stack { IfOk result (λ scene. IsStack scene.accepted.stack) }
-    ensures read { IfOk result (λ scene. IsReadBehind scene.accepted scene.work) }
-    ensures rescuers { IfOk result (λ scene. HasRescuers scene.accepted.stack) }
-{
-    let decl = read_decl(alloc, text)?;
-    let accepted = accept(alloc, decl)?;
-    let work = read_work(alloc, text, &accepted)?;
-    Ok(Scene { accepted, work })
-}
-
-/// What a text says that is to be accepted.
-pub fn scene_of(alloc: Global, text: &str) -> Result<Scene, Fail>
-    ensures named { IfOk result (λ scene. DevicesAreNamed scene.accepted.stack) }
-    ensures stack { IfOk result (λ scene. IsStack scene.accepted.stack) }
-    ensures read { IfOk result (λ scene. IsReadBehind scene.accepted scene.work) }
-    ensures rescuers { IfOk result (λ scene. HasRescuers scene.accepted.stack) }
-{
-    let scene = read(alloc, text.as_bytes())?;
-    accepted_stacks_are_named();
-    Ok(scene)
 }
 
 /// Tasks of the tests.

@@ -12,7 +12,7 @@ use Rattle.object_things.specs.declared.list.ListAsk.{ListAsk}
 use Rattle.object_things.specs.declared.list.ListAsk.TheVariants as ask
 use Rattle.object_things.specs.declared.list.ListSaid.{ListSaid}
 use Rattle.object_things.specs.declared.list.ListSaid.TheVariants as said
-use Rattle.object_things.specs.Stamps.{Held, MarkState, mark_of, Told, ThingState, Answers, PassBy, FindsNone, OnlyLooks, stage_in, is_spent}
+use Rattle.object_things.specs.Stamps.{Held, MarkState, mark_of, Told, ThingState, Answers, PassBy, FindsNone, OnlyLooks, stage_in, is_spent, StampState, thing_state}
 
 abbrev pub list_asked : ListAsk → Request
 list_asked (ask.Punt dev moved) = Punt dev moved
@@ -38,6 +38,10 @@ ListLooks old request reply new = ⊥
 
 abbrev pub ListAnswers : ThingState Rescue → Request → Told → ThingState Rescue → Type 0
 ListAnswers = Answers ListServes ListLooks
+
+-- the same of a list with its stamp, which gave this reply
+abbrev pub ListReplies : Rescue → StampState → Request → Replied ListSaid → Rescue → StampState → Type 0
+ListReplies old stamp asked replied new after = ListAnswers (thing_state old stamp) asked (list_told replied) (thing_state new after)
 
 abbrev pub ListFits : MarkState → Asking ListAsk → Type 0
 ListFits mark asking = (asking.pass.clock ≡ mark.common.clock) × (object_of (list_asked asking.ask) ≡ mark.name) × RequestFits (stage_in mark.common) (list_asked asking.ask)

@@ -8,6 +8,7 @@ use Rattle.run_machine.specs.Laws.{Object}
 use Rattle.task_steps.specs.Stage.{Stage}
 use Rattle.task_core.specs.declared.plain.Plain.{Plain}
 use Rattle.task_core.specs.Plains.{stage_of, tally_of}
+use Rattle.object_things.specs.declared.stamp.Replied.{Replied}
 
 -- what is the same for all things that were shared together: the clock that they draw from, and the objects as they were opened
 pub record CommonState : Type 0 where
@@ -56,6 +57,11 @@ PassBy pass note false drew None after = after ≡ record pass { seen = max pass
 -- a ticket above all that the note had seen was drawn, where no draw had failed
 abbrev pub HasDrawn : StampState → ℕ → StampState → Type 0
 HasDrawn old ticket new = (old.spent ≡ false) × (old.note < ticket) × (new ≡ record old { note = ticket })
+
+-- the reply of a call that only looks: the pass has met the note, and there is no ticket
+abbrev pub looked : {S : Type 0} → StampState → PassState → S → Replied S
+looked stamp pass said =
+    record { pass = record pass { seen = max pass.seen stamp.note }; said = said; note = stamp.note; drew = not stamp.spent; ticket = None }
 
 -- what the history keeps of a reply: the reply, what the note had seen, whether no draw had failed before, and the ticket that was drawn
 pub record Told : Type 0 where

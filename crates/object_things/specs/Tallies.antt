@@ -13,7 +13,7 @@ use Rattle.object_things.specs.declared.tally.TallyAsk.{TallyAsk}
 use Rattle.object_things.specs.declared.tally.TallyAsk.TheVariants as ask
 use Rattle.object_things.specs.declared.tally.TallySaid.{TallySaid}
 use Rattle.object_things.specs.declared.tally.TallySaid.TheVariants as said
-use Rattle.object_things.specs.Stamps.{Held, MarkState, mark_of, Told, ThingState, Answers, PassBy, FindsNone, stage_in, OnlyLooks, is_spent}
+use Rattle.object_things.specs.Stamps.{Held, MarkState, mark_of, Told, ThingState, Answers, PassBy, FindsNone, stage_in, OnlyLooks, is_spent, StampState, thing_state}
 
 -- the numbers of the rounds behind the present one are as they were opened
 pub record IsLater (opened tally : TallyState) : Type 0 where
@@ -49,6 +49,10 @@ TallyLooks old request reply new = ⊥
 
 abbrev pub TallyAnswers : ThingState TallyState → Request → Told → ThingState TallyState → Type 0
 TallyAnswers = Answers TallyServes TallyLooks
+
+-- the same of the tally with its stamp, which gave this reply
+abbrev pub TallyReplies : TallyState → StampState → Request → Replied TallySaid → TallyState → StampState → Type 0
+TallyReplies old stamp asked replied new after = TallyAnswers (thing_state old stamp) asked (tally_told replied) (thing_state new after)
 
 abbrev pub TallyFits : MarkState → Asking TallyAsk → Type 0
 TallyFits mark asking = (asking.pass.clock ≡ mark.common.clock) × (object_of (tally_asked asking.ask) ≡ mark.name) × RequestFits (stage_in mark.common) (tally_asked asking.ask)

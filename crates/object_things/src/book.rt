@@ -7,8 +7,8 @@ ghost use Rattle.run_machine.specs.Requests.{Link as LinkOf, Drop as DropOf};
 ghost use Rattle.task_steps.specs.Stage.{RequestFits, Owes};
 ghost use Rattle.task_steps.specs.Views.{opening_of, unmade_part, IsAskAlone};
 ghost use Rattle.object_things.specs.declared.book.BookAsk.TheVariants as ask;
-ghost use Rattle.object_things.specs.Stamps.{PassBy, thing_state, is_spent, stage_in};
-ghost use Rattle.object_things.specs.Books.{BookAnswers, BookSays, book_told, book_replied};
+ghost use Rattle.object_things.specs.Stamps.{PassBy, is_spent, stage_in};
+ghost use Rattle.object_things.specs.Books.{BookReplies, BookSays, book_replied};
 
 use crate::stamp::{Asked, Asking, Mark, Replied, Stamp, Told};
 use bio_books::{Book, Dropped, Link};
@@ -168,7 +168,7 @@ fn link(book: &mut Book, stamp: &mut Stamp, pass: Pass, writer: u32, what: Ask) 
     requires alone { IsAskAlone what }
     requires fits { RequestFits (stage_in stamp.old.common) (LinkOf writer (opening_of what)) }
     requires of { IsBookOf (stage_in stamp.old.common) book.old.writer book.old }
-    ensures answers { BookAnswers (thing_state book.old stamp.old) (LinkOf writer (opening_of what)) (book_told result) (thing_state book.new stamp.new) }
+    ensures answers { BookReplies book.old stamp.old (LinkOf writer (opening_of what)) result book.new stamp.new }
     ensures pass { PassBy pass result.note (is_spent (book_replied result.said)) result.drew result.ticket result.pass }
     ensures owed { Owes (stage_in stamp.old.common) (LinkOf writer (opening_of what)) (book_replied result.said) }
     ensures says { BookSays (ask.Link writer what) result.said }
@@ -197,7 +197,7 @@ fn drop_one(
     requires alone { IsAlonePart part }
     requires fits { RequestFits (stage_in stamp.old.common) (DropOf writer node status (bio_of part)) }
     requires of { IsBookOf (stage_in stamp.old.common) book.old.writer book.old }
-    ensures answers { BookAnswers (thing_state book.old stamp.old) (DropOf writer node status (bio_of part)) (book_told result) (thing_state book.new stamp.new) }
+    ensures answers { BookReplies book.old stamp.old (DropOf writer node status (bio_of part)) result book.new stamp.new }
     ensures pass { PassBy pass result.note (is_spent (book_replied result.said)) result.drew result.ticket result.pass }
     ensures owed { Owes (stage_in stamp.old.common) (DropOf writer node status (bio_of part)) (book_replied result.said) }
     ensures says { BookSays (ask.Drop writer node status part) result.said }

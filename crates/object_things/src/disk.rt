@@ -5,8 +5,8 @@ ghost use Rattle.task_core.specs.ObjectsOf.{IsDiskOf};
 ghost use Rattle.run_machine.specs.Requests.{Push, Complete as CompleteOf};
 ghost use Rattle.task_steps.specs.Stage.{RequestFits};
 ghost use Rattle.object_things.specs.declared.disk.DiskAsk.TheVariants as ask;
-ghost use Rattle.object_things.specs.Stamps.{PassBy, thing_state, is_spent, stage_in};
-ghost use Rattle.object_things.specs.Disks.{DiskAnswers, DiskSays, disk_told, disk_replied};
+ghost use Rattle.object_things.specs.Stamps.{PassBy, is_spent, stage_in};
+ghost use Rattle.object_things.specs.Disks.{DiskReplies, DiskSays, disk_replied};
 
 use crate::stamp::{Asked, Asking, Mark, Replied, Stamp, Told};
 use bio_records::BioElement;
@@ -149,7 +149,7 @@ fn push(disk: &mut Disk, stamp: &mut Stamp, pass: Pass, el: BioElement) -> Repli
     requires alone { IsAlone el }
     requires fits { RequestFits (stage_in stamp.old.common) (Push (item_of el)) }
     requires of { IsDiskOf (stage_in stamp.old.common) disk.old.dev.0 disk.old }
-    ensures answers { DiskAnswers (thing_state disk.old stamp.old) (Push (item_of el)) (disk_told result) (thing_state disk.new stamp.new) }
+    ensures answers { DiskReplies disk.old stamp.old (Push (item_of el)) result disk.new stamp.new }
     ensures pass { PassBy pass result.note (is_spent (disk_replied result.said)) result.drew result.ticket result.pass }
     ensures says { DiskSays (stage_in stamp.old.common) (ask.Push el) result.said }
     ensures same { (stamp.new.common ≡ stamp.old.common) × (disk.new.dev ≡ disk.old.dev) }
@@ -176,7 +176,7 @@ fn complete(
     requires clock { pass.clock ≡ stamp.old.common.clock }
     requires own { dev.0 ≡ disk.old.dev.0 }
     requires of { IsDiskOf (stage_in stamp.old.common) disk.old.dev.0 disk.old }
-    ensures answers { DiskAnswers (thing_state disk.old stamp.old) (CompleteOf dev) (disk_told result) (thing_state disk.new stamp.new) }
+    ensures answers { DiskReplies disk.old stamp.old (CompleteOf dev) result disk.new stamp.new }
     ensures pass { PassBy pass result.note (is_spent (disk_replied result.said)) result.drew result.ticket result.pass }
     ensures says { DiskSays (stage_in stamp.old.common) (ask.Complete dev index) result.said }
     ensures same { (stamp.new.common ≡ stamp.old.common) × (disk.new.dev ≡ disk.old.dev) }

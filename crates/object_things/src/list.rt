@@ -3,8 +3,8 @@ ghost use Rattle.std.specs.Prelude.{◌≡◌};
 ghost use Rattle.run_machine.specs.Requests.{Punt, Pop};
 ghost use Rattle.task_steps.specs.Stage.{AreServed, Owes};
 ghost use Rattle.object_things.specs.declared.list.ListAsk.TheVariants as ask;
-ghost use Rattle.object_things.specs.Stamps.{PassBy, thing_state, is_spent, stage_in};
-ghost use Rattle.object_things.specs.Lists.{ListAnswers, ListSays, list_told, list_replied};
+ghost use Rattle.object_things.specs.Stamps.{PassBy, is_spent, stage_in};
+ghost use Rattle.object_things.specs.Lists.{ListReplies, ListSays, list_replied};
 
 use crate::stamp::{Asked, Asking, Mark, Replied, Stamp, Told};
 use bio_records::{BioElement, BioList, RescueList};
@@ -139,7 +139,7 @@ fn punt(
     requires own { dev.0 ≡ list.old.dev.0 }
     requires fits { AreServed (stage_in stamp.old.common) moved }
     requires of { AreServed (stage_in stamp.old.common) list.old.bios }
-    ensures answers { ListAnswers (thing_state list.old stamp.old) (Punt dev moved) (list_told result) (thing_state list.new stamp.new) }
+    ensures answers { ListReplies list.old stamp.old (Punt dev moved) result list.new stamp.new }
     ensures pass { PassBy pass result.note (is_spent (list_replied result.said)) result.drew result.ticket result.pass }
     ensures owed { Owes (stage_in stamp.old.common) (Punt dev moved) (list_replied result.said) }
     ensures says { ListSays (ask.Punt dev moved) result.said }
@@ -161,7 +161,7 @@ fn pop(list: &mut RescueList, stamp: &mut Stamp, pass: Pass, dev: DevId) -> Repl
     requires clock { pass.clock ≡ stamp.old.common.clock }
     requires own { dev.0 ≡ list.old.dev.0 }
     requires of { AreServed (stage_in stamp.old.common) list.old.bios }
-    ensures answers { ListAnswers (thing_state list.old stamp.old) (Pop dev) (list_told result) (thing_state list.new stamp.new) }
+    ensures answers { ListReplies list.old stamp.old (Pop dev) result list.new stamp.new }
     ensures pass { PassBy pass result.note (is_spent (list_replied result.said)) result.drew result.ticket result.pass }
     ensures owed { Owes (stage_in stamp.old.common) (Pop dev) (list_replied result.said) }
     ensures says { ListSays (ask.Pop dev) result.said }

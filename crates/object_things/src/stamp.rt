@@ -1,7 +1,7 @@
 //! What each thing has beside its object.
 ghost use Rattle.std.specs.Prelude.{◌≡◌, ◌<◌, ◌≤◌, max, not, None, true, false, IfSome};
 ghost use Rattle.tick_clock.specs.Tickets.{drawn_with};
-ghost use Rattle.object_things.specs.Stamps.{HasDrawn, IsOver, PassBy};
+ghost use Rattle.object_things.specs.Stamps.{HasDrawn, IsOver, PassBy, looked};
 
 use std::alloc::Global;
 use std::marker::Model;
@@ -145,7 +145,7 @@ impl Stamp {
 
     /// What a call says that only looks: the pass meets the note, and nothing is drawn.
     pub(crate) fn look<S>(&self, mut pass: Pass, said: S) -> Replied<S>
-        ensures { result ≡ record { pass = record pass { seen = max pass.seen self.now.note }; said = said; note = self.now.note; drew = not self.now.spent; ticket = None } }
+        ensures { result ≡ looked self.now pass said }
     {
         pass.meet(&self.note);
         Replied {

@@ -5,8 +5,8 @@ ghost use Rattle.task_core.specs.Plains.{tally_of};
 ghost use Rattle.run_machine.specs.Requests.{Done as DoneOf, NextRound};
 ghost use Rattle.task_steps.specs.Stage.{Owes};
 ghost use Rattle.object_things.specs.declared.tally.TallyAsk.TheVariants as ask;
-ghost use Rattle.object_things.specs.Stamps.{PassBy, thing_state, is_spent, stage_in, opened_tally};
-ghost use Rattle.object_things.specs.Tallies.{TallyAnswers, TallySays, IsLater, tally_told, tally_replied, tally_asked};
+ghost use Rattle.object_things.specs.Stamps.{PassBy, is_spent, stage_in, opened_tally};
+ghost use Rattle.object_things.specs.Tallies.{TallyReplies, TallySays, IsLater, tally_replied, tally_asked};
 
 use crate::stamp::{Asked, Asking, Mark, Replied, Stamp, Told};
 use seat_lock::Thing;
@@ -155,7 +155,7 @@ fn done(
     requires clock { pass.clock ≡ stamp.old.common.clock }
     requires fits { write < (stage_in stamp.old.common).writes }
     requires of { IsTallyOf (stage_in stamp.old.common) (tally_of tally.old) × IsLater (opened_tally stamp.old.common) (tally_of tally.old) }
-    ensures answers { TallyAnswers (thing_state (tally_of tally.old) stamp.old) (DoneOf write status) (tally_told result) (thing_state (tally_of tally.new) stamp.new) }
+    ensures answers { TallyReplies (tally_of tally.old) stamp.old (DoneOf write status) result (tally_of tally.new) stamp.new }
     ensures pass { PassBy pass result.note (is_spent (tally_replied result.said)) result.drew result.ticket result.pass }
     ensures owed { Owes (stage_in stamp.old.common) (DoneOf write status) (tally_replied result.said) }
     ensures says { TallySays (ask.Done write status) result.said }
@@ -176,7 +176,7 @@ fn done(
 fn next(tally: &mut Tally, stamp: &mut Stamp, pass: Pass) -> Replied<TallySaid>
     requires clock { pass.clock ≡ stamp.old.common.clock }
     requires of { IsTallyOf (stage_in stamp.old.common) (tally_of tally.old) × IsLater (opened_tally stamp.old.common) (tally_of tally.old) }
-    ensures answers { TallyAnswers (thing_state (tally_of tally.old) stamp.old) (NextRound 0) (tally_told result) (thing_state (tally_of tally.new) stamp.new) }
+    ensures answers { TallyReplies (tally_of tally.old) stamp.old (NextRound 0) result (tally_of tally.new) stamp.new }
     ensures pass { PassBy pass result.note (is_spent (tally_replied result.said)) result.drew result.ticket result.pass }
     ensures owed { Owes (stage_in stamp.old.common) (NextRound 0) (tally_replied result.said) }
     ensures says { TallySays ask.Next result.said }

@@ -2,10 +2,13 @@
 use Rattle.std.specs.Prelude.{◌≡◌, ◌≢◌, ◌⊎◌, ◌++◌, if◌then◌else◌, ℕ, zero, suc, Bool, List, [], ◌∷◌, map}
 use Rattle.stack_base.specs.declared.ids.DevId.{DevId}
 use Rattle.stack_base.specs.declared.ids.PoolId.{PoolId}
-use Rattle.stack_base.specs.declared.ids.PoolId.TheVariants.{Bios, Records}
+use Rattle.stack_base.specs.declared.ids.PoolId.TheVariants.{Bios, Records, FsBios, FsVecs}
 use Rattle.stack_base.specs.declared.ids.SetId.{SetId}
-use Rattle.stack_base.specs.declared.ids.SetId.TheVariants.{Of}
+use Rattle.stack_base.specs.declared.ids.SetId.TheVariants.{Fs, Of}
 use Rattle.mempool_core.specs.declared.Facts.{Facts}
+use Rattle.mempool_core.specs.Pool.{LedgerPool}
+use Rattle.seat_lock.specs.declared.lock.Shut.{Shut}
+use Rattle.object_things.specs.Stamps.{Held}
 use Rattle.run_machine.specs.Opened.{at}
 
 -- which devices have a set of bios, which are mirrors, and the facts of each pool
@@ -13,6 +16,10 @@ pub record DevicePools : Type 0 where
   pub has_set : ℕ → Bool
   pub is_mirror : ℕ → Bool
   pub facts : PoolId → Facts
+
+-- the facts of a pool that was closed
+abbrev pub facts_left : {Q P D A R M : Type 0} → Shut (Held LedgerPool) Q P D A R M → Facts
+facts_left shut = shut.thing.object.state.facts
 
 -- the facts of each pool of a row, with its key
 abbrev pub row_of : {K X : Type 0} → (X → Facts) → List (K × X) → List (K × Facts)
@@ -55,3 +62,15 @@ module _ {K X : Type 0} (facts : X → Facts) where
   MovesIf key pool old before new after =
       ((move : MovesLast pool old before new after) × (move.last.0 ≡ key))
       ⊎ (((rest : List (K × X)) (last : K × X) → old ≡ rest ++ last ∷ [] → last.0 ≢ key) × (new ≡ old) × (after ≡ before))
+
+module _ {X Y : Type 0} (of_bios : X → Facts) (of_records : Y → Facts) where
+  -- whichever pools of devices these rows have, their facts stand behind others by falling number
+  abbrev pub AddsFalling : List (SetId × X) → List (DevId × Y) → List (PoolId × Facts) → List (PoolId × Facts) → Type 0
+  AddsFalling bios records before after =
+      (all : DevicePools) → row_of of_bios bios ≡ sets_below all 32 → row_of of_records records ≡ records_below all 32 → after ≡ before ++ falling_below all 32
+
+  -- and behind those of the writers, whose bios are the first of their row, they are all
+  abbrev pub AreAllFalling : List (SetId × X) → Facts → List (DevId × Y) → List (PoolId × Facts) → Type 0
+  AreAllFalling bios vecs records result =
+      (all : DevicePools) → row_of of_bios bios ≡ (Fs, all.facts FsBios) ∷ sets_below all 32 → row_of of_records records ≡ records_below all 32
+      → vecs ≡ all.facts FsVecs → result ≡ with_facts all FsBios ∷ with_facts all FsVecs ∷ falling_below all 32

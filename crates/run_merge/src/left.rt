@@ -1,8 +1,6 @@
 //! What closed objects leave.
 ghost use Rattle.std.specs.Prelude.{◌≡◌, ◌+◌, ◌-◌, ◌^◌, ◌<◌, ◌≤◌, ◌++◌, ◌∷◌, [], length, map, min, sum_by, vec_capacity};
-ghost use Rattle.stack_base.specs.declared.ids.PoolId.TheVariants.{FsBios, FsVecs};
-ghost use Rattle.stack_base.specs.declared.ids.SetId.TheVariants.{Fs};
-ghost use Rattle.run_merge.specs.Falling.{DevicePools, row_of, sets_below, records_below, with_facts, falling_below};
+ghost use Rattle.run_merge.specs.Falling.{AreAllFalling, facts_left};
 
 use crate::rows::{add_falling, facts_of};
 use bio_records::{BioBody, Pad, Slip, Vector};
@@ -66,10 +64,7 @@ pub(crate) fn pools_of(
     requires none { room.items ≡ [] }
     requires some { 0 < length bios.items }
     requires room { length bios.items + length records.items + 1 ≤ vec_capacity room }
-    ensures { (all : DevicePools) → row_of (λ shut. shut.thing.object.state.facts) bios.items ≡ (Fs, all.facts FsBios) ∷ sets_below all 32
-        → row_of (λ shut. shut.thing.object.state.facts) records.items ≡ records_below all 32
-        → vecs.thing.object.state.facts ≡ all.facts FsVecs
-        → result.items ≡ with_facts all FsBios ∷ with_facts all FsVecs ∷ falling_below all 32 }
+    ensures { AreAllFalling facts_left facts_left bios.items (facts_left vecs) records.items result.items }
 {
     let mut pools = room;
     let (_, writers) = bios.remove(0);

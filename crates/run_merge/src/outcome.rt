@@ -6,7 +6,7 @@ ghost use Rattle.run_merge.specs.Outcomes.{IsOutcomeOf};
 use crate::left::{disks_of, events_of, pools_of, statuses_of};
 use crate::trace::trace_of;
 use run_machine::Event;
-use shared_objects::{Closed, ClosedParts, drop_rest};
+use shared_objects::{Closed, drop_rest};
 use std::alloc::{AllocError, Global};
 use task_core::Ended;
 
@@ -34,26 +34,14 @@ pub fn merge(alloc: Global, closed: Closed) -> Result<Outcome, AllocError>
     ensures merged { IfOk result (IsOutcomeOf closed) }
     ensures untraced { closed.trace ≡ false → IsOk result }
 {
-    let ClosedParts {
-        bios,
-        vecs,
-        records,
-        lists,
-        disks,
-        books,
-        tally,
-        told,
-        tasks,
-        trace,
-        pass,
-        room,
-    } = closed.parts();
-    drop_rest(lists, books, told, pass);
-    let steps = events_of(&tasks);
-    let events = trace_of(alloc, trace, tasks)?;
-    let disks = disks_of(disks, room.disks);
-    let pools = pools_of(bios, vecs, records, room.pools);
-    let statuses = statuses_of(tally);
+    let parts = closed.parts();
+    let room = parts.room;
+    drop_rest(parts.lists, parts.books, parts.told, parts.pass);
+    let steps = events_of(&parts.tasks);
+    let events = trace_of(alloc, parts.trace, parts.tasks)?;
+    let disks = disks_of(parts.disks, room.disks);
+    let pools = pools_of(parts.bios, parts.vecs, parts.records, room.pools);
+    let statuses = statuses_of(parts.tally);
     Ok(Outcome {
         ended: Ended {
             statuses,

@@ -1,8 +1,8 @@
 //! Rows of pools that were closed.
-ghost use Rattle.std.specs.Prelude.{◌≡◌, ◌+◌, ◌<◌, ◌≤◌, ◌++◌, ◌↔◌, ◌∷◌, [], IsTrue, length, vec_capacity};
-ghost use Rattle.stack_base.specs.declared.ids.PoolId.TheVariants.{Bios, Records, FsBios, FsVecs};
+ghost use Rattle.std.specs.Prelude.{◌≡◌, ◌+◌, ◌<◌, ◌≤◌, ◌↔◌, IsTrue, length, vec_capacity};
+ghost use Rattle.stack_base.specs.declared.ids.PoolId.TheVariants.{Bios, Records};
 ghost use Rattle.stack_base.specs.declared.ids.SetId.TheVariants.{Of};
-ghost use Rattle.run_merge.specs.Falling.{DevicePools, row_of, sets_below, records_below, falling_below, MovesLast, MovesIf};
+ghost use Rattle.run_merge.specs.Falling.{AddsFalling, MovesIf, MovesLast, facts_left};
 
 use bio_records::{BioBody, Pad, Slip};
 use elem_ledger::Fresh;
@@ -13,7 +13,7 @@ use stack_base::{DevId, PoolId, SetId};
 
 /// The facts of a pool, of which nothing else is kept.
 pub(crate) fn facts_of<P: Fresh + Drop>(shut: Shut<PoolThing<P>>) -> Facts
-    ensures { result ≡ shut.thing.object.state.facts }
+    ensures { result ≡ facts_left shut }
 {
     let (pool, _) = shut.thing.parts();
     pool.facts()
@@ -27,7 +27,7 @@ fn add_last<K: Copy + Drop, P: Fresh + Drop>(
 )
     requires some { 0 < length row.old.items }
     requires room { length pools.old.items < vec_capacity pools.old }
-    ensures moved { MovesLast (λ shut. shut.thing.object.state.facts) pool row.old.items pools.old.items row.new.items pools.new.items }
+    ensures moved { MovesLast facts_left pool row.old.items pools.old.items row.new.items pools.new.items }
     ensures room { vec_capacity pools.old ≤ vec_capacity pools.new }
 {
     let Some((_, shut)) = row.pop() else {
@@ -53,7 +53,7 @@ fn add_bios(
     pools: &mut Vec<(PoolId, Facts)>,
 )
     requires room { length pools.old.items + length bios.old.items ≤ vec_capacity pools.old }
-    ensures moved { MovesIf (λ shut. shut.thing.object.state.facts) (Of dev) (Bios dev) bios.old.items pools.old.items bios.new.items pools.new.items }
+    ensures moved { MovesIf facts_left (Of dev) (Bios dev) bios.old.items pools.old.items bios.new.items pools.new.items }
     ensures room { vec_capacity pools.old ≤ vec_capacity pools.new }
 {
     let Some(last) = bios.last() else {
@@ -71,7 +71,7 @@ fn add_records(
     pools: &mut Vec<(PoolId, Facts)>,
 )
     requires room { length pools.old.items + length records.old.items ≤ vec_capacity pools.old }
-    ensures moved { MovesIf (λ shut. shut.thing.object.state.facts) dev (Records dev) records.old.items pools.old.items records.new.items pools.new.items }
+    ensures moved { MovesIf facts_left dev (Records dev) records.old.items pools.old.items records.new.items pools.new.items }
     ensures room { vec_capacity pools.old ≤ vec_capacity pools.new }
 {
     let Some(last) = records.last() else {
@@ -89,9 +89,7 @@ pub(crate) fn add_falling(
     pools: &mut Vec<(PoolId, Facts)>,
 )
     requires room { length pools.old.items + (length bios.items + length records.items) ≤ vec_capacity pools.old }
-    ensures { (all : DevicePools) → row_of (λ shut. shut.thing.object.state.facts) bios.items ≡ sets_below all 32
-        → row_of (λ shut. shut.thing.object.state.facts) records.items ≡ records_below all 32
-        → pools.new.items ≡ pools.old.items ++ falling_below all 32 }
+    ensures { AddsFalling facts_left facts_left bios.items records.items pools.old.items pools.new.items }
 {
     'adding: for number in (0..32).rev() {
         let dev = DevId(number);

@@ -19,7 +19,7 @@ use Rattle.run_machine.specs.Runs.{State, HasFree}
 use Rattle.run_machine.specs.Scene.{Scene}
 use Rattle.task_steps.specs.Stage.{Stage}
 use Rattle.task_steps.specs.TaskViews.{TaskOf}
-use Rattle.serial_run.specs.Turning.{Tried}
+use Rattle.serial_run.specs.Turning.{TriedOver}
 
 -- the place behind, round all
 pub next_place : (w k n : ℕ) → ((w + k) % n + 1) % n ≡ (w + (k + 1)) % n
@@ -105,7 +105,7 @@ module _ {V : Type 0} (happens : V → Event → V → Type 0) (old : Plain) (fi
     (spot passed : ℕ) (words : Lcg) (seen : V) (sweep : IsSweep old now first tasks w spot passed stream words before seen) where
   -- a task more that is passed over
   pub passes_on : (new : Plain) (more : List TaskOf) (next_spot : ℕ) (after : Lcg) (next : V) (answer : Bool)
-      → Tried happens (stage_of now).routing.stack (scene_of_objects now (length tasks)) spot (run_state now tasks) words seen answer (run_state new more) after next → answer ≡ false
+      → TriedOver happens now tasks spot words seen answer new more after next → answer ≡ false
       → AreOfOne new more → stage_of new ≡ stage_of now → length more ≡ length tasks → next_spot ≡ (spot + 1) % length first
       → IsSweep old new first more w next_spot (passed + 1) stream after before next
   passes_on new more next_spot after next answer tried none one stage count following = record {
@@ -119,8 +119,8 @@ module _ {V : Type 0} (happens : V → Event → V → Type 0) (old : Plain) (fi
     others = λ k lt. elim (before_or k passed lt) [ inl less ↦ sweep.others k less | inr same ↦ here k same ];
   }
     where
-      stays : Tried happens (stage_of now).routing.stack (scene_of_objects now (length tasks)) spot (run_state now tasks) words seen false (run_state new more) after next
-      stays = subst (λ b. Tried happens (stage_of now).routing.stack (scene_of_objects now (length tasks)) spot (run_state now tasks) words seen b (run_state new more) after next) none tried
+      stays : TriedOver happens now tasks spot words seen false new more after next
+      stays = subst (λ b. TriedOver happens now tasks spot words seen b new more after next) none tried
 
       before_or : (k p : ℕ) → k < p + 1 → (k < p) ⊎ (k ≡ p)
       before_or k p lt = grind (arith, lt)

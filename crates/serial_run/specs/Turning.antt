@@ -6,7 +6,11 @@ use Rattle.run_machine.specs.declared.event.Event.{Event}
 use Rattle.task_steps.specs.declared.step.Step.{Step}
 use Rattle.task_steps.specs.declared.step.Step.TheVariants.{Stepped}
 use Rattle.run_machine.specs.Named.{Fits, IsEventOf}
-use Rattle.task_core.specs.PlainSteps.{IsPassedOver}
+use Rattle.task_steps.specs.TaskViews.{TaskOf}
+use Rattle.task_core.specs.declared.plain.Plain.{Plain}
+use Rattle.task_core.specs.Plains.{stage_of}
+use Rattle.task_core.specs.PlainSteps.{IsPassedOver, scene_of_objects}
+use Rattle.task_core.specs.opened.OfOne.{run_state}
 use Rattle.run_machine.specs.Runs.{State, Steps}
 use Rattle.run_machine.specs.Scene.{Scene}
 use Rattle.run_machine.specs.Tasks.{Keeper, Keeps, Starts, Duty}
@@ -37,3 +41,12 @@ Tried happens stack scene place old stream before false new after now =
 abbrev pub Turned : {V : Type 0} → (V → Event → V → Type 0) → Stack → Scene → State → Lcg → V → State → Lcg → V → Type 0
 Turned happens stack scene old stream before new after now =
     (event : Event) × IsTurn scene old stream event new after × happens before event now × IsEventOf stack event × Fits event
+
+-- the same of tasks over the objects of one thread
+abbrev pub TriedOver : {V : Type 0} → (V → Event → V → Type 0) → Plain → List TaskOf → ℕ → Lcg → V → Bool → Plain → List TaskOf → Lcg → V → Type 0
+TriedOver happens old tasks place stream before answer new more after now =
+    Tried happens (stage_of old).routing.stack (scene_of_objects old (length tasks)) place (run_state old tasks) stream before answer (run_state new more) after now
+
+abbrev pub TurnedOver : {V : Type 0} → (V → Event → V → Type 0) → Plain → List TaskOf → Lcg → V → Plain → List TaskOf → Lcg → V → Type 0
+TurnedOver happens old tasks stream before new more after now =
+    Turned happens (stage_of old).routing.stack (scene_of_objects old (length tasks)) (run_state old tasks) stream before (run_state new more) after now

@@ -4,7 +4,7 @@ ghost use Rattle.task_core.specs.opened.OfOne.{run_state, AreOfOne};
 ghost use Rattle.task_core.specs.Plains.{stage_of};
 ghost use Rattle.task_core.specs.PlainSteps.{scene_of_objects};
 ghost use Rattle.run_machine.specs.Runs.{HasFree, unfinished};
-ghost use Rattle.serial_run.specs.Turning.{GoesWell, Hands, Tried, Turned};
+ghost use Rattle.serial_run.specs.Turning.{GoesWell, Hands, TriedOver, TurnedOver};
 
 use crate::events::Events;
 use crate::schedule::Schedule;
@@ -34,8 +34,7 @@ fn attempt<V: Events>(
     requires one { AreOfOne objects.old tasks.old }
     requires place { place < length tasks.old }
     requires well { GoesWell (scene_of_objects objects.old (length tasks.old)) (run_state objects.old tasks.old) }
-    ensures tried { Tried V.happens (stage_of objects.old).routing.stack (scene_of_objects objects.old (length tasks.old)) place (run_state objects.old tasks.old) schedule.old events.old result
-        (run_state objects.new tasks.new) schedule.new events.new }
+    ensures tried { TriedOver V.happens objects.old tasks.old place schedule.old events.old result objects.new tasks.new schedule.new events.new }
     ensures one { AreOfOne objects.new tasks.new }
     ensures same { stage_of objects.new ≡ stage_of objects.old }
 {
@@ -63,8 +62,7 @@ pub(crate) fn turn<V: Events>(
     requires some { 1 ≤ unfinished (run_state objects.old tasks.old) }
     requires well { GoesWell (scene_of_objects objects.old (length tasks.old)) (run_state objects.old tasks.old) }
     requires free { HasFree (scene_of_objects objects.old (length tasks.old)) (run_state objects.old tasks.old) }
-    ensures turned { Turned V.happens (stage_of objects.old).routing.stack (scene_of_objects objects.old (length tasks.old)) (run_state objects.old tasks.old) schedule.old events.old
-        (run_state objects.new tasks.new) schedule.new events.new }
+    ensures turned { TurnedOver V.happens objects.old tasks.old schedule.old events.old objects.new tasks.new schedule.new events.new }
     ensures one { AreOfOne objects.new tasks.new }
     ensures same { stage_of objects.new ≡ stage_of objects.old }
 {

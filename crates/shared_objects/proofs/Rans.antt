@@ -16,7 +16,7 @@ use Rattle.shared_objects.specs.Desks.{DeskState, DeskServes, HasCalled, PassOn}
 use Rattle.shared_objects.specs.Holding.{DeskHolds, desk_of, stage_at}
 use Rattle.shared_objects.specs.Logs.{seen_by}
 use Rattle.shared_objects.specs.Noting.{IsBlank, NotesStep}
-use Rattle.shared_objects.specs.Rans.{IsNewDesk, IsOtherPass, RanHolds, RanKey, RanState, events_after, ran_key, stopped_after}
+use Rattle.shared_objects.specs.Rans.{IsNewDesk, IsOtherPass, RanHolds, RanKey, RanState, events_after, ran_key, stopped_after, TurnsWith}
 use Rattle.shared_objects.specs.declared.locks.Locks.{Locks}
 use Rattle.shared_objects.specs.declared.noted.Noted.{Noted}
 use Rattle.shared_objects.specs.declared.seats.TaskSeats.{TaskSeats}
@@ -91,7 +91,7 @@ stepped_to ran task seats step noted =
     record { task = task; seats = seats; first = ran.first; home = ran.home; events = events_after step ran.events; stopped = stopped_after step ran.stopped; noted = noted }
 
 module _ (ran : RanState) (holds : RanHolds ran) (task : TaskOf) (seats : TaskSeats) (step : Step)
-    (turns : Turns DeskServes (Owes (stage_at ran.home)) (routing_setup ran.task.routing) ran.task.state (desk_of ran.seats) task.state (desk_of seats) step) where
+    (turns : TurnsWith ran.home ran.task ran.seats task seats step) where
   keeps : KeepsSeats (desk_of ran.seats) (desk_of seats)
   keeps = turns_keep DeskServes KeepsSeats keeps_none keeps_both serves_keep (Owes (stage_at ran.home)) (routing_setup ran.task.routing) ran.task.state task.state
       (desk_of ran.seats) (desk_of seats) step turns
@@ -117,10 +117,10 @@ module _ (ran : RanState) (holds : RanHolds ran) (task : TaskOf) (seats : TaskSe
 
 -- The same of what is told of the step by who called at these locks, and left those.
 module _ (ran : RanState) (holds : RanHolds ran) (task : TaskOf) (step : Step) (locks left : Locks) (seats : TaskSeats) (at_home : locks ≡ ran.home) (stays : left ≡ locks)
-    (turns : Turns DeskServes (Owes (stage_at locks)) (routing_setup ran.task.routing) ran.task.state (desk_of ran.seats) task.state (desk_of seats) step) where
-  turns_home_with : Turns DeskServes (Owes (stage_at ran.home)) (routing_setup ran.task.routing) ran.task.state (desk_of ran.seats) task.state (desk_of seats) step
+    (turns : TurnsWith locks ran.task ran.seats task seats step) where
+  turns_home_with : TurnsWith ran.home ran.task ran.seats task seats step
   turns_home_with =
-      subst (λ l. Turns DeskServes (Owes (stage_at l)) (routing_setup ran.task.routing) ran.task.state (desk_of ran.seats) task.state (desk_of seats) step) at_home turns
+      subst (λ l. TurnsWith l ran.task ran.seats task seats step) at_home turns
 
   pub calls_keep_number : seats.number ≡ ran.seats.number
   calls_keep_number = number_stays ran holds task seats step turns_home_with

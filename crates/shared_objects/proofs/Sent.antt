@@ -1,10 +1,8 @@
 -- What may cross threads, lowest first.
 use denote.Param.Send.{IsSend, IsSync, sendable}
 use Rattle.std.proofs.Crossing.{crosses}
-use Rattle.stack_base.proofs.ids.Bad.TheSendSync as bad
 use Rattle.stack_base.proofs.ids.DevId.TheSendSync as dev
 use Rattle.stack_base.proofs.ids.SetId.TheSendSync as set
-use Rattle.stack_base.proofs.ids.Status.TheSendSync as status
 use Rattle.elem_ledger.specs.declared.fresh.Fresh.{Ghosts}
 use Rattle.elem_ledger.proofs.element.Share.TheSendSync as share
 use Rattle.elem_ledger.proofs.ledger.Ledger.TheSendSync as ledger
@@ -17,13 +15,9 @@ use Rattle.bio_records.proofs.bio.Pad.TheSendSync as pad
 use Rattle.bio_records.proofs.bio.Slip.TheSendSync as slip
 use Rattle.bio_records.proofs.bio.Bio.TheSendSync as bio
 use Rattle.bio_records.proofs.body.BioBody.TheLaws.TheKnot as knot
-use Rattle.bio_records.specs.contracts.list.BioList as list
-use Rattle.bio_records.specs.contracts.tasks.RescueList as rescue_list
-use Rattle.bio_books.proofs.places.Places.TheSendSync as places
-use Rattle.bio_books.proofs.node.Role.TheSendSync as role
-use Rattle.bio_books.specs.contracts.node.Node as node
-use Rattle.bio_books.specs.contracts.book.Book as book
-use Rattle.model_disks.specs.contracts.disk.Disk as disk
+use Rattle.bio_records.proofs.Sent.{rescue_list_send}
+use Rattle.bio_books.proofs.Sent.{book_send}
+use Rattle.model_disks.proofs.Sent.{disk_send}
 use Rattle.tick_clock.proofs.clock.Clock.TheSendSync as clock
 use Rattle.tick_clock.proofs.note.Note.TheSendSync as note
 use Rattle.tick_clock.proofs.pass.Pass.TheSendSync as pass
@@ -44,46 +38,6 @@ use Rattle.object_things.specs.contracts.book.BookThing as book_thing
 use Rattle.object_things.specs.contracts.tally.TallyThing as tally_thing
 use Rattle.shared_objects.specs.contracts.locks.Locks as locks
 use Rattle.shared_objects.specs.contracts.seats.TaskSeats as seats
-
-list_send : IsSend list.the_row
-list_send = search (sendable, crosses, segment.the_send, pad.the_send, bio.the_field_send, share.the_send, array_vec.the_send, knot.send-BioBody) depth 40
-
-rescue_list_send : IsSend rescue_list.the_row
-rescue_list_send = search (sendable, crosses, list_send, dev.the_field_send) depth 40
-
-disk_send : IsSend disk.the_row
-disk_send = search (
-  sendable,
-  crosses,
-  list_send,
-  bad.the_send,
-  dev.the_field_send,
-  segment.the_send,
-  pad.the_send,
-  bio.the_field_send,
-  share.the_send,
-  array_vec.the_send,
-  knot.send-BioBody,
-) depth 40
-
-node_send : IsSend node.the_row
-node_send = search (
-  sendable,
-  crosses,
-  role.the_field_send,
-  status.the_field_send,
-  segment.the_send,
-  vector.the_send,
-  slip.the_send,
-  pad.the_send,
-  bio.the_field_send,
-  share.the_send,
-  array_vec.the_send,
-  knot.send-BioBody,
-) depth 40
-
-book_send : IsSend book.the_row
-book_send = search (sendable, crosses, places.the_send, node_send) depth 40
 
 -- What all things have in common is shared by them through an `Arc`.
 pub common_send : IsSend common.the_row

@@ -8,10 +8,10 @@ use Rattle.stack_base.specs.declared.ids.DevId.{DevId}
 use Rattle.model_disks.specs.Disks.{DiskState}
 use Rattle.run_machine.specs.Laws.{Object, OfDisk}
 use Rattle.object_things.specs.Stamps.{CommonState, Held, MarkState, ThingState, Told, thing_state}
-use Rattle.object_things.specs.Disks.{DiskAnswers, disk_mark}
+use Rattle.object_things.specs.Disks.{disk_mark}
 use Rattle.shared_objects.specs.Holding.{IsNamed, dev_key}
 use Rattle.shared_objects.specs.Rows.{AbreastThree, AreAdded}
-use Rattle.shared_objects.specs.Shutting.{IsShutOf}
+use Rattle.shared_objects.specs.Shutting.{IsShutDisk}
 
 -- what was added to nothing is all
 pub all_added : {X Y Z : Type 0} (P : X → Y → Z → Type 0) (xs : List X) (ys : List Y) (olds news : List Z) → olds ≡ [] → AreAdded P xs ys olds news → AbreastThree P xs ys news
@@ -26,8 +26,8 @@ disk_in name = 0
 pub shut_disks : {Q S : Type 0} (common : CommonState) (locks : List (DevId × LockId (Held DiskState))) (firsts : List (DevId × SeatState (Held DiskState) Request Told))
     (olds news : List (Shut (Held DiskState) Q S (ThingState DiskState) Request Told MarkState)) → olds ≡ []
     → All (λ (e : DevId × LockId (Held DiskState)). IsNamed disk_mark common (OfDisk (dev_key e.0)) e.1) locks
-    → AreAdded (λ lock first left. IsShutOf disk_mark DiskAnswers lock.1 first.1 left.thing left.told.value) locks firsts olds news
-    → AbreastThree (λ lock first left. (left.thing.object.dev.0 ≡ lock.0.0) × IsShutOf disk_mark DiskAnswers lock.1 first.1 left.thing left.told.value) locks firsts news
+    → AreAdded IsShutDisk locks firsts olds news
+    → AbreastThree (λ lock first left. (left.thing.object.dev.0 ≡ lock.0.0) × IsShutDisk lock first left) locks firsts news
 shut_disks common locks firsts olds news none named are =
     let all = all_added _ locks firsts olds news none are in record {
       lens = all.lens;

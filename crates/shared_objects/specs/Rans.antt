@@ -31,6 +31,11 @@ pub record IsRan (first task : TaskOf) (desk : DeskState) (events : ℕ) (stoppe
   pub stops : stopped ≡ true → HasStopped (routing_setup first.routing) log task.state
   pub notes : HaveTickets log → AreNoted (notes_of (routing_setup first.routing) first.state log) noted
 
+-- the task made a step with its seats, and what it asked was served at these locks
+abbrev pub TurnsWith : Locks → TaskOf → TaskSeats → TaskOf → TaskSeats → Step → Type 0
+TurnsWith locks task seats next after step =
+    Turns DeskServes (Owes (stage_at locks)) (routing_setup task.routing) task.state (desk_of seats) next.state (desk_of after) step
+
 -- how many events there are behind a step, and whether the task has stopped
 abbrev pub events_after : Step → ℕ → ℕ
 events_after (Stepped event) events = min (events + 1) (2 ^ 64 - 1)

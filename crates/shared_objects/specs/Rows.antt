@@ -58,6 +58,10 @@ module _ {K T A R : Type 0} where
     pub seats : (new.1.known ≡ split_more old.1.known) × (seat.1.known ≡ new_seat old.1.known)
     pub calls : own seat.1.known ≡ []
 
+  -- a seat of each lock was
+  abbrev pub AreSplit : List (K × LockId T) → List (K × SeatState T A R) → List (K × SeatState T A R) → List (K × SeatState T A R) → Type 0
+  AreSplit locks olds seats news = (length seats ≡ length locks) × AreChanged IsSplit locks olds seats news
+
   abbrev pub IsOther : K × SeatState T A R → Type 0
   IsOther seat = is_first seat.1.known.rank ≡ false
 

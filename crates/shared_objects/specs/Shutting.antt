@@ -1,6 +1,9 @@
 -- What is left of locks as their use ends.
 use Rattle.std.specs.Prelude.{◌≡◌}
+use Rattle.seat_lock.specs.declared.lock.Shut.{Shut}
 use Rattle.seat_lock.specs.Seats.{LockId, SeatState}
+use Rattle.stack_base.specs.declared.ids.DevId.{DevId}
+use Rattle.model_disks.specs.Disks.{DiskState}
 use Rattle.run_machine.specs.Requests.{Request}
 use Rattle.object_things.specs.Stamps.{Held, MarkState, ThingState, Told, thing_state}
 use Rattle.object_things.specs.Pools.{PoolAnswers, pool_mark}
@@ -22,12 +25,17 @@ abbrev pub IsShutOf : {O : Type 0} → (Held O → MarkState) → (ThingState O 
     → SeatState (Held O) Request Told → Type 0
 IsShutOf mark answers = IsShut thing_of mark answers
 
+-- what is left of the lock of a disk, which has no key there, since the disk knows which device it is
+abbrev pub IsShutDisk : {Q P : Type 0} → DevId × LockId (Held DiskState) → DevId × SeatState (Held DiskState) Request Told
+    → Shut (Held DiskState) Q P (ThingState DiskState) Request Told MarkState → Type 0
+IsShutDisk lock first left = IsShutOf disk_mark DiskAnswers lock.1 first.1 left.thing left.told.value
+
 -- all locks
 pub record HasShut (locks : Locks) (firsts : TaskSeats) (closed : Closed) : Type 0 where
   pub bios : AbreastThree (IsShutAt thing_of pool_mark PoolAnswers) locks.bios.items firsts.bios.items closed.bios.items
   pub vecs : IsShutOf pool_mark PoolAnswers locks.vecs firsts.vecs closed.vecs.thing closed.vecs.told.value
   pub records : AbreastThree (IsShutAt thing_of pool_mark PoolAnswers) locks.records.items firsts.records.items closed.records.items
   pub lists : AbreastThree (IsShutAt thing_of list_mark ListAnswers) locks.lists.items firsts.lists.items closed.lists.items
-  pub disks : AbreastThree (λ lock first shut. (shut.thing.object.dev.0 ≡ lock.0.0) × IsShutOf disk_mark DiskAnswers lock.1 first.1 shut.thing shut.told.value) locks.disks.items firsts.disks.items closed.disks.items
+  pub disks : AbreastThree (λ lock first shut. (shut.thing.object.dev.0 ≡ lock.0.0) × IsShutDisk lock first shut) locks.disks.items firsts.disks.items closed.disks.items
   pub books : AbreastThree (IsShutAt thing_of book_mark BookAnswers) locks.books.items firsts.books.items closed.books.items
   pub tally : IsShutOf tally_mark TallyAnswers locks.tally firsts.tally closed.tally.thing closed.tally.told.value

@@ -1,13 +1,12 @@
 //! Ends the use of shared objects.
 ghost use Rattle.std.specs.Prelude.{◌≡◌, ◌+◌, ◌≤◌, All, None, Some, [], length, vec_capacity};
-ghost use Rattle.object_things.specs.Disks.{DiskAnswers, disk_mark};
 ghost use Rattle.shared_objects.specs.Holding.{IsPassOf, LocksHold, SeatsHold};
 ghost use Rattle.shared_objects.specs.Joining.{AreHere, ArePutAway, CanEnd, HasBeside, HasJoinedPass, HasJoinedSeats, IsPutAway, RowsFit};
 ghost use Rattle.shared_objects.specs.Left.{HasClosed};
 ghost use Rattle.shared_objects.specs.Rans.{IsOtherPass, RanHolds};
 ghost use Rattle.shared_objects.specs.Rows.{Abreast, AreAdded, CanClose, IsAt};
 ghost use Rattle.shared_objects.specs.Shared.{FirstsHold, HaveStopped, SharedHolds};
-ghost use Rattle.shared_objects.specs.Shutting.{HasShut, IsShutOf};
+ghost use Rattle.shared_objects.specs.Shutting.{HasShut, IsShutDisk};
 ghost use Rattle.shared_objects.specs.Taking.{TakenHold};
 ghost use Rattle.shared_objects.specs.Tickets.{ShowsItsTickets};
 
@@ -97,7 +96,7 @@ fn close_disks(
     requires of { Abreast IsAt locks.items firsts.items }
     requires whole { All CanClose firsts.items }
     requires room { length shut.old.items + length locks.items ≤ vec_capacity shut.old }
-    ensures { AreAdded (λ lock first left. IsShutOf disk_mark DiskAnswers lock.1 first.1 left.thing left.told.value) locks.items firsts.items shut.old.items shut.new.items }
+    ensures { AreAdded IsShutDisk locks.items firsts.items shut.old.items shut.new.items }
 {
     let mut rest = firsts.into_iter();
     'closing: for lock in locks {

@@ -1,12 +1,10 @@
 //! The desk of a task.
 ghost use Rattle.std.specs.Prelude.{◌≡◌};
 ghost use Rattle.task_steps.specs.Homes.{IsTaskOf};
-ghost use Rattle.task_steps.specs.Routed.{routing_setup};
-ghost use Rattle.task_steps.specs.Stage.{Owes};
 ghost use Rattle.task_steps.specs.TaskViews.{ChosenBy};
-ghost use Rattle.task_steps.specs.Turns.{Turns};
-ghost use Rattle.shared_objects.specs.Desks.{DeskPicks, DeskServes};
-ghost use Rattle.shared_objects.specs.Holding.{DeskHolds, desk_of, stage_at};
+ghost use Rattle.shared_objects.specs.Desks.{DeskPicks};
+ghost use Rattle.shared_objects.specs.Holding.{DeskHolds, stage_at};
+ghost use Rattle.shared_objects.specs.Rans.{TurnsWith};
 
 pub mod objects;
 
@@ -49,7 +47,7 @@ impl<'a, R: Wait> Desk<'a, R> {
         requires holds { DeskHolds self.old.locks.now self.old.seats }
         requires routing { task.old.routing ≡ (stage_at self.old.locks.now).routing }
         requires task { IsTaskOf (stage_at self.old.locks.now) task.old.state }
-        ensures turns { Turns DeskServes (Owes (stage_at self.old.locks.now)) (routing_setup task.old.routing) task.old.state (desk_of self.old.seats) task.new.state (desk_of self.new.seats) result }
+        ensures turns { TurnsWith self.old.locks.now task.old self.old.seats task.new self.new.seats result }
         ensures chosen { ChosenBy task.old.state C.chooses DeskPicks chooser.old result chooser.new }
         ensures kept { DeskHolds self.new.locks.now self.new.seats × (stage_at self.new.locks.now ≡ stage_at self.old.locks.now) }
         ensures same { task.new.routing ≡ task.old.routing }

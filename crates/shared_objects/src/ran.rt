@@ -68,14 +68,11 @@ impl Ran {
     ghost use Rattle.std.specs.Prelude.{false};
     ghost use Rattle.run_machine.specs.Events.{id_of};
     ghost use Rattle.task_steps.specs.Homes.{IsTaskOf};
-    ghost use Rattle.task_steps.specs.Routed.{routing_setup};
-    ghost use Rattle.task_steps.specs.Stage.{Owes};
     ghost use Rattle.task_steps.specs.TaskViews.{ChosenBy};
-    ghost use Rattle.task_steps.specs.Turns.{Turns};
-    ghost use Rattle.shared_objects.specs.Desks.{DeskPicks, DeskServes};
+    ghost use Rattle.shared_objects.specs.Desks.{DeskPicks};
     ghost use Rattle.shared_objects.specs.Holding.{DeskHolds, desk_of, stage_at};
     ghost use Rattle.shared_objects.specs.Joining.{HasJoinedSeats, IsPutAway};
-    ghost use Rattle.shared_objects.specs.Rans.{IsNewDesk, IsOtherPass, RanHolds, ran_key};
+    ghost use Rattle.shared_objects.specs.Rans.{IsNewDesk, IsOtherPass, RanHolds, TurnsWith, ran_key};
     ghost use Rattle.shared_objects.specs.Shared.{FirstsHold};
 
     /// A task as it was opened, with seats of these locks, at which nothing was called yet, and an empty list for its events, where the locks
@@ -106,7 +103,7 @@ impl Ran {
     /// Steps the task once, where it stands, at the locks that its seats are of. Where that is wanted, it notes its event, with the ticket.
     pub fn step<R: Wait, C: Chooser>(&mut self, rt: &R, locks: &Locks, chooser: &mut C) -> Step
         requires home { self.old.home ≡ locks.now }
-        ensures turns { Turns DeskServes (Owes (stage_at locks.now)) (routing_setup self.old.task.routing) self.old.task.state (desk_of self.old.seats) self.new.task.state (desk_of self.new.seats) result }
+        ensures turns { TurnsWith locks.now self.old.task self.old.seats self.new.task self.new.seats result }
         ensures chosen { ChosenBy self.old.task.state C.chooses DeskPicks chooser.old result chooser.new }
         ensures key { ran_key self.new ≡ ran_key self.old }
         ensures events { self.new.events ≡ events_after result self.old.events }

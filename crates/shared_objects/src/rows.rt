@@ -1,7 +1,7 @@
 //! Rows of locks and of their seats, each entry with its key. Rows stand in one order: what is at a place of one belongs to what is there in
 //! the others. They are of any thing.
 ghost use Rattle.std.specs.Prelude.{◌≡◌, ◌+◌, ◌<◌, ◌≤◌, ◌++◌, false, All, IfOk, OnErr, length, vec_capacity};
-ghost use Rattle.shared_objects.specs.Rows.{Abreast, AbreastThree, AreChanged, AreAdded, IsFirstOf, IsOpened, IsAt, CanSplit, IsSplit, IsOther, IsJoined, CanClose, IsShutAt};
+ghost use Rattle.shared_objects.specs.Rows.{Abreast, AbreastThree, AreChanged, AreAdded, AreSplit, IsFirstOf, IsOpened, IsAt, CanSplit, IsSplit, IsOther, IsJoined, CanClose, IsShutAt};
 ghost use Rattle.shared_objects.specs.Joins.{CallsStayApart};
 
 use seat_lock::{Seat, SeatLock, Shut, Thing};
@@ -79,7 +79,7 @@ pub fn split_row<K: Copy + Drop, T: Thing + Drop>(
 ) -> Result<Vec<(K, Seat<T>)>, AllocError>
     requires of { Abreast IsAt locks.now firsts.old.items }
     requires few { All CanSplit firsts.old.items }
-    ensures split { IfOk result (λ seats. (length seats.items ≡ length locks.now) × AreChanged IsSplit locks.now firsts.old.items seats.items firsts.new.items) }
+    ensures split { IfOk result (λ seats. AreSplit locks.now firsts.old.items seats.items firsts.new.items) }
     ensures of { Abreast IsAt locks.now firsts.new.items }
     ensures seats { IfOk result (λ seats. Abreast IsAt locks.now seats.items) }
     ensures none { OnErr result (firsts.new ≡ firsts.old) }

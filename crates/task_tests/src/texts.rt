@@ -1,6 +1,6 @@
 //! Texts that a test writes, and the names of their tasks.
 ghost use Rattle.std.specs.Prelude.{IfOk};
-ghost use Rattle.stack_base.specs.Stack.{HasRescuers};
+ghost use Rattle.stack_base.specs.Stack.{HasRescuers, IsStack};
 ghost use Rattle.run_machine.specs.ReadBehind.{IsReadBehind};
 ghost use Rattle.trace_text.specs.Names.{DevicesAreNamed};
 
@@ -22,6 +22,7 @@ pub struct Scene {
 
 // What a text says.
 fn read(alloc: Global, text: &[u8]) -> Result<Scene, ReadFault>
+    ensures stack { IfOk result (λ scene. IsStack scene.accepted.stack) }
     ensures read { IfOk result (λ scene. IsReadBehind scene.accepted scene.work) }
     ensures rescuers { IfOk result (λ scene. HasRescuers scene.accepted.stack) }
 {
@@ -34,6 +35,7 @@ fn read(alloc: Global, text: &[u8]) -> Result<Scene, ReadFault>
 /// What a text says that is to be accepted.
 pub fn scene_of(alloc: Global, text: &str) -> Result<Scene, Fail>
     ensures named { IfOk result (λ scene. DevicesAreNamed scene.accepted.stack) }
+    ensures stack { IfOk result (λ scene. IsStack scene.accepted.stack) }
     ensures read { IfOk result (λ scene. IsReadBehind scene.accepted scene.work) }
     ensures rescuers { IfOk result (λ scene. HasRescuers scene.accepted.stack) }
 {

@@ -29,7 +29,7 @@ use Rattle.shared_objects.specs.Holding.{set_key, slip_key}
 use Rattle.shared_objects.specs.Kinds.{unasked}
 use Rattle.shared_objects.specs.Left.{HasClosed}
 use Rattle.shared_objects.specs.declared.closed.Closed.{Closed}
-use Rattle.run_merge.specs.Falling.{DevicePools, row_of, at_number, below, sets_below, records_below, with_facts, falling_below}
+use Rattle.run_merge.specs.Falling.{DevicePools, row_of, at_number, below, sets_below, records_below, with_facts, falling_below, facts_left}
 use Rattle.run_merge.specs.Outcomes.{state_in, shared_scenario}
 use Rattle.run_merge.proofs.leaving.Devices.{has_records, disk_is, set_is, records_is, no_set, no_records, disks_found, below_is, below_past, falls, none_falls}
 use Rattle.run_merge.proofs.leaving.Looking.{map_alike}
@@ -125,7 +125,7 @@ module _ (closed : Closed) (has : HasClosed closed) where
   slips_same n lt = ap {B = DevId × Facts} (λ (thing : ThingState LedgerPool). (at n, thing.object.state.facts)) (sym (of_records vecs_left sets_left slips_left n lt))
 
   -- the rows
-  pub bios_row : row_of (λ shut. shut.thing.object.state.facts) closed.bios.items ≡ (Fs, pools_in.facts FsBios) ∷ sets_below pools_in 32
+  pub bios_row : row_of facts_left closed.bios.items ≡ (Fs, pools_in.facts FsBios) ∷ sets_below pools_in 32
   bios_row =
       all_sets routing (λ shut. state_of_held shut.thing) (λ n. unasked (no_pool plain.stage.value.stack plain.vecs.ledger n)) closed.bios.items
       (has.order.bios ∙ has.opened.rows.bios.order) (λ thing. thing.object.state.facts)
@@ -134,7 +134,7 @@ module _ (closed : Closed) (has : HasClosed closed) where
       (All-weaker (λ n. n < 32) (λ n. set_found n ≡ set_named n) set_same (filter (has_set (routing_setup routing)) (range_with_len 0 count)) (small (has_set (routing_setup routing))))
       ∙ sym sets_are)
 
-  pub records_row : row_of (λ shut. shut.thing.object.state.facts) closed.records.items ≡ records_below pools_in 32
+  pub records_row : row_of facts_left closed.records.items ≡ records_below pools_in 32
   records_row =
       all_records routing (λ shut. state_of_held shut.thing) (λ n. unasked (no_pool plain.stage.value.stack plain.vecs.ledger n)) closed.records.items
       (has.order.records ∙ has.opened.rows.records.order) (λ thing. thing.object.state.facts)
@@ -142,7 +142,7 @@ module _ (closed : Closed) (has : HasClosed closed) where
       (All-weaker (λ n. n < 32) (λ n. slips_found n ≡ slips_named n) slips_same (filter (has_records routing) (range_with_len 0 count)) (small (has_records routing)))
       ∙ sym records_are
 
-  pub vecs_is : closed.vecs.thing.object.state.facts ≡ pools_in.facts FsVecs
+  pub vecs_is : facts_left closed.vecs ≡ pools_in.facts FsVecs
   vecs_is = refl
 
   -- all pools by falling number

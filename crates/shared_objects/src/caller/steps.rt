@@ -1,12 +1,10 @@
 //! Steps of a task that calls.
 ghost use Rattle.std.specs.Prelude.{◌≡◌};
 ghost use Rattle.task_steps.specs.Homes.{IsTaskOf};
-ghost use Rattle.task_steps.specs.Routed.{routing_setup};
-ghost use Rattle.task_steps.specs.Stage.{Owes};
 ghost use Rattle.task_steps.specs.TaskViews.{ChosenBy};
-ghost use Rattle.task_steps.specs.Turns.{Turns};
-ghost use Rattle.shared_objects.specs.Desks.{DeskPicks, DeskServes};
-ghost use Rattle.shared_objects.specs.Holding.{DeskHolds, desk_of, stage_at};
+ghost use Rattle.shared_objects.specs.Desks.{DeskPicks};
+ghost use Rattle.shared_objects.specs.Holding.{DeskHolds, stage_at};
+ghost use Rattle.shared_objects.specs.Rans.{TurnsWith};
 
 use crate::caller::Caller;
 use std::sync::Wait;
@@ -18,7 +16,7 @@ impl<'a, R: Wait> Caller<'a, R> {
         requires holds { DeskHolds self.old.locks.now self.old.seats.now }
         requires routing { task.old.routing ≡ (stage_at self.old.locks.now).routing }
         requires task { IsTaskOf (stage_at self.old.locks.now) task.old.state }
-        ensures turns { Turns DeskServes (Owes (stage_at self.old.locks.now)) (routing_setup task.old.routing) task.old.state (desk_of self.old.seats.now) task.new.state (desk_of self.new.seats.now) result }
+        ensures turns { TurnsWith self.old.locks.now task.old self.old.seats.now task.new self.new.seats.now result }
         ensures chosen { ChosenBy task.old.state C.chooses DeskPicks chooser.old result chooser.new }
         ensures kept { DeskHolds self.new.locks.now self.new.seats.now × (stage_at self.new.locks.now ≡ stage_at self.old.locks.now) }
         ensures same { task.new.routing ≡ task.old.routing }
