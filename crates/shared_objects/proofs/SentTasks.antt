@@ -14,7 +14,7 @@ use Rattle.bio_records.proofs.bio.Pad.TheSendSync as pad
 use Rattle.bio_records.proofs.bio.Slip.TheSendSync as slip
 use Rattle.bio_records.proofs.bio.Bio.TheSendSync as bio
 use Rattle.bio_records.proofs.body.BioBody.TheLaws.TheKnot as knot
-use Rattle.bio_records.specs.contracts.list.BioList as list
+use Rattle.bio_records.proofs.Sent.{list_send}
 use Rattle.bio_records.specs.contracts.tasks.TaskLists as lists
 use Rattle.bio_books.specs.contracts.node.Back as back
 use Rattle.bio_books.specs.contracts.node.ClosedNode as closed_node
@@ -42,9 +42,6 @@ use Rattle.task_steps.specs.contracts.task.Task as task
 use Rattle.shared_objects.specs.contracts.noted.Noted as noted
 use Rattle.shared_objects.specs.contracts.ran.Ran as ran
 use Rattle.shared_objects.proofs.Sent.{seats_send}
-
-list_send : IsSend list.the_row
-list_send = search (sendable, crosses, segment.the_send, pad.the_send, bio.the_field_send, share.the_send, array_vec.the_send, knot.send-BioBody) depth 40
 
 lists_send : IsSend (lists.the_field).row
 lists_send = search (sendable, crosses, list_send) depth 40

@@ -123,6 +123,24 @@ impl Ran {
         step
     }
 
+    /// The task and its seats, each by itself, for a desk that the caller holds (`Locks::desk`). It can't be put back then.
+    pub fn parts(self) -> (Task, TaskSeats)
+        ensures parts { (result.0 ≡ self.task) × (result.1 ≡ self.seats) }
+        ensures holds { RanHolds self }
+    {
+        let Ran {
+            task,
+            seats,
+            first: _,
+            home: _,
+            events: _,
+            stopped: _,
+            noted,
+        } = self;
+        drop(noted);
+        (task, seats)
+    }
+
     /// Puts the task away, and joins its seats into the first ones.
     pub(crate) fn join(self, locks: &Locks, firsts: &mut TaskSeats) -> ClosedTask
         requires home { self.home ≡ locks.now }
