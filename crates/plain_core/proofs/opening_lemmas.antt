@@ -1,4 +1,3 @@
-pub mod Listed
 pub mod Counted
 pub mod Seated
 pub mod Opened

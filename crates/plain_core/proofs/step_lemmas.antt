@@ -1,7 +1,6 @@
 pub mod Steps
 pub mod Tasks
 pub mod Cores
-pub mod ByKind
 pub mod Needed
 pub mod Freed
 pub mod FirstFree

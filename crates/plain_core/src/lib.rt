@@ -21,6 +21,5 @@ pub use objects::pool::Pool;
 pub use objects::tally::Tally;
 pub use state::Core;
 pub use steps::task::{
-    Ask, Carried, Completer, Copying, Doing, Duty, Keeper, Line, Rescuer, Taken, Task, Todo, Want,
-    Writer,
+    Ask, Carried, Completer, Copying, Doing, Duty, Keeper, Line, Rescuer, Taken, Task, Want, Writer,
 };

@@ -13,11 +13,9 @@ ghost use Rattle.plain_core.specs.Cores.{scene_of_core, state_of_core, task_at, 
 use crate::fault::CoreFault;
 use crate::objects::{Objects, number_of};
 use crate::opening::objects::open_objects;
-use crate::opening::rounds::{counts_of, duties_of};
-use crate::opening::seats::{seat_all, slot_of};
+use crate::opening::seats::slot_of;
 use crate::opening::seen_objects::objects_seen;
 use crate::opening::seen_tasks::tasks_seen;
-use crate::opening::todos::places;
 use crate::steps::free::task_is_free;
 use crate::steps::task::Task;
 use crate::steps::task_step;
@@ -28,7 +26,7 @@ use std::alloc::{AllocError, Global};
 use std::marker::Model;
 use std::sync::Arc;
 use task_core::within::tasks_stay_within;
-use task_core::{Event, Opened, Routes, TaskId, What};
+use task_core::{Event, Opened, Routes, TaskId, What, drop_tasks, open_tasks};
 use work_text::Work;
 
 /// A state of the machine of a run, without elements and ledgers.
@@ -111,18 +109,16 @@ impl Core {
         requires { CanOpen stack.now scripts.now work.now }
         ensures { IfOk result (IsOpenedCore (scenario_by stack.now scripts.now work.now)) }
     {
-        let places = places(alloc, stack, work)?;
-        let counts = counts_of(alloc, &work.rounds)?;
-        let duties = duties_of(alloc, work, &counts)?;
-        let (tasks, slots) = seat_all(alloc, stack, work, duties)?;
-        let writes = work.writes.len();
-        let routes = Routes::new(alloc, stack, places)?;
-        let objects = open_objects(alloc, stack, &routes, scripts, counts, writes)?;
+        let (routes, opened, left) = open_tasks(alloc, stack, work)?;
+        let seen = tasks_seen(alloc, &opened);
+        drop_tasks(opened);
+        let (tasks, places) = seen?;
+        let objects = open_objects(alloc, stack, &routes, scripts, &left, work.writes.len())?;
         Ok(Core {
-            routes: Arc::new(alloc, routes)?,
+            routes,
             objects,
             tasks,
-            places: slots,
+            places,
         })
     }
 

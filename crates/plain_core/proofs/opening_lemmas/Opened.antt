@@ -1,11 +1,11 @@
 -- What is opened of a text is the state in which its runs begin.
-use Rattle.std.proofs.Common.{◌≡◌, ◌+◌, ◌-◌, ◌/◌, ◌%◌, ◌<◌, ◌≤◌, ◌==◌, ◌⊎◌, inl, inr, ℕ, Bool, true, false, cond, List, [], ◌∷◌, length, map, find, replicate, refl, sym, ap, ◌∙◌, subst, arith, Option, None, Some}
+use Rattle.std.proofs.Common.{◌≡◌, ◌+◌, ◌/◌, ◌%◌, ◌^◌, ◌<◌, ◌≤◌, ◌==◌, ◌⊎◌, inl, inr, ℕ, Bool, true, false, cond, List, [], ◌∷◌, length, map, find, replicate, refl, sym, ap, ◌∙◌, subst, arith, Option, None, Some}
 use Rattle.std.specs.Prelude.{All, slice_get, slice_index_or, filter}
 use Rattle.std.specs.List.{range_with_len}
 use Rattle.std.specs.Option.{option_map_or}
 use Rattle.std.proofs.lemmas.Bool.Decides.{nat_tests}
 use Rattle.std.proofs.lemmas.List.{get_or-replicate, get_or_past, length-replicate}
-use Rattle.std.proofs.lemmas.List.Elements.{All-append, All-cons, All-head, All-map, All-nil, All-tail}
+use Rattle.std.proofs.lemmas.List.Elements.{All-append, All-cons, All-head, All-map, All-nil, All-tail, All-weaker}
 use Rattle.std.proofs.lemmas.List.FromFn.{get_or-map-range_with_len, length-map-range_with_len}
 use Rattle.std.proofs.lemmas.Option.{slice_get_past}
 use Rattle.fail_script.specs.Script.{Answers, only_tail}
@@ -16,7 +16,8 @@ use Rattle.stack_base.specs.declared.stack.Device.{Device}
 use Rattle.stack_base.specs.declared.stack.Stack.{Stack}
 use Rattle.stack_base.specs.PoolId.{IsOfStack, pool_number}
 use Rattle.stack_base.specs.Tree.{size, tree}
-use Rattle.layout_model.specs.Writes.{IsWrite}
+use Rattle.layout_model.specs.declared.write.Write.{Write}
+use Rattle.layout_model.specs.Needs.{elements, nodes}
 use Rattle.mempool_core.specs.Move.{PoolState, opened}
 use Rattle.bio_records.specs.declared.bio.Pad.{Pad}
 use Rattle.bio_records.specs.Items.{Item}
@@ -24,17 +25,20 @@ use Rattle.model_disks.specs.Disks.{DiskState}
 use Rattle.work_text.specs.declared.Work.{Work}
 use Rattle.run_machine.specs.Events.{pool_of}
 use Rattle.run_machine.specs.Lines.{rests}
-use Rattle.run_machine.specs.Opened.{at, is_by, is_numbered, keepers, no_task, objects, records_of, reserve_of, tasks}
-use Rattle.run_machine.specs.Opened as opening
+use Rattle.run_machine.specs.Opened.{Scenario, at, duties, is_numbered, keepers, no_task, objects, places_of, records_of, reserve_of, setup, tasks, todos_of, writers}
 use Rattle.task_steps.specs.Routed.{Routing, places_at, routing_setup}
-use Rattle.run_machine.specs.Scene.{keeps_data, setup_of}
-use Rattle.run_machine.specs.Tasks.{Duty, TaskState, Todo, Writer, Rescuer, Completer, Keeper, Keeps, NoBio, Empty}
+use Rattle.run_machine.specs.Scene.{is_disk, keeps_data, setup_of}
+use Rattle.run_machine.specs.Tasks.{Duty, TaskState, Writer, Rescuer, Completer, Keeper, Keeps, NoBio, Empty}
 use Rattle.task_steps.specs.Within.{AreWithin, IsItemWithin, LineFits, TaskFits}
 use Rattle.plain_core.specs.Cores.{CoreState, AreFound, IsCore}
 use Rattle.plain_core.specs.objects.Ledgers.{ledger_of}
-use Rattle.plain_core.specs.opening.Opening.{new_core_objects, new_tally, CanOpen, IsOpenedCore, completers_of_stack, counts_of, duties_up_to, stack_has_rescuer, has_write, stack_has_disk, last_round_of, listed, new_book, new_books, new_disk, new_disks, new_pool, new_pools, nodes_of, rescuers_of_stack, scenario_by, tasks_of, todos_by, writers_of_work}
+use Rattle.plain_core.specs.opening.Opening.{core_objects_of, CanOpen, IsOpenedCore, new_book, new_books, new_disk, new_disks, new_pool, new_pools, scenario_by}
 use Rattle.plain_core.specs.objects.Plain.{CoreObjects, HasPlacesForStack, HasSize, disk_or, no_core_pool, objects_of_core, opened_disk}
-use Rattle.plain_core.proofs.opening_lemmas.Listed.{any_by, none_by, served_by}
+use Rattle.task_core.specs.opened.NewTasks.{in_round, left_in, rounds_in, AreShared}
+use Rattle.task_core.proofs.opened.Behind.{sum_le}
+use Rattle.task_core.proofs.opened.Setups.{no_writer}
+use Rattle.task_core.proofs.opened.Sharing.{share_served}
+use Rattle.plain_core.proofs.opening_lemmas.Counted.{last_le}
 
 abbrev no_bios : List (Item Pad)
 no_bios = []
@@ -46,7 +50,7 @@ from_none : (k : ℕ) → 0 + k ≡ k
 from_none k = omega arith
 
 -- pools of no stack have no reserve and no script
-small_number : (pool : PoolId) → IsOfStack pool → pool_number pool ≤ 65
+pub small_number : (pool : PoolId) → IsOfStack pool → pool_number pool ≤ 65
 small_number FsBios is = omega arith
 small_number FsVecs is = omega arith
 small_number (Bios dev) is = omega (arith, is)
@@ -116,7 +120,37 @@ module _ (stack : Stack) (scripts : List (PoolId × Answers)) where
     within = λ dev. subst (AreWithin stack) (sym (ap (λ rs. slice_index_or rs dev []) are_rescues ∙ rescue_is dev)) (All-nil (IsItemWithin stack));
   }
 
+rest_fits : (stack : Stack) → LineFits stack rests
+rest_fits stack = record { doing = tt; lists = (All-nil (IsItemWithin stack), All-nil (IsItemWithin stack)) }
+
+keeper_fits : (stack : Stack) (duties : List Duty) → All (TaskFits stack) (keepers duties)
+keeper_fits stack [] = All-nil (TaskFits stack)
+keeper_fits stack (duty ∷ duties) = All-cons (TaskFits stack) (Keeper (Keeps (duty ∷ duties))) [] tt (All-nil (TaskFits stack))
+
 module _ (stack : Stack) (scripts : List (PoolId × Answers)) (work : Work) (can : CanOpen stack scripts work) where
+  abbrev s : Scenario
+  s = scenario_by stack scripts work
+
+  -- its writes can be shared out
+  pub shared : AreShared stack work.rounds.items work.writes.items
+  shared =
+      let allowed = can.allowed in
+      let below = sum_le (nodes stack) (elements stack) work.writes.items (λ write. omega arith) in
+      record {
+        served = can.served;
+        writers = All-weaker (λ (write : Write). write.task ≤ 7) (λ (write : Write). write.task < 8) (λ write le. omega (arith, le)) work.writes.items can.writers;
+        paired = can.paired;
+        few = omega (arith, allowed, below);
+      }
+
+  -- and has few rounds
+  pub few_rounds : (left : List ℕ) → left ≡ left_in work.rounds.items → length left < 2 ^ 32
+  few_rounds left is =
+      let rounds = work.rounds.items in
+      let long = ap length is ∙ length-map-range_with_len (in_round rounds) 0 (rounds_in rounds) in
+      let last = last_le rounds 0 1024 (omega arith) can.rounds in
+      omega (arith, long, last)
+
   pool_is : (number : ℕ) → slice_index_or (new_pools stack scripts 66) number no_core_pool ≡ new_pool stack scripts number
   pool_is number = elim (within_or_past number 66) [
     | inl lt ↦ get_or-map-range_with_len (new_pool stack scripts) 0 66 number number no_core_pool lt (from_none number)
@@ -126,98 +160,67 @@ module _ (stack : Stack) (scripts : List (PoolId × Answers)) (work : Work) (can
         ∙ ap (λ o. opened (reserve_of stack (pool_of number)) (option_map_or (λ (script : PoolId × Answers). script.1) o (only_tail true))) (sym (no_script scripts number can.pools le))
   ]
 
-  module _ (places : List ℕ) (placed : (writer : ℕ) → places_at places writer ≡ nodes_of stack (todos_by work writer)) where
+  module _ (places : List ℕ) (placed : (writer : ℕ) → places_at places writer ≡ places_of s writer) where
     book_is : (writer : ℕ) → slice_index_or (new_books places 8) writer (record { writer = writer; nodes = [] })
-        ≡ record { writer = writer; nodes = replicate (nodes_of stack (todos_by work writer)) None }
+        ≡ record { writer = writer; nodes = replicate (places_of s writer) None }
     book_is writer = elim (within_or_past writer 8) [
       | inl lt ↦
           get_or-map-range_with_len (new_book places) 0 8 writer writer (record { writer = writer; nodes = [] }) lt (from_none writer)
           ∙ ap (λ n. record { writer = writer; nodes = replicate n None }) (placed writer)
       | inr le ↦
           get_or_past (new_books places 8) writer (record { writer = writer; nodes = [] }) (omega (arith, le, length-map-range_with_len (new_book places) 0 8))
-          ∙ ap (λ (todos : List Todo). record { writer = writer; nodes = replicate (nodes_of stack todos) None })
-          (sym (none_by 0 work.rounds.items work.writes.items writer can.writers le))
+          ∙ ap (λ n. record { writer = writer; nodes = replicate n None }) (sym (no_writer stack scripts work shared writer le))
     ]
 
-    last_is : 1 + last_round_of work.rounds.items - 1 ≡ last_round_of work.rounds.items
-    last_is = omega arith
-
-    pub tasks_is : tasks_of stack work (duties_up_to work (last_round_of work.rounds.items)) ≡ tasks (scenario_by stack scripts work)
-    tasks_is = ap (λ n. tasks_of stack work (duties_up_to work n)) (sym last_is)
-
-    setup_is : setup_of stack (places_at places) ≡ opening.setup (scenario_by stack scripts work)
+    setup_is : setup_of stack (places_at places) ≡ setup s
     setup_is = λ k. setup_of stack (λ writer. placed writer k)
 
+    objects_are : objects_of_core (core_objects_of s places) ≡ objects s
+    objects_are = λ k. record {
+      pool = λ number. pool_is number k;
+      rescue = λ dev. rescue_is stack scripts dev k;
+      disk = λ dev. disk_is stack scripts dev k;
+      book = λ writer. book_is writer k;
+      tally = (objects s).tally;
+    }
+
     -- the whole
-    pub opened_so : (core : CoreState) → core.routing ≡ record { stack = stack; places = places }
-        → core.objects ≡ new_core_objects stack scripts places (new_tally (counts_of work.rounds.items) (length work.writes.items))
-        → core.tasks ≡ tasks_of stack work (duties_up_to work (last_round_of work.rounds.items)) → IsOpenedCore (scenario_by stack scripts work) core
+    pub opened_so : (core : CoreState) → core.routing ≡ record { stack = stack; places = places } → core.objects ≡ core_objects_of s places
+        → core.tasks ≡ tasks s → IsOpenedCore s core
     opened_so core is_routing is_objects is_tasks =
-        let all = is_tasks ∙ tasks_is in
         let written = ap (λ (o : CoreObjects). length o.tally.statuses) is_objects ∙ length-replicate (length work.writes.items) status.Ok in
         record {
           scene = λ k. record {
             setup = (ap routing_setup is_routing ∙ setup_is) k;
-            tasks = length (all k);
+            tasks = length (is_tasks k);
             books = 8;
             writes = written k;
             ledger = ledger_of;
           };
           state = λ k. record {
             objects = (ap objects_of_core is_objects ∙ objects_are) k;
-            task = λ place. slice_index_or (all k) place no_task;
+            task = λ place. slice_index_or (is_tasks k) place no_task;
           };
         }
-      where
-        objects_are : objects_of_core (new_core_objects stack scripts places (new_tally (counts_of work.rounds.items) (length work.writes.items))) ≡ objects (scenario_by stack scripts work)
-        objects_are = λ k. record {
-          pool = λ number. pool_is number k;
-          rescue = λ dev. rescue_is stack scripts dev k;
-          disk = λ dev. disk_is stack scripts dev k;
-          book = λ writer. book_is writer k;
-          tally = record { round = 0; left = counts_of work.rounds.items; statuses = replicate (length work.writes.items) status.Ok };
-        }
 
--- all tasks are within the stack
-rest_fits : (stack : Stack) → LineFits stack rests
-rest_fits stack = record { doing = tt; lists = (All-nil (IsItemWithin stack), All-nil (IsItemWithin stack)) }
+  -- all tasks are within the stack
+  tasks_fit : All (TaskFits stack) (tasks s)
+  tasks_fit =
+      let devs = range_with_len 0 (setup s).count in
+      All-append (TaskFits stack) (map (λ writer. Writer writer (todos_of s writer) NoBio rests) (writers s)) _
+      (All-map (TaskFits stack) (λ writer. Writer writer (todos_of s writer) NoBio rests) (writers s)
+      (λ k d lt. (share_served stack work.rounds.items work.writes.items shared _, rest_fits stack)))
+      (All-append (TaskFits stack) (map (λ dev. Rescuer (at dev) rests) (filter (setup s).rescuer devs)) _
+      (All-map (TaskFits stack) (λ dev. Rescuer (at dev) rests) (filter (setup s).rescuer devs) (λ k d lt. rest_fits stack))
+      (All-append (TaskFits stack) (map (λ dev. Completer (at dev) Empty) (filter (is_disk (setup s)) devs)) (keepers (duties s))
+      (All-map (TaskFits stack) (λ dev. Completer (at dev) Empty) (filter (is_disk (setup s)) devs) (λ k d lt. tt))
+      (keeper_fits stack (duties s))))
 
-keeper_fits : (stack : Stack) (duties : List Duty) → All (TaskFits stack) (keepers duties)
-keeper_fits stack [] = All-nil (TaskFits stack)
-keeper_fits stack (duty ∷ duties) = All-cons (TaskFits stack) (Keeper (Keeps (duty ∷ duties))) [] tt (All-nil (TaskFits stack))
-
-pub tasks_fit : (stack : Stack) (work : Work) (duties : List Duty) → All (IsWrite stack) work.writes.items → All (TaskFits stack) (tasks_of stack work duties)
-tasks_fit stack work duties served =
-    let devs = range_with_len 0 (length stack.devices.items) in
-    All-append (TaskFits stack) (writers_of_work work (range_with_len 0 8)) _
-    (All-map (TaskFits stack) (λ writer. Writer writer (todos_by work writer) NoBio rests) (filter (has_write work) (range_with_len 0 8))
-    (λ k d lt. (served_by stack work.rounds.items work.writes.items _ served, rest_fits stack)))
-    (All-append (TaskFits stack) (rescuers_of_stack stack devs) _
-    (All-map (TaskFits stack) (λ dev. Rescuer (at dev) rests) (filter (stack_has_rescuer stack) devs) (λ k d lt. rest_fits stack))
-    (All-append (TaskFits stack) (completers_of_stack stack devs) (keepers duties)
-    (All-map (TaskFits stack) (λ dev. Completer (at dev) Empty) (filter (stack_has_disk stack) devs) (λ k d lt. tt))
-    (keeper_fits stack duties)))
-
--- the core keeps what it stands on
-pub is_core : (stack : Stack) (scripts : List (PoolId × Answers)) (work : Work) (duties : List Duty) (routing : Routing) (objects : CoreObjects) (all : List TaskState) (places : List ℕ)
-    → CanOpen stack scripts work → routing.stack ≡ stack → objects.stack ≡ stack → all ≡ tasks_of stack work duties → AreFound places all → IsCore routing objects all places
-is_core stack scripts work duties routing objects all places can is_routing is_objects is_all found = record {
-  stack = is_objects ∙ sym is_routing;
-  fits = subst (λ s. All (TaskFits s) all) (sym is_routing) (subst (All (TaskFits stack)) (sym is_all) (tasks_fit stack work duties can.served));
-  found = found;
-}
-
--- a writer with a write, and one without
-pub one_writer : (work : Work) (writer : ℕ) → 0 < length (todos_by work writer) → writers_of_work work (writer ∷ []) ≡ Writer writer (todos_by work writer) NoBio rests ∷ []
-one_writer work writer some =
-    ap (λ b. map (λ w. Writer w (todos_by work w) NoBio rests) (cond b (writer ∷ []) []))
-    ((any_by (is_by writer) (listed work.rounds.items work.writes.items)).1 some)
-
-pub no_writer : (work : Work) (writer : ℕ) → todos_by work writer ≡ [] → writers_of_work work (writer ∷ []) ≡ []
-no_writer work writer none =
-    ap (λ b. map (λ w. Writer w (todos_by work w) NoBio rests) (cond b (writer ∷ []) []))
-    ((any_by (is_by writer) (listed work.rounds.items work.writes.items)).0 none)
-
-pub is_nothing : {X : Type 0} (xs : List X) → length xs ≡ 0 → xs ≡ []
-is_nothing [] e = refl
-is_nothing (x ∷ xs) e = absurd (omega (arith, e))
+  -- the core keeps what it stands on
+  pub is_core : (routing : Routing) (plain : CoreObjects) (all : List TaskState) (places : List ℕ) → routing.stack ≡ stack → plain.stack ≡ stack
+      → all ≡ tasks s → AreFound places all → IsCore routing plain all places
+  is_core routing plain all places is_routing is_objects is_all found = record {
+    stack = is_objects ∙ sym is_routing;
+    fits = subst (λ st. All (TaskFits st) all) (sym is_routing) (subst (All (TaskFits stack)) (sym is_all) tasks_fit);
+    found = found;
+  }

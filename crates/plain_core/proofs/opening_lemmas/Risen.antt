@@ -1,32 +1,33 @@
--- Opened tasks have not begun, and their slots rise.
-use Rattle.std.proofs.Common.{◌≡◌, ◌+◌, ◌<◌, ◌≤◌, ◌++◌, ◌&&◌, ℕ, zero, suc, Bool, true, false, List, [], ◌∷◌, length, map, take, drop, get_or, refl, sym, ap, ◌∙◌, subst, arith}
-use Rattle.std.specs.Prelude.{All, IsTrue, filter, nat_lt}
+-- Tasks that are opened have not begun, and their slots rise.
+use Rattle.std.proofs.Common.{◌≡◌, ◌+◌, ◌-◌, ◌==◌, ◌<◌, ◌≤◌, ◌++◌, ℕ, zero, suc, Bool, true, false, List, [], ◌∷◌, length, map, take, drop, get_or, refl, sym, ap, ◌∙◌, subst, arith}
+use Rattle.std.specs.Prelude.{All, filter}
 use Rattle.std.specs.List.{list_any, range_with_len}
-use Rattle.std.proofs.lemmas.Bool.Decides.{nat_tests}
 use Rattle.std.proofs.lemmas.List.{at_drop_more, get_or-map, length-map, take_more}
-use Rattle.std.proofs.lemmas.List.Elements.{All-append, All-cons, All-map, All-nil, All-weaker}
+use Rattle.std.proofs.lemmas.List.Elements.{All-append, All-cons, All-filter, All-map, All-nil}
 use Rattle.stack_base.specs.declared.ids.PoolId.{PoolId}
-use Rattle.stack_base.specs.declared.ids.PoolId.TheVariants.{FsBios, FsVecs, Bios, Records}
 use Rattle.stack_base.specs.PoolId.{IsOfStack}
-use Rattle.stack_base.specs.Stack.{IsStack}
-use Rattle.task_core.specs.declared.opening.Opened.{Opened}
+use Rattle.fail_script.specs.Script.{Answers}
+use Rattle.stack_base.specs.declared.stack.Stack.{Stack}
+use Rattle.work_text.specs.declared.Work.{Work}
+use Rattle.run_machine.specs.Scenario.{change_of}
 use Rattle.run_machine.specs.Events.{id_of}
-use Rattle.task_steps.specs.Homes.{DutyFits, IsTaskOf}
 use Rattle.run_machine.specs.Lines.{rests}
-use Rattle.task_core.specs.opened.OfOne.{IsOpened, scenario_in, states}
-use Rattle.run_machine.specs.Opened.{Scenario, at, duties, is_by, keepers, no_task, setup, tasks, todos, todos_of, writers}
-use Rattle.task_core.specs.Plains.{stage_of}
+use Rattle.task_core.specs.opened.OfOne.{states}
+use Rattle.task_core.specs.opened.OpenTasks.{AreTasksOf}
+use Rattle.task_steps.specs.Routed.{Routing}
+use Rattle.run_machine.specs.Opened.{Change, Scenario, at, duties, duties_of, is_by, keepers, no_task, round_count, setup, tasks, todos, todos_of, writers, writes_from}
 use Rattle.run_machine.specs.Scene.{is_disk}
-use Rattle.task_steps.specs.Stage.{Stage, is_pool}
 use Rattle.task_steps.specs.TaskViews.{TaskOf}
 use Rattle.run_machine.specs.Tasks.{TaskState, Duty, Resizes, Starts, NoBio, Empty, Keeps, Writer, Rescuer, Completer, Keeper}
 use Rattle.plain_core.specs.declared.steps.task.Task.{Task}
 use Rattle.plain_core.specs.Cores.{slot_of}
-use Rattle.plain_core.specs.opening.Opening.{AreTasksSeated, Seats}
+use Rattle.plain_core.specs.opening.Opening.{AreTasksSeated, CanOpen, Seats, scenario_by}
 use Rattle.plain_core.specs.opening.Seen.{HasNotBegun, IsOfPool, Rises}
 use Rattle.plain_core.specs.steps.Views.{task_of_plain}
 use Rattle.plain_core.proofs.opening_lemmas.Seated.{seated_on}
-use Rattle.plain_core.proofs.opening_lemmas.Seen.{can}
+use Rattle.task_core.proofs.opened.ScriptsBehind.{all_flat}
+use Rattle.task_core.proofs.opened.Setups.{states_are}
+use Rattle.plain_core.proofs.opening_lemmas.Opened.{shared}
 
 -- a lower start, and a higher end
 rises_from : (low more : ℕ) (ts : List TaskState) (high : ℕ) → low ≤ more → Rises more ts high → Rises low ts high
@@ -60,67 +61,51 @@ module _ (f : ℕ → TaskState) (base : ℕ) (p : ℕ → Bool) (slots : (k : �
       by_test rest true e = rw (e) (omega (arith, le, here), rest (slot_of (id_of (f a)) + 1) high (omega (arith, here)) (omega (arith, end)))
       by_test rest false e = rw (e) (rest low high (omega (arith, le)) (omega (arith, end)))
 
-of_pool : (stage : Stage) → IsStack stage.routing.stack → (pool : PoolId) → IsTrue (is_pool stage pool) → IsOfStack pool
-of_pool stage good FsBios is = tt
-of_pool stage good FsVecs is = tt
-of_pool stage good (Bios dev) is = below dev.0 (length stage.routing.stack.devices.items) good.few _ is
-  where
-    below : (k n : ℕ) → n ≤ 32 → (b : Bool) → IsTrue (nat_lt k n && b) → k < 32
-    below k n few b both = grind (few, both, arith, nat_tests)
-of_pool stage good (Records dev) is = below dev.0 (length stage.routing.stack.devices.items) good.few _ is
-  where
-    below : (k n : ℕ) → n ≤ 32 → (b : Bool) → IsTrue (nat_lt k n && b) → k < 32
-    below k n few b both = grind (few, both, arith, nat_tests)
+keepers_rise : (ds : List Duty) → Rises 72 (keepers ds) 73
+keepers_rise [] = omega arith
+keepers_rise (d ∷ ds) = (omega arith, omega arith)
 
-duty_of_pool : (stage : Stage) → IsStack stage.routing.stack → (duty : Duty) → DutyFits stage duty → IsOfPool duty
-duty_of_pool stage good (Resizes pool min later) fits = of_pool stage good pool fits.0
-duty_of_pool stage good (Starts round later) fits = tt
+keepers_begin : (ds : List Duty) → All IsOfPool ds → All HasNotBegun (keepers ds)
+keepers_begin [] all = All-nil HasNotBegun
+keepers_begin (d ∷ ds) all = All-cons HasNotBegun (Keeper (Keeps (d ∷ ds))) [] all (All-nil HasNotBegun)
 
-module _ (o : Opened) (is : IsOpened o) where
+-- the tasks of a scenario
+module _ (stack : Stack) (scripts : List (PoolId × Answers)) (work : Work) (can : CanOpen stack scripts work) where
   abbrev s : Scenario
-  s = scenario_in o
+  s = scenario_by stack scripts work
 
-  abbrev stage : Stage
-  stage = stage_of o.objects
+  abbrev at_round : ℕ → Change → Bool
+  at_round round change = change.round == round
 
-  good : IsStack stage.routing.stack
-  good = subst IsStack (sym is.stack) (can o is).is_stack
+  round_of_pools : (round : ℕ) → All IsOfPool (duties_of s round)
+  round_of_pools round =
+      All-append IsOfPool (map (λ (change : Change). Resizes change.pool change.min (writes_from s round)) (filter (at_round round) s.changes))
+      (Starts round (writes_from s round) ∷ [])
+      (All-map IsOfPool (λ (change : Change). Resizes change.pool change.min (writes_from s round)) (filter (at_round round) s.changes)
+      (All-filter (at_round round) (λ (change : Change). IsOfStack change.pool) s.changes
+      (All-map (λ (change : Change). IsOfStack change.pool) change_of work.resizes.items can.resizes)))
+      (All-cons IsOfPool (Starts round (writes_from s round)) [] tt (All-nil IsOfPool))
 
-  abbrev Begins : TaskState → Type 0
-  Begins task = IsTaskOf stage task → HasNotBegun task
+  of_pools : All IsOfPool (duties s)
+  of_pools =
+      let rounds = range_with_len 1 (round_count s - 1) in
+      all_flat IsOfPool (duties_of s) rounds (λ k d lt. round_of_pools (get_or rounds k d))
 
-  keepers_begin : (ds : List Duty) → All Begins (keepers ds)
-  keepers_begin [] = All-nil Begins
-  keepers_begin (d ∷ ds) =
-      All-cons Begins (Keeper (Keeps (d ∷ ds))) [] (λ home. All-weaker (DutyFits stage) IsOfPool (duty_of_pool stage good) (d ∷ ds) home) (All-nil Begins)
-
-  begin : All Begins (tasks s)
-  begin =
-      All-append Begins (map (λ writer. Writer writer (todos_of s writer) NoBio rests) (writers s)) _
-      (All-map Begins (λ writer. Writer writer (todos_of s writer) NoBio rests) (writers s) (λ k d lt home. (refl, refl)))
-      (All-append Begins (map (λ dev. Rescuer (at dev) rests) (filter (setup s).rescuer (range_with_len 0 (setup s).count))) _
-      (All-map Begins (λ dev. Rescuer (at dev) rests) (filter (setup s).rescuer (range_with_len 0 (setup s).count)) (λ k d lt home. refl))
-      (All-append Begins (map (λ dev. Completer (at dev) Empty) (filter (is_disk (setup s)) (range_with_len 0 (setup s).count))) _
-      (All-map Begins (λ dev. Completer (at dev) Empty) (filter (is_disk (setup s)) (range_with_len 0 (setup s).count)) (λ k d lt home. refl))
-      (keepers_begin (duties s))))
-
-  home : All (IsTaskOf stage) (states o.tasks.items)
-  home = All-map (IsTaskOf stage) (λ (task : TaskOf). task.state) o.tasks.items is.one.home
-
-  pub firsts : All HasNotBegun (states o.tasks.items)
+  pub firsts : All HasNotBegun (tasks s)
   firsts =
-      let begun = subst (All Begins) (sym is.tasks) begin in
-      λ k d lt. begun k d lt (home k d lt)
-
-  keepers_rise : (ds : List Duty) → Rises 72 (keepers ds) 73
-  keepers_rise [] = omega arith
-  keepers_rise (d ∷ ds) = (omega arith, omega arith)
+      All-append HasNotBegun (map (λ writer. Writer writer (todos_of s writer) NoBio rests) (writers s)) _
+      (All-map HasNotBegun (λ writer. Writer writer (todos_of s writer) NoBio rests) (writers s) (λ k d lt. (refl, refl)))
+      (All-append HasNotBegun (map (λ dev. Rescuer (at dev) rests) (filter (setup s).rescuer (range_with_len 0 (setup s).count))) _
+      (All-map HasNotBegun (λ dev. Rescuer (at dev) rests) (filter (setup s).rescuer (range_with_len 0 (setup s).count)) (λ k d lt. refl))
+      (All-append HasNotBegun (map (λ dev. Completer (at dev) Empty) (filter (is_disk (setup s)) (range_with_len 0 (setup s).count))) _
+      (All-map HasNotBegun (λ dev. Completer (at dev) Empty) (filter (is_disk (setup s)) (range_with_len 0 (setup s).count)) (λ k d lt. refl))
+      (keepers_begin (duties s) of_pools)))
 
   few : (setup s).count ≤ 32
-  few = (can o is).is_stack.few
+  few = can.is_stack.few
 
-  rise : Rises 0 (tasks s) 73
-  rise =
+  pub risen : Rises 0 (tasks s) 73
+  risen =
       rises_then 0 (map (λ writer. Writer writer (todos_of s writer) NoBio rests) (writers s)) 8 _ 73
       (rises_by (λ writer. Writer writer (todos_of s writer) NoBio rests) 0 (λ writer. list_any (is_by writer) (todos s)) (λ k. omega arith) 0 8 0 8 (omega arith) (omega arith))
       (rises_then 8 (map (λ dev. Rescuer (at dev) rests) (filter (setup s).rescuer (range_with_len 0 (setup s).count))) 40 _ 73
@@ -129,8 +114,16 @@ module _ (o : Opened) (is : IsOpened o) where
       (rises_by (λ dev. Completer (at dev) Empty) 40 (is_disk (setup s)) (λ k. omega arith) 0 (setup s).count 40 72 (omega arith) (omega (arith, few)))
       (keepers_rise (duties s))))
 
-  pub risen : Rises 0 (states o.tasks.items) 73
-  risen = subst (λ ts. Rises 0 ts 73) (sym is.tasks) rise
+  -- those that were opened of it
+  module _ (routing : Routing) (all shown : List TaskOf) (counts : List ℕ) (are : AreTasksOf stack work routing all counts) (same : shown ≡ all) where
+    pub shown_are : states shown ≡ tasks s
+    shown_are = ap states same ∙ states_are stack scripts work (shared stack scripts work can) routing all counts are
+
+    pub shown_first : All HasNotBegun (states shown)
+    shown_first = subst (All HasNotBegun) (sym shown_are) firsts
+
+    pub shown_rises : Rises 0 (states shown) 73
+    shown_rises = subst (λ ts. Rises 0 ts 73) (sym shown_are) risen
 
 -- the state of a task
 module _ (tasks : List TaskOf) (count : ℕ) (task : TaskOf) (lt : count < length tasks) (is : task ≡ get_or tasks count task) where

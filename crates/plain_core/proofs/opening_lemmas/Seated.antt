@@ -1,7 +1,7 @@
 -- Tasks in their order, each found by its name.
 use Rattle.std.proofs.Common.{◌≡◌, ◌≢◌, ◌+◌, ◌<◌, ◌≤◌, ◌++◌, ◌⊎◌, inl, inr, ℕ, List, [], ◌∷◌, length, map, sym, ap, ◌∙◌, subst, arith, Some, length-append}
 use Rattle.std.specs.Prelude.{slice_get, slice_set}
-use Rattle.std.proofs.lemmas.List.{append-nil, append_assoc, get_or-set_other, get_or-set_same, get_or_append_left, length-map, length-set, map-append}
+use Rattle.std.proofs.lemmas.List.{get_or-set_other, get_or-set_same, get_or_append_left, length-map, length-set, map-append}
 use Rattle.std.proofs.lemmas.List.Elements.{All-push, All-weaker}
 use Rattle.std.proofs.lemmas.Option.{slice_get-get_or, slice_get_within, get_or_from_slice_get}
 use Rattle.std.proofs.Math.Seq.{get_or-append_seam}
@@ -74,15 +74,3 @@ seated_on tasks places slot more le seated = record {
   few = omega (arith, le, seated.few);
   long = seated.long;
 }
-
--- none is seated
-pub seats_none : (old : List Task) (places : List ℕ) (slot more : ℕ) → slot ≤ more → AreTasksSeated (map task_of_plain old) places slot → Seats old [] old places more
-seats_none old places slot more le seated = (sym (append-nil (map task_of_plain old)), seated_on (map task_of_plain old) places slot more le seated)
-
--- some are, and then others
-pub seats_then : (old mid new : List Task) (one two both : List TaskState) (before after : List ℕ) (low slot : ℕ) → both ≡ one ++ two
-    → Seats old one mid before low → Seats mid two new after slot → Seats old both new after slot
-seats_then old mid new one two both before after low slot is first second = (
-  second.0 ∙ ap (λ ts. ts ++ two) first.0 ∙ append_assoc (map task_of_plain old) one two ∙ ap (λ ts. map task_of_plain old ++ ts) (sym is),
-  second.1,
-)

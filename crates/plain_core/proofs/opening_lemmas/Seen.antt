@@ -22,7 +22,7 @@ use Rattle.task_steps.specs.Stage.{Stage, is_pool}
 use Rattle.task_core.proofs.opened.Behind.{no_set_keeps, no_slips_keep, scripts_alone}
 use Rattle.plain_core.specs.opening.Opening.{CanOpen, new_pool}
 use Rattle.plain_core.specs.objects.Plain.{opened_disk}
-use Rattle.plain_core.proofs.opening_lemmas.Counted.{count_rounds, last_le}
+use Rattle.plain_core.proofs.opening_lemmas.Opened as begun
 use Rattle.plain_core.proofs.opening_lemmas.Readable.{can_open}
 
 -- the pool of a number, by three questions
@@ -131,11 +131,7 @@ module _ (o : Opened) (is : IsOpened o) where
   left_there = ap (λ (os : Objects). os.tally.left) is.objects
 
   pub few_rounds : length (objects s).tally.left < 2 ^ 32
-  few_rounds =
-      let rounds = s.rounds in
-      let long = count_rounds rounds (objects s).tally.left refl in
-      let last = last_le rounds 0 1024 (omega arith) can.rounds in
-      omega (arith, long, last)
+  few_rounds = begun.few_rounds s.stack s.scripts o.work.value can (objects s).tally.left refl
 
   -- the stack
   pub stack_there : (own : Routing) → own ≡ stage.routing → own.stack ≡ s.stack

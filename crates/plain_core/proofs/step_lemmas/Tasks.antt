@@ -1,5 +1,5 @@
 -- Steps of tasks, of what their requests were answered.
-use Rattle.std.proofs.Common.{◌≡◌, ◌==◌, ◌<◌, ◌≤◌, arith, ℕ, true, false, List, [], ◌∷◌, sum, refl, sym, ap, ◌∙◌, subst, Option, None, Some, Result, Ok, Err}
+use Rattle.std.proofs.Common.{◌≡◌, ◌==◌, ◌≤◌, arith, ℕ, true, false, List, [], ◌∷◌, sum, refl, sym, ap, ◌∙◌, subst, Option, None, Some, Result, Ok, Err}
 use Rattle.stack_base.specs.declared.ids.DevId.{DevId}
 use Rattle.stack_base.specs.declared.ids.Status.{Status}
 use Rattle.bio_records.specs.declared.bio.Bio.{Bio}
@@ -9,7 +9,7 @@ use Rattle.bio_books.specs.Books.{VectorItem, SlipItem, Holding}
 use Rattle.bio_books.specs.Drops.{Closed}
 use Rattle.bio_books.specs.Links.{Made}
 use Rattle.run_machine.specs.declared.event.What.{What}
-use Rattle.run_machine.specs.Requests.{Request, Reply, GiveBio, GiveVec, GiveSlip, Complete, Drop, Done, Did, Completed, DroppedTo, LeftOver, LookRound, Present, HadBio, HadVec, Missed, Pop, Popped, TakeVec, Link, LinkedTo, Write}
+use Rattle.run_machine.specs.Requests.{Reply, GiveBio, GiveSlip, Complete, Drop, Done, Did, Completed, DroppedTo, LeftOver, LookRound, Present, HadBio, HadVec, Missed, Pop, Popped, TakeVec, Link, LinkedTo, Write}
 use Rattle.run_machine.specs.Tasks as task
 use Rattle.run_machine.specs.Lines as line
 use Rattle.run_machine.specs.Runs.{IsLet}
@@ -27,7 +27,7 @@ use Rattle.plain_core.specs.declared.steps.task.Carried.{Carried}
 use Rattle.plain_core.specs.declared.steps.task.Carried.TheVariants as carried
 use Rattle.plain_core.specs.objects.Plain.{CoreObjects, objects_of_core}
 use Rattle.plain_core.specs.steps.Views.{carried_of_plain}
-use Rattle.plain_core.specs.steps.Answers.{IsAnswer, Refuses, HasAnswer, FailsRequest, AnswersRequest}
+use Rattle.plain_core.specs.steps.Answers.{IsAnswer, Refuses, HasAnswer, FailsRequest}
 use Rattle.plain_core.specs.steps.Submissions.{IsSubmitting, LineMoves}
 use Rattle.plain_core.specs.steps.Takes.{TakesPart, TakesVector}
 use Rattle.plain_core.specs.steps.Moves.{TaskMoves, duty_reply}

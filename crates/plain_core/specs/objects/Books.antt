@@ -1,13 +1,13 @@
 -- What an event tells of a node that was told of an end.
-use Rattle.std.specs.Prelude.{◌≡◌, ℕ, Option, None, Some, Result, Ok, Err}
+use Rattle.std.specs.Prelude.{◌≡◌, ◌<◌, ℕ, Option, None, Some, Result, Ok, Err}
 use Rattle.stack_base.specs.declared.ids.Status.{Status}
 use Rattle.bio_records.specs.declared.bio.Pad.{Pad}
 use Rattle.bio_records.specs.Items.{Item}
-use Rattle.bio_books.specs.Books.{BookState}
-use Rattle.bio_books.specs.Drops.{Drops, Closed}
+use Rattle.bio_books.specs.Books.{BookState, Node, lowered, node_at, told, with_node}
+use Rattle.bio_books.specs.Drops.{Drops, Closed, closed_of}
 use Rattle.bio_books.specs.Drops as drop
 use Rattle.run_machine.specs.declared.event.End.{End}
-use Rattle.run_machine.specs.declared.event.End.TheVariants as told
+use Rattle.run_machine.specs.declared.event.End.TheVariants as end
 use Rattle.plain_core.specs.declared.objects.book.Ended.{Ended}
 use Rattle.plain_core.specs.declared.objects.book.Ended.TheVariants as ended
 use Rattle.plain_core.specs.declared.fault.CoreFault.{CoreFault}
@@ -20,21 +20,31 @@ ended_of_plain (ended.Up closed) = drop.Up closed
 ended_of_plain (ended.Top closed) = drop.Top closed
 
 abbrev pub end_of : Ended → End
-end_of ended.Left = told.Left
-end_of (ended.Up closed) = told.Up
-end_of (ended.Top closed) = told.Top
+end_of ended.Left = end.Left
+end_of (ended.Up closed) = end.Up
+end_of (ended.Top closed) = end.Top
 
 abbrev pub IsToldBy : End → drop.Ended → Type 0
-IsToldBy told.Left drop.Left = Unit {0}
-IsToldBy told.Up (drop.Up closed) = Unit {0}
-IsToldBy told.Top (drop.Top closed) = Unit {0}
-IsToldBy end ended = ⊥
+IsToldBy end.Left drop.Left = Unit {0}
+IsToldBy end.Up (drop.Up closed) = Unit {0}
+IsToldBy end.Top (drop.Top closed) = Unit {0}
+IsToldBy tells ended = ⊥
 
 -- a node was told of an end, or can't be told so that the event tells it
 abbrev pub IsEndTold : BookState → ℕ → Status → Option (Item Pad) → End → Option Ended → BookState → Type 0
 IsEndTold old place status part end None new =
     (new ≡ old) × ((answer : drop.Ended) (new : BookState) → IsToldBy end answer → Drops old place status part answer new → ⊥)
 IsEndTold old place status part end (Some ended) new = IsToldBy end (ended_of_plain ended) × Drops old place status part (ended_of_plain ended) new
+
+-- the node at this place was told of an end that was not its last
+abbrev pub IsLoweredAt : BookState → ℕ → Status → Option (Item Pad) → BookState → Type 0
+IsLoweredAt old place status part new =
+    (node : Node) → node_at old place ≡ Some node → 1 < node.count → new ≡ with_node old place (Some (lowered (told node status part)))
+
+-- it was told of its last end, and this is left of it
+abbrev pub IsClosedAt : BookState → ℕ → Status → Option (Item Pad) → Closed → BookState → Type 0
+IsClosedAt old place status part closed new =
+    (node : Node) → node_at old place ≡ Some node → (closed ≡ closed_of (told node status part)) × (new ≡ with_node old place None)
 
 -- A node was opened so, or none can be, or one could be but for memory.
 abbrev pub OpensSo : BookState → (BookState → Type 0) → Result (Unit {0}) CoreFault → BookState → Type 0

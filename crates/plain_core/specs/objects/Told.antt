@@ -39,7 +39,8 @@ CorePoolMoves old number move new =
 abbrev pub Takes : CoreObjects → ℕ → PoolId → Bool → What → Result Got CoreFault → CoreObjects → Type 0
 Takes old number pool waits what result new =
     Gives old
-    (λ got next. (what ≡ take_of waits pool got) × CanTake (core_pool_at old number) waits got × CorePoolMoves old number (move_of (core_pool_at old number) got) next)
+    (λ got next.
+    (what ≡ take_of waits pool got) × CanTake (core_pool_at old number) waits got × CorePoolMoves old number (move_of (core_pool_at old number) got) next)
     ((got : Got) → what ≡ take_of waits pool got → CanTake (core_pool_at old number) waits got → ⊥)
     result new
 
@@ -65,7 +66,8 @@ Punts old lists dev what (Err fault.Memory) new rest = (new ≡ old) × (rest �
 abbrev pub Pops : CoreObjects → DevId → What → Result (Item Pad) CoreFault → CoreObjects → Type 0
 Pops old dev what result new =
     Gives old
-    (λ part next. (what ≡ told.Pop dev) × (core_rescue_at old dev.0 ≡ part ∷ core_rescue_at next dev.0) × (next ≡ with_rescue old dev.0 (core_rescue_at next dev.0)))
+    (λ part next.
+    (what ≡ told.Pop dev) × (core_rescue_at old dev.0 ≡ part ∷ core_rescue_at next dev.0) × (next ≡ with_rescue old dev.0 (core_rescue_at next dev.0)))
     ((part : Item Pad) (rest : List (Item Pad)) → what ≡ told.Pop dev → core_rescue_at old dev.0 ≡ part ∷ rest → ⊥)
     result new
 

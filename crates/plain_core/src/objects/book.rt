@@ -1,17 +1,16 @@
 //! Books of nodes that hold plain elements.
 ghost use Rattle.std.specs.Prelude.{◌≡◌, ℕ, ◌^◌, ◌-◌, ◌<◌, IfOk, OnOk, IsSome, MatchBool, MatchOption, None, Some, replicate};
-ghost use Rattle.bio_books.specs.Books.{BookState, Node as Open, parent_of, told, lowered, raised, keeping, node_at, with_node};
+ghost use Rattle.bio_books.specs.Books.{BookState, Node as Open, parent_of, raised, keeping, node_at, with_node};
 ghost use Rattle.bio_books.specs.Links.{Made, IsVacant, Opens, Chains, Masters, Legs};
-ghost use Rattle.bio_books.specs.Drops.{closed_of};
-ghost use Rattle.plain_core.specs.objects.Books.{IsEndTold, OpensSo};
+ghost use Rattle.plain_core.specs.objects.Books.{IsClosedAt, IsEndTold, IsLoweredAt, OpensSo};
 ghost use Rattle.plain_core.specs.objects.Lists.{lists_of, ListsHaveCapacity};
 ghost use Rattle.plain_core.specs.objects.Questions.{IsDecisionOf, TellsCount};
 
 use crate::fault::CoreFault;
 use crate::objects::lists::Lists;
-use crate::objects::node::{Closed, Node, parent_of};
+use crate::objects::node::{Closed, Node};
 use crate::objects::part::{Part, Slip, Vector};
-use bio_books::Role;
+use bio_books::{Role, parent_of};
 use stack_base::Status;
 use std::alloc::{AllocError, Global};
 use std::marker::Model;
@@ -92,7 +91,7 @@ impl Book {
     // The node at a place is told of an end, and waits for others.
     fn lower(&mut self, place: u32, status: Status, part: Option<Part>)
         requires { IsSome (node_at self.old place) }
-        ensures { (node : Open) → node_at self.old place ≡ Some node → 1 < node.count → self.new ≡ with_node self.old place (Some (lowered (told node status part))) }
+        ensures { IsLoweredAt self.old place status part self.new }
     {
         let Some(slot) = self.nodes.get_mut(place as usize) else {
             unreachable!()
@@ -105,7 +104,7 @@ impl Book {
     // The node at a place is told of its last end, and closes.
     fn close(&mut self, place: u32, status: Status, part: Option<Part>) -> Closed
         requires { IsSome (node_at self.old place) }
-        ensures { (node : Open) → node_at self.old place ≡ Some node → (result ≡ closed_of (told node status part)) × (self.new ≡ with_node self.old place None) }
+        ensures { IsClosedAt self.old place status part result self.new }
     {
         let Some(slot) = self.nodes.get_mut(place as usize) else {
             unreachable!()

@@ -2,52 +2,17 @@
 ghost use Rattle.std.specs.Prelude.{◌≡◌, ◌+◌, ◌*◌, ◌%◌, ◌^◌, ◌<◌, ◌≤◌, ◌↔◌, length, map, IsTrue, IfOk, OnOk, OnErr, None, Some, replicate, remove, slice_get};
 ghost use Rattle.std.specs.List.{range_with_len};
 ghost use Rattle.stack_base.specs.declared.ids.Status.TheVariants.{Ok};
-ghost use Rattle.stack_base.specs.Fault.{touches, starts_before, fault};
 ghost use Rattle.model_disks.specs.Disks.{DiskState};
 ghost use Rattle.model_disks.specs.Moves.{opened, pushed, written};
 ghost use Rattle.plain_core.specs.objects.Disks.{firsts_after, sector_of, image_after, CompletesOrNot};
 
 use crate::objects::part::Part;
 use bio_records::Bio;
-use stack_base::{Bad, DevId, Range, Status};
+use model_disks::fault::fault;
+use stack_base::{Bad, DevId, Status};
 use std::alloc::{AllocError, Global};
 use std::collections::VecDeque;
 use std::marker::Model;
-
-// Whether two ranges share a sector.
-fn touches(one: Range, other: Range) -> bool
-    ensures { result ≡ touches one other }
-{
-    let end = u128::from(one.start) + u128::from(one.len);
-    let other_end = u128::from(other.start) + u128::from(other.len);
-    u128::from(one.start.max(other.start)) < end.min(other_end)
-}
-
-// Whether a bad range starts before the one that was found so far, if any was.
-fn starts_before(bad: Bad, found: Option<Bad>) -> bool
-    ensures { result ≡ starts_before bad found }
-{
-    match found {
-        None => true,
-        Some(found) => bad.range.start < found.range.start,
-    }
-}
-
-// How a bio of these sectors ends (`badblocks_check`, `block/badblocks.c`).
-fn fault(bads: &[Bad], range: Range) -> Status
-    ensures { result ≡ fault bads.now range }
-{
-    let mut found = None;
-    for bad in bads {
-        if touches(bad.range, range) && starts_before(*bad, found) {
-            found = Some(*bad);
-        }
-    }
-    match found {
-        None => Status::Ok,
-        Some(bad) => bad.kind,
-    }
-}
 
 // Writes sectors whose words count up from this one.
 fn write_run(firsts: &mut [Option<u64>], word: u64)

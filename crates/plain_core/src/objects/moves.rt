@@ -18,7 +18,7 @@ use crate::objects::part::Part;
 use crate::objects::{Objects, told};
 use stack_base::{DevId, PoolId, Status};
 use std::alloc::AllocError;
-use task_core::{Got, What};
+use task_core::{Got, What, pool_of};
 
 // A bio comes to a disk.
 fn push_to(slot: &mut Option<Disk>, part: Part) -> Result<(), AllocError>
@@ -65,7 +65,7 @@ impl Objects {
         requires { number < 66 }
         ensures { MovesAs self.old number gives (told.Give (pool_of number)) what.now result self.new }
     {
-        if !told::gives(what, told::pool_of(number)) || self.pools[number as usize].out() == 0 {
+        if !told::gives(what, pool_of(number)) || self.pools[number as usize].out() == 0 {
             return Err(CoreFault::NotEnabled);
         }
         self.pools[number as usize].give();

@@ -1,10 +1,10 @@
 //! Nodes as plain data: what each holds, how many ends it waits for, and how it ends.
 ghost use Rattle.std.specs.Prelude.{◌≡◌, ◌^◌, ◌-◌, ◌<◌, None, Some};
-ghost use Rattle.bio_books.specs.Books.{Node as Open, parent_of, first_failing, any_well, by_mark, kept_with, closing, told, raised, keeping, top_node, master_node};
+ghost use Rattle.bio_books.specs.Books.{Node as Open, told, raised, keeping, top_node, master_node};
 ghost use Rattle.bio_books.specs.Drops.{Drops, closed_of};
 
 use crate::objects::part::{Part, Slip, Vector};
-use bio_books::Role;
+use bio_books::{Role, closing, kept_with, parent_of};
 use stack_base::Status;
 use std::marker::Model;
 
@@ -57,64 +57,6 @@ impl Model for Closed {
     ghost Value = { Left };
 
     ghost view = { λ c. record { held = c.held; parent = c.parent; write = c.write; status = c.status } };
-}
-
-// Of two ends, the first that failed.
-fn first_failing(old: Status, new: Status) -> Status
-    ensures { result ≡ first_failing old new }
-{
-    match old {
-        Status::Ok => new,
-        _ => old,
-    }
-}
-
-// How a node of a role has ended, with one more end.
-fn kept_with(role: Role, old: Status, new: Status) -> Status
-    ensures { result ≡ kept_with role old new }
-{
-    match role {
-        Role::Top | Role::Chain { .. } | Role::Leg { .. } => first_failing(old, new),
-        Role::Master { .. } => any_well(old, new),
-    }
-}
-
-// Of two ends, one that was well, if one was.
-fn any_well(old: Status, new: Status) -> Status
-    ensures { result ≡ any_well old new }
-{
-    if matches!(new, Status::Ok) { new } else { old }
-}
-
-// Well where the mark of a master is set.
-fn by_mark(mark: Status) -> Status
-    ensures { result ≡ by_mark mark }
-{
-    if matches!(mark, Status::Ok) {
-        mark
-    } else {
-        Status::Io
-    }
-}
-
-// How a node of a role ends as it closes.
-fn closing(role: Role, status: Status) -> Status
-    ensures { result ≡ closing role status }
-{
-    match role {
-        Role::Top | Role::Chain { .. } | Role::Leg { .. } => status,
-        Role::Master { .. } => by_mark(status),
-    }
-}
-
-// The place of the node that a node of a role is a child of, if it is one.
-pub(crate) fn parent_of(role: Role) -> Option<u32>
-    ensures { result ≡ parent_of role }
-{
-    match role {
-        Role::Top => None,
-        Role::Chain { parent } | Role::Master { parent } | Role::Leg { parent } => Some(parent),
-    }
 }
 
 impl Holding {

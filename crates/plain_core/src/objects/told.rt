@@ -1,7 +1,7 @@
 //! What an event tells, as what a request could have had.
 ghost use Rattle.std.specs.Prelude.{◌≡◌, ◌<◌, ℕ, MatchOption};
 ghost use Rattle.run_machine.specs.declared.event.What.TheVariants as told;
-ghost use Rattle.run_machine.specs.Events.{take_of, pool_of};
+ghost use Rattle.run_machine.specs.Events.{take_of};
 ghost use Rattle.plain_core.specs.objects.Questions.{IsDecisionOf, IsReadAs};
 
 use stack_base::{DevId, PoolId, Status};
@@ -21,18 +21,6 @@ pub fn got_of(what: &What, pool: PoolId, waits: bool) -> Option<Got>
             What::Try { pool: named, got } if named == pool => Some(got),
             _ => None,
         }
-    }
-}
-
-/// The pool of a number.
-pub fn pool_of(number: u32) -> PoolId
-    ensures { result ≡ pool_of number }
-{
-    match number {
-        65 => PoolId::FsBios,
-        64 => PoolId::FsVecs,
-        _ if number % 2 == 0 => PoolId::Bios(DevId(number / 2)),
-        _ => PoolId::Records(DevId(number / 2)),
     }
 }
 

@@ -5,7 +5,7 @@ ghost use Rattle.stack_base.specs.Stack.{IsStack};
 ghost use Rattle.stack_base.specs.declared.ids.PoolId.{PoolId as Pools};
 ghost use Rattle.stack_base.specs.declared.ids.Status.TheVariants.{Ok as Well};
 ghost use Rattle.fail_script.specs.Script.{Answers};
-ghost use Rattle.run_machine.specs.Opened.{records_of, reserve_of, script_at};
+ghost use Rattle.run_machine.specs.Opened.{reserve_of};
 ghost use Rattle.plain_core.specs.opening.Opening.{new_books, new_disk, new_disks, new_pools, new_core_objects, new_tally};
 
 use crate::objects::Objects;
@@ -14,28 +14,14 @@ use crate::objects::disk::Disk;
 use crate::objects::lists::Rescue;
 use crate::objects::pool::Pool;
 use crate::objects::tally::Tally;
-use crate::objects::told::pool_of;
 use fail_script::Script;
-use stack_base::{DevId, Kind, PoolId, Stack, Status};
+use stack_base::{DevId, PoolId, Stack, Status};
 use std::alloc::{AllocError, Global};
-use task_core::Routes;
-
-// The reserve of the records of a device, which a mirror alone has.
-fn records_of(kind: &Kind) -> u32
-    ensures { result ≡ records_of kind.now }
-{
-    match *kind {
-        Kind::Disk { .. } => 0,
-        Kind::Linear => 0,
-        Kind::Stripe { .. } => 0,
-        Kind::Zoned { .. } => 0,
-        Kind::Limit { .. } => 0,
-        Kind::Mirror { records } => records,
-    }
-}
+use task_core::{Routes, bads_of, is_disk, pool_of, records_of, script_of};
 
 // The reserve of a pool, of which a device that the stack does not have has none.
 fn reserve_of(stack: &Stack, pool: PoolId) -> u32
+    requires { IsStack stack.now }
     ensures { result ≡ reserve_of stack.now pool }
 {
     match pool {
@@ -47,36 +33,9 @@ fn reserve_of(stack: &Stack, pool: PoolId) -> u32
         },
         PoolId::Records(dev) => match stack.devices.get(dev.0 as usize) {
             None => 0,
-            Some(device) => records_of(&device.kind),
+            Some(_) => records_of(stack, dev),
         },
     }
-}
-
-/// The same script once more.
-///
-/// # Errors
-/// Where there is no memory.
-pub fn copy_of(alloc: Global, script: &Script) -> Result<Script, AllocError>
-    ensures { IfOk result (λ copy. copy ≡ script.now) }
-{
-    let mut entries = Vec::with_capacity(alloc, script.entries() as usize)?;
-    'copying: for pos in 0..script.entries() {
-        entries.push(script.allows(pos))?;
-    }
-    Ok(Script::new(entries, script.tail()))
-}
-
-// The script of the pool with this number. Where there is none, each take may have ordinary memory.
-fn script_of(alloc: Global, scripts: &[(PoolId, Script)], number: u32) -> Result<Script, AllocError>
-    requires { All (λ (script : Pools × Answers). IsOfStack script.0) scripts.now }
-    ensures { IfOk result (λ script. script ≡ script_at scripts.now number) }
-{
-    'looking: for i in 0..scripts.len() {
-        if scripts[i].0.no() == number {
-            return copy_of(alloc, &scripts[i].1);
-        }
-    }
-    Ok(Script::new(Vec::new(alloc), true))
 }
 
 // Opens the pools, by their numbers.
@@ -85,7 +44,8 @@ fn open_pools(
     stack: &Stack,
     scripts: &[(PoolId, Script)],
 ) -> Result<Vec<Pool>, AllocError>
-    requires { All (λ (script : Pools × Answers). IsOfStack script.0) scripts.now }
+    requires stack { IsStack stack.now }
+    requires scripts { All (λ (script : Pools × Answers). IsOfStack script.0) scripts.now }
     ensures { IfOk result (λ pools. pools.items ≡ new_pools stack.now scripts.now 66) }
 {
     let mut pools = Vec::with_capacity(alloc, 66)?;
@@ -111,31 +71,36 @@ pub fn open_rescues(alloc: Global, count: usize) -> Result<Vec<Rescue>, AllocErr
 }
 
 // Opens the disk that a device is, if it is one.
-fn open_disk(alloc: Global, stack: &Stack, dev: DevId) -> Result<Option<Disk>, AllocError>
+fn open_disk(
+    alloc: Global,
+    stack: &Stack,
+    routes: &Routes,
+    dev: DevId,
+) -> Result<Option<Disk>, AllocError>
+    requires same { routes.now.stack ≡ stack.now }
     requires stack { IsStack stack.now }
     requires device { dev.0 < length stack.now.devices.items }
     ensures { IfOk result (λ disk. disk ≡ new_disk stack.now dev.0) }
 {
-    match &stack.device(dev).kind {
-        Kind::Disk { sectors: _, bad } => {
-            Ok(Some(Disk::open(alloc, dev, stack.size(dev), bad)?))
-        }
-        Kind::Linear => Ok(None),
-        Kind::Stripe { chunk: _ } => Ok(None),
-        Kind::Zoned { chunk: _ } => Ok(None),
-        Kind::Limit { max: _, chunk: _ } => Ok(None),
-        Kind::Mirror { records: _ } => Ok(None),
+    if !is_disk(routes, dev) {
+        return Ok(None);
     }
+    Ok(Some(Disk::open(alloc, dev, stack.size(dev), bads_of(stack, dev))?))
 }
 
 // Opens the disks of a stack, by their devices.
-fn open_disks(alloc: Global, stack: &Stack) -> Result<Vec<Option<Disk>>, AllocError>
-    requires { IsStack stack.now }
+fn open_disks(
+    alloc: Global,
+    stack: &Stack,
+    routes: &Routes,
+) -> Result<Vec<Option<Disk>>, AllocError>
+    requires same { routes.now.stack ≡ stack.now }
+    requires stack { IsStack stack.now }
     ensures { IfOk result (λ disks. disks.items ≡ new_disks stack.now (length stack.now.devices.items)) }
 {
     let mut disks = Vec::with_capacity(alloc, stack.devices.len())?;
     'opening: for number in 0..stack.devices.len() {
-        disks.push(open_disk(alloc, stack, DevId(number as u32))?)?;
+        disks.push(open_disk(alloc, stack, routes, DevId(number as u32))?)?;
     }
     Ok(disks)
 }
@@ -152,6 +117,20 @@ pub fn open_books(alloc: Global, routes: &Routes) -> Result<Vec<Book>, AllocErro
         books.push(Book::open(alloc, writer, routes.places(writer))?)?;
     }
     Ok(books)
+}
+
+/// The same numbers, in 64 bits each.
+///
+/// # Errors
+/// Where there is no memory.
+pub fn widened(alloc: Global, numbers: &[u32]) -> Result<Vec<u64>, AllocError>
+    ensures { IfOk result (λ wide. wide.items ≡ numbers.now) }
+{
+    let mut wide = Vec::with_capacity(alloc, numbers.len())?;
+    'widening: for i in 0..numbers.len() {
+        wide.push(u64::from(numbers[i]))?;
+    }
+    Ok(wide)
 }
 
 // The statuses of so many writes, none of which is done.
@@ -172,19 +151,19 @@ pub fn open_objects(
     stack: &Stack,
     routes: &Routes,
     scripts: &[(PoolId, Script)],
-    counts: Vec<u64>,
+    left: &[u32],
     writes: usize,
 ) -> Result<Objects, AllocError>
     requires same { routes.now.stack ≡ stack.now }
     requires stack { IsStack stack.now }
     requires scripts { All (λ (script : Pools × Answers). IsOfStack script.0) scripts.now }
-    requires rounds { length counts.items < 2 ^ 32 }
-    ensures { IfOk result (λ objects. objects ≡ new_core_objects stack.now scripts.now routes.now.places (new_tally counts.items writes)) }
+    requires rounds { length left.now < 2 ^ 32 }
+    ensures { IfOk result (λ objects. objects ≡ new_core_objects stack.now scripts.now routes.now.places (new_tally left.now writes)) }
 {
     let pools = open_pools(alloc, stack, scripts)?;
     let rescues = open_rescues(alloc, stack.devices.len())?;
-    let disks = open_disks(alloc, stack)?;
+    let disks = open_disks(alloc, stack, routes)?;
     let books = open_books(alloc, routes)?;
-    let tally = Tally::new(counts, open_statuses(alloc, writes)?);
+    let tally = Tally::new(widened(alloc, left)?, open_statuses(alloc, writes)?);
     Ok(Objects::new(routes, pools, rescues, disks, books, tally))
 }

@@ -3,8 +3,6 @@ ghost use Rattle.std.specs.Prelude.{◌≡◌, ◌<◌, IfOk, length};
 ghost use Rattle.task_core.specs.opened.OfOne.{scenario_in, IsOpened};
 ghost use Rattle.run_machine.specs.Opened.{objects as objects_at};
 ghost use Rattle.task_core.specs.Plains.{stage_of};
-ghost use Rattle.task_steps.specs.Routed.{routing_setup};
-ghost use Rattle.run_machine.specs.Scene.{is_mirror, keeps_data};
 ghost use Rattle.task_steps.specs.Stage.{is_pool};
 ghost use Rattle.plain_core.specs.opening.Opening.{new_disk, new_disks, new_pool, new_pools, core_objects_of};
 
@@ -12,36 +10,11 @@ use crate::objects::Objects;
 use crate::objects::disk::Disk;
 use crate::objects::pool::Pool;
 use crate::objects::tally::Tally;
-use crate::objects::told::pool_of;
-use crate::opening::objects::{copy_of, open_books, open_rescues};
+use crate::opening::objects::{open_books, open_rescues, widened};
 use fail_script::Script;
 use stack_base::{DevId, PoolId};
 use std::alloc::{AllocError, Global};
-use task_core::{Manner, Opened, Routes};
-
-// Whether a device is a disk.
-fn is_disk(routes: &Routes, dev: DevId) -> bool
-    requires { dev.0 < length routes.now.stack.devices.items }
-    ensures { result ≡ keeps_data ((routing_setup routes.now).tree dev.0) }
-{
-    match routes.manner(dev) {
-        Manner::Keeps => true,
-        Manner::Cuts => false,
-        Manner::Copies => false,
-    }
-}
-
-// Whether a device is a mirror.
-fn is_mirror(routes: &Routes, dev: DevId) -> bool
-    requires { dev.0 < length routes.now.stack.devices.items }
-    ensures { result ≡ is_mirror ((routing_setup routes.now).tree dev.0) }
-{
-    match routes.manner(dev) {
-        Manner::Keeps => false,
-        Manner::Cuts => false,
-        Manner::Copies => true,
-    }
-}
+use task_core::{Opened, Routes, copy_of, is_disk, is_mirror, pool_of};
 
 // Whether a pool is one of the stack that was opened.
 fn has_pool(opened: &Opened, routes: &Routes, pool: PoolId) -> bool
@@ -122,17 +95,6 @@ fn disks_seen(
         disks.push(disk_seen(alloc, opened, routes, DevId(number))?)?;
     }
     Ok(disks)
-}
-
-// The same numbers, in 64 bits each.
-fn widened(alloc: Global, numbers: &[u32]) -> Result<Vec<u64>, AllocError>
-    ensures { IfOk result (λ wide. wide.items ≡ numbers.now) }
-{
-    let mut wide = Vec::with_capacity(alloc, numbers.len())?;
-    'widening: for i in 0..numbers.len() {
-        wide.push(u64::from(numbers[i]))?;
-    }
-    Ok(wide)
 }
 
 // The tally, in which every write is unfinished.

@@ -9,26 +9,10 @@ ghost use Rattle.plain_core.specs.steps.Views.{keeper_of, task_of_plain, writer_
 ghost use Rattle.plain_core.specs.opening.Opening.{IsSeating};
 
 use crate::opening::seats::{open_slots, resting, seat};
-use crate::steps::task::{Carried, Completer, Duty, Keeper, Rescuer, Taken, Task, Todo, Writer};
+use crate::steps::task::{Carried, Completer, Duty, Keeper, Rescuer, Taken, Task, Writer};
 use std::alloc::{AllocError, Global};
 use task_core as opened;
 use task_core::Kind;
-
-// The same writes once more.
-fn todos_seen(alloc: Global, rest: &[opened::Todo]) -> Result<Vec<Todo>, AllocError>
-    ensures { IfOk result (λ todo. todo.items ≡ rest.now) }
-{
-    let mut todos = Vec::with_capacity(alloc, rest.len())?;
-    'seeing: for i in 0..rest.len() {
-        let todo = rest[i];
-        todos.push(Todo {
-            number: todo.number,
-            round: todo.round,
-            write: todo.write,
-        })?;
-    }
-    Ok(todos)
-}
 
 // The same duty once more.
 fn duty_seen(duty: opened::Duty) -> Duty
@@ -68,7 +52,7 @@ fn writer_seen(alloc: Global, writer: &opened::Writer) -> Result<Writer, AllocEr
 {
     Ok(Writer {
         number: writer.number(),
-        todo: todos_seen(alloc, writer.todo().rest())?,
+        todo: Vec::from_slice(alloc, writer.todo().rest())?,
         begun: 0,
         taken: Taken::NoBio,
         line: resting(alloc),

@@ -15,8 +15,9 @@ use crate::steps::keeper::next_duty;
 use crate::steps::task::{
     Ask, Carried, Completer, Copying, Doing, Keeper, Line, Rescuer, Taken, Task, Want, Writer,
 };
-use crate::steps::writer::{needs_vector, next_todo};
+use crate::steps::writer::next_todo;
 use stack_base::{DevId, PoolId};
+use task_core::needs_vector;
 
 /// What a request needs so that it can be answered, and told as an event that needs no ordinary memory.
 #[derive(Clone, Copy)]

@@ -10,10 +10,9 @@ use crate::objects::lists::Lists;
 use crate::objects::node::Closed;
 use crate::objects::part::{Hand, Part, Slip, Vector};
 use bio_records::Bio;
-use layout_model::Write;
 use stack_base::{DevId, PoolId, Status};
 use std::marker::Model;
-use task_core::TaskId;
+use task_core::{TaskId, Todo};
 
 /// What a driver does for a bio of its device's set.
 #[derive(Drop)]
@@ -73,41 +72,12 @@ impl Line {
     }
 }
 
-/// A write that a writer has still to begin.
-#[derive(Drop)]
-pub struct Todo {
-    pub number: u32,
-    pub round: u32,
-    pub write: Write,
-}
-
-impl Model for Todo {
-    ghost use Rattle.run_machine.specs.Tasks.{Todo as Later};
-
-    ghost Value = { Later };
-
-    ghost view = { λ t. record { number = t.number; round = t.round; write = t.write } };
-}
-
 /// What a writer has taken for its next write.
 #[derive(Drop)]
 pub enum Taken {
     NoBio,
     HasBio(Hand),
     HasBoth(Hand, Vector),
-}
-
-impl Todo {
-    /// The same once more.
-    pub fn again(&self) -> Todo
-        ensures { result ≡ self.now }
-    {
-        Todo {
-            number: self.number,
-            round: self.round,
-            write: self.write,
-        }
-    }
 }
 
 impl Taken {

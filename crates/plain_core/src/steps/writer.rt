@@ -3,7 +3,7 @@ ghost use Rattle.std.specs.Prelude.{◌≡◌, ◌+◌, ◌<◌, [], ◌∷◌, 
 ghost use Rattle.layout_model.specs.Writes.{IsWrite};
 ghost use Rattle.run_machine.specs.Lines.{settled, Rests as AtRest};
 ghost use Rattle.task_steps.specs.Routed.{routing_setup};
-ghost use Rattle.run_machine.specs.Tasks.{needs_vector, first_bio, NoBio, HasBio, HasBoth};
+ghost use Rattle.run_machine.specs.Tasks.{needs_vector, NoBio, HasBio, HasBoth};
 ghost use Rattle.task_steps.specs.Within.{IsWithinDevice, TaskFits};
 ghost use Rattle.plain_core.specs.steps.Views.{line_of_plain, doing_of_plain, taken_of_plain, writer_of};
 ghost use Rattle.plain_core.specs.steps.Moves.{IsNextAt, begun_with, WriterMoves, WriterMovesFor};
@@ -15,41 +15,11 @@ use crate::objects::part::{Data, Hand, Part, Vector};
 use crate::steps::asks;
 use crate::steps::line::take::take_part;
 use crate::steps::line::{drive, line_step};
-use crate::steps::task::{Line, Taken, Todo, Writer};
-use bio_records::{Bio, Iter, Pad};
+use crate::steps::task::{Line, Taken, Writer};
+use bio_records::Pad;
 use layout_model::Write;
-use stack_base::{PoolId, Range, SetId};
-use task_core::{Got, Routes, What};
-
-/// Whether a write needs a vector of segments.
-pub fn needs_vector(write: &Write) -> bool
-    ensures { result ≡ needs_vector write.now }
-{
-    write.count > 32
-}
-
-// The bio of a write, at its device, with the node at this place.
-fn first_bio(writer: u32, todo: &Todo, node: u32) -> Bio
-    ensures { result ≡ first_bio writer todo.now node }
-{
-    let write = &todo.write;
-    Bio {
-        write: todo.number,
-        writer,
-        node,
-        dev: write.dev,
-        range: Range {
-            start: write.start,
-            len: write.count,
-        },
-        word: write.tag,
-        at: Iter {
-            segment: 0,
-            done: 0,
-        },
-        set: SetId::Fs,
-    }
-}
+use stack_base::{PoolId, SetId};
+use task_core::{Got, Routes, Todo, What, first_bio, needs_vector};
 
 // A bio is submitted.
 pub(crate) fn start(routes: &Routes, part: Part, line: &mut Line)
@@ -212,7 +182,7 @@ fn write_step(
     let Some(next) = next_todo(&writer.todo, writer.begun) else {
         return Err(CoreFault::NotEnabled);
     };
-    let next = next.again();
+    let next = *next;
     match writer.taken.again() {
         Taken::NoBio => take_step(objects, writer, next.round, what),
         Taken::HasBio(hand) => {

@@ -6,18 +6,17 @@ use Rattle.task_steps.specs.Routed.{Routing}
 use Rattle.plain_core.specs.opening.Opening.{core_objects_of}
 use Rattle.plain_core.specs.opening.Seen.{HasNotBegun, Rises}
 use Rattle.plain_core.specs.steps.Views.{task_of_plain}
-use Rattle.plain_core.proofs.opening_lemmas.Risen.{firsts, risen}
-use Rattle.plain_core.proofs.opening_lemmas.SeenCores.{seen_is_core, seen_so}
+use Rattle.plain_core.proofs.opening_lemmas.SeenCores.{seen_first, seen_is_core, seen_rises, seen_so}
 use Rattle.plain_core.proofs.state.Core.of.Goals as goal
 
 pub objects_seen-requires-clause-routes : goal.objects_seen-requires-clause-routes
 objects_seen-requires-clause-routes c = c.deref.ensures ∙ c.in_ok-routes.ensures ∙ c.requires.routes
 
 pub tasks_seen-requires-clause-first : goal.tasks_seen-requires-clause-first
-tasks_seen-requires-clause-first c = subst (λ (ts : List TaskOf). All HasNotBegun (states ts)) (sym c.deref-2.ensures.value) (firsts c.args.opened.now c.requires)
+tasks_seen-requires-clause-first c = subst (λ (ts : List TaskOf). All HasNotBegun (states ts)) (sym c.deref-2.ensures.value) (seen_first c.args.opened.now c.requires)
 
 pub tasks_seen-requires-clause-rising : goal.tasks_seen-requires-clause-rising
-tasks_seen-requires-clause-rising c = subst (λ (ts : List TaskOf). Rises 0 (states ts) 73) (sym c.deref-2.ensures.value) (risen c.args.opened.now c.requires)
+tasks_seen-requires-clause-rising c = subst (λ (ts : List TaskOf). Rises 0 (states ts) 73) (sym c.deref-2.ensures.value) (seen_rises c.args.opened.now c.requires)
 
 pub invariant_of-result : goal.invariant_of-result
 invariant_of-result c =

@@ -1,54 +1,56 @@
 use Rattle.std.proofs.Common.{◌≡◌, ◌∙◌, ap, length, map, arith}
 use Rattle.task_steps.specs.Routed.{Routing}
-use Rattle.plain_core.specs.opening.Opening.{new_core_objects, new_tally, counts_of, tasks_of}
+use Rattle.task_core.proofs.opened.Setups.{places_are}
+use Rattle.plain_core.specs.opening.Opening.{new_core_objects, new_tally}
 use Rattle.plain_core.specs.objects.Plain.{CoreObjects}
 use Rattle.plain_core.specs.steps.Views.{task_of_plain}
-use Rattle.plain_core.proofs.opening_lemmas.Counted.{count_rounds, last_le}
-use Rattle.plain_core.proofs.opening_lemmas.Listed.{few_writes}
-use Rattle.plain_core.proofs.opening_lemmas.Opened.{is_core, opened_so}
+use Rattle.plain_core.proofs.opening_lemmas.Opened.{few_rounds, is_core, opened_so, shared}
+use Rattle.plain_core.proofs.opening_lemmas.Risen.{shown_are, shown_first, shown_rises}
 use Rattle.plain_core.proofs.state.Core.plain.Goals as goal
 
-pub counts_of-requires : goal.counts_of-requires
-counts_of-requires c =
-    let few = few_writes c.args.stack.now c.args.work.now.writes.items in
-    let allowed = c.requires.allowed in
-    let paired = c.requires.paired in
-    omega (arith, few, allowed, paired, ap length c.deref.ensures.value)
+pub open_tasks-requires-clause-shared : goal.open_tasks-requires-clause-shared
+open_tasks-requires-clause-shared c = shared c.args.stack.now c.args.scripts.now c.args.work.now c.requires
 
-pub duties_of-requires-clause-few : goal.duties_of-requires-clause-few
-duties_of-requires-clause-few c =
-    let last = last_le c.args.work.now.rounds.items 0 1024 (omega arith) c.requires.rounds in
-    omega (arith, last)
+pub tasks_seen-seen-requires-clause-first : goal.tasks_seen-seen-requires-clause-first
+tasks_seen-seen-requires-clause-first c =
+    shown_first c.args.stack.now c.args.scripts.now c.args.work.now c.requires c.in_ok-routes.routes.value c.in_ok-routes.opened.items _
+    c.in_ok-routes.left.items c.in_ok-routes.ensures c.deref.ensures.value
 
-pub seat_all-requires-clause-few : goal.seat_all-requires-clause-few
-seat_all-requires-clause-few c =
-    let few = few_writes c.args.stack.now c.args.work.now.writes.items in
-    let allowed = c.requires.allowed in
-    omega (arith, few, allowed)
+pub tasks_seen-seen-requires-clause-rising : goal.tasks_seen-seen-requires-clause-rising
+tasks_seen-seen-requires-clause-rising c =
+    shown_rises c.args.stack.now c.args.scripts.now c.args.work.now c.requires c.in_ok-routes.routes.value c.in_ok-routes.opened.items _
+    c.in_ok-routes.left.items c.in_ok-routes.ensures c.deref.ensures.value
+
+pub open_objects-requires-clause-same : goal.open_objects-requires-clause-same
+open_objects-requires-clause-same c = ap (λ (r : Routing). r.stack) c.deref-2.ensures ∙ c.in_ok-routes.ensures.stack
 
 pub open_objects-requires-clause-rounds : goal.open_objects-requires-clause-rounds
 open_objects-requires-clause-rounds c =
-    let rounds = c.args.work.now.rounds.items in
-    let long = count_rounds rounds c.in_ok-counts.counts.items (c.in_ok-counts.ensures ∙ ap counts_of c.deref.ensures.value) in
-    let last = last_le rounds 0 1024 (omega arith) c.requires.rounds in
-    omega (arith, long, last)
+    few_rounds c.args.stack.now c.args.scripts.now c.args.work.now c.requires _ (c.deref-3.ensures.value ∙ c.in_ok-routes.ensures.left)
 
 pub invariant_of-result : goal.invariant_of-result
 invariant_of-result c =
-    is_core c.args.stack.now c.args.scripts.now c.args.work.now c.in_ok-duties.duties.items c.in_ok-new.field-0.value c.in_ok-objects.objects
-    (map task_of_plain c.in_ok-tasks.tasks.items) c.in_ok-tasks.slots.items c.requires (ap (λ (r : Routing). r.stack) (c.in_ok-new.ensures.ok ∙ c.in_ok-routes.ensures))
-    (ap (λ (o : CoreObjects). o.stack) c.in_ok-objects.ensures) c.in_ok-tasks.ensures.0 c.in_ok-tasks.ensures.1
+    let stack = c.args.stack.now in
+    let scripts = c.args.scripts.now in
+    let work = c.args.work.now in
+    let are = shown_are stack scripts work c.requires c.in_ok-routes.routes.value c.in_ok-routes.opened.items _ c.in_ok-routes.left.items c.in_ok-routes.ensures c.deref.ensures.value in
+    is_core stack scripts work c.requires c.in_ok-routes.routes.value c.in_ok-objects.objects (map task_of_plain c.in_ok-tasks.tasks.items) c.in_ok-tasks.places.items
+    c.in_ok-routes.ensures.stack (ap (λ (o : CoreObjects). o.stack) c.in_ok-objects.ensures) (c.in_ok-tasks.ensures.0 ∙ are) c.in_ok-tasks.ensures.1
 
 pub returns : goal.returns
 returns c =
     let stack = c.args.stack.now in
+    let scripts = c.args.scripts.now in
     let work = c.args.work.now in
-    let places = c.in_ok-places.places in
-    let written : c.len-writes.result ≡ length work.writes.items = omega (arith, c.len-writes.ensures, work.writes.ok.0) in
-    let counts = c.in_ok-counts.ensures ∙ ap counts_of c.deref.ensures.value in
-    let kept = ap (λ (r : Routing). r.places) c.in_ok-routes.ensures in
-    opened_so stack c.args.scripts.now work c.requires places c.in_ok-places.ensures
-    (record { routing = c.in_ok-new.field-0.value; objects = c.in_ok-objects.objects; tasks = map task_of_plain c.in_ok-tasks.tasks.items })
-    (c.in_ok-new.ensures.ok ∙ c.in_ok-routes.ensures)
-    (c.in_ok-objects.ensures ∙ (λ k. new_core_objects stack c.args.scripts.now (kept k) (new_tally (counts k) (written k))))
-    (c.in_ok-tasks.ensures.0 ∙ ap (tasks_of stack work) c.in_ok-duties.ensures)
+    let routing = c.in_ok-routes.routes.value in
+    let are = shown_are stack scripts work c.requires routing c.in_ok-routes.opened.items _ c.in_ok-routes.left.items c.in_ok-routes.ensures c.deref.ensures.value in
+    let written : c.len.result ≡ length work.writes.items = omega (arith, c.len.ensures, work.writes.ok.0) in
+    let left = c.deref-3.ensures.value ∙ c.in_ok-routes.ensures.left in
+    let kept = ap (λ (r : Routing). r.places) c.deref-2.ensures in
+    let placed =
+    places_are stack scripts work (shared stack scripts work c.requires) routing c.in_ok-routes.opened.items c.in_ok-routes.left.items c.in_ok-routes.ensures in
+    opened_so stack scripts work c.requires routing.places placed
+    (record { routing = routing; objects = c.in_ok-objects.objects; tasks = map task_of_plain c.in_ok-tasks.tasks.items })
+    (λ k. record { stack = c.in_ok-routes.ensures.stack k; places = routing.places })
+    (c.in_ok-objects.ensures ∙ (λ k. new_core_objects stack scripts (kept k) (new_tally (left k) (written k))))
+    (c.in_ok-tasks.ensures.0 ∙ are)
