@@ -1,5 +1,5 @@
-//! Tests of tasks at their desks: runs on one thread, two threads beside each other, and the order in which tasks are
-//! handed out.
+//! Tests of tasks at their desks: runs on one thread, two threads beside each other, the order in which tasks are handed
+//! out, and runs by workers, thousands of times over.
 #![tactic(auto)]
 
 #[cfg(test)]
@@ -15,3 +15,5 @@ mod reports;
 #[cfg(test)]
 mod storage;
 pub mod turns;
+#[cfg(test)]
+mod workers;
