@@ -32,7 +32,8 @@ pub enum Ending {
     ReadFault,
     /// The sink failed.
     WriteFault,
-    /// There was no memory for reading, for the fragments of a layout, for the opening or for a replay.
+    /// There was no memory for the words, for reading, for the text of a number, for the fragments of a layout, for the opening or for a
+    /// replay; or, of a run by threads that was made then, for its trace.
     Memory,
 }
 
