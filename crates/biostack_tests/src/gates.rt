@@ -63,6 +63,8 @@ struct Pair {
     completer: Steps,
     /// How many steps gave up, or were told of out of their order.
     missed: AtomicU64,
+    /// How often it was shown what was left.
+    shown: u64,
     seen: Option<Snapshot<Closed>>,
 }
 
@@ -75,6 +77,7 @@ impl Pair {
             second: Steps::new(),
             completer: Steps::new(),
             missed: AtomicU64::new(0),
+            shown: 0,
             seen: None,
         }
     }
@@ -107,10 +110,12 @@ impl Pair {
         self.miss();
     }
 
-    // Whether no step gave up, and each was told of before it and behind it. Of a write the writer makes three at least, and the completer four.
+    // Whether no step gave up, each was told of before it and behind it, and what was left was shown once. Of a write the writer makes three steps
+    // at least, and the completer four.
     fn have_met(&self) -> bool {
         let is_missed = self.missed.load(Ordering::SeqCst) != 0;
         !is_missed
+            && self.shown == 1
             && self.first.are_over(3)
             && self.second.are_over(3)
             && self.completer.are_over(8)
@@ -140,6 +145,7 @@ impl Gate for Pair {
     }
 
     fn closed(&mut self, closed: &Closed) {
+        self.shown = self.shown.saturating_add(1);
         self.seen = Some(Snapshot::of(closed));
     }
 }

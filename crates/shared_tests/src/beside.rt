@@ -75,12 +75,15 @@ fn ends(rt: &impl Wait, locks: &Locks, ran: Ran) -> bool
     false
 }
 
-// Whether one step of a task completes a bio.
+// Whether one step of a task, at its desk, completes a bio.
 fn completes(rt: &impl Wait, locks: &Locks, ran: Ran, chooser: Meets<'_>) -> bool
     requires { ran.home ≡ locks.now }
 {
-    let (mut ran, mut chooser) = (ran, chooser);
-    let step = ran.step(rt, locks, &mut chooser);
+    let mut chooser = chooser;
+    let (mut task, seats) = ran.parts();
+    let mut desk = locks.desk(rt, seats);
+    let step = task.step(&mut desk, &mut chooser);
+    drop(desk.back());
     matches!(
         step,
         Step::Stepped(Event {

@@ -5,8 +5,6 @@
 #[cfg(test)]
 mod beside;
 #[cfg(test)]
-mod desks;
-#[cfg(test)]
 mod handed;
 #[cfg(test)]
 mod opened;
