@@ -22,8 +22,10 @@ use Rattle.bio_workers.specs.Gates.{Showing}
 use Rattle.mirror_scrub.specs.Seen.{images_of}
 use Rattle.mirror_scrub.specs.Text.{all_alike, scrub_text}
 use Rattle.biostack_top.specs.Scrubbed.{AreLaidImages}
-use Rattle.report_text.specs.CheckText.{check_text}
+use Rattle.report_text.specs.CheckText.{check_text, steps_bound}
 use Rattle.report_text.specs.LayoutText.{layout_text}
+use Rattle.report_text.specs.Views.{told_of}
+use Rattle.task_core.specs.declared.ended.Ended.{Ended}
 use Rattle.biostack_words.specs.declared.order.Order.{Order}
 use Rattle.biostack_words.specs.declared.order.Order.TheVariants.{Run, Workers, Check, Layout, Gen, Replay, Scrub}
 use Rattle.biostack_top.specs.Input.{HasNoInput, IsGivenText, IsInput, limit, made_by}
@@ -33,8 +35,9 @@ use Rattle.biostack_top.specs.Orders.{is_alone}
 use Rattle.biostack_top.specs.Replaying.{TellsReplay, replay_refusal}
 use Rattle.biostack_top.specs.Running.{ByNumber, ByThreads, EveryRunOfTextIsAsClaimed, IsShownOf, IsRunTold, Maker, sectors}
 use Rattle.biostack_top.specs.Scene.{TextSays}
-use Rattle.biostack_top.specs.Streams.{CallStreams, StreamFails, StreamStays, Stream}
+use Rattle.biostack_top.specs.Streams.{CallStreams, StreamFails, StreamStays, Stream, stream}
 use Rattle.biostack_top.specs.Tracing.{traced}
+use Rattle.biostack_top.specs.declared.scene.Scene.{Scene}
 use Rattle.biostack_top.specs.declared.ending.Ending.{Ending}
 use Rattle.biostack_top.specs.declared.ending.Ending.TheVariants.{Usage, ReadFault, Memory, Refused, WriteFault, Done, NotAllWell}
 
@@ -113,6 +116,16 @@ EndsWritten WriteFault told well out = StreamFails out × StopsAtFault out.bytes
 EndsWritten Done told well out = (well ≡ true) × (out.faults out.new ≡ out.faults out.old) × Appends (out.bytes out.old) (out.bytes out.new) told
 EndsWritten NotAllWell told well out = (well ≡ false) × (out.faults out.new ≡ out.faults out.old) × Appends (out.bytes out.old) (out.bytes out.new) told
 EndsWritten ending told well out = ⊥
+
+-- the report of what a run of the scene left
+abbrev pub report_left : Scene → Ended → List ℕ
+report_left scene ended = report scene.accepted.stack (told_of ended (steps_bound scene.work.bound))
+
+-- A call ends so, whose lines before this step ended so: behind them is the report, whatever they are.
+abbrev pub EndsReported : {K : Type 0} → Ending → Result Unit Failed → Scene → Ended → Stream K → Type 0
+EndsReported {K} ending traced scene ended out =
+    (before : K) (lines : List ℕ) → Writes out.bytes out.faults before out.old traced lines
+    → EndsWritten ending (lines ++ report_left scene ended) (all_well ended.statuses.items) (stream out.bytes out.faults before out.new)
 
 -- a text has no refusal, and all that is told of it was written, without a fault; all of it is well, or it is not
 abbrev pub WritesAll : {K : Type 0} → Option Refusal → (List ℕ → Bool → Type 0) → Bool → Stream K → Type 0

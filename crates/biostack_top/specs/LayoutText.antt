@@ -6,9 +6,16 @@ use Rattle.layout_model.specs.declared.write.Write.{Write}
 use Rattle.layout_model.specs.declared.fragment.Fragment.{Fragment}
 use Rattle.layout_model.specs.Fragments.{AreFragments}
 
+-- the fragments of a write, which has this number
+abbrev pub AreFragmentsOf : Stack → ℕ → Write → List Fragment → Type 0
+AreFragmentsOf stack number write own = AreFragments (tree stack write.dev.0) number write.start write.count own
+
+-- those of a write were added behind the old ones
+abbrev pub AddsFragmentsOf : Stack → ℕ → Write → List Fragment → List Fragment → Type 0
+AddsFragmentsOf stack number write old new = (own : List Fragment) × AreFragmentsOf stack number write own × (new ≡ old ++ own)
+
 -- the fragments of these writes, the first of which has this number: those of each write, one write after the other
 abbrev pub AreLaid : Stack → ℕ → List Write → List Fragment → Type 0
 AreLaid stack number [] fragments = fragments ≡ []
 AreLaid stack number (write ∷ more) fragments = (own : List Fragment) × (others : List Fragment)
-    × AreFragments (tree stack write.dev.0) number write.start write.count own
-    × AreLaid stack (number + 1) more others × (fragments ≡ own ++ others)
+    × AreFragmentsOf stack number write own × AreLaid stack (number + 1) more others × (fragments ≡ own ++ others)

@@ -1,11 +1,12 @@
 pub mod LayoutText
 pub mod Orders
 pub mod Scene
+pub mod Streams
 pub mod Tracing
 pub mod Running
-pub mod Streams
 pub mod Input
 pub mod Scrubbed
 pub mod Replaying
 pub mod Ending
+pub mod Calls
 pub mod Laws

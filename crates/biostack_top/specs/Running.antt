@@ -1,5 +1,7 @@
 -- What a run of a text is that was made by the schedule of a number, or by threads, and what is told of it.
-use Rattle.std.specs.Prelude.{◌≡◌, ◌≤◌, All, Bool, true, List, ℕ, length, sum_by, Result, Ok, Err}
+use Rattle.std.specs.Prelude.{◌≡◌, ◌≤◌, All, Bool, true, List, ℕ, length, sum_by, Option, Some, Result, Ok, Err}
+use Rattle.outside_io.specs.declared.source.Failed.{Failed}
+use Rattle.outside_io.specs.Saying.{Writes}
 use Rattle.rand_core.specs.Pcg32Seed.{pcg32_seed}
 use Rattle.rand_pcg.specs.Lcg.{Lcg}
 use Rattle.rand_pcg.specs.Pcg.{pcg32_of_seed}
@@ -27,6 +29,7 @@ use Rattle.run_merge.specs.declared.outcome.Outcome.{Outcome}
 use Rattle.report_text.specs.CheckText.{steps_bound}
 use Rattle.report_text.specs.Report.{Reported}
 use Rattle.report_text.specs.Views.{told_by}
+use Rattle.biostack_top.specs.Streams.{Stream}
 use Rattle.biostack_top.specs.Tracing.{IsTraceOf}
 
 -- the words that order the run of a number
@@ -74,12 +77,23 @@ pub record HasRun (s : Scenario) (maker : Maker) (events : List Event) (ended : 
   pub disks : (number : ℕ) → (state.objects.disk number).dev ≡ at number
   pub named : All (IsEventOf s.stack) events
 
+-- A scenario was run by the schedule of a number, and this is what was left, and how the writing of these lines of its events ended.
+abbrev pub WritesRun : {K : Type 0} → Scenario → ℕ → (List Event → List ℕ) → Ended × Result Unit Failed → Stream K → Type 0
+WritesRun s number lines answer out =
+    (events : List Event) × HasRun s (ByNumber number) events answer.0
+    × Writes out.bytes out.faults out.old out.new answer.1 (lines events)
+
 -- What the merge of what threads left comes to: the run that threads made, with its events where there is to be a trace; or
 -- there was no memory for the trace.
 abbrev pub HasOutcome : {E : Type 0} → Scenario → Bool → Showing → Result Outcome E → Type 0
 HasOutcome s trace shown (Ok outcome) =
     (events : List Event) × HasRun s (ByThreads shown) events outcome.ended × IsTraceOf trace events outcome.events
 HasOutcome s trace shown (Err lacking) = trace ≡ true
+
+-- a gate was shown what threads left of a scenario, and the merge of that comes to this
+abbrev pub ShowsOutcome : {E : Type 0} → Scenario → Bool → Option Showing → Result Outcome E → Type 0
+ShowsOutcome s trace seen merged =
+    (shown : Showing) × (seen ≡ Some shown) × IsShownOf s shown × HasOutcome s trace shown merged
 
 -- every run of what the text means is as claimed, whatever comes next in it, and has no more events than the bound that is told of the text
 abbrev pub EveryRunOfTextIsAsClaimed : Accepted → Work → Type 0

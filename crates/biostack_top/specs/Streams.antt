@@ -18,6 +18,13 @@ pub record CallStreams (S K : Type 0) : Type 0 where
   pub source : Stream S
   pub out : Stream K
 
+-- the streams of a call, each as `stream` has it: its source first, and then its output
+abbrev pub call : {S K : Type 0} → (S → Option (List ℕ)) → (S → ℕ) → S → S → (K → Option (List ℕ)) → (K → ℕ) → K → K → CallStreams S K
+call left source_faults source_old source_new held out_faults out_old out_new = record {
+  source = stream left source_faults source_old source_new;
+  out = stream held out_faults out_old out_new;
+}
+
 -- its bytes are what they were, and so is its count of faults
 abbrev pub StreamStays : {S : Type 0} → Stream S → Type 0
 StreamStays of = Keeps (of.bytes of.old) (of.bytes of.new) × (of.faults of.new ≡ of.faults of.old)

@@ -1,11 +1,13 @@
 -- What a trace writes of events.
-use Rattle.std.specs.Prelude.{◌≡◌, Bool, true, false, List, [], ◌∷◌, ◌++◌, ℕ, Option, IfSome, is_some}
+use Rattle.std.specs.Prelude.{◌≡◌, Bool, true, false, List, [], ◌∷◌, ◌++◌, ℕ, Option, IfSome, Result, is_some}
 use Rattle.std.specs.Global.{Vec}
 use Rattle.std.specs.List.{flat_map}
 use Rattle.stack_base.specs.declared.stack.Stack.{Stack}
-use Rattle.outside_io.specs.Saying.{Says}
+use Rattle.outside_io.specs.declared.source.Failed.{Failed}
+use Rattle.outside_io.specs.Saying.{Says, Writes}
 use Rattle.run_machine.specs.declared.event.Event.{Event}
 use Rattle.trace_text.specs.Lines.{line_of_event}
+use Rattle.biostack_top.specs.Streams.{Stream}
 use Rattle.biostack_top.specs.declared.trace.Trace.{Trace}
 
 -- the line of an event, with the byte 10 that ends it
@@ -30,3 +32,9 @@ traced false stack events = []
 -- what is kept of the events of a run: all of them where there is to be a trace, and else nothing
 abbrev pub IsTraceOf : Bool → List Event → Option (Vec Event) → Type 0
 IsTraceOf trace events kept = (is_some kept ≡ trace) × IfSome kept (λ list. list.items ≡ events)
+
+-- the trace of what was kept of a run was written, or a front of it where the output failed
+abbrev pub WritesKept : {K : Type 0} → Option (Vec Event) → Stack → Result Unit Failed → Stream K → Type 0
+WritesKept kept stack told out =
+    (trace : Bool) (events : List Event) → IsTraceOf trace events kept
+    → Writes out.bytes out.faults out.old out.new told (traced trace stack events)

@@ -1,11 +1,9 @@
 //! Makes the fragments of all writes.
-ghost use Rattle.std.specs.Prelude.{◌≡◌, ◌^◌, ◌≤◌, ◌++◌, List, length, Contains, IfOk, OnOk};
+ghost use Rattle.std.specs.Prelude.{◌^◌, ◌≤◌, length, Contains, IfOk, OnOk};
 ghost use Rattle.stack_base.specs.Stack.{IsStack};
-ghost use Rattle.stack_base.specs.Tree.{tree};
-ghost use Rattle.layout_model.specs.Fragments.{AreFragments};
 ghost use Rattle.layout_model.specs.Writes.{IsWrite};
 ghost use Rattle.report_text.specs.LayoutText.{AreOnDevices};
-ghost use Rattle.biostack_top.specs.LayoutText.{AreLaid};
+ghost use Rattle.biostack_top.specs.LayoutText.{AddsFragmentsOf, AreLaid};
 
 use layout_model::{Fragment, Write, fragments};
 use stack_base::Stack;
@@ -21,8 +19,7 @@ fn add_fragments(
 ) -> Result<(), AllocError>
     requires stack { IsStack stack.now }
     requires write { IsWrite stack.now write.now }
-    ensures { OnOk result ((own : List Fragment) × AreFragments (tree stack.now write.now.dev.0) number write.now.start write.now.count own
-        × (all.new.items ≡ all.old.items ++ own)) }
+    ensures { OnOk result (AddsFragmentsOf stack.now number write.now all.old.items all.new.items) }
 {
     let own = fragments(alloc, stack, number, write)?;
     all.extend_from_slice(&own)

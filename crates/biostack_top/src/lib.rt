@@ -1,17 +1,15 @@
 //! The top call of `biostack`: all that the program does, over any source and sinks.
 #![tactic(auto)]
 
-ghost use Rattle.std.specs.Prelude.{◌≡◌, ◌⊎◌, ◌≤◌, Bool, List, ℕ, is_some, map, true, None, Some};
-ghost use Rattle.std.specs.String.{string_bytes};
+ghost use Rattle.std.specs.Prelude.{◌≡◌, ◌⊎◌, ◌≤◌, is_some, true, None, Some};
 ghost use Rattle.outside_io.specs.Causes.{Rose};
 ghost use Rattle.outside_io.specs.Saying.{StopsAtFault};
 ghost use Rattle.biostack_words.specs.declared.order.Order.{Order as Orders};
-ghost use Rattle.biostack_top.specs.declared.ending.Ending.{Ending as Endings};
-ghost use Rattle.biostack_words.specs.declared.order.Order.TheVariants as orders;
-ghost use Rattle.biostack_words.specs.Grammar.{meaning};
-ghost use Rattle.biostack_top.specs.Ending.{EndsBy, HadRefusedText, IsToldTo, MayFollowRun, MeetsNoFault, OrderEndsBy, WorkersEndBy, exit_of};
+ghost use Rattle.biostack_words.specs.declared.order.Order.TheVariants.{Workers};
+ghost use Rattle.biostack_top.specs.Ending.{HadRefusedText, IsToldTo, MayFollowRun, exit_of};
+ghost use Rattle.biostack_top.specs.Calls.{AskForRefusedText, CarriesOut, CarriesOutWords, Exits, MayFollowWorkers, OrderExits, WorkersExit, given_order};
 ghost use Rattle.biostack_top.specs.Orders.{is_alone, may_be_unwell};
-ghost use Rattle.biostack_top.specs.Streams.{stream};
+ghost use Rattle.biostack_top.specs.Streams.{call, stream};
 
 mod ending;
 mod input;
@@ -66,12 +64,9 @@ pub fn serve_alone<S: Source, K: Sink, E: Sink>(
     requires { is_alone order.now ≡ true }
 
     // How it ended is one of the causes, and what the output and the errors hold is what goes with it.
-    ensures whole { (ending : Endings) × (result.0 ≡ exit_of ending)
-        × OrderEndsBy ending order.now record {
-          source = stream S.left S.faults source.old source.new;
-          out = stream K.held K.faults out.old out.new;
-        }
-        × IsToldTo ending (stream E.held E.faults errors.old errors.new) }
+    ensures whole { OrderExits order.now result.0
+        (call S.left S.faults source.old source.new K.held K.faults out.old out.new)
+        E.held E.faults errors.old errors.new }
 
     // What each status alone says.
     ensures not_all_well { result.0 ≡ 1 → may_be_unwell order.now ≡ true }
@@ -85,12 +80,8 @@ pub fn serve_alone<S: Source, K: Sink, E: Sink>(
     ensures stops { StopsAtFault K.held K.faults out.old out.new }
 
     // Over a text that is not refused the order is carried out where nothing fails, but for want of memory.
-    ensures complete { (text : List ℕ)
-        → MeetsNoFault order.now text record {
-          source = stream S.left S.faults source.old source.new;
-          out = stream K.held K.faults out.old out.new;
-        }
-        → (result.0 ≡ 0) ⊎ (result.0 ≡ 1) ⊎ (result.0 ≡ 6) }
+    ensures complete { CarriesOut order.now result.0
+        (call S.left S.faults source.old source.new K.held K.faults out.old out.new) }
 {
     let ending = serve::serve(alloc, *order, source, out);
     end(ending, errors)
@@ -109,26 +100,19 @@ fn serve_shared<R: Threads + Wait + Sync, S: Source, K: Sink, E: Sink, G: Gate +
 ) -> Exit
     requires workers { (1 ≤ workers) × (workers ≤ 16) }
     requires unshown { G.shown gate.old ≡ None }
-    ensures whole { (ending : Endings) × (result.0 ≡ exit_of ending)
-        × WorkersEndBy ending trace (G.shown gate.new) record {
-          source = stream S.left S.faults source.old source.new;
-          out = stream K.held K.faults out.old out.new;
-        }
-        × IsToldTo ending (stream E.held E.faults errors.old errors.new) }
+    ensures whole { WorkersExit trace (G.shown gate.new) result.0
+        (call S.left S.faults source.old source.new K.held K.faults out.old out.new)
+        E.held E.faults errors.old errors.new }
     ensures no_usage { (result.0 ≡ 2) → ⊥ }
-    ensures refused { result.0 ≡ 3 → HadRefusedText (orders.Workers workers trace) (S.left source.old) }
+    ensures refused { result.0 ≡ 3 → HadRefusedText (Workers workers trace) (S.left source.old) }
     ensures read_fault { result.0 ≡ 4 → Rose (S.faults source.old) (S.faults source.new) }
     ensures no_read_fault { (result.0 ≡ 4) ⊎ (S.faults source.new ≡ S.faults source.old) }
     ensures write_fault { result.0 ≡ 5 → Rose (K.faults out.old) (K.faults out.new) }
     ensures no_write_fault { (result.0 ≡ 5) ⊎ (K.faults out.new ≡ K.faults out.old) }
     ensures stops { StopsAtFault K.held K.faults out.old out.new }
     ensures shown { is_some (G.shown gate.new) ≡ true → MayFollowRun trace result.0 }
-    ensures complete { (text : List ℕ)
-        → MeetsNoFault (orders.Workers workers trace) text record {
-          source = stream S.left S.faults source.old source.new;
-          out = stream K.held K.faults out.old out.new;
-        }
-        → (result.0 ≡ 0) ⊎ (result.0 ≡ 1) ⊎ (result.0 ≡ 6) }
+    ensures complete { CarriesOut (Workers workers trace) result.0
+        (call S.left S.faults source.old source.new K.held K.faults out.old out.new) }
 {
     let ending = workers::serve_workers(rt, alloc, workers, trace, source, out, gate);
     end(ending, errors)
@@ -156,19 +140,15 @@ pub fn biostack<R: Threads + Wait + Sync, S: Source, K: Sink, E: Sink, G: Gate +
     requires { G.shown gate.old ≡ None }
 
     // How it ended is one of the causes, and what the output and the errors hold is what goes with it.
-    ensures whole { (ending : Endings) × (result.0 ≡ exit_of ending)
-        × EndsBy ending (map string_bytes words.now) (G.shown gate.new) record {
-          source = stream S.left S.faults source.old source.new;
-          out = stream K.held K.faults out.old out.new;
-        }
-        × IsToldTo ending (stream E.held E.faults errors.old errors.new) }
+    ensures whole { Exits words.now (G.shown gate.new) result.0
+        (call S.left S.faults source.old source.new K.held K.faults out.old out.new)
+        E.held E.faults errors.old errors.new }
 
     // What each status alone says.
-    ensures usage { result.0 ≡ 2 → meaning (map string_bytes words.now) ≡ None }
-    ensures no_order { meaning (map string_bytes words.now) ≡ None → (result.0 ≡ 2) ⊎ (result.0 ≡ 6) }
-    ensures not_all_well { result.0 ≡ 1 → (order : Orders) × (meaning (map string_bytes words.now) ≡ Some order) × (may_be_unwell order ≡ true) }
-    ensures refused { result.0 ≡ 3 → (order : Orders) × (meaning (map string_bytes words.now) ≡ Some order)
-        × HadRefusedText order (S.left source.old) }
+    ensures usage { result.0 ≡ 2 → given_order words.now ≡ None }
+    ensures no_order { given_order words.now ≡ None → (result.0 ≡ 2) ⊎ (result.0 ≡ 6) }
+    ensures not_all_well { result.0 ≡ 1 → (order : Orders) × (given_order words.now ≡ Some order) × (may_be_unwell order ≡ true) }
+    ensures refused { result.0 ≡ 3 → AskForRefusedText words.now (S.left source.old) }
     ensures read_fault { result.0 ≡ 4 → Rose (S.faults source.old) (S.faults source.new) }
     ensures no_read_fault { (result.0 ≡ 4) ⊎ (S.faults source.new ≡ S.faults source.old) }
     ensures write_fault { result.0 ≡ 5 → Rose (K.faults out.old) (K.faults out.new) }
@@ -176,19 +156,14 @@ pub fn biostack<R: Threads + Wait + Sync, S: Source, K: Sink, E: Sink, G: Gate +
 
     // A gate is shown something by a run of threads alone, which then was reported, but for a fault of the output, or want of memory for its
     // trace.
-    ensures shown { is_some (G.shown gate.new) ≡ true → (n : ℕ) × (trace : Bool)
-        × (meaning (map string_bytes words.now) ≡ Some (orders.Workers n trace)) × MayFollowRun trace result.0 }
+    ensures shown { is_some (G.shown gate.new) ≡ true → MayFollowWorkers words.now result.0 }
 
     // What the output holds by now it held before any fault.
     ensures stops { StopsAtFault K.held K.faults out.old out.new }
 
     // An order over a text that is not refused is carried out where nothing fails, but for want of memory.
-    ensures complete { (order : Orders) (text : List ℕ) → meaning (map string_bytes words.now) ≡ Some order
-        → MeetsNoFault order text record {
-          source = stream S.left S.faults source.old source.new;
-          out = stream K.held K.faults out.old out.new;
-        }
-        → (result.0 ≡ 0) ⊎ (result.0 ≡ 1) ⊎ (result.0 ≡ 6) }
+    ensures complete { CarriesOutWords words.now result.0
+        (call S.left S.faults source.old source.new K.held K.faults out.old out.new) }
 {
     match order::order_of(alloc, words) {
         Ok(order) => match order::workers_in(order) {

@@ -1,13 +1,12 @@
 //! The report of a run behind its trace, and how a call ends that has written them.
-ghost use Rattle.std.specs.Prelude.{◌≡◌, ◌++◌, ◌^◌, ◌<◌, List, ℕ, IsErr, OnErr, OnOk};
+ghost use Rattle.std.specs.Prelude.{◌≡◌, ◌^◌, ◌<◌, IsErr, OnErr, OnOk};
 ghost use Rattle.stack_base.specs.declared.ids.Status.TheVariants.{Ok as no_error};
 ghost use Rattle.stack_base.specs.Fault.{status_eq};
 ghost use Rattle.outside_io.specs.Saying.{Writes};
 ghost use Rattle.report_text.specs.CheckText.{steps_bound};
-ghost use Rattle.report_text.specs.Report.{report};
-ghost use Rattle.report_text.specs.Views.{IsEndedOfStack, told_of};
+ghost use Rattle.report_text.specs.Views.{IsEndedOfStack};
 ghost use Rattle.biostack_top.specs.Streams.{stream};
-ghost use Rattle.biostack_top.specs.Ending.{EndsWritten, all_well};
+ghost use Rattle.biostack_top.specs.Ending.{EndsReported, all_well, report_left};
 
 use crate::ending::Ending;
 use crate::scene::Scene;
@@ -39,8 +38,7 @@ fn write_behind<K: Sink>(
 ) -> Result<(), Failed>
     requires ended { IsEndedOfStack scene.now.accepted.stack ended.now }
     requires bound { steps_bound scene.now.work.bound < 2 ^ 64 }
-    ensures ok { OnOk traced (Writes K.held K.faults out.old out.new result
-        (report scene.now.accepted.stack (told_of ended.now (steps_bound scene.now.work.bound)))) }
+    ensures ok { OnOk traced (Writes K.held K.faults out.old out.new result (report_left scene.now ended.now)) }
     ensures err { OnErr traced (IsErr result × (out.new ≡ out.old)) }
 {
     traced?;
@@ -56,9 +54,7 @@ pub(crate) fn report_behind<K: Sink>(
 ) -> Ending
     requires ended { IsEndedOfStack scene.now.accepted.stack ended.now }
     requires bound { steps_bound scene.now.work.bound < 2 ^ 64 }
-    ensures { (before : K) (lines : List ℕ) → Writes K.held K.faults before out.old traced lines
-        → EndsWritten result (lines ++ report scene.now.accepted.stack (told_of ended.now (steps_bound scene.now.work.bound)))
-        (all_well ended.now.statuses.items) (stream K.held K.faults before out.new) }
+    ensures { EndsReported result traced scene.now ended.now (stream K.held K.faults out.old out.new) }
 {
     match write_behind(traced, ended, scene, out) {
         Err(Failed) => Ending::WriteFault,

@@ -1,11 +1,10 @@
 //! Runs a scene to its end.
 ghost use Rattle.std.specs.Prelude.{◌≡◌, ◌^◌, ◌<◌, List, false};
-ghost use Rattle.outside_io.specs.Saying.{Writes};
 ghost use Rattle.run_machine.specs.declared.event.Event.{Event as Happening};
 ghost use Rattle.task_core.specs.opened.OfOne.{IsOpened, scenario_in};
 ghost use Rattle.biostack_words.specs.declared.order.Order.TheVariants as order;
 ghost use Rattle.biostack_top.specs.Scene.{IsSaid};
-ghost use Rattle.biostack_top.specs.Running.{ByNumber, HasRun, sectors};
+ghost use Rattle.biostack_top.specs.Running.{ByNumber, HasRun, WritesRun, sectors};
 ghost use Rattle.biostack_top.specs.Streams.{stream};
 ghost use Rattle.biostack_top.specs.Tracing.{traced};
 ghost use Rattle.biostack_top.specs.Ending.{TextEndsBy};
@@ -50,8 +49,8 @@ fn run_opened<K: Sink>(
     out: &mut K,
 ) -> (Ended, Result<(), Failed>)
     requires opened { IsOpened opened }
-    ensures { (events : List Happening) × HasRun (scenario_in opened) (ByNumber number) events result.0
-        × Writes K.held K.faults out.old out.new result.1 (traced trace stack.now events) }
+    ensures { WritesRun (scenario_in opened) number (traced trace stack.now) result
+        (stream K.held K.faults out.old out.new) }
 {
     if trace {
         run_traced(opened, number, stack, out)

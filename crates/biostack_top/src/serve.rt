@@ -6,7 +6,7 @@ ghost use Rattle.biostack_top.specs.Scene.{IsSaid};
 ghost use Rattle.biostack_top.specs.Orders.{is_alone, is_shown};
 ghost use Rattle.biostack_top.specs.Ending.{OrderEndsBy, TextEndsBy};
 ghost use Rattle.biostack_top.specs.Input.{IsMadeText, made_by};
-ghost use Rattle.biostack_top.specs.Streams.{stream};
+ghost use Rattle.biostack_top.specs.Streams.{call, stream};
 
 use crate::ending::Ending;
 use crate::input::input;
@@ -98,10 +98,7 @@ fn serve_text<K: Sink>(alloc: Global, order: Order, text: &[u8], out: &mut K) ->
 /// Carries out an order, and tells how that ended.
 pub fn serve<S: Source, K: Sink>(alloc: Global, order: Order, source: &mut S, out: &mut K) -> Ending
     requires { is_alone order ≡ true }
-    ensures { OrderEndsBy result order record {
-      source = stream S.left S.faults source.old source.new;
-      out = stream K.held K.faults out.old out.new;
-    } }
+    ensures { OrderEndsBy result order (call S.left S.faults source.old source.new K.held K.faults out.old out.new) }
 {
     match input(alloc, order, source) {
         Ok(text) => serve_text(alloc, order, &text, out),

@@ -3,9 +3,10 @@ ghost use Rattle.std.specs.Prelude.{◌≡◌, All, Bool, List, [], false, true,
 ghost use Rattle.outside_io.specs.Saying.{Says, Writes};
 ghost use Rattle.run_machine.specs.declared.event.Event.{Event as Happening};
 ghost use Rattle.task_core.specs.opened.OfOne.{IsOpened, scenario_in};
-ghost use Rattle.biostack_top.specs.Running.{ByNumber, HasRun};
+ghost use Rattle.biostack_top.specs.Running.{WritesRun};
+ghost use Rattle.biostack_top.specs.Streams.{stream};
 ghost use Rattle.run_machine.specs.Named.{Fits};
-ghost use Rattle.biostack_top.specs.Tracing.{IsTraceOf, event_line, event_lines, traced};
+ghost use Rattle.biostack_top.specs.Tracing.{IsTraceOf, WritesKept, event_line, event_lines};
 
 use arrayvec::ArrayVec;
 use outside_io::{Failed, Pen, Sink};
@@ -81,8 +82,8 @@ pub(crate) fn run_traced<K: Sink>(
     out: &mut K,
 ) -> (Ended, Result<(), Failed>)
     requires opened { IsOpened opened }
-    ensures { (events : List Happening) × HasRun (scenario_in opened) (ByNumber number) events result.0
-        × Writes K.held K.faults out.old out.new result.1 (event_lines stack.now events) }
+    ensures { WritesRun (scenario_in opened) number (event_lines stack.now) result
+        (stream K.held K.faults out.old out.new) }
 {
     let mut schedule = Schedule::new(number);
     let mut trace = Trace {
@@ -122,8 +123,7 @@ pub(crate) fn write_trace<K: Sink>(
     stack: &Stack,
     out: &mut K,
 ) -> Result<(), Failed>
-    ensures written { (trace : Bool) (events : List Happening) → IsTraceOf trace events kept.now
-        → Writes K.held K.faults out.old out.new result (traced trace stack.now events) }
+    ensures written { WritesKept kept.now stack.now result (stream K.held K.faults out.old out.new) }
     ensures fits { (trace : Bool) (events : List Happening) → IsTraceOf trace events kept.now → trace ≡ true → All Fits events }
 {
     match kept {

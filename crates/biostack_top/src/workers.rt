@@ -1,12 +1,11 @@
 //! Runs a text by threads.
-ghost use Rattle.std.specs.Prelude.{◌≡◌, ◌≤◌, None, Some};
+ghost use Rattle.std.specs.Prelude.{◌≡◌, ◌≤◌, None};
 ghost use Rattle.task_core.specs.opened.OfOne.{scenario_in};
 ghost use Rattle.shared_objects.specs.Shared.{SharedHolds};
-ghost use Rattle.bio_workers.specs.Gates.{Showing};
 ghost use Rattle.biostack_top.specs.Ending.{SharedEndsBy, WorkersEndBy};
-ghost use Rattle.biostack_top.specs.Running.{HasOutcome, IsShownOf};
+ghost use Rattle.biostack_top.specs.Running.{ShowsOutcome};
 ghost use Rattle.biostack_top.specs.Scene.{IsSaid};
-ghost use Rattle.biostack_top.specs.Streams.{stream};
+ghost use Rattle.biostack_top.specs.Streams.{call, stream};
 
 use crate::ending::Ending;
 use crate::input::read;
@@ -34,8 +33,7 @@ fn run_shown<R: Threads + Wait + Sync, G: Gate + Sync>(
     requires holds { SharedHolds shared }
     requires untaken { shared.next ≡ 0 }
     requires workers { (1 ≤ workers) × (workers ≤ 16) }
-    ensures { (shown : Showing) × (G.shown gate.new ≡ Some shown) × IsShownOf (scenario_in shared.told.value) shown
-        × HasOutcome (scenario_in shared.told.value) shared.locks.trace shown result }
+    ensures { ShowsOutcome (scenario_in shared.told.value) shared.locks.trace (G.shown gate.new) result }
 {
     let closed = run_workers(rt, shared, workers, &*gate);
     gate.closed(&closed);
@@ -105,10 +103,8 @@ pub(crate) fn serve_workers<R: Threads + Wait + Sync, S: Source, K: Sink, G: Gat
 ) -> Ending
     requires workers { (1 ≤ workers) × (workers ≤ 16) }
     requires unshown { G.shown gate.old ≡ None }
-    ensures { WorkersEndBy result trace (G.shown gate.new) record {
-      source = stream S.left S.faults source.old source.new;
-      out = stream K.held K.faults out.old out.new;
-    } }
+    ensures { WorkersEndBy result trace (G.shown gate.new)
+        (call S.left S.faults source.old source.new K.held K.faults out.old out.new) }
 {
     match read(alloc, source) {
         Ok(text) => serve_text(rt, alloc, workers, trace, &text, out, gate),
