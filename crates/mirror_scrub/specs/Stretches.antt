@@ -1,8 +1,7 @@
 -- Two devices of a stack side by side, and sectors of two disks that follow one another on both.
-use Rattle.std.specs.Prelude.{◌≡◌, ◌⊎◌, ◌+◌, ◌/◌, ◌%◌, ◌<◌, ◌≤◌, not, ℕ, Bool, true, false, List, [], Option, MatchOption, length, slice_index_or}
+use Rattle.std.specs.Prelude.{◌≡◌, ◌+◌, ◌/◌, ◌%◌, ◌<◌, ◌≤◌, not, ℕ, Bool, true, false, List, [], Option, MatchOption, length, slice_index_or}
 use Rattle.stack_base.specs.Stack.{IsStack}
 use Rattle.stack_base.specs.Tree.{size, tree}
-use Rattle.stack_base.specs.Words.{zero_sector}
 use Rattle.image_lanes.specs.Lanes.{is_same, sectors_differ}
 use Rattle.stack_base.specs.declared.ids.Range.{Range}
 use Rattle.model_disks.specs.Runs.{IsFirst}
@@ -39,14 +38,12 @@ abbrev pub differ_at : Stretch → ℕ → Bool
 differ_at s place =
     not (is_same (slice_index_or s.one.now.image (s.at + place) []) (slice_index_or s.other.now.image (s.there + place) []))
 
--- the words of the first sectors of the stretch, as many on one disk as on the other, up to where one of the disks has zeros alone
-pub record AreWordsOf (s : Stretch) (one other : List ℕ) : Type 0 where
+-- the words of the sectors of the stretch from a place on, as many on one disk as on the other
+pub record AreWordsFrom (s : Stretch) (place : ℕ) (one other : List ℕ) : Type 0 where
   pub lengths : length one ≡ length other
   pub whole : length one % 64 ≡ 0
-  pub short : length one / 64 ≤ s.len
-  pub same : (i : ℕ) → i < length one / 64 → sectors_differ one other i ≡ differ_at s i
-  pub ends : (i : ℕ) → length one / 64 ≤ i → i < s.len
-      → (slice_index_or s.one.now.image (s.at + i) [] ≡ zero_sector) ⊎ (slice_index_or s.other.now.image (s.there + i) [] ≡ zero_sector)
+  pub short : place + length one / 64 ≤ s.len
+  pub same : (i : ℕ) → i < length one / 64 → sectors_differ one other i ≡ differ_at s (place + i)
 
 -- the sectors of a pair from `start` on are those of the stretch, as many as it has
 pub record IsStretchOf (p : Pair) (start : ℕ) (s : Stretch) : Type 0 where
@@ -61,6 +58,15 @@ pub record IsFirstSo (s : Stretch) (from : ℕ) (so : Bool) (place : ℕ) : Type
   pub within : place ≤ s.len
   pub others : (i : ℕ) → from ≤ i → i < place → differ_at s i ≡ not so
   pub here : place < s.len → differ_at s place ≡ so
+
+-- the first place at or behind `from` that is so, of those before `end`, or `end` where there is none
+pub record IsFirstUpTo (s : Stretch) (from end : ℕ) (so : Bool) (place : ℕ) : Type 0 where
+  pub some : from < end
+  pub short : end ≤ s.len
+  pub behind : from ≤ place
+  pub within : place ≤ end
+  pub others : (i : ℕ) → from ≤ i → i < place → differ_at s i ≡ not so
+  pub here : place < end → differ_at s place ≡ so
 
 -- the run begins at the first flag at or behind `from` that is set, and ends at the first one behind it that is not
 pub record IsFirstSetRun (flags : List Bool) (from : ℕ) (run : Range) : Type 0 where

@@ -1,7 +1,7 @@
 //! Sectors of two disks, as many of each, that follow one another on both.
-ghost use Rattle.std.specs.Prelude.{◌≡◌, ◌+◌, ◌<◌, ◌≤◌, not, length};
+ghost use Rattle.std.specs.Prelude.{◌≡◌, ◌+◌, ◌<◌, ◌≤◌};
 ghost use Rattle.std.specs.List.{count_by, range_with_len};
-ghost use Rattle.mirror_scrub.specs.Stretches.{AreWordsOf, IsFirstSo, LiesInDisks, differ_at};
+ghost use Rattle.mirror_scrub.specs.Stretches.{AreWordsFrom, IsFirstSo, IsFirstUpTo, LiesInDisks, differ_at};
 
 use image_lanes::{count_unlike, first_sector, same};
 use model_disks::Disk;
@@ -34,15 +34,34 @@ impl<'d> Stretch<'d> {
         )
     }
 
-    // The words of the first sectors, as far as both disks keep them: behind them one disk has zeros.
-    fn words(&self) -> (&'d [u64], &'d [u64])
-        requires { LiesInDisks self.now }
-        ensures { AreWordsOf self.now result.0.now result.1.now }
+    // The words of the sectors from this place on that stand side by side on both disks, or none where one of them keeps no words.
+    fn words(&self, place: u64) -> (&'d [u64], &'d [u64])
+        requires within { LiesInDisks self.now }
+        requires here { place < self.now.len }
+        ensures { AreWordsFrom self.now place result.0.now result.1.now }
     {
-        let one = self.one.front_from(self.at);
-        let other = self.other.front_from(self.there);
-        let size = one.len().min(other.len()).min(64 * self.len as usize);
+        let one = self.one.rest(self.at + place);
+        let other = self.other.rest(self.there + place);
+        let size = one
+            .len()
+            .min(other.len())
+            .min(64 * (self.len - place) as usize);
         (&one[..size], &other[..size])
+    }
+
+    // How many of the first sectors from this place on differ, and how many were looked at, at least one.
+    fn count_some(&self, place: u64) -> (u64, u64)
+        requires within { LiesInDisks self.now }
+        requires here { place < self.now.len }
+        ensures some { 1 ≤ result.1 }
+        ensures count { result.0 ≡ count_by (differ_at self.now) (range_with_len place result.1) }
+        ensures short { place + result.1 ≤ self.now.len }
+    {
+        let (one, other) = self.words(place);
+        if one.is_empty() {
+            return (u64::from(self.differ_at(place)), 1);
+        }
+        (count_unlike(one, other), (one.len() / 64) as u64)
     }
 
     /// How many sectors differ.
@@ -50,44 +69,45 @@ impl<'d> Stretch<'d> {
         requires { LiesInDisks self.now }
         ensures { result ≡ count_by (differ_at self.now) (range_with_len 0 self.now.len) }
     {
-        let (one, other) = self.words();
-        let mut count = count_unlike(one, other);
-        'counting: for place in (one.len() / 64) as u64..self.len {
-            count += u64::from(self.differ_at(place));
+        let mut count = 0;
+        let mut place = 0;
+        'counting: while place < self.len {
+            let (more, len) = self.count_some(place);
+            count += more;
+            place += len;
         }
         count
     }
 
-    // The same among the sectors at or behind `from`, which one of the disks may not keep.
-    fn first_far(&self, from: u64, differing: bool) -> u64
+    // The first place at or behind this one that is so, among the sectors that stand side by side there, and where they end.
+    fn first_some(&self, from: u64, differing: bool) -> (u64, u64)
         requires within { LiesInDisks self.now }
-        requires from { from ≤ self.now.len }
-        ensures { IsFirstSo self.now from differing result }
+        requires here { from < self.now.len }
+        ensures { IsFirstUpTo self.now from result.1 differing result.0 }
     {
-        'looking: for place in from..self.len {
-            if self.differ_at(place) == differing {
-                return place;
-            }
+        let (one, other) = self.words(from);
+        if one.is_empty() {
+            let is_so = self.differ_at(from) == differing;
+            return (if is_so { from } else { from + 1 }, from + 1);
         }
-        self.len
+        let place = first_sector(one, other, 0, differing);
+        (from + place as u64, from + (one.len() / 64) as u64)
     }
 
     /// The place of the first sector, at or behind `from`, that differs, or of the first that does not, or the length where there is none.
-    #[inline(always)]
     pub fn first(&self, from: u64, differing: bool) -> u64
         requires within { LiesInDisks self.now }
         requires from { from ≤ self.now.len }
         ensures { IsFirstSo self.now from differing result }
     {
-        let (one, other) = self.words();
-        let kept = one.len() / 64;
-        if from >= kept as u64 {
-            return self.first_far(from, differing);
+        let mut start = from;
+        'looking: while start < self.len {
+            let (place, end) = self.first_some(start, differing);
+            if place < end {
+                return place;
+            }
+            start = end;
         }
-        let place = first_sector(one, other, from as usize, differing);
-        if place < kept {
-            return place as u64;
-        }
-        self.first_far(place as u64, differing)
+        self.len
     }
 }

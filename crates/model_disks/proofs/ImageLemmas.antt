@@ -1,113 +1,108 @@
--- An image: the words of its sectors, and their flags.
-use Rattle.std.proofs.Common.{◌≡◌, ◌+◌, ◌*◌, ◌%◌, ◌^◌, ◌-◌, ◌<◌, ◌≤◌, ◌++◌, ℕ, zero, suc, Bool, true, false, List, [], get_or, map, length, take, drop, replicate, sum, sum_by, refl, sym, ap, subst, ◌∙◌, arith, length-append, length-drop, ◌/◌, inl, inr}
+-- An image: its pages, and the flags of its sectors.
+use Rattle.std.proofs.Common.{◌≡◌, ◌+◌, ◌*◌, ◌/◌, ◌%◌, ◌^◌, ◌-◌, ◌<◌, ◌≤◌, ◌++◌, ℕ, zero, suc, Bool, true, false, List, [], get_or, map, length, take, drop, replicate, sum, sum_by, refl, sym, ap, ◌∙◌, arith, length-append, length-drop}
 use Rattle.std.specs.List.{concat}
-use Rattle.std.proofs.lemmas.List.{length-replicate, get_or-map, get_or_append_left, get_or-append_right, get_or-replicate, length-take-le, take_all, drop_all, drop-drop, append-nil, map-append}
-use Rattle.std.proofs.lemmas.Bool.{cases_lt}
-use Rattle.std.proofs.lemmas.List.Sums.{sum_by_push, sum_by-append}
+use Rattle.std.proofs.lemmas.List.{length-replicate, get_or-map, get_or_append_left, get_or-append_right, get_or-replicate, length-take-le, append_assoc, take-append-le, drop-append-le, drop-take, take-take}
+use Rattle.std.proofs.lemmas.List.FromFn.{sum_by-map-range_with_len_more}
 use Rattle.stack_base.specs.Words.{zero_sector, is_written}
 use Rattle.stack_base.specs.declared.ids.Range.{Range}
 use Rattle.bio_records.specs.declared.bio.Bio.{Bio}
 use Rattle.image_lanes.specs.Lanes.{sum_mod, sectors}
-use Rattle.image_lanes.proofs.WholeLemmas.{rest_is}
 use Rattle.model_disks.specs.Disks.{sum_of_words}
-use Rattle.model_disks.specs.Kept.{IsNoted, IsFront, grown, padded, filled, marked}
+use Rattle.model_disks.specs.Kept.{grown, marked}
 use Rattle.model_disks.specs.Moves.{written}
-use Rattle.model_disks.proofs.SectorLemmas.{length_sectors, concat_sectors, sectors_more, sector_at, sectors_of_zeros, written_words}
-use Rattle.model_disks.proofs.FrontLemmas.{length_grown, grown_twice, grown_sectors, length_filled, filled_grown}
+use Rattle.model_disks.specs.Paged.{place_of, sector_in, sector_of, paged, ArePaged, AreFilled, AreSame, AreSettled, AreNoted, IsImage}
+use Rattle.model_disks.proofs.SectorLemmas.{length_sectors, concat_sectors, sector_at}
+use Rattle.model_disks.proofs.GrownLemmas.{length_grown, grown_twice}
 use Rattle.model_disks.proofs.FlagLemmas.{flags_of_zeros, flags_of_written, sum_of_unwritten}
-
--- a list that was put in the place of one of the same length
-pub kept_whole : {X : Type 0} (old new : List X) (len : ℕ) → len ≡ length old → length new ≡ length old → take len (new ++ drop (length new) old) ≡ new
-kept_whole old new len is same = rw (drop_all (length new) old (omega (arith, same)), append-nil) (take_all len new (omega (arith, is, same)))
+use Rattle.model_disks.proofs.PageLemmas.{place_is, words_end, words_there}
+use Rattle.model_disks.proofs.PageWriteLemmas.{length_paged, paged_at, is_paged, same_image, written_image}
 
 -- the flag of a sector
-pub flag_at : (words : List ℕ) (flags : List Bool) (place : ℕ) → IsNoted words flags → place < length flags
-    → get_or flags place false ≡ is_written (take 64 (drop (64 * place) words))
-flag_at words flags place noted lt =
-    ap (λ fs. get_or fs place false) noted.noted
-    ∙ get_or-map is_written (sectors (length flags) words) place [] false (rw (length_sectors (length flags) words) lt)
-    ∙ ap is_written (sector_at (length flags) words place lt)
+pub noted_at : (count room flags_room : ℕ) (words slots owners : List ℕ) (flags : List Bool)
+    → IsImage count room flags_room words slots owners flags → AreNoted words slots flags
+unfolding grown
+noted_at count room flags_room words slots owners flags image x lt =
+    let here : x < count = omega (arith, lt, image.within) in
+    sym (get_or_append_left flags (replicate (count - length flags) false) false x lt)
+    ∙ ap (λ (fs : List Bool). get_or fs x false) (sym image.noted)
+    ∙ get_or-map is_written (paged count words slots) x [] false (omega (arith, here, length_paged count words slots))
+    ∙ ap is_written (paged_at count words slots x here)
 
 -- the sum of one more sector
-pub sum_more : (words : List ℕ) (place : ℕ)
-    → sum_of_words (sectors (place + 1) words) ≡ (sum_of_words (sectors place words) + sum_mod (take 64 (drop (64 * place) words))) % 2 ^ 64
-sum_more words place =
-    ap sum_of_words (sectors_more place words)
-    ∙ omega (arith, sum_by_push sum (sectors place words) (take 64 (drop (64 * place) words)))
+sum_on : (words slots : List ℕ) (place : ℕ) → sum_by sum (paged (place + 1) words slots) ≡ sum_by sum (paged place words slots) + sum (sector_of words slots place)
+unfolding paged
+sum_on words slots place = sum_by-map-range_with_len_more sum (sector_of words slots) 0 place place (omega arith)
+
+pub sum_more : (words slots : List ℕ) (place : ℕ)
+    → sum_of_words (paged (place + 1) words slots) ≡ (sum_of_words (paged place words slots) + sum_mod (sector_of words slots place)) % 2 ^ 64
+sum_more words slots place = omega (arith, sum_on words slots place)
 
 -- which is nothing where it is not written
-pub sum_of_zeros : (words : List ℕ) (flags : List Bool) (place : ℕ) → IsNoted words flags → place < length flags → get_or flags place false ≡ false
-    → sum_of_words (sectors (place + 1) words) ≡ sum_of_words (sectors place words)
-sum_of_zeros words flags place noted lt unset =
-    sum_more words place
-    ∙ omega (arith, sum_of_unwritten (take 64 (drop (64 * place) words)) (sym (flag_at words flags place noted lt) ∙ unset))
+pub sum_of_zeros : (words slots : List ℕ) (flags : List Bool) (place : ℕ) → AreNoted words slots flags → place < length flags
+    → get_or flags place false ≡ false → sum_of_words (paged (place + 1) words slots) ≡ sum_of_words (paged place words slots)
+sum_of_zeros words slots flags place noted lt unset =
+    omega (arith, sum_on words slots place, sum_of_unwritten (sector_of words slots place) (sym (noted place lt) ∙ unset))
 
--- words that grow by zeros, with flags of which none more is set
-noted_grown : (size : ℕ) (words : List ℕ) (flags : List Bool) → IsNoted words flags → IsNoted (grown 0 (64 * size) words) (grown false size flags)
-unfolding grown
-noted_grown size words flags noted =
-    let count = length flags in
-    let more = size - count in
-    let many : length (grown false size flags) ≡ count + more = length_grown false size flags in
-    record {
-      size = omega (arith, length_grown 0 (64 * size) words, length_grown false size flags, noted.size);
-      noted = ap (λ (fs : List Bool). fs ++ replicate more false) noted.noted
-          ∙ ap (λ (fs : List Bool). map is_written (sectors count words) ++ fs) (sym (flags_of_zeros more))
-          ∙ sym (map-append is_written (sectors count words) (replicate more zero_sector))
-          ∙ ap (map is_written) (sym (grown_sectors size count words noted.size))
-          ∙ ap (λ k. map is_written (sectors k (grown 0 (64 * size) words))) (sym many);
-    }
+-- the sum of sectors of which those behind the first are not written
+sum_of_rest : (words slots : List ℕ) (n more : ℕ) → ((x : ℕ) → n ≤ x → x < n + more → is_written (sector_of words slots x) ≡ false)
+    → sum_by sum (paged (n + more) words slots) ≡ sum_by sum (paged n words slots)
+sum_of_rest words slots n zero none = ap (λ k. sum_by sum (paged k words slots)) (omega arith)
+sum_of_rest words slots n (suc more) none =
+    let next : n + suc more ≡ n + more + 1 = omega arith in
+    ap (λ k. sum_by sum (paged k words slots)) next
+    ∙ omega (
+      arith,
+      sum_on words slots (n + more),
+      sum_of_unwritten (sector_of words slots (n + more)) (none (n + more) (omega arith) (omega arith)),
+      sum_of_rest words slots n more (λ x le lt. none x le (omega (arith, lt))),
+    )
 
--- an image: the sectors of its front, and zeros
-padded_sectors : (count : ℕ) (front : List ℕ) (flags : List Bool) → IsNoted front flags → length flags ≤ count
-    → sectors count (padded count front) ≡ sectors (length flags) front ++ replicate (count - length flags) zero_sector
-padded_sectors count front flags noted within =
-    let all : length flags + (count - length flags) ≡ count = omega arith in
-    ap (λ k. sectors k (padded count front)) (sym all) ∙ grown_sectors count (length flags) front noted.size
+module _ (count room flags_room : ℕ) (words slots owners : List ℕ) (flags : List Bool) (image : IsImage count room flags_room words slots owners flags) where
+  -- behind the flags no sector is written
+  unwritten : (x : ℕ) → length flags ≤ x → x < count → is_written (sector_of words slots x) ≡ false
+  unfolding grown
+  unwritten x past lt =
+      sym (ap is_written (paged_at count words slots x lt))
+      ∙ sym (get_or-map is_written (paged count words slots) x [] false (omega (arith, lt, length_paged count words slots)))
+      ∙ ap (λ (fs : List Bool). get_or fs x false) image.noted
+      ∙ get_or-append_right flags (replicate (count - length flags) false) (length flags) x false refl past
+      ∙ get_or-replicate (count - length flags) (x - length flags) false false (omega (arith, lt, past))
 
--- its flags
-pub flags_of_image : (count words_room flags_room : ℕ) (front : List ℕ) (flags lent : List Bool) (image : List (List ℕ))
-    → IsFront count words_room flags_room front flags → sectors count (padded count front) ≡ image → lent ≡ flags
-    → map is_written image ≡ lent ++ replicate (count - length flags) false
-flags_of_image count words_room flags_room front flags lent image kept is lends =
-    let more = count - length flags in
-    ap (map is_written) (sym is ∙ padded_sectors count front flags kept.noted kept.within)
-    ∙ map-append is_written (sectors (length flags) front) (replicate more zero_sector)
-    ∙ ap (λ (fs : List Bool). fs ++ map is_written (replicate more zero_sector)) (sym kept.noted.noted ∙ sym lends)
-    ∙ ap (λ (fs : List Bool). lent ++ fs) (flags_of_zeros more)
+  -- so the sum of the image is that of the sectors that have flags
+  pub sum_of_image : (shown : List (List ℕ)) (lent : List Bool) → paged count words slots ≡ shown → lent ≡ flags
+      → sum_of_words (paged (length lent) words slots) ≡ sum_of_words shown
+  sum_of_image shown lent is lends =
+      let all : length flags + (count - length flags) ≡ count = omega (arith, image.within) in
+      ap (λ (fs : List Bool). sum_of_words (paged (length fs) words slots)) lends
+      ∙ ap (λ (s : ℕ). s % 2 ^ 64) (sym (sum_of_rest words slots (length flags) (count - length flags) (λ x past lt. unwritten x past (omega (arith, lt, all)))))
+      ∙ ap (λ (k : ℕ). sum_of_words (paged k words slots)) all
+      ∙ ap sum_of_words is
 
-sum_of_zero_sectors : (count : ℕ) → sum_by sum (replicate count zero_sector) ≡ 0
-unfolding zero_sector
-sum_of_zero_sectors zero = refl
-sum_of_zero_sectors (suc count) = sum_of_zero_sectors count
-
--- its sum is that of the front
-pub sum_of_image : (count words_room flags_room : ℕ) (front lent : List ℕ) (flags lent_flags : List Bool) (image : List (List ℕ))
-    → IsFront count words_room flags_room front flags → sectors count (padded count front) ≡ image → lent ≡ front → lent_flags ≡ flags
-    → sum_of_words (sectors (length lent_flags) lent) ≡ sum_of_words image
-sum_of_image count words_room flags_room front lent flags lent_flags image kept is lends lends_flags =
-    let more = count - length flags in
-    ap (λ (fs : List Bool). sum_of_words (sectors (length fs) lent)) lends_flags
-    ∙ ap (λ (ws : List ℕ). sum_of_words (sectors (length flags) ws)) lends
-    ∙ sym
-    (ap sum_of_words (sym is ∙ padded_sectors count front flags kept.noted kept.within)
-    ∙ omega (arith, sum_by-append sum (sectors (length flags) front) (replicate more zero_sector), sum_of_zero_sectors more))
+  -- and its flags are these
+  pub flags_of_image : (shown : List (List ℕ)) (lent : List Bool) → paged count words slots ≡ shown → lent ≡ flags
+      → map is_written shown ≡ lent ++ replicate (count - length flags) false
+  unfolding grown
+  flags_of_image shown lent is lends =
+      ap (map is_written) (sym is) ∙ image.noted ∙ ap (λ (fs : List Bool). fs ++ replicate (count - length flags) false) (sym lends)
 
 -- a new image
-pub zeros_are : (count : ℕ) (none : List ℕ) → none ≡ [] → sectors count (padded count none) ≡ replicate count zero_sector
-unfolding grown
-zeros_are count none empty =
-    let all : 64 * count - 0 ≡ 64 * count = omega arith in
-    rw empty (ap (λ k. sectors count (replicate k 0)) all ∙ sectors_of_zeros count)
+pub zeros_are : (count : ℕ) (words slots : List ℕ) → words ≡ [] → paged count words slots ≡ replicate count zero_sector
+zeros_are count words slots none =
+    sym (is_paged count words slots (replicate count zero_sector) (length-replicate count zero_sector)
+    (λ x lt. get_or-replicate count x zero_sector [] lt ∙ sym (words_end words (place_of slots x) (omega (arith, ap length none)))))
 
-pub zeros_kept : (count words_room flags_room : ℕ) (front : List ℕ) (flags : List Bool) → front ≡ [] → flags ≡ []
-    → 64 * count ≤ words_room → count ≤ flags_room → IsFront count words_room flags_room front flags
-unfolding sectors
-zeros_kept count words_room flags_room front flags empty unset words_fit flags_fit = record {
-  noted = rw (empty, unset) (record { size = refl; noted = refl });
+pub zeros_kept : (count room flags_room : ℕ) (words slots owners : List ℕ) (flags : List Bool) → ArePaged room words slots owners → words ≡ [] → flags ≡ []
+    → count ≤ 64 * length slots → count ≤ flags_room → IsImage count room flags_room words slots owners flags
+unfolding grown
+zeros_kept count room flags_room words slots owners flags pages none unset all fits = record {
+  kept = pages;
+  all = all;
+  noted = ap (map is_written) (zeros_are count words slots none)
+      ∙ flags_of_zeros count
+      ∙ ap (λ k. replicate k false) (omega (arith, ap length unset))
+      ∙ sym (ap (λ (fs : List Bool). fs ++ replicate (count - length flags) false) unset);
   within = omega (arith, ap length unset);
-  words_fit = words_fit;
-  flags_fit = flags_fit;
+  fits = fits;
 }
 
 -- as many flags as there were
@@ -121,192 +116,108 @@ length_marked range flags within = omega (
   length-drop (range.start + range.len) flags,
 )
 
--- words and their flags after a bio
-module _ (bio : Bio) (words : List ℕ) (flags : List Bool) (noted : IsNoted words flags) (within : bio.range.start + bio.range.len ≤ length flags) where
-  abbrev flags_after : List Bool
-  flags_after = marked bio.range flags
+-- flags that are set are set in a list that has grown
+marked_front : (range : Range) (all : ℕ) (flags : List Bool) → range.start + range.len ≤ length flags
+    → grown false all (marked range flags) ≡ marked range (grown false all flags)
+unfolding grown
+marked_front range all flags fits =
+    let start = range.start in
+    let end = range.start + range.len in
+    let run = replicate range.len true in
+    let rest = replicate (all - length flags) false in
+    ap (λ k. marked range flags ++ replicate (all - k) false) (length_marked range flags fits)
+    ∙ append_assoc (take start flags) (run ++ drop end flags) rest
+    ∙ ap (λ (fs : List Bool). take start flags ++ fs)
+    (append_assoc run (drop end flags) rest ∙ ap (λ (fs : List Bool). run ++ fs) (sym (drop-append-le end flags rest fits)))
+    ∙ ap (λ (fs : List Bool). fs ++ (run ++ drop end (flags ++ rest))) (sym (take-append-le start flags rest (omega arith)))
 
-  length_flags : length flags_after ≡ length flags
-  length_flags = length_marked bio.range flags within
+pub marked_grown : (range : Range) (all : ℕ) (flags : List Bool) → range.start + range.len ≤ all
+    → grown false all (marked range (grown false (range.start + range.len) flags)) ≡ marked range (grown false all flags)
+marked_grown range all flags fits =
+    let end = range.start + range.len in
+    marked_front range all (grown false end flags) (omega (arith, length_grown false end flags))
+    ∙ ap (marked range) (grown_twice false all end flags fits)
 
-  written_is : sectors (length flags_after) (filled bio words) ≡ written bio (sectors (length flags) words)
-  written_is = ap (λ n. sectors n (filled bio words)) length_flags ∙ written_words bio (length flags) words noted.size within
-
-  written_noted : IsNoted (filled bio words) flags_after
-  written_noted = record {
-    size = length_filled bio words (omega (arith, noted.size)) ∙ noted.size ∙ ap (λ n. 64 * n) (sym length_flags);
-    noted = sym (
-        ap (map is_written) written_is
-        ∙ flags_of_written bio (sectors (length flags) words)
-        ∙ ap (marked bio.range) (sym noted.noted)
-        );
-  }
-
--- an image after a bio, whose words and flags are written in the front, which grows up to its end
-pub after_write : (bio : Bio) (image : List (List ℕ)) (count words_room flags_room new_words_room new_flags_room : ℕ) (front new : List ℕ)
-    (flags new_flags : List Bool)
-    → IsFront count words_room flags_room front flags → sectors count (padded count front) ≡ image
-    → bio.range.start + bio.range.len ≤ length image
-    → new ≡ filled bio (grown 0 (64 * bio.range.start + 64 * bio.range.len) front) → words_room ≤ new_words_room
+-- an image after a bio
+pub after_write : (bio : Bio) (shown : List (List ℕ)) (count room flags_room new_room new_flags_room : ℕ)
+    (words slots owners new new_slots new_owners : List ℕ) (flags new_flags : List Bool)
+    → IsImage count room flags_room words slots owners flags → paged count words slots ≡ shown
+    → bio.range.start + bio.range.len ≤ length shown
+    → ArePaged new_room new new_slots new_owners
+    → AreFilled bio.range.start bio.range.len bio.word words slots new new_slots
     → new_flags ≡ marked bio.range (grown false (bio.range.start + bio.range.len) flags) → flags_room ≤ new_flags_room
-    → IsFront count new_words_room new_flags_room new new_flags × (sectors count (padded count new) ≡ written bio image)
-after_write bio image count words_room flags_room new_words_room new_flags_room front new flags new_flags kept is fits made more set more_flags =
+    → IsImage count new_room new_flags_room new new_slots new_owners new_flags × (paged count new new_slots ≡ written bio shown)
+after_write bio shown count room flags_room new_room new_flags_room words slots owners new new_slots new_owners flags new_flags image is fits pages filled set more =
     let end = bio.range.start + bio.range.len in
-    let within : end ≤ count = omega (arith, fits, ap length is, length_sectors count (padded count front)) in
-    let ends : 64 * bio.range.start + 64 * bio.range.len ≡ 64 * end = omega arith in
-    let grows = noted_grown end front flags kept.noted in
-    let flags_grow = length_grown false end flags in
-    let enough : end ≤ length (grown false end flags) = omega (arith, flags_grow) in
-    let made_of : new ≡ filled bio (grown 0 (64 * end) front) = made ∙ ap (λ n. filled bio (grown 0 n front)) ends in
-    let whole : length (padded count front) ≡ 64 * count =
-    omega (arith, length_grown 0 (64 * count) front, kept.noted.size, kept.within) in (
+    let within : end ≤ count = omega (arith, fits, ap length is, length_paged count words slots) in
+    let after = written_image bio count words slots new new_slots image.all within filled in
+    let long = length_grown false end flags in (
       record {
-        noted = subst (λ (ws : List ℕ). IsNoted ws new_flags) (sym made_of)
-            (subst (λ (fs : List Bool). IsNoted (filled bio (grown 0 (64 * end) front)) fs) (sym set)
-            (written_noted bio (grown 0 (64 * end) front) (grown false end flags) grows enough));
-        within = omega (
-          arith,
-          ap length set,
-          length_flags bio (grown 0 (64 * end) front) (grown false end flags) grows enough,
-          flags_grow,
-          kept.within,
-          within,
-        );
-        words_fit = omega (arith, kept.words_fit, more);
-        flags_fit = omega (arith, kept.flags_fit, more_flags);
+        kept = pages;
+        all = omega (arith, image.all, filled.size);
+        noted = ap (map is_written) after
+            ∙ flags_of_written bio (paged count words slots)
+            ∙ ap (marked bio.range) image.noted
+            ∙ sym (marked_grown bio.range count flags within)
+            ∙ ap (grown false count) (sym set);
+        within = omega (arith, ap length set, length_marked bio.range (grown false end flags) (omega (arith, long)), long, image.within, within);
+        fits = omega (arith, image.fits, more);
       },
-      ap (λ (ws : List ℕ). sectors count (padded count ws)) made_of
-          ∙ ap (sectors count) (filled_grown bio (64 * count) (64 * end) front (sym ends) (omega (arith, within)))
-          ∙ written_words bio count (padded count front) whole within
-          ∙ ap (written bio) is,
+      after ∙ ap (written bio) is,
     )
 
 -- there is room for what is written within the image
-pub room_for : (bio : Bio) (count words_room flags_room : ℕ) (front : List ℕ) (flags : List Bool) (image : List (List ℕ))
-    → IsFront count words_room flags_room front flags → sectors count (padded count front) ≡ image
-    → bio.range.start + bio.range.len ≤ length image
-    → (64 * bio.range.start + 64 * bio.range.len ≤ words_room) × (bio.range.start + bio.range.len ≤ flags_room)
-room_for bio count words_room flags_room front flags image kept is fits =
-    let within : bio.range.start + bio.range.len ≤ count = omega (arith, fits, ap length is, length_sectors count (padded count front)) in
-    (omega (arith, within, kept.words_fit), omega (arith, within, kept.flags_fit))
+pub room_for : (bio : Bio) (count room flags_room : ℕ) (words slots owners : List ℕ) (flags : List Bool) (shown : List (List ℕ))
+    → IsImage count room flags_room words slots owners flags → paged count words slots ≡ shown → bio.range.start + bio.range.len ≤ length shown
+    → (bio.range.start + bio.range.len ≤ 64 * length slots) × (bio.range.start + bio.range.len ≤ flags_room)
+room_for bio count room flags_room words slots owners flags shown image is fits =
+    let within : bio.range.start + bio.range.len ≤ count = omega (arith, fits, ap length is, length_paged count words slots) in
+    (omega (arith, within, image.all), omega (arith, within, image.fits))
 
--- the words of the whole image
-pub whole_words : (count words_room flags_room : ℕ) (front : List ℕ) (flags : List Bool) (image : List (List ℕ))
-    → IsFront count words_room flags_room front flags → sectors count (padded count front) ≡ image → padded count front ≡ concat image
-whole_words count words_room flags_room front flags image kept is =
-    concat_sectors count (padded count front) (omega (arith, length_grown 0 (64 * count) front, kept.noted.size, kept.within)) ∙ ap concat is
-
--- a front has whole sectors
-pub front_whole : (count words_room flags_room : ℕ) (front lent : List ℕ) (flags : List Bool)
-    → IsFront count words_room flags_room front flags → lent ≡ front → length lent % 64 ≡ 0
-front_whole count words_room flags_room front lent flags kept lends = omega (arith, ap length lends, kept.noted.size)
-
--- and is as long as the image at most
-pub front_within : (count words_room flags_room : ℕ) (front lent : List ℕ) (flags : List Bool) (image : List (List ℕ))
-    → IsFront count words_room flags_room front flags → sectors count (padded count front) ≡ image → lent ≡ front
-    → length lent ≤ 64 * length image
-front_within count words_room flags_room front lent flags image kept is lends =
-    omega (arith, ap length lends, kept.noted.size, kept.within, ap length is, length_sectors count (padded count front))
-
--- and the other words are zeros
-pub front_words : (count words_room flags_room : ℕ) (front lent : List ℕ) (flags : List Bool) (image : List (List ℕ))
-    → IsFront count words_room flags_room front flags → sectors count (padded count front) ≡ image → lent ≡ front
-    → concat image ≡ lent ++ replicate (64 * length image - length lent) 0
-unfolding grown
-front_words count words_room flags_room front lent flags image kept is lends =
-    let many : count ≡ length image = sym (length_sectors count (padded count front)) ∙ ap length is in
-    sym (whole_words count words_room flags_room front flags image kept is)
-    ∙ ap (λ n. front ++ replicate {A = ℕ} (64 * n - length front) 0) many
-    ∙ ap (λ (ws : List ℕ). ws ++ replicate (64 * length image - length ws) 0) (sym lends)
-
--- an image whose front grew up to the whole is the same image
-pub whole_front : (count words_room flags_room new_words_room new_flags_room : ℕ) (front new : List ℕ) (flags new_flags : List Bool)
-    (image : List (List ℕ))
-    → IsFront count words_room flags_room front flags → sectors count (padded count front) ≡ image
-    → new ≡ padded count front → words_room ≤ new_words_room → new_flags ≡ grown false count flags → flags_room ≤ new_flags_room
-    → IsFront count new_words_room new_flags_room new new_flags × (sectors count (padded count new) ≡ image)
-whole_front count words_room flags_room new_words_room new_flags_room front new flags new_flags image kept is made more set more_flags =
-    let all = 64 * count in (
+-- an image whose pages are the same is the same
+pub after_settling : (shown : List (List ℕ)) (count room flags_room new_room : ℕ) (words slots owners new new_slots new_owners : List ℕ) (flags : List Bool)
+    → IsImage count room flags_room words slots owners flags → paged count words slots ≡ shown → ArePaged new_room new new_slots new_owners
+    → AreSame words slots new new_slots → IsImage count new_room flags_room new new_slots new_owners flags × (paged count new new_slots ≡ shown)
+after_settling shown count room flags_room new_room words slots owners new new_slots new_owners flags image is pages same =
+    let stays = same_image count words slots new new_slots image.all same in (
       record {
-        noted = subst (λ (ws : List ℕ). IsNoted ws new_flags) (sym made)
-            (subst (λ (fs : List Bool). IsNoted (padded count front) fs) (sym set) (noted_grown count front flags kept.noted));
-        within = omega (arith, ap length set, length_grown false count flags, kept.within);
-        words_fit = omega (arith, kept.words_fit, more);
-        flags_fit = omega (arith, kept.flags_fit, more_flags);
+        kept = pages;
+        all = omega (arith, image.all, same.size);
+        noted = ap (map is_written) (sym stays) ∙ image.noted;
+        within = image.within;
+        fits = image.fits;
       },
-      ap (sectors count) (ap (grown 0 all) made ∙ grown_twice all all front (omega arith)) ∙ is,
+      sym stays ∙ is,
     )
 
--- a sector of the front
-pub sector_within : (count words_room flags_room : ℕ) (front lent : List ℕ) (flags : List Bool) (image : List (List ℕ)) (at : ℕ)
-    → IsFront count words_room flags_room front flags → sectors count (padded count front) ≡ image → lent ≡ front → at < length flags
-    → take (64 * at + 64 - 64 * at) (drop (64 * at) lent) ≡ get_or image at []
-sector_within count words_room flags_room front lent flags image at kept is lends lt =
-    let one : 64 * at + 64 - 64 * at ≡ 64 = omega arith in
-    ap (λ n. take n (drop (64 * at) lent)) one
-    ∙ ap (λ (ws : List ℕ). take 64 (drop (64 * at) ws)) lends
-    ∙ sym (sector_at (length flags) front at lt)
-    ∙ sym (get_or_append_left (sectors (length flags) front) (replicate (count - length flags) zero_sector) [] at (omega (arith, lt, length_sectors (length flags) front)))
-    ∙ ap (λ (sectors : List (List ℕ)). get_or sectors at []) (sym (padded_sectors count front flags kept.noted kept.within) ∙ is)
+-- pages in their order are the words of the sectors, one sector behind the other
+pub settled_words : (count : ℕ) (words slots : List ℕ) → AreSettled slots (length slots) → count ≤ 64 * length slots
+    → length words ≡ 4096 * length slots → take (64 * count) words ≡ concat (paged count words slots)
+settled_words count words slots settled all full =
+    let front = take (64 * count) words in
+    let long : length front ≡ 64 * count = length-take-le (64 * count) words (omega (arith, all, full)) in
+    concat_sectors count front long
+    ∙ ap concat (is_paged count words slots (sectors count front) (length_sectors count front) (λ x lt.
+    let parts : 64 * count ≡ 64 * x + (64 * count - 64 * x) = omega (arith, lt) in
+    let there : 64 * x ≡ place_of slots x = omega (arith, place_is slots x (x / 64) (settled (x / 64) (omega (arith, lt, all)))) in
+    sector_at count front x lt
+    ∙ ap (λ n. take 64 (drop (64 * x) (take n words))) parts
+    ∙ ap (take 64) (drop-take (64 * x) (64 * count - 64 * x) words)
+    ∙ take-take 64 (64 * count - 64 * x) (drop (64 * x) words) (omega (arith, lt))
+    ∙ words_there words (64 * x) (omega (arith, lt, all, full))
+    ∙ ap (sector_in words) there))
 
--- and one behind it
-pub sector_behind : (count words_room flags_room : ℕ) (front zeros : List ℕ) (flags : List Bool) (image : List (List ℕ)) (at : ℕ)
-    → IsFront count words_room flags_room front flags → sectors count (padded count front) ≡ image → zeros ≡ zero_sector → length flags ≤ at → at < length image
-    → zeros ≡ get_or image at []
-sector_behind count words_room flags_room front zeros flags image at kept is none past lt =
-    let n = length flags in
-    let many : count ≡ length image = sym (length_sectors count (padded count front)) ∙ ap length is in
-    none
-    ∙ sym (get_or-replicate (count - n) (at - n) zero_sector [] (omega (arith, lt, many, past)))
-    ∙ sym (get_or-append_right (sectors n front) (replicate (count - n) zero_sector) n at [] (length_sectors n front) past)
-    ∙ ap (λ (sectors : List (List ℕ)). get_or sectors at []) (sym (padded_sectors count front flags kept.noted kept.within) ∙ is)
+-- a sector of the image is in its pages
+pub sector_known : (count room flags_room : ℕ) (words slots owners : List ℕ) (flags : List Bool) (shown : List (List ℕ)) (at : ℕ)
+    → IsImage count room flags_room words slots owners flags → paged count words slots ≡ shown → at < length shown → at < 64 * length slots
+sector_known count room flags_room words slots owners flags shown at image is lt =
+    omega (arith, lt, ap length is, length_paged count words slots, image.all)
 
--- the words from a sector on, of which the front keeps those up to its end
-pub rest_size : (count words_room flags_room : ℕ) (front lent : List ℕ) (flags : List Bool) (start : ℕ)
-    → IsFront count words_room flags_room front flags → lent ≡ front → start ≤ length flags
-    → length (take (length lent - 64 * start) (drop (64 * start) lent)) ≡ 64 * (length flags - start)
-rest_size count words_room flags_room front lent flags start kept lends short =
-    omega (
-      arith,
-      short,
-      ap length (rest_is lent (64 * start) (length lent - 64 * start) refl),
-      length-drop (64 * start) lent,
-      ap length lends,
-      kept.noted.size,
-    )
+pub sector_shown : (count : ℕ) (words slots : List ℕ) (shown : List (List ℕ)) (at : ℕ) → paged count words slots ≡ shown → at < length shown
+    → sector_of words slots at ≡ get_or shown at []
+sector_shown count words slots shown at is lt =
+    sym (paged_at count words slots at (omega (arith, lt, ap length is, length_paged count words slots)))
+    ∙ ap (λ (sectors : List (List ℕ)). get_or sectors at []) is
 
-pub rest_sector : (count words_room flags_room : ℕ) (front lent : List ℕ) (flags : List Bool) (image : List (List ℕ)) (at start : ℕ)
-    → IsFront count words_room flags_room front flags → sectors count (padded count front) ≡ image → lent ≡ front
-    → start ≤ length flags → (start < length flags → start ≡ at)
-    → (i : ℕ) → i < length (take (length lent - 64 * start) (drop (64 * start) lent)) / 64
-    → take 64 (drop (64 * i) (take (length lent - 64 * start) (drop (64 * start) lent))) ≡ get_or image (at + i) []
-rest_sector count words_room flags_room front lent flags image at start kept is lends short only i lt =
-    let size = rest_size count words_room flags_room front lent flags start kept lends short in
-    let inside : start + i < length flags = omega (arith, size, lt, short) in
-    let begins : start ≡ at = only (omega (arith, inside)) in
-    let place : 64 * start + 64 * i ≡ 64 * (at + i) = omega (arith, begins) in
-    let one : 64 * (at + i) + 64 - 64 * (at + i) ≡ 64 = omega arith in
-    ap (λ (ws : List ℕ). take 64 (drop (64 * i) ws)) (rest_is lent (64 * start) (length lent - 64 * start) refl)
-    ∙ ap (take 64) (drop-drop (64 * i) (64 * start) lent ∙ ap (λ n. drop n lent) place)
-    ∙ ap (λ n. take n (drop (64 * (at + i)) lent)) (sym one)
-    ∙ sector_within count words_room flags_room front lent flags image (at + i) kept is lends (omega (arith, inside, begins))
-
-pub rest_zeros : (count words_room flags_room : ℕ) (front lent : List ℕ) (flags : List Bool) (image : List (List ℕ)) (at start : ℕ)
-    → IsFront count words_room flags_room front flags → sectors count (padded count front) ≡ image → lent ≡ front
-    → start ≤ length flags → start ≤ at
-    → (x : ℕ) → at + length (take (length lent - 64 * start) (drop (64 * start) lent)) / 64 ≤ x → x < length image → get_or image x [] ≡ zero_sector
-rest_zeros count words_room flags_room front lent flags image at start kept is lends short low x past lt =
-    let size = rest_size count words_room flags_room front lent flags start kept lends short in
-    sym (sector_behind count words_room flags_room front zero_sector flags image x kept is refl (omega (arith, size, past, low, short)) lt)
-
-pub rest_within : (count words_room flags_room : ℕ) (front lent : List ℕ) (flags : List Bool) (image : List (List ℕ)) (at start : ℕ)
-    → IsFront count words_room flags_room front flags → sectors count (padded count front) ≡ image → lent ≡ front
-    → start ≤ length flags → (start < length flags → start ≡ at) → at ≤ length image
-    → 64 * at + length (take (length lent - 64 * start) (drop (64 * start) lent)) ≤ 64 * length image
-rest_within count words_room flags_room front lent flags image at start kept is lends short only within =
-    let size = rest_size count words_room flags_room front lent flags start kept lends short in
-    let many : count ≡ length image = sym (length_sectors count (padded count front)) ∙ ap length is in
-    elim (cases_lt start (length flags)) [
-      | inl inside ↦ omega (arith, size, many, kept.within, only inside)
-      | inr past ↦ omega (arith, size, past, within)
-    ]
+pub count_shown : (count : ℕ) (words slots : List ℕ) (shown : List (List ℕ)) → paged count words slots ≡ shown → count ≡ length shown
+count_shown count words slots shown is = sym (length_paged count words slots) ∙ ap length is

@@ -2,10 +2,13 @@ pub mod WrittenLemmas
 pub mod RunLemmas
 pub mod SectorLemmas
 pub mod FlagLemmas
-pub mod FrontLemmas
+pub mod GrownLemmas
 pub mod ImageLemmas
 pub mod KeptLemmas
 pub mod PendingLemmas
 pub mod MoveLemmas
 pub mod MaximalLemmas
 pub mod Sent
+pub mod PageLemmas
+pub mod SwapLemmas
+pub mod PageWriteLemmas

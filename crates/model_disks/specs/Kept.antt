@@ -1,46 +1,20 @@
 -- How a disk is kept. No contract of its public calls speaks of this.
-use Rattle.std.specs.Prelude.{◌≡◌, ◌+◌, ◌-◌, ◌*◌, ◌^◌, ◌<◌, ◌≤◌, ◌++◌, ℕ, Bool, true, List, [], map, length, take, drop, replicate, All}
+use Rattle.std.specs.Prelude.{◌≡◌, ◌+◌, ◌-◌, ◌^◌, ◌<◌, ◌≤◌, ◌++◌, ℕ, Bool, true, List, [], length, take, drop, replicate, All}
 use Rattle.stack_base.specs.declared.ids.Range.{Range}
 use Rattle.stack_base.specs.declared.ids.Bad.{Bad}
-use Rattle.stack_base.specs.Words.{is_written}
-use Rattle.image_lanes.specs.Lanes.{counting, sectors}
-use Rattle.bio_records.specs.declared.bio.Bio.{Bio}
 use Rattle.elem_ledger.specs.declared.element.Element.{Element}
 use Rattle.bio_records.specs.declared.bio.Pad.{Pad}
 use Rattle.bio_records.specs.declared.body.BioBody.{BioBody}
 use Rattle.bio_records.specs.Items.{Item, IsAlone}
 use Rattle.model_disks.specs.Disks.{IsBadRange}
 
--- the words are those of so many sectors as there are flags, and the flag of a sector says whether it is written
-pub record IsNoted (words : List ℕ) (flags : List Bool) : Type 0 where
-  pub size : length words ≡ 64 * length flags
-  pub noted : flags ≡ map is_written (sectors (length flags) words)
-
 -- a list with copies of one element behind it, so that it has this length where it was shorter
 unfoldable pub grown : {X : Type 0} → X → ℕ → List X → List X
 grown none size xs = xs ++ replicate (size - length xs) none
 
--- the words of so many sectors, of which these are the front and all others are zeros
-abbrev pub padded : ℕ → List ℕ → List ℕ
-padded count front = grown 0 (64 * count) front
-
--- words with those of a bio's sectors in the place of those that were there
-abbrev pub filled : Bio → List ℕ → List ℕ
-filled bio words =
-    take (64 * bio.range.start) words
-    ++ (counting bio.word (64 * bio.range.len) ++ drop (64 * bio.range.start + 64 * bio.range.len) words)
-
 -- flags of which those of a range are set
 abbrev pub marked : Range → List Bool → List Bool
 marked range flags = take range.start flags ++ (replicate range.len true ++ drop (range.start + range.len) flags)
-
--- the front of an image of so many sectors: its words and its flags, behind which all words are zeros. There is room for all words, and for
--- the flags of all sectors
-pub record IsFront (count words_room flags_room : ℕ) (front : List ℕ) (flags : List Bool) : Type 0 where
-  pub noted : IsNoted front flags
-  pub within : length flags ≤ count
-  pub words_fit : 64 * count ≤ words_room
-  pub flags_fit : count ≤ flags_room
 
 -- a bio ends within a disk of so many sectors
 abbrev pub IsWithin : ℕ → Item Pad → Type 0

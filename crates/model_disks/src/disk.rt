@@ -115,28 +115,16 @@ impl Disk {
         &self.bad
     }
 
-    /// The words of its first sectors, each of 64 words, one sector behind the other, at least up to the last sector that was ever written:
-    /// all words behind them are zeros.
-    pub fn front(&self) -> &[u64]
-        ensures front { concat self.now.image ≡ result.now ++ replicate (64 * length self.now.image - length result.now) 0 }
-        ensures whole { length result.now % 64 ≡ 0 }
-        ensures within { length result.now ≤ 64 * length self.now.image }
-    {
-        self.image.front()
-    }
-
-    /// The words of its sectors from one on, each of 64 words, one sector behind the other, at least up to the last sector that was ever written: all
-    /// words behind them are zeros.
-    pub fn front_from(&self, at: u64) -> &[u64]
-        requires { at ≤ length self.now.image }
+    /// The words of its sectors from one on, each of 64 words, one sector behind the other, as many as stand side by side, or none where it
+    /// keeps no words of that one, which are all zeros.
+    pub fn rest(&self, at: u64) -> &[u64]
+        requires { at < length self.now.image }
         ensures sectors { (i : ℕ) → i < length result.now / 64
             → take 64 (drop (64 * i) result.now) ≡ slice_index_or self.now.image (at + i) [] }
-        ensures zeros { (x : ℕ) → at + length result.now / 64 ≤ x → x < length self.now.image
-            → slice_index_or self.now.image x [] ≡ zero_sector }
         ensures whole { length result.now % 64 ≡ 0 }
         ensures within { 64 * at + length result.now ≤ 64 * length self.now.image }
     {
-        self.image.front_from(at)
+        self.image.rest(at)
     }
 
     /// The words of one of its sectors, 64 of them.
@@ -147,8 +135,8 @@ impl Disk {
         self.image.sector(at)
     }
 
-    /// The words of all its sectors, one sector behind the other, each of 64 words. The disk stays as it is. The zeros behind its front are
-    /// written, in memory that was reserved when the disk was opened.
+    /// The words of all its sectors, one sector behind the other, each of 64 words. The disk stays as it is. Its pages come
+    /// into their order, in memory that was reserved when the disk was opened.
     pub fn image(&mut self) -> &[u64]
         ensures* same { sem 𝓛 (Rests the_row self.entry (λ disk. disk ≡ self.old)) }
         ensures image { result.now ≡ concat self.old.image }

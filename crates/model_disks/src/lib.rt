@@ -11,6 +11,7 @@ pub mod fault;
 mod flags;
 mod image;
 pub mod laws;
+mod pages;
 mod pending;
 mod walk;
 

@@ -246,12 +246,20 @@ fn is_left(disk: &Disk, pending: usize, sum: u64, runs: Runs) -> bool {
         && run_past(disk).is_none()
 }
 
-// Whether a disk shows what it was declared with, and keeps no word of a sector.
+// How many words a disk keeps side by side from a sector on, or 0 where it has no such sector.
+fn kept_from(disk: &Disk, sector: u64) -> usize {
+    if sector >= disk.sectors() {
+        return 0;
+    }
+    disk.rest(sector).len()
+}
+
+// Whether a disk shows what it was declared with, and keeps no word of its first sector.
 fn is_fresh(disk: &Disk, row: &Row) -> bool {
     disk.dev() == DevId(2)
         && disk.sectors() == row.sectors
         && disk.bad().first().copied() == row.bad
-        && disk.front().is_empty()
+        && kept_from(disk, 0) == 0
         && is_left(disk, row.pushed.len(), 0, (None, None))
 }
 
@@ -276,13 +284,15 @@ fn shows_waiting(rt: &(impl Abort + AllocGlobal)) -> bool {
     are_three && are_two
 }
 
-// How many words a disk keeps when its first sector was written, and then its last one of 1,000.
-fn fronts(rt: &(impl Abort + AllocGlobal)) -> [usize; 2] {
+// How many words a disk of 1,000 sectors keeps from its first, its sector 64 and its last one on, when its last one was written.
+fn kept_words(rt: &(impl Abort + AllocGlobal)) -> [usize; 3] {
     let mut disk = open_with(rt, 1000, None, ENDS);
-    let _first = complete(&mut disk, 0);
-    let first = disk.front().len();
-    let _last = complete(&mut disk, 0);
-    [first, disk.front().len()]
+    let _last = complete(&mut disk, 1);
+    [
+        kept_from(&disk, 0),
+        kept_from(&disk, 64),
+        kept_from(&disk, 999),
+    ]
 }
 
 #[test]
@@ -294,5 +304,5 @@ fn disks_hold_what_was_pushed_and_completed(rt: HostRuntime) {
         "no bio waits",
     );
     holds(&rt, shows_waiting(&rt), "the bios that wait");
-    holds(&rt, fronts(&rt) == [64, 64_000], "up to what is written");
+    holds(&rt, kept_words(&rt) == [0, 0, 64], "the pages written");
 }

@@ -1,6 +1,6 @@
 -- Flags that are enough stay; there is room for more.
 use Rattle.std.proofs.Common.{false, arith}
-use Rattle.model_disks.proofs.FrontLemmas.{grown_enough, grown_from}
+use Rattle.model_disks.proofs.GrownLemmas.{grown_enough, grown_from}
 use Rattle.model_disks.proofs.flags.grow.Goals as goal
 
 pub returns-then-len-count-clause-flags : goal.returns-then-len-count-clause-flags

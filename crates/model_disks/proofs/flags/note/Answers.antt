@@ -1,8 +1,8 @@
 -- The flags that have grown are set in the range.
 use Rattle.std.proofs.Common.{◌+◌, false, length, sym, ap, ◌∙◌, arith}
 use Rattle.model_disks.specs.Kept.{grown, marked}
-use Rattle.model_disks.proofs.FrontLemmas.{length_grown}
-use Rattle.model_disks.proofs.ImageLemmas.{kept_whole, length_marked}
+use Rattle.model_disks.proofs.GrownLemmas.{length_grown, kept_whole}
+use Rattle.model_disks.proofs.ImageLemmas.{length_marked}
 use Rattle.model_disks.proofs.flags.note.Goals as goal
 
 pub set-requires : goal.set-requires

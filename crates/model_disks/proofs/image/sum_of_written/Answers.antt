@@ -1,28 +1,26 @@
 -- One more sector: its sum, or nothing where it is not written.
-use Rattle.std.proofs.Common.{ℕ, ◌+◌, ◌%◌, ◌^◌, refl, sym, ap, ◌∙◌, arith}
-use Rattle.image_lanes.specs.Lanes.{sectors}
+use Rattle.std.proofs.Common.{ℕ, ◌+◌, ◌%◌, ◌^◌, refl, sym, ap, ◌∙◌}
 use Rattle.model_disks.specs.Disks.{sum_of_words}
+use Rattle.model_disks.specs.Paged.{paged}
 use Rattle.model_disks.proofs.ImageLemmas.{sum_more, sum_of_zeros}
 use Rattle.model_disks.proofs.image.sum_of_written.Goals as goal
 use Rattle.model_disks.proofs.image.sum_of_written.Goals.{then-flags-place, else-flags-place}
 
 pub adding-init : goal.adding-init
-unfolding sectors
+unfolding paged
 adding-init c = refl
-
-pub sum_of_sector-all-requires : goal.sum_of_sector-all-requires
-sum_of_sector-all-requires c = omega (arith, c.requires.size, c.adding-test.true)
 
 pub adding-preserved : goal.adding-preserved
 adding-preserved c =
-    let front = c.args.front.now in
+    let words = c.args.pages.now.words.items in
+    let slots = c.args.pages.now.slots.items in
     let place = c.adding.place in
     elim c.if-flags-place.branch [
       | then-flags-place w ↦
           w.all-is
           ∙ ap (λ (s : ℕ). (s + w.sum_of_sector-all.result) % 2 ^ 64) c.adding.invariant
-          ∙ ap (λ (s : ℕ). (sum_of_words (sectors place front) + s) % 2 ^ 64) w.sum_of_sector-all.ensures
-          ∙ sym (sum_more front place)
+          ∙ ap (λ (s : ℕ). (sum_of_words (paged place words slots) + s) % 2 ^ 64) w.sum_of_sector-all.ensures
+          ∙ sym (sum_more words slots place)
       | else-flags-place w ↦
-          w.all-is ∙ c.adding.invariant ∙ sym (sum_of_zeros front c.args.flags.now place c.requires c.adding-test.true w.if-flags-place.false)
+          w.all-is ∙ c.adding.invariant ∙ sym (sum_of_zeros words slots c.args.flags.now place c.requires.noted c.adding-test.true w.if-flags-place.false)
     ]

@@ -1,25 +1,27 @@
--- The front with zeros up to the image's end is the words of all sectors, and the image is the same.
-use Rattle.std.proofs.Common.{◌≡◌, refl, ◌∙◌}
-use Rattle.model_disks.specs.Kept.{padded}
-use Rattle.model_disks.proofs.ImageLemmas.{whole_front, whole_words}
+-- Pages that have come into their order show the same image.
+use Rattle.std.proofs.Common.{ap, arith, refl, ◌∙◌}
+use Rattle.std.specs.List.{concat}
+use Rattle.model_disks.proofs.ImageLemmas.{after_settling}
 use Rattle.model_disks.proofs.image.Image.words.Goals as goal
+
+pub words-requires-clause-all : goal.words-requires-clause-all
+words-requires-clause-all c = omega (arith, c.self.invariant.all, c.settle_all.ensures.same.size)
 
 pub invariant_of-self : goal.invariant_of-self
 invariant_of-self c =
     let i = c.self.inside in
-    (whole_front i.count _ _ _ _ i.front.items _ i.flags.items _ c.args.self.now c.self.invariant c.self.view_is c.grow.ensures.words c.grow.ensures.room
-    c.grow-2.ensures.flags c.grow-2.ensures.room).0
+    (after_settling c.args.self.now i.count _ _ _ i.pages.words.items i.pages.slots.items i.pages.owners.items _ _ _ i.flags.items
+    c.self.invariant c.self.view_is c.settle_all.ensures.paged c.settle_all.ensures.same).0
 
 pub returns : goal.returns
 returns c =
     let i = c.self.inside in
-    let made : c.grow.new.front.items ≡ padded i.count i.front.items = c.grow.ensures.words in
     let whole =
-    whole_front i.count _ _ _ _ i.front.items c.grow.new.front.items i.flags.items _ c.args.self.now c.self.invariant c.self.view_is made
-    c.grow.ensures.room c.grow-2.ensures.flags c.grow-2.ensures.room in (
+    after_settling c.args.self.now i.count _ _ _ i.pages.words.items i.pages.slots.items i.pages.owners.items _ _ _ i.flags.items
+    c.self.invariant c.self.view_is c.settle_all.ensures.paged c.settle_all.ensures.same in (
       (refl, (λ _. tt), whole.1),
       record {
         same = tt;
-        words = c.deref.ensures.value ∙ made ∙ whole_words i.count _ _ i.front.items i.flags.items c.args.self.now c.self.invariant c.self.view_is;
+        words = c.words.ensures ∙ ap concat whole.1;
       },
     )

@@ -1,6 +1,6 @@
 use Rattle.std.proofs.Common.{refl}
 use Rattle.stack_base.specs.Words.{zero_sector}
-use Rattle.model_disks.proofs.image.zeros.Goals as goal
+use Rattle.model_disks.proofs.pages.zeros.Goals as goal
 
 pub returns : goal.returns
 unfolding zero_sector

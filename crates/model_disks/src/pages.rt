@@ -1,0 +1,253 @@
+//! The words of a disk, by pages that stand in the order of their first writes.
+ghost use Rattle.std.specs.Prelude.{◌≡◌, ◌+◌, ◌*◌, ◌<◌, ◌≤◌, length, vec_capacity, IfOk};
+ghost use Rattle.std.specs.List.{range_with_len};
+ghost use Rattle.stack_base.specs.Words.{zero_sector};
+ghost use Rattle.model_disks.specs.Kept.{grown};
+ghost use Rattle.model_disks.specs.Paged.{AreSwapped, put};
+
+use bio_records::Bio;
+use image_lanes::fill;
+use stack_base::Range;
+use std::alloc::{AllocError, Global};
+
+// The sectors of a page, and its words.
+const SECTORS: u64 = 64;
+
+const WORDS: usize = 4096;
+
+/// The words of a disk, by pages of 64 sectors.
+///
+/// A page that was never written has a slot too, behind those that have words: its words are zeros, which are set only where it is first
+/// written. Then it changes places with the page in the first slot that has no words.
+#[derive(Drop)]
+pub struct Pages {
+    // The words of the pages that were written, in the order of their first writes. There is room for those of all pages.
+    words: Vec<u64>,
+    // The slot of each page.
+    slots: Vec<usize>,
+    // The page in each slot.
+    owners: Vec<usize>,
+}
+
+// A sector in which nothing was written.
+fn zeros<'a>() -> &'a [u64]
+    ensures { result.now ≡ zero_sector }
+{
+    &[0; 64]
+}
+
+// The words of two slots, of which `low` is the first, change places.
+fn swap(words: &mut [u64], low: usize, high: usize)
+    requires order { low < high }
+    requires within { 4096 * high + 4096 ≤ length words.old }
+    ensures { AreSwapped low high words.old words.new }
+{
+    let (front, behind) = words.split_at_mut(WORDS * high);
+    let (_before, front) = front.split_at_mut(WORDS * low);
+    let (one, _between) = front.split_at_mut(WORDS);
+    let (other, _after) = behind.split_at_mut(WORDS);
+    one.swap_with_slice(other);
+}
+
+// Words that count up from the first one, in the place of those that were there.
+fn put(words: &mut [u64], from: usize, count: usize, first: u64)
+    requires { from + count ≤ length words.old }
+    ensures { words.new ≡ put from count first words.old }
+{
+    fill(&mut words[from..from + count], first);
+}
+
+// Brings the words up to those of so many slots, for which there is room, with zeros.
+fn grow(words: &mut Vec<u64>, slots: usize)
+    requires { 4096 * slots ≤ vec_capacity words.old }
+    ensures words { words.new.items ≡ grown 0 (4096 * slots) words.old.items }
+    ensures room { vec_capacity words.old ≤ vec_capacity words.new }
+{
+    let size = WORDS * slots;
+    if words.len() >= size {
+        return;
+    }
+    let Ok(()) = words.resize(size, 0) else {
+        unreachable!()
+    };
+}
+
+// Numbers from 0 on.
+fn in_turn(alloc: Global, count: usize) -> Result<Vec<usize>, AllocError>
+    ensures { IfOk result (λ numbers. numbers.items ≡ range_with_len 0 count) }
+{
+    let mut numbers = Vec::with_capacity(alloc, count)?;
+    'numbering: for number in 0..count {
+        numbers.push_reserved(number);
+    }
+    Ok(numbers)
+}
+
+impl Pages {
+    ghost use Rattle.std.specs.Prelude.{◌≡◌, ◌+◌, ◌*◌, ◌/◌, ◌%◌, ◌<◌, ◌≤◌, ℕ, [], length, take, drop, vec_capacity, IfOk};
+    ghost use Rattle.std.specs.List.{concat};
+    ghost use Rattle.stack_base.specs.Words.{zero_sector};
+    ghost use Rattle.model_disks.specs.Paged.{AreInverse, AreSettled, IsExchanged, IsFilled, IsSound, StaysSame, in_pages, number_at, sector_in_pages};
+
+    // The pages in two slots change places.
+    fn exchange(&mut self, one: usize, other: usize)
+        requires inverse { AreInverse self.old.slots.items self.old.owners.items }
+        requires one { one < length self.old.slots.items }
+        requires other { other < length self.old.slots.items }
+        ensures inverse { AreInverse self.new.slots.items self.new.owners.items }
+        ensures slots { IsExchanged one other self.old.slots.items self.new.slots.items }
+        ensures words { self.new.words ≡ self.old.words }
+    {
+        let page = self.owners[one];
+        let behind = self.owners[other];
+        self.slots[page] = other;
+        self.slots[behind] = one;
+        self.owners[one] = behind;
+        self.owners[other] = page;
+    }
+
+    // The page comes into the slot of its own number. All slots have words, and the pages before it are settled.
+    fn settle(&mut self, page: usize)
+        requires paged { IsSound self.old }
+        requires full { length self.old.words.items ≡ 4096 * length self.old.slots.items }
+        requires page { page < length self.old.slots.items }
+        requires settled { AreSettled self.old.slots.items page }
+        ensures paged { IsSound self.new }
+        ensures full { length self.new.words.items ≡ 4096 * length self.new.slots.items }
+        ensures settled { AreSettled self.new.slots.items (page + 1) }
+        ensures same { StaysSame self.old self.new }
+    {
+        let slot = self.slots[page];
+        if slot > page {
+            swap(&mut self.words, page, slot);
+            self.exchange(page, slot);
+        }
+    }
+
+    /// Brings the pages into their order, all of them with words.
+    pub fn settle_all(&mut self)
+        requires paged { IsSound self.old }
+        ensures paged { IsSound self.new }
+        ensures full { length self.new.words.items ≡ 4096 * length self.new.slots.items }
+        ensures settled { AreSettled self.new.slots.items (length self.new.slots.items) }
+        ensures same { StaysSame self.old self.new }
+    {
+        let count = self.slots.len();
+        grow(&mut self.words, count);
+        'settling: for page in 0..count {
+            self.settle(page);
+        }
+    }
+
+    // The slot of a page, which has words from now on.
+    fn kept_slot(&mut self, page: usize) -> usize
+        requires paged { IsSound self.old }
+        requires page { page < length self.old.slots.items }
+        ensures paged { IsSound self.new }
+        ensures slot { result ≡ number_at self.new.slots.items page }
+        ensures kept { 4096 * result + 4096 ≤ length self.new.words.items }
+        ensures same { StaysSame self.old self.new }
+    {
+        let used = self.words.len() / WORDS;
+        let slot = self.slots[page];
+        if slot < used {
+            return slot;
+        }
+        self.exchange(slot, used);
+        grow(&mut self.words, used + 1);
+        used
+    }
+
+    // Writes the sectors of a range that ends within the page in which it begins.
+    fn write_page(&mut self, range: Range, first: u64)
+        requires paged { IsSound self.old }
+        requires page { range.start % 64 + range.len ≤ 64 }
+        requires within { range.start < 64 * length self.old.slots.items }
+        ensures paged { IsSound self.new }
+        ensures filled { IsFilled range.start range.len first self.old self.new }
+    {
+        let slot = self.kept_slot((range.start / SECTORS) as usize);
+        let from = WORDS * slot + 64 * (range.start % SECTORS) as usize;
+        put(&mut self.words, from, 64 * range.len as usize, first);
+    }
+
+    /// Writes a bio's sectors, which are among those of the pages.
+    pub fn write(&mut self, bio: Bio)
+        requires paged { IsSound self.old }
+        requires within { bio.range.start + bio.range.len ≤ 64 * length self.old.slots.items }
+        ensures paged { IsSound self.new }
+        ensures filled { IsFilled bio.range.start bio.range.len bio.word self.old self.new }
+    {
+        let mut done = 0;
+        'writing: while done < bio.range.len {
+            let start = bio.range.start + done;
+            let len = (SECTORS - start % SECTORS).min(bio.range.len - done);
+            self.write_page(Range { start, len }, bio.word.wrapping_add(64 * done));
+            done += len;
+        }
+    }
+
+    /// The words of the sectors from this one on up to the end of its page, so many sectors at most, or none where the page has no words.
+    pub fn rest(&self, at: u64, most: u64) -> &[u64]
+        requires paged { IsSound self.now }
+        requires here { at < 64 * length self.now.slots.items }
+        requires some { 1 ≤ most }
+        ensures sectors { (i : ℕ) → i < length result.now / 64
+            → take 64 (drop (64 * i) result.now) ≡ sector_in_pages self.now (at + i) }
+        ensures whole { length result.now % 64 ≡ 0 }
+        ensures short { length result.now ≤ 64 * most }
+        ensures zeros { length result.now ≡ 0 → sector_in_pages self.now at ≡ zero_sector }
+    {
+        let slot = self.slots[(at / SECTORS) as usize];
+        if slot >= self.words.len() / WORDS {
+            return &[];
+        }
+        let start = WORDS * slot + 64 * (at % SECTORS) as usize;
+        let len = 64 * (SECTORS - at % SECTORS).min(most) as usize;
+        &self.words[start..start + len]
+    }
+
+    /// The pages of so many sectors, all zeros. It takes the room for all of them, and touches none of it.
+    ///
+    /// # Errors
+    ///
+    /// Where there is no memory for it.
+    pub fn zeros(alloc: Global, sectors: u64) -> Result<Pages, AllocError>
+        ensures paged { IfOk result IsSound }
+        ensures all { IfOk result (λ pages. sectors ≤ 64 * length pages.slots.items) }
+        ensures none { IfOk result (λ pages. pages.words.items ≡ []) }
+    {
+        let count = sectors.div_ceil(SECTORS) as usize;
+        let Some(words) = count.checked_mul(WORDS) else {
+            return Err(AllocError);
+        };
+        Ok(Pages {
+            words: Vec::with_capacity(alloc, words)?,
+            slots: in_turn(alloc, count)?,
+            owners: in_turn(alloc, count)?,
+        })
+    }
+
+    /// The words of one sector.
+    pub fn sector(&self, at: u64) -> &[u64]
+        requires paged { IsSound self.now }
+        requires here { at < 64 * length self.now.slots.items }
+        ensures { result.now ≡ sector_in_pages self.now at }
+    {
+        let words = self.rest(at, 1);
+        if words.is_empty() {
+            return zeros();
+        }
+        words
+    }
+
+    /// The words of the first sectors, one sector behind the other, where the pages stand in their order.
+    pub fn words(&self, count: u64) -> &[u64]
+        requires full { length self.now.words.items ≡ 4096 * length self.now.slots.items }
+        requires settled { AreSettled self.now.slots.items (length self.now.slots.items) }
+        requires all { count ≤ 64 * length self.now.slots.items }
+        ensures { result.now ≡ concat (in_pages count self.now) }
+    {
+        &self.words[..64 * count as usize]
+    }
+}
