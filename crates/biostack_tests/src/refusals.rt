@@ -35,7 +35,7 @@ const NAMES: &[(Reason, &str)] = &[
 ];
 
 /// A text, and the line that is refused.
-type Line = (&'static str, u64);
+type RefusedText = (&'static str, u64);
 
 /// A text, the number of the reason, and the line.
 type Fault = (&'static str, u32, u64);
@@ -68,7 +68,7 @@ fn reasons_have_their_numbers_and_names(rt: HostRuntime) {
 }
 
 // Texts have to be refused for this reason, each at its line.
-fn are_wrong(rt: &(impl Abort + AllocGlobal), reason: Reason, texts: &[Line]) {
+fn are_wrong(rt: &(impl Abort + AllocGlobal), reason: Reason, texts: &[RefusedText]) {
     for (text, line) in texts {
         is_refused(rt, text, reason.at(*line).number, *line);
     }

@@ -20,11 +20,11 @@ use Rattle.run_machine.specs.declared.event.TaskId.{TaskId}
 use Rattle.run_machine.specs.declared.event.TaskId.TheVariants as task
 use Rattle.run_machine.specs.declared.event.What.{What}
 use Rattle.run_machine.specs.declared.event.What.TheVariants as what
-use Rattle.run_machine.specs.Named.{HasDevice, HasPool, HasTask, HasWhat, IsEventOf, has_set, is_any, is_disk, is_mirror}
+use Rattle.run_machine.specs.Named.{HasDevice, HasPool, HasTask, HasWhat, IsEventOf, is_stacked_kind, is_any, is_disk_kind, is_mirror_kind}
 use Rattle.trace_text.specs.Lines.{device_name, got_word, line_of_event, pool_word, status_word, task_word, what_words}
 use Rattle.biostack_top.proofs.SameStacks.{same_of}
 
-disk_told : (kind : Kind) → is_disk kind ≡ declared.is_disk (what_of kind)
+disk_told : (kind : Kind) → is_disk_kind kind ≡ declared.declares_disk (what_of kind)
 disk_told (Disk sectors bad) = refl
 disk_told Linear = refl
 disk_told (Stripe chunk) = refl
@@ -32,7 +32,7 @@ disk_told (Zoned chunk) = refl
 disk_told (Limit longest chunk) = refl
 disk_told (Mirror records) = refl
 
-mirror_told : (kind : Kind) → is_mirror kind ≡ declared.is_mirror (what_of kind)
+mirror_told : (kind : Kind) → is_mirror_kind kind ≡ declared.declares_mirror (what_of kind)
 mirror_told (Disk sectors bad) = refl
 mirror_told Linear = refl
 mirror_told (Stripe chunk) = refl
@@ -81,14 +81,14 @@ module _ (known : Known) (one other : Stack) (one_scripts other_scripts : List (
   any_too : (dev : DevId) → HasDevice is_any one dev → HasDevice is_any other dev
   any_too dev has = has_too is_any (λ does. true) (λ kind. refl) dev has
 
-  disk_too : (dev : DevId) → HasDevice is_disk one dev → HasDevice is_disk other dev
-  disk_too dev has = has_too is_disk declared.is_disk disk_told dev has
+  disk_too : (dev : DevId) → HasDevice is_disk_kind one dev → HasDevice is_disk_kind other dev
+  disk_too dev has = has_too is_disk_kind declared.declares_disk disk_told dev has
 
   pool_too : (pool : PoolId) → HasPool one pool → HasPool other pool
   pool_too FsBios has = tt
   pool_too FsVecs has = tt
-  pool_too (Bios dev) has = has_too has_set (λ does. not (declared.is_disk does)) (λ kind. ap not (disk_told kind)) dev has
-  pool_too (Records dev) has = has_too is_mirror declared.is_mirror mirror_told dev has
+  pool_too (Bios dev) has = has_too is_stacked_kind (λ does. not (declared.declares_disk does)) (λ kind. ap not (disk_told kind)) dev has
+  pool_too (Records dev) has = has_too is_mirror_kind declared.declares_mirror mirror_told dev has
 
   task_too : (id : TaskId) → HasTask one id → HasTask other id
   task_too (task.Writer number) has = tt

@@ -1,4 +1,3 @@
-pub mod NumberLemmas
 pub mod Parsing
 pub mod Uses
 pub mod Turns

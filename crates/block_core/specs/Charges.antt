@@ -16,7 +16,7 @@ use Rattle.bio_books.specs.Books.{VectorItem, SlipItem, Holding, parent_of}
 use Rattle.run_machine.specs.declared.event.Event.{Event}
 use Rattle.run_machine.specs.Scene.{Setup, Scene, tree_at}
 use Rattle.run_machine.specs.Lines.{Want, Takes, Punts, Links, ToPush, ToCut, ToRecord, ToMaster, Doing, Rests, Drives, Copies, Breaks}
-use Rattle.run_machine.specs.Tasks.{Todo, Taken, NoBio, HasBio, HasBoth, Duty, Resizes, Starts, Keeps, Stops, TaskState, Writer, Rescuer, Completer, Keeper, needs_vector}
+use Rattle.run_machine.specs.Tasks.{Todo, Gathered, NoBio, HasBio, HasBoth, Duty, Resizes, Starts, Keeps, Stops, TaskState, Writer, Rescuer, Completer, Keeper, needs_vector}
 use Rattle.run_machine.specs.Opened.{Scenario, scene, start}
 use Rattle.run_machine.specs.Runs.{State, IsRun}
 use Rattle.block_core.specs.Payers.{Payer, WriteBio, WriteVector, Record, PieceBio, Fragment, ScriptEntry, LaterRound, ReserveChange, payer_at, Paid, MissesAtOnce, IsPunted, IsTaken, IsLinked, IsPopped, IsCompleted, EndsItself, EndsForParent, IsGiven, IsDone, cost, unit_price}
@@ -81,7 +81,7 @@ vector_charge price write = if needs_vector write then cost price WriteVector el
 abbrev pub write_charge : (Paid → ℕ) → Setup → Todo → ℕ
 write_charge price setup todo = cost price WriteBio + vector_charge price todo.write + write_run price setup todo
 
-abbrev pub todo_charge : (Paid → ℕ) → Setup → List Todo → Taken → ℕ
+abbrev pub todo_charge : (Paid → ℕ) → Setup → List Todo → Gathered → ℕ
 todo_charge price setup [] taken = 0
 todo_charge price setup (todo ∷ later) NoBio = write_charge price setup todo + sum_by (write_charge price setup) later
 todo_charge price setup (todo ∷ later) (HasBio bio) =

@@ -8,13 +8,13 @@ use Rattle.stack_base.specs.Tree.{Tree, Leaf, Split, Mirrored}
 use Rattle.layout_model.specs.declared.fragment.Fragment.{Fragment}
 use Rattle.run_machine.specs.Scene.{Setup, Scene, tree_at}
 use Rattle.run_machine.specs.Lines.{Want, Takes, Punts, Links, Ask, ToPush, ToCut, ToRecord, ToMaster, Doing, Rests, Drives, Copies, Breaks, Line, rests, legs_of}
-use Rattle.run_machine.specs.Tasks.{Taken, NoBio, HasBio, HasBoth, Carried, Empty, Brings, Carries, Fails, TaskState, Writer, Rescuer, Completer, Keeper}
+use Rattle.run_machine.specs.Tasks.{Gathered, NoBio, HasBio, HasBoth, Carried, Empty, Brings, Carries, Fails, TaskState, Writer, Rescuer, Completer, Keeper}
 use Rattle.run_machine.specs.Runs.{State}
 use Rattle.block_core.specs.Fragments.{fragment_of}
 use Rattle.block_core.specs.Levels.{HoldsOneLevel}
 
 -- a writer that has something in hand for its next write has it of the writers' pools, and submits nothing
-abbrev pub TakenIsRight : Taken → Line → Type 0
+abbrev pub TakenIsRight : Gathered → Line → Type 0
 TakenIsRight NoBio line = Unit {0}
 TakenIsRight (HasBio bio) line = (bio.share.no ≡ pool_number FsBios) × (line ≡ rests)
 TakenIsRight (HasBoth bio vector) line = (bio.share.no ≡ pool_number FsBios) × (vector.share.no ≡ pool_number FsVecs) × (line ≡ rests)

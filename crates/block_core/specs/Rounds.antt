@@ -3,7 +3,7 @@ use Rattle.std.specs.Prelude.{◌≡◌, ◌+◌, ◌*◌, ◌<◌, ℕ, List, [
 use Rattle.bio_books.specs.declared.node.Role.{Role}
 use Rattle.bio_books.specs.declared.node.Role.TheVariants as role
 use Rattle.run_machine.specs.Scene.{Scene}
-use Rattle.run_machine.specs.Tasks.{Todo, Taken, NoBio, HasBio, HasBoth}
+use Rattle.run_machine.specs.Tasks.{Todo, Gathered, NoBio, HasBio, HasBoth}
 use Rattle.run_machine.specs.Runs.{State}
 use Rattle.block_core.specs.Weights.{Weight, total, one}
 pub use Rattle.layout_model.specs.Laid.{round_of}
@@ -23,7 +23,7 @@ tops_left None = 1
 tops_left (Some parent) = 0
 
 -- what writes are worth that are to be begun, or whose top node is open or carried, where each is worth this by its number
-abbrev pub by_stage : (List Todo → Taken → ℕ) → (ℕ → ℕ) → Weight
+abbrev pub by_stage : (List Todo → Gathered → ℕ) → (ℕ → ℕ) → Weight
 by_stage to_come worth = record {
   todo = λ writer todos taken. to_come todos taken;
   bio = λ spot bio. 0;
@@ -45,7 +45,7 @@ abbrev pub first_worth : (ℕ → ℕ) → List Todo → ℕ
 first_worth worth [] = 0
 first_worth worth (todo ∷ todos) = worth todo.number
 
-abbrev pub taken_worth : (ℕ → ℕ) → List Todo → Taken → ℕ
+abbrev pub taken_worth : (ℕ → ℕ) → List Todo → Gathered → ℕ
 taken_worth worth todos NoBio = 0
 taken_worth worth todos (HasBio bio) = first_worth worth todos
 taken_worth worth todos (HasBoth bio vector) = first_worth worth todos

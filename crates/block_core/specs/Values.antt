@@ -17,7 +17,7 @@ use Rattle.bio_books.specs.Drops.{Closed}
 use Rattle.run_machine.specs.declared.event.Event.{Event}
 use Rattle.run_machine.specs.Scene.{Setup, Scene, tree_at}
 use Rattle.run_machine.specs.Lines.{Want, Copies, Line, legs_of}
-use Rattle.run_machine.specs.Tasks.{Todo, Taken, Carries, Writer, Completer}
+use Rattle.run_machine.specs.Tasks.{Todo, Gathered, Carries, Writer, Completer}
 use Rattle.run_machine.specs.Opened.{Scenario, scene, start}
 use Rattle.run_machine.specs.Runs.{State, IsRun}
 use Rattle.block_core.specs.AtWork.{LineOf, IsBrought, IsInDisk, IsAtWork}
@@ -110,7 +110,7 @@ pub record IsValued (s : Scenario) (scene : Scene) (bios : ℕ → ℕ → Bio) 
   -- what is left of a top node has an end of its write, and a write that is to begin may end only so
   pub carried : (place : ℕ) (disk : DevId) (writer : ℕ) (closed : Closed) → place < scene.tasks → state.task place ≡ Completer disk (Carries writer closed)
       → closed.parent ≡ None → IsGiven s closed.write closed.status
-  pub begins : (place writer : ℕ) (todos : List Todo) (taken : Taken) (line : Line) → place < scene.tasks → state.task place ≡ Writer writer todos taken line
+  pub begins : (place writer : ℕ) (todos : List Todo) (taken : Gathered) (line : Line) → place < scene.tasks → state.task place ≡ Writer writer todos taken line
       → All (λ (todo : Todo). (end : Status) → TodoMayEnd scene.setup (fault_of s.stack) todo end → IsGiven s todo.number end) todos
 
 -- after every event of every run of every scenario

@@ -8,7 +8,7 @@ use Rattle.bio_books.specs.Drops.{Closed}
 use Rattle.model_disks.specs.Disks.{DiskState}
 use Rattle.run_machine.specs.Scene.{Setup, Scene, tree_at}
 use Rattle.run_machine.specs.Lines.{Want, Takes, Punts, Links, Ask, ToPush, ToCut, ToRecord, ToMaster, Doing, Rests, Drives, Copies, Breaks, Line, legs_of}
-use Rattle.run_machine.specs.Tasks.{Todo, Taken, NoBio, HasBio, HasBoth, Carried, Empty, Brings, Carries, Fails, TaskState, Writer, Rescuer, Completer, Keeper}
+use Rattle.run_machine.specs.Tasks.{Todo, Gathered, NoBio, HasBio, HasBoth, Carried, Empty, Brings, Carries, Fails, TaskState, Writer, Rescuer, Completer, Keeper}
 use Rattle.run_machine.specs.Runs.{State}
 
 -- 1 where two numbers are the same
@@ -38,7 +38,7 @@ pub data Spot : Type 0 where
 -- one weight for each kind of thing; a node by the writer of its book and its place there, a closed one by the place of the task that carries it
 pub record Weight : Type 0 where
   -- the writes that a writer has still to begin, the first of them in its hand or not
-  pub todo : (writer : ℕ) → List Todo → Taken → ℕ
+  pub todo : (writer : ℕ) → List Todo → Gathered → ℕ
   pub bio : Spot → Item Pad → ℕ
   -- a bio that a mirror copies, by the place of its master and the leg that is made next
   pub copy : Bio → (master leg : ℕ) → ℕ
@@ -69,7 +69,7 @@ abbrev pub line_weight : Weight → ℕ → Line → ℕ
 line_weight w limit line =
     doing_weight w limit line.doing + sum_by (w.bio (Lined limit)) line.lists.list0 + sum_by (w.bio (Lined limit)) line.lists.list1
 
-abbrev pub taken_weight : Weight → Taken → ℕ
+abbrev pub taken_weight : Weight → Gathered → ℕ
 taken_weight w NoBio = 0
 taken_weight w (HasBio bio) = w.hand bio
 taken_weight w (HasBoth bio vector) = w.hand bio + w.vector vector

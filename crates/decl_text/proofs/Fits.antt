@@ -20,7 +20,7 @@ use Rattle.std.proofs.Math.Logic.{∥∥₁_elim}
 use Rattle.decl_text.specs.Text.{words}
 use Rattle.decl_text.specs.Items.{said}
 use Rattle.decl_text.specs.Read.{IsFormed}
-use Rattle.decl_text.specs.Known.{Known, Declared, BadOf, nothing, after_line, declared, device_of, grown, is_disk, number_in, sectors_of, tree_of, tree_over}
+use Rattle.decl_text.specs.Known.{Known, Declared, BadOf, nothing, after_line, declared, device_of, grown, declares_disk, number_in, sectors_of, tree_of, tree_over}
 use Rattle.decl_text.specs.Checks.{bad_shape, is_disk_device, is_one_too_many, name_taken, past_end, reserve_zero, reserves, too_large}
 use Rattle.decl_text.specs.Accepting.{IsDeclaredSo, Means, bad_of, loose_checks, reserves_or_two, shown, what_of}
 use Rattle.decl_text.specs.Fit.{HasReserves, IsFitBad, IsFitDevice, IsFitStack, IsReserve}
@@ -64,7 +64,7 @@ record IsFit (known : Known) : Type 0 where
 abbrev one_more : List Tree → Declared → List Tree
 one_more below device = below ++ tree_over below device ∷ []
 
-disk_size : (number : ℕ) (does : What) (members : List Tree) → is_disk does ≡ true → size (grown number does members) ≡ sectors_of does
+disk_size : (number : ℕ) (does : What) (members : List Tree) → declares_disk does ≡ true → size (grown number does members) ≡ sectors_of does
 disk_size number (what.Disk sectors) members is = refl
 disk_size number _ members is = cc
 

@@ -1,5 +1,4 @@
-mod NumberLemmas
-mod SplitLemmas
+pub mod SplitLemmas
 mod Examples
 mod FormLemmas
 mod WordLemmas

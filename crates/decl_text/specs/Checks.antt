@@ -6,7 +6,7 @@ use Rattle.stack_base.specs.PoolId.{pool_number}
 use Rattle.stack_base.specs.declared.ids.PoolId.{PoolId}
 use Rattle.decl_text.specs.Text.{words, is_text}
 use Rattle.decl_text.specs.Items.{malformed, misnumbered, said}
-use Rattle.decl_text.specs.Known.{Known, Declared, Written, Scripted, Resized, present, device_of, number_in, pool_of, tree_over, tree_of, trees, all_members, sectors_of, is_disk, is_mirror, declared}
+use Rattle.decl_text.specs.Known.{Known, Declared, Written, Scripted, Resized, present, device_of, number_in, pool_of, tree_over, tree_of, trees, all_members, sectors_of, declares_disk, declares_mirror, declared}
 use Rattle.decl_text.specs.Stands.{stand_of, misplaced}
 use Rattle.decl_text.specs.declared.item.What.{What}
 use Rattle.decl_text.specs.declared.item.What.TheVariants as what
@@ -94,7 +94,7 @@ has_count (what.Mirror records) count = nat_le 1 count && nat_le count 8
 
 abbrev pub is_disk_device : Option Declared → Bool
 is_disk_device None = false
-is_disk_device (Some device) = is_disk device.what
+is_disk_device (Some device) = declares_disk device.what
 
 -- too few or too many members, or a bad range of a device that is no disk
 abbrev pub bad_shape : Known → Item → Bool
@@ -118,7 +118,7 @@ abbrev pub all_sectors : List Declared → ℕ
 all_sectors devices = sum_by (λ device. sectors_of device.what) devices
 
 abbrev pub disks : List Declared → ℕ
-disks devices = count_by (λ device. is_disk device.what) devices
+disks devices = count_by (λ device. declares_disk device.what) devices
 
 abbrev pub is_one_too_many : Known → Item → Bool
 is_one_too_many known (item.Device name (what.Disk sectors) members reserve rescuer) =
@@ -146,7 +146,7 @@ reserve_zero known said = list_any (λ reserve. reserve == 0) (reserves said)
 
 -- a mirror of two members or more without a rescuer
 abbrev pub needs_rescuer : Known → Item → Bool
-needs_rescuer known (item.Device name does members reserve rescuer) = is_mirror does && nat_le 2 (length members) && not rescuer
+needs_rescuer known (item.Device name does members reserve rescuer) = declares_mirror does && nat_le 2 (length members) && not rescuer
 needs_rescuer known _ = false
 
 -- a write to a member of another device

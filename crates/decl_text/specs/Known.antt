@@ -129,13 +129,13 @@ abbrev pub sectors_of : What → ℕ
 sectors_of (what.Disk sectors) = sectors
 sectors_of _ = 0
 
-abbrev pub is_disk : What → Bool
-is_disk (what.Disk sectors) = true
-is_disk _ = false
+abbrev pub declares_disk : What → Bool
+declares_disk (what.Disk sectors) = true
+declares_disk _ = false
 
-abbrev pub is_mirror : What → Bool
-is_mirror (what.Mirror records) = true
-is_mirror _ = false
+abbrev pub declares_mirror : What → Bool
+declares_mirror (what.Mirror records) = true
+declares_mirror _ = false
 
 -- a device that a line declares
 abbrev pub declared : List Declared → List ℕ → What → List (List ℕ) → ℕ → Bool → Declared

@@ -15,8 +15,8 @@ abbrev pub StaysAtEnd : At → At → Type 0
 StaysAtEnd old new = (lines (left old) ≡ []) × (new ≡ old)
 
 -- the line is the next one, and those behind it are left
-abbrev pub IsNext : At → List ℕ → At → Type 0
-IsNext old line new = lines (left old) ≡ line ∷ lines (left new)
+abbrev pub IsNextLine : At → List ℕ → At → Type 0
+IsNextLine old line new = lines (left old) ≡ line ∷ lines (left new)
 
 -- the same line comes where the text ends at any place behind it
 abbrev pub IsNextOfFront : At → List ℕ → At → Type 0

@@ -1,9 +1,10 @@
 -- The lines of a text, their words, and what a word may be.
 use Rattle.std.specs.Prelude.{◌≡◌, ◌^◌, ◌==◌, ◌&&◌, ◌||◌, if◌then◌else◌, nat_lt, nat_le, not, Bool, true, false, List, [], ◌∷◌, ℕ, filter, length, codes, Option, None, Some}
 use Rattle.std.specs.List.{slice_split, list_all, list_any, before_first, after_first}
-use Rattle.std.specs.Char.{is_ascii_alphabetic, is_ascii_alphanumeric, is_ascii_digit}
+use Rattle.std.specs.Char.{is_ascii_alphabetic, is_ascii_alphanumeric}
 use Rattle.std.specs.Str.{bytes_eq}
-use Rattle.std.specs.Str.Parse.{digits_value}
+pub use Rattle.stack_base.specs.Numerals.{is_number}
+unfoldable pub use Rattle.stack_base.specs.Numerals.{number_of}
 
 -- a text may have so many bytes
 abbrev pub most_bytes : ℕ
@@ -28,12 +29,12 @@ is_some_text [] = false
 is_some_text (byte ∷ bytes) = true
 
 -- the parts of a line between blanks, which may be empty
-abbrev pub parts : List ℕ → List (List ℕ)
-parts line = slice_split is_blank line
+abbrev pub between_blanks : List ℕ → List (List ℕ)
+between_blanks line = slice_split is_blank line
 
 -- the words of a line: its maximal parts without blanks
 abbrev pub words : List ℕ → List (List ℕ)
-words line = filter is_some_text (parts line)
+words line = filter is_some_text (between_blanks line)
 
 -- blanks and the visible characters of ASCII
 abbrev pub is_text_byte : ℕ → Bool
@@ -67,13 +68,6 @@ begins_with_letter (first ∷ more) = is_ascii_alphabetic first
 -- 1 to 16 letters, digits, `_` and `-`, a letter first, and not the name of the writers' set
 unfoldable pub is_name : List ℕ → Bool
 is_name word = nat_le (length word) 16 && not (bytes_eq word (codes "fs")) && begins_with_letter word && list_all is_name_byte word
-
--- 1 to 20 decimal digits that write a number below 2 ^ 64
-abbrev pub is_number : List ℕ → Bool
-is_number word = nat_lt 0 (length word) && nat_le (length word) 20 && list_all is_ascii_digit word && nat_lt (digits_value 10 word) (2 ^ 64)
-
-unfoldable pub number_of : List ℕ → Option ℕ
-number_of word = if is_number word then Some (digits_value 10 word) else None
 
 -- an entry of a script: `+` where the attempt may succeed, `-` where it fails
 abbrev pub is_entry : ℕ → Bool

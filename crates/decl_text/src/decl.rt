@@ -7,7 +7,7 @@ ghost use Rattle.decl_text.specs.Reading.{AreOfLines, ReadsDecl};
 
 use crate::line::{LineFault, is_blank_line};
 use crate::text::Lines;
-use crate::{Item, Line, ReadFault, Reason, Refusal, Stand};
+use crate::{Item, ReadFault, Reason, Refusal, Stand, TextLine};
 use std::alloc::{AllocError, Global};
 use std::marker::Model;
 
@@ -105,7 +105,7 @@ impl<'a> DeclParts<'a> {
             self.pass(None, lines.place())?;
             return Ok(true);
         }
-        let line = Line::of(alloc, bytes)?;
+        let line = TextLine::of(alloc, bytes)?;
         if line.begins_work() {
             return Ok(false);
         }

@@ -19,7 +19,7 @@ pub use accepted::Accepted;
 pub use command::Command;
 pub use decl::{Decl, DeclParts, Numbered, read_decl};
 pub use item::{Item, What};
-pub use line::{Line, LineFault, first_word, is_blank_line};
+pub use line::{LineFault, TextLine, first_word, is_blank_line};
 pub use reason::{ReadFault, Reason, Refusal};
 pub use stand::Stand;
 pub use text::Lines;

@@ -1,7 +1,7 @@
 //! One line of a text: its words, and what it says.
 ghost use Rattle.std.specs.Prelude.{◌≡◌, ◌<◌, ◌∷◌, ◌++◌, [], false, filter, length, position, slice_get, IfOk, MatchOption, Some};
 ghost use Rattle.std.specs.List.{list_all};
-ghost use Rattle.decl_text.specs.Text.{is_blank, is_some_text, is_text, is_text_byte, parts, words, words as words_in};
+ghost use Rattle.decl_text.specs.Text.{between_blanks, is_blank, is_some_text, is_text, is_text_byte, words, words as words_in};
 ghost use Rattle.decl_text.specs.Forms.{form, is_malformed, is_misnumbered};
 ghost use Rattle.decl_text.specs.Items.{begins_work, is_comment, is_work, malformed, misnumbered, said};
 ghost use Rattle.decl_text.specs.Lines.{CommandSays, Says, command_first};
@@ -35,12 +35,12 @@ impl From<AllocError> for LineFault {
 
 /// A line, which contracts see as its bytes.
 #[derive(Drop)]
-pub struct Line<'a> {
+pub struct TextLine<'a> {
     bytes: &'a [u8],
     words: Vec<Word<'a>>,
 }
 
-impl<'a> Model for Line<'a> {
+impl<'a> Model for TextLine<'a> {
     ghost use Rattle.std.specs.Prelude.{◌≡◌, List, ℕ};
     ghost use Rattle.decl_text.specs.Text.{words as words_in};
 
@@ -51,17 +51,17 @@ impl<'a> Model for Line<'a> {
     ghost invariant = { λ line. line.words.items ≡ words_in line.bytes.now };
 }
 
-impl<'a> Line<'a> {
+impl<'a> TextLine<'a> {
     /// These bytes as a line.
     ///
     /// # Errors
     ///
     /// Where there is no memory for its words.
-    pub fn of(alloc: Global, bytes: &'a [u8]) -> Result<Line<'a>, AllocError>
+    pub fn of(alloc: Global, bytes: &'a [u8]) -> Result<TextLine<'a>, AllocError>
         ensures { IfOk result (λ line. line ≡ bytes.now) }
     {
         let words = words_of(alloc, bytes)?;
-        Ok(Line { bytes, words })
+        Ok(TextLine { bytes, words })
     }
 
     /// Whether it is a write or a `sync` line, by its first word.
@@ -167,7 +167,7 @@ fn blank_place(line: &[u8]) -> Option<usize>
 
 // What stands before the first blank, and what stands behind it, where there is one.
 fn cut(line: &[u8]) -> (&[u8], Option<&[u8]>)
-    ensures parts { MatchOption result.1 (parts line.now ≡ result.0.now ∷ []) (λ rest. parts line.now ≡ result.0.now ∷ parts rest.now) }
+    ensures parts { MatchOption result.1 (between_blanks line.now ≡ result.0.now ∷ []) (λ rest. between_blanks line.now ≡ result.0.now ∷ between_blanks rest.now) }
     ensures shorter { MatchOption result.1 (Unit {0}) (λ rest. length rest.now < length line.now) }
 {
     match blank_place(line) {

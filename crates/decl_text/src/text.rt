@@ -2,7 +2,7 @@
 ghost use Rattle.std.specs.Prelude.{◌≡◌, ◌+◌, ◌<◌, ◌≤◌, ◌∷◌, ◌==◌, ℕ, length, drop, take, MatchOption, position};
 ghost use Rattle.std.specs.List.{position_or_len, slice_split};
 ghost use Rattle.decl_text.specs.Text.{lines};
-ghost use Rattle.decl_text.specs.Places.{IsNext, IsNextOfFront, StaysAtEnd};
+ghost use Rattle.decl_text.specs.Places.{IsNextLine, IsNextOfFront, StaysAtEnd};
 
 use std::marker::Model;
 
@@ -43,7 +43,7 @@ impl<'a> Lines<'a> {
 
     /// The next line, without the byte 10 that may end it, and nothing at the end of the text.
     pub fn next(&mut self) -> Option<&'a [u8]>
-        ensures line { MatchOption result (StaysAtEnd self.old self.new) (λ line. IsNext self.old line.now self.new) }
+        ensures line { MatchOption result (StaysAtEnd self.old self.new) (λ line. IsNextLine self.old line.now self.new) }
         ensures text { self.new.text ≡ self.old.text }
         ensures on { MatchOption result (self.new.place ≡ self.old.place) (λ line. self.old.place < self.new.place) }
         ensures within { self.new.place ≤ length self.old.text }

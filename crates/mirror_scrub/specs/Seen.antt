@@ -1,5 +1,5 @@
 -- What devices show, and where the members of a mirror show other words than its first member.
-use Rattle.std.specs.Prelude.{◌≡◌, ◌==◌, ◌+◌, ◌-◌, ◌<◌, not, true, ℕ, Bool, List, [], ◌∷◌, map, length, find, slice_index_or, IsSomeAnd}
+use Rattle.std.specs.Prelude.{◌≡◌, ◌==◌, ◌+◌, ◌-◌, ◌<◌, ◌≤◌, not, true, ℕ, Bool, List, [], ◌∷◌, map, length, find, slice_index_or, IsSomeAnd, MatchOption, Option}
 use Rattle.std.specs.List.{range_with_len, count_by}
 use Rattle.std.specs.Option.{option_map_or}
 use Rattle.stack_base.specs.Mapping.{slot}
@@ -71,6 +71,14 @@ stretches_from images mirror k from = runs_from (unlikes images mirror k) from
 -- the run is the first of them, and the others start behind it
 abbrev pub IsFirstStretch : Images → Tree → ℕ → ℕ → Range → Type 0
 IsFirstStretch images mirror k from run = stretches_from images mirror k from ≡ run ∷ stretches_from images mirror k (run.start + run.len)
+
+-- none, where no stretch starts at `from` or behind it, or else the first
+abbrev pub IsNextStretch : Images → Tree → ℕ → ℕ → Option Range → Type 0
+IsNextStretch images mirror k from next = MatchOption next (stretches_from images mirror k from ≡ []) (IsFirstStretch images mirror k from)
+
+-- the stretch ends behind `from`, within so many sectors
+abbrev pub EndsIn : ℕ → ℕ → Range → Type 0
+EndsIn from size stretch = (from < stretch.start + stretch.len) × (stretch.start + stretch.len ≤ size)
 
 -- for each disk of a stack there is one of these with its number, as large as it is there
 abbrev pub AreDisksOf : Stack → List DiskState → Type 0

@@ -3,7 +3,7 @@ ghost use Rattle.std.specs.Prelude.{◌≡◌, ◌==◌, ◌+◌, ◌<◌, ◌�
 ghost use Rattle.stack_base.specs.Stack.{IsStack};
 ghost use Rattle.stack_base.specs.Tree.{size as size_of, tree};
 ghost use Rattle.model_disks.specs.Runs.{IsApart};
-ghost use Rattle.mirror_scrub.specs.Seen.{AreDisksOf, IsFirstStretch, held, mirror_member, legs, stretches_from, unlike_count, unlikes};
+ghost use Rattle.mirror_scrub.specs.Seen.{AreDisksOf, EndsIn, IsNextStretch, held, mirror_member, legs, unlike_count, unlikes};
 ghost use Rattle.mirror_scrub.specs.Stretches.{IsPair, flags_in};
 ghost use Rattle.mirror_scrub.specs.Text.{all_alike, mirror_alike};
 
@@ -81,10 +81,8 @@ pub fn next_unlike(
     requires mirror { mirror.0 < length stack.now.devices.items }
     requires leg { leg < legs (tree stack.now mirror.0) }
     requires apart { IsApart (unlikes (held disks.now) (tree stack.now mirror.0) leg) from }
-    ensures stretches { MatchOption result (stretches_from (held disks.now) (tree stack.now mirror.0) leg from ≡ [])
-        (IsFirstStretch (held disks.now) (tree stack.now mirror.0) leg from) }
-    ensures place { MatchOption result (Unit {0})
-        (λ run. (from < run.start + run.len) × (run.start + run.len ≤ size_of (tree stack.now mirror.0))) }
+    ensures stretches { IsNextStretch (held disks.now) (tree stack.now mirror.0) leg from result }
+    ensures place { MatchOption result (Unit {0}) (EndsIn from (size_of (tree stack.now mirror.0))) }
     ensures apart { MatchOption result (Unit {0})
         (λ run. IsApart (unlikes (held disks.now) (tree stack.now mirror.0) leg) (run.start + run.len)) }
 {

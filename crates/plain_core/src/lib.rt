@@ -21,5 +21,6 @@ pub use objects::pool::Pool;
 pub use objects::tally::Tally;
 pub use state::Core;
 pub use steps::task::{
-    Ask, Carried, Completer, Copying, Doing, Duty, Keeper, Line, Rescuer, Taken, Task, Want, Writer,
+    Ask, Carried, Completer, Copying, Doing, Duty, Gathered, Keeper, Line, Rescuer, Task, Want,
+    Writer,
 };

@@ -16,7 +16,7 @@ use Rattle.run_machine.specs.Scene.{Setup}
 use Rattle.run_machine.specs.Lines.{Takes, Punts, Links, ToPush, ToCut, ToRecord, ToMaster, Doing, Rests, Drives, Copies, Breaks, Line, line_request, line_answered}
 use Rattle.run_machine.specs.Requests as requests
 use Rattle.run_machine.specs.Requests.{Request, Reply}
-use Rattle.run_machine.specs.Tasks.{TaskState, Writer, Rescuer, Completer, Keeper, Keeps, Stops, Duty, Resizes, Starts, Todo, Taken, NoBio, HasBio, HasBoth, Empty, Brings, Carries, Fails, request, answered, with_bio, needs_vector, closed_request}
+use Rattle.run_machine.specs.Tasks.{TaskState, Writer, Rescuer, Completer, Keeper, Keeps, Stops, Duty, Resizes, Starts, Todo, Gathered, NoBio, HasBio, HasBoth, Empty, Brings, Carries, Fails, request, answered, with_bio, needs_vector, closed_request}
 use Rattle.run_machine.specs.Objects.{Objects}
 use Rattle.run_machine.proofs.Frames.{upd_same, upd_other}
 
@@ -85,7 +85,7 @@ module _ (setup : Setup) where
   bio_stays true number todo later bio line _ rests idle = absurd idle
   bio_stays false number todo later bio line reply rests idle = absurd idle
 
-  writer_stays : (number : ℕ) (todos : List Todo) (taken : Taken) (doing : Doing) (lists : TaskLists) (reply : Reply)
+  writer_stays : (number : ℕ) (todos : List Todo) (taken : Gathered) (doing : Doing) (lists : TaskLists) (reply : Reply)
       → IsIdle (request setup (Writer number todos taken (record { doing = doing; lists = lists }))) reply
       → answered setup (Writer number todos taken (record { doing = doing; lists = lists })) reply ≡ Writer number todos taken (record { doing = doing; lists = lists })
   writer_stays number [] taken Rests lists reply idle = absurd idle
@@ -146,7 +146,7 @@ module _ (setup : Setup) where
   fair_bio objects true number todo = tt
   fair_bio objects false number todo = tt
 
-  fair_writer : (objects : Objects) (number : ℕ) (todos : List Todo) (taken : Taken) (doing : Doing) (lists : TaskLists)
+  fair_writer : (objects : Objects) (number : ℕ) (todos : List Todo) (taken : Gathered) (doing : Doing) (lists : TaskLists)
       → IsFair objects (request setup (Writer number todos taken (record { doing = doing; lists = lists })))
   fair_writer objects number [] taken Rests lists = tt
   fair_writer objects number (todo ∷ later) NoBio Rests lists = tt

@@ -8,7 +8,7 @@ use Rattle.run_machine.specs.declared.event.Event.{Event}
 use Rattle.run_machine.specs.Maps.{upd}
 use Rattle.run_machine.specs.Scene.{Scene, Setup}
 use Rattle.run_machine.specs.Lines.{Doing, Rests, Line}
-use Rattle.run_machine.specs.Tasks.{TaskState, Writer, Rescuer, Completer, Keeper, Todo, Taken, NoBio, HasBio, HasBoth, request, begins, write_answered, writer_answered, rescuer_answered, answered}
+use Rattle.run_machine.specs.Tasks.{TaskState, Writer, Rescuer, Completer, Keeper, Todo, Gathered, NoBio, HasBio, HasBoth, request, begins, write_answered, writer_answered, rescuer_answered, answered}
 use Rattle.run_machine.specs.Requests.{Reply, HadBio, HadVec, Popped, LinkedTo, Spent}
 use Rattle.run_machine.specs.Objects.{Serves}
 use Rattle.run_machine.specs.Events.{id_of}
@@ -20,13 +20,13 @@ use Rattle.run_machine.proofs.Frames.{upd_same, upd_other}
 use Rattle.run_machine.proofs.Answered.{one_reply, one_served}
 
 -- a task stays what it is
-begins_id : (setup : Setup) (writer : ℕ) (later : List Todo) (bio : ℕ → Item Pad) (taken : Taken) (todo : Todo) (line : Line) (answer : Linked)
+begins_id : (setup : Setup) (writer : ℕ) (later : List Todo) (bio : ℕ → Item Pad) (taken : Gathered) (todo : Todo) (line : Line) (answer : Linked)
     → id_of (begins setup writer later bio taken todo line answer) ≡ id.Writer writer
 begins_id setup writer later bio taken todo line (Made node) = refl
 begins_id setup writer later bio taken todo line (NoRoom back) = refl
 begins_id setup writer later bio taken todo line (Stray back) = refl
 
-write_id : (setup : Setup) (writer : ℕ) (todos : List Todo) (taken : Taken) (line : Line) (reply : Reply)
+write_id : (setup : Setup) (writer : ℕ) (todos : List Todo) (taken : Gathered) (line : Line) (reply : Reply)
     → id_of (write_answered setup writer todos taken line reply) ≡ id.Writer writer
 write_id setup writer todos taken line Spent = refl
 write_id setup writer (todo ∷ later) NoBio line (HadBio from bio) = refl
@@ -35,7 +35,7 @@ write_id setup writer (todo ∷ later) (HasBio bio) line (LinkedTo answer) = beg
 write_id setup writer (todo ∷ later) (HasBoth bio vector) line (LinkedTo answer) = begins_id setup writer later _ (HasBoth bio vector) todo line answer
 write_id setup writer todos taken line _ = refl
 
-writer_id : (setup : Setup) (writer : ℕ) (todos : List Todo) (taken : Taken) (doing : Doing) (line : Line) (reply : Reply)
+writer_id : (setup : Setup) (writer : ℕ) (todos : List Todo) (taken : Gathered) (doing : Doing) (line : Line) (reply : Reply)
     → id_of (writer_answered setup writer todos taken doing line reply) ≡ id.Writer writer
 writer_id setup writer todos taken Rests line reply = write_id setup writer todos taken line reply
 writer_id setup writer todos taken doing line reply = refl

@@ -18,7 +18,7 @@ use Rattle.bio_books.specs.Books.{SlipItem}
 use Rattle.bio_books.specs.Links.{Linked, Made, NoRoom, Stray}
 use Rattle.run_machine.specs.declared.event.Breach.{Breach}
 use Rattle.run_machine.specs.declared.event.Breach.TheVariants as breach
-use Rattle.run_machine.specs.Scene.{Setup, tree_at, number_of}
+use Rattle.run_machine.specs.Scene.{Setup, tree_at, tree_number}
 use Rattle.run_machine.specs.Kept.{Kept, KeptBio, KeptSlip, holding_kept}
 use Rattle.run_machine.specs.Requests.{Request, Reply, TakeBio, TakeSlip, Punt, Push, Link, Rest, Chain, Master, Leg, HadBio, HadSlip, Missed, Did, LinkedTo, Spent}
 
@@ -71,7 +71,7 @@ first_length kind sizes range = min (next kind sizes range.start - range.start) 
 -- a bio as the member gets it that it goes to (`bio_set_dev` and `bi_sector`, drivers/md/raid0.c)
 abbrev pub mapped : Slot → (ℕ → Tree) → Bio → Bio
 mapped to members bio =
-    record bio { dev = record { 0 = number_of (members to.member) }; range = record bio.range { start = to.at } }
+    record bio { dev = record { 0 = tree_number (members to.member) }; range = record bio.range { start = to.at } }
 
 -- where a bio comes to that is submitted at a device: one that is a single piece is remapped in place, as often as that is so
 abbrev pub landed : Tree → Bio → Bio
@@ -127,7 +127,7 @@ legs_of (Split number kind sizes members) = 0
 abbrev pub leg_at : Bio → Item Pad → ℕ → ℕ → Tree → Item Pad
 leg_at bio hand leg node (Mirrored number sizes members) = record hand {
   pad = record { leg = leg };
-  bio = record bio { dev = record { 0 = number_of (members leg) }; set = Of bio.dev; node = node };
+  bio = record bio { dev = record { 0 = tree_number (members leg) }; set = Of bio.dev; node = node };
 }
 leg_at bio hand leg node (Leaf number sectors) = hand
 leg_at bio hand leg node (Split number kind sizes members) = hand

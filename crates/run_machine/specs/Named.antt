@@ -14,25 +14,25 @@ use Rattle.run_machine.specs.declared.event.TaskId.TheVariants as task
 use Rattle.run_machine.specs.declared.event.What.{What}
 use Rattle.run_machine.specs.declared.event.What.TheVariants as what
 
-abbrev pub is_disk : Kind → Bool
-is_disk (Disk sectors bad) = true
-is_disk Linear = false
-is_disk (Stripe chunk) = false
-is_disk (Zoned chunk) = false
-is_disk (Limit longest chunk) = false
-is_disk (Mirror records) = false
+abbrev pub is_disk_kind : Kind → Bool
+is_disk_kind (Disk sectors bad) = true
+is_disk_kind Linear = false
+is_disk_kind (Stripe chunk) = false
+is_disk_kind (Zoned chunk) = false
+is_disk_kind (Limit longest chunk) = false
+is_disk_kind (Mirror records) = false
 
-abbrev pub is_mirror : Kind → Bool
-is_mirror (Mirror records) = true
-is_mirror Linear = false
-is_mirror (Stripe chunk) = false
-is_mirror (Zoned chunk) = false
-is_mirror (Limit longest chunk) = false
-is_mirror (Disk sectors bad) = false
+abbrev pub is_mirror_kind : Kind → Bool
+is_mirror_kind (Mirror records) = true
+is_mirror_kind Linear = false
+is_mirror_kind (Stripe chunk) = false
+is_mirror_kind (Zoned chunk) = false
+is_mirror_kind (Limit longest chunk) = false
+is_mirror_kind (Disk sectors bad) = false
 
 -- a device over members has a set of bios
-abbrev pub has_set : Kind → Bool
-has_set kind = not (is_disk kind)
+abbrev pub is_stacked_kind : Kind → Bool
+is_stacked_kind kind = not (is_disk_kind kind)
 
 abbrev pub is_any : Kind → Bool
 is_any kind = true
@@ -49,14 +49,14 @@ HasDevice suits stack dev = has_device suits stack dev.0 ≡ true
 abbrev pub HasPool : Stack → PoolId → Type 0
 HasPool stack FsBios = Unit {0}
 HasPool stack FsVecs = Unit {0}
-HasPool stack (Bios dev) = HasDevice has_set stack dev
-HasPool stack (Records dev) = HasDevice is_mirror stack dev
+HasPool stack (Bios dev) = HasDevice is_stacked_kind stack dev
+HasPool stack (Records dev) = HasDevice is_mirror_kind stack dev
 
 -- a task of a stack: a rescuer of a device, a completer of a disk
 abbrev pub HasTask : Stack → TaskId → Type 0
 HasTask stack (task.Writer number) = Unit {0}
 HasTask stack (task.Rescuer dev) = HasDevice is_any stack dev
-HasTask stack (task.Completer disk) = HasDevice is_disk stack disk
+HasTask stack (task.Completer disk) = HasDevice is_disk_kind stack disk
 HasTask stack task.Keeper = Unit {0}
 
 -- what is done at devices, disks and pools of a stack
@@ -66,8 +66,8 @@ HasWhat stack (what.Try pool got) = HasPool stack pool
 HasWhat stack (what.Give pool) = HasPool stack pool
 HasWhat stack (what.Punt dev moved) = HasDevice is_any stack dev
 HasWhat stack (what.Pop dev) = HasDevice is_any stack dev
-HasWhat stack (what.Push disk at len leg) = HasDevice is_disk stack disk
-HasWhat stack (what.Complete disk index status) = HasDevice is_disk stack disk
+HasWhat stack (what.Push disk at len leg) = HasDevice is_disk_kind stack disk
+HasWhat stack (what.Complete disk index status) = HasDevice is_disk_kind stack disk
 HasWhat stack (what.Link writer how node) = Unit {0}
 HasWhat stack (what.Drop writer node status end) = Unit {0}
 HasWhat stack (what.Done write status) = Unit {0}

@@ -27,10 +27,10 @@ abbrev pub tree_at : Setup → DevId → Tree
 tree_at setup dev = setup.tree dev.0
 
 -- the number of a device, by its tree
-abbrev pub number_of : Tree → ℕ
-number_of (Leaf number sectors) = number
-number_of (Split number kind sizes members) = number
-number_of (Mirrored number sizes members) = number
+abbrev pub tree_number : Tree → ℕ
+tree_number (Leaf number sectors) = number
+tree_number (Split number kind sizes members) = number
+tree_number (Mirrored number sizes members) = number
 
 -- whether a device keeps data itself, as a disk does
 abbrev pub keeps_data : Tree → Bool

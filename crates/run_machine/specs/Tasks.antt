@@ -27,10 +27,10 @@ pub record Todo : Type 0 where
   pub write : write.Write
 
 -- what a writer has taken for its next write
-pub data Taken : Type 0 where
-  NoBio : Taken
-  HasBio : Item Pad → Taken
-  HasBoth : Item Pad → VectorItem → Taken
+pub data Gathered : Type 0 where
+  NoBio : Gathered
+  HasBio : Item Pad → Gathered
+  HasBoth : Item Pad → VectorItem → Gathered
 
 -- what a completer carries: a bio that its disk is done with, or what is left of a node that has closed
 pub data Carried : Type 0 where
@@ -54,7 +54,7 @@ pub data Keeping : Type 0 where
 -- a writer, with the writes that it has still to begin, what it has taken for the first of them, and its submission; the rescuer of a
 -- device's set, with its submission; the completer of a disk; and the keeper of the rounds
 pub data TaskState : Type 0 where
-  Writer : (number : ℕ) (todo : List Todo) → Taken → Line → TaskState
+  Writer : (number : ℕ) (todo : List Todo) → Gathered → Line → TaskState
   Rescuer : DevId → Line → TaskState
   Completer : DevId → Carried → TaskState
   Keeper : Keeping → TaskState
@@ -96,13 +96,13 @@ abbrev pub with_bio : ℕ → Bool → Todo → Request
 with_bio writer true todo = TakeVec
 with_bio writer false todo = Link writer (Write todo.number None)
 
-abbrev pub write_request : ℕ → List Todo → Taken → Request
+abbrev pub write_request : ℕ → List Todo → Gathered → Request
 write_request writer [] taken = Rest
 write_request writer (todo ∷ later) NoBio = TakeBio Fs true
 write_request writer (todo ∷ later) (HasBio bio) = with_bio writer (needs_vector todo.write) todo
 write_request writer (todo ∷ later) (HasBoth bio vector) = Link writer (Write todo.number (Some (filled_vector todo vector)))
 
-abbrev pub writer_request : Setup → ℕ → List Todo → Taken → Doing → Line → Request
+abbrev pub writer_request : Setup → ℕ → List Todo → Gathered → Doing → Line → Request
 writer_request setup writer todo taken Rests line = write_request writer todo taken
 writer_request setup writer todo taken doing line = line_request setup doing line.lists
 
@@ -144,7 +144,7 @@ request setup (Keeper keeping) = keeper_request keeping
 
 -- what a task looks at before it asks: a writer at the present round, before the first take of a write, and the keeper at the number of
 -- unfinished writes
-abbrev pub writer_look : List Todo → Taken → Doing → Option Request
+abbrev pub writer_look : List Todo → Gathered → Doing → Option Request
 writer_look (todo ∷ later) NoBio Rests = Some LookRound
 writer_look todo taken doing = None
 
@@ -167,7 +167,7 @@ lets (Keeper (Keeps (duty ∷ duties))) (LeftOver count) = count == later_of dut
 lets task reply = false
 
 -- what a writer has of what it has taken, once it hands a vector over
-abbrev pub besides : Taken → Taken
+abbrev pub besides : Gathered → Gathered
 besides NoBio = NoBio
 besides (HasBio bio) = HasBio bio
 besides (HasBoth bio vector) = HasBio bio
@@ -177,13 +177,13 @@ abbrev pub vector_for : List Todo → VectorItem → VectorItem
 vector_for [] vector = vector
 vector_for (todo ∷ later) vector = filled_vector todo vector
 
-abbrev pub handed_vector : List Todo → Taken → List Kept
+abbrev pub handed_vector : List Todo → Gathered → List Kept
 handed_vector todo NoBio = []
 handed_vector todo (HasBio bio) = []
 handed_vector todo (HasBoth bio vector) = KeptVec (vector_for todo vector) ∷ []
 
 -- the top node of a write is open, and its bio is submitted; where it was refused, what was handed over for it comes back
-abbrev pub begins : Setup → ℕ → List Todo → (ℕ → Item Pad) → Taken → Todo → Line → Linked → TaskState
+abbrev pub begins : Setup → ℕ → List Todo → (ℕ → Item Pad) → Gathered → Todo → Line → Linked → TaskState
 begins setup writer later bio taken todo line (Made node) = Writer writer later NoBio (settled setup (bio node ∷ []))
 begins setup writer later bio taken todo line (NoRoom back) =
     Writer writer (todo ∷ later) (besides taken) (record line { doing = refused setup writer 0 [] (NoRoom back) })
@@ -191,7 +191,7 @@ begins setup writer later bio taken todo line (Stray back) =
     Writer writer (todo ∷ later) (besides taken) (record line { doing = refused setup writer 0 [] (Stray back) })
 
 -- how a writer goes on outside of a submission
-abbrev pub write_answered : Setup → ℕ → List Todo → Taken → Line → Reply → TaskState
+abbrev pub write_answered : Setup → ℕ → List Todo → Gathered → Line → Reply → TaskState
 write_answered setup writer todo taken line Spent =
     Writer writer todo (besides taken) (record line { doing = Breaks breach.Spent (handed_vector todo taken) })
 write_answered setup writer (todo ∷ later) NoBio line (HadBio got bio) = Writer writer (todo ∷ later) (HasBio bio) line
@@ -202,7 +202,7 @@ write_answered setup writer (todo ∷ later) (HasBoth bio vector) line (LinkedTo
     begins setup writer later (λ node. filled writer todo node bio) (HasBoth bio vector) todo line answer
 write_answered setup writer todo taken line _ = Writer writer todo taken line
 
-abbrev pub writer_answered : Setup → ℕ → List Todo → Taken → Doing → Line → Reply → TaskState
+abbrev pub writer_answered : Setup → ℕ → List Todo → Gathered → Doing → Line → Reply → TaskState
 writer_answered setup writer todo taken Rests line reply = write_answered setup writer todo taken line reply
 writer_answered setup writer todo taken doing line reply = Writer writer todo taken (line_answered setup doing line.lists reply)
 

@@ -9,7 +9,7 @@ use Rattle.run_machine.specs.Opened.{Scenario, scene, start, setup}
 use Rattle.run_machine.specs.Requests.{Request, Done, Resize, NextRound}
 use Rattle.run_machine.specs.Runs.{State, IsRun}
 use Rattle.run_machine.specs.Scene.{Setup}
-use Rattle.run_machine.specs.Tasks.{Todo, Taken, NoBio, TaskState, Writer, request, answered}
+use Rattle.run_machine.specs.Tasks.{Todo, Gathered, NoBio, TaskState, Writer, request, answered}
 use Rattle.block_core.specs.Rounds.{round_of}
 use Rattle.block_core.specs.Scenarios.{IsScenario, IsNaming}
 use Rattle.shared_objects.specs.Calls.{struck}
@@ -59,7 +59,7 @@ AreDone s round before =
 
 -- The round has started of the write that a writer is about to begin: of which it has nothing, so that it takes its first element next, though
 -- it may have missed one before.
-abbrev pub RoundHasCome : List Todo → Taken → Doing → List Entry → Type 0
+abbrev pub RoundHasCome : List Todo → Gathered → Doing → List Entry → Type 0
 RoundHasCome (todo ∷ later) NoBio Rests before = todo.round ≤ rounds_started before
 RoundHasCome todo taken doing before = Unit {0}
 

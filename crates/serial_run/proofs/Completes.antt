@@ -14,7 +14,7 @@ use Rattle.task_core.specs.PlainSteps.{HasRound}
 use Rattle.run_machine.specs.Requests.{Request, Reply}
 use Rattle.run_machine.specs.Requests as requests
 use Rattle.run_machine.specs.Scene.{Setup}
-use Rattle.run_machine.specs.Tasks.{TaskState, Writer, Rescuer, Completer, Keeper, Keeps, Stops, Duty, Resizes, Starts, Todo, Taken, NoBio, HasBio, HasBoth, Empty, Brings, Carries, Fails, request, closed_request, needs_vector, with_bio, writer_request, rescuer_request}
+use Rattle.run_machine.specs.Tasks.{TaskState, Writer, Rescuer, Completer, Keeper, Keeps, Stops, Duty, Resizes, Starts, Todo, Gathered, NoBio, HasBio, HasBoth, Empty, Brings, Carries, Fails, request, closed_request, needs_vector, with_bio, writer_request, rescuer_request}
 
 abbrev pub is_complete : What → Bool
 is_complete (what.Complete disk index status) = true
@@ -119,7 +119,7 @@ module _ (setup : Setup) where
   bio_asks true writer todo = refl
   bio_asks false writer todo = refl
 
-  writer_asks : (writer : ℕ) (todos : List Todo) (taken : Taken) (doing : Doing) (line : Line)
+  writer_asks : (writer : ℕ) (todos : List Todo) (taken : Gathered) (doing : Doing) (line : Line)
       → is_other (writer_request setup writer todos taken doing line) ≡ true
   writer_asks writer [] taken Rests line = refl
   writer_asks writer (todo ∷ later) NoBio Rests line = refl

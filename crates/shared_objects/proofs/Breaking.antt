@@ -14,7 +14,7 @@ use Rattle.run_machine.specs.Kept.{Kept}
 use Rattle.run_machine.specs.Lines.{Doing, Rests, Drives, Copies, Breaks, Ask, ToPush, ToCut, ToRecord, ToMaster, Want, Takes, Punts, Links, Line, spent, at_hand, punts_of, line_request, line_answered}
 use Rattle.run_machine.specs.Requests.{Request, Reply, Rest, LinkedTo, DroppedTo, OutIs, Spent}
 use Rattle.run_machine.specs.Scene.{Setup}
-use Rattle.run_machine.specs.Tasks.{Todo, Taken, NoBio, HasBio, HasBoth, Carried, Empty, Brings, Carries, Fails, Duty, Resizes, Starts, Keeping, Keeps, Stops, TaskState, Writer, Rescuer, Completer, Keeper, needs_vector, with_bio, write_request, writer_request, rescuer_request, closed_request, carried_request, keeper_request, request, write_answered, writer_answered, rescuer_answered, carried_answered, after_resize, keeper_answered, answered}
+use Rattle.run_machine.specs.Tasks.{Todo, Gathered, NoBio, HasBio, HasBoth, Carried, Empty, Brings, Carries, Fails, Duty, Resizes, Starts, Keeping, Keeps, Stops, TaskState, Writer, Rescuer, Completer, Keeper, needs_vector, with_bio, write_request, writer_request, rescuer_request, closed_request, carried_request, keeper_request, request, write_answered, writer_answered, rescuer_answered, carried_answered, after_resize, keeper_answered, answered}
 use Rattle.task_steps.specs.Turns.{doing_breach, carried_breach, keeping_breach, breach_of}
 use Rattle.shared_objects.specs.Logs.{is_stop}
 
@@ -76,7 +76,7 @@ with_breaks setup writer false todo later bio line (LinkedTo (Stray back)) is = 
 with_breaks setup writer true todo later bio line reply is = absurd (cc is)
 with_breaks setup writer false todo later bio line reply is = absurd (cc is)
 
-write_breaks : (setup : Setup) (writer : ℕ) (todo : List Todo) (taken : Taken) (line : Line) (reply : Reply) → is_stop (write_request writer todo taken) reply ≡ true
+write_breaks : (setup : Setup) (writer : ℕ) (todo : List Todo) (taken : Gathered) (line : Line) (reply : Reply) → is_stop (write_request writer todo taken) reply ≡ true
     → is_some (breach_of (write_answered setup writer todo taken line reply)) ≡ true
 write_breaks setup writer todo taken line Spent is = refl
 write_breaks setup writer (todo ∷ later) (HasBio bio) line reply is = with_breaks setup writer (needs_vector todo.write) todo later bio line reply is
@@ -87,7 +87,7 @@ write_breaks setup writer [] taken line reply is = absurd (cc is)
 write_breaks setup writer (todo ∷ later) NoBio line reply is = absurd (cc is)
 write_breaks setup writer (todo ∷ later) (HasBoth bio vector) line reply is = absurd (cc is)
 
-writer_breaks : (setup : Setup) (writer : ℕ) (todo : List Todo) (taken : Taken) (doing : Doing) (line : Line) (reply : Reply)
+writer_breaks : (setup : Setup) (writer : ℕ) (todo : List Todo) (taken : Gathered) (doing : Doing) (line : Line) (reply : Reply)
     → is_stop (writer_request setup writer todo taken doing line) reply ≡ true → is_some (breach_of (writer_answered setup writer todo taken doing line reply)) ≡ true
 writer_breaks setup writer todo taken Rests line reply is = write_breaks setup writer todo taken line reply is
 writer_breaks setup writer todo taken doing line reply is = line_breaks setup doing line.lists reply is

@@ -4,7 +4,7 @@ use Rattle.stack_base.specs.declared.ids.DevId.{DevId}
 use Rattle.run_machine.specs.Lines.{Doing, Rests, Drives, Copies, Breaks, Ask, ToPush, ToCut, ToRecord, ToMaster, Want, Takes, Punts, Links, Line, line_answered}
 use Rattle.run_machine.specs.Requests.{Nothing}
 use Rattle.run_machine.specs.Scene.{Setup}
-use Rattle.run_machine.specs.Tasks.{Todo, Taken, NoBio, HasBio, HasBoth, Carried, Empty, Brings, Carries, Fails, Duty, Resizes, Starts, Keeping, Keeps, Stops, TaskState, Writer, Rescuer, Completer, Keeper, answered, carried_answered, keeper_answered, writer_answered, write_answered, rescuer_answered}
+use Rattle.run_machine.specs.Tasks.{Todo, Gathered, NoBio, HasBio, HasBoth, Carried, Empty, Brings, Carries, Fails, Duty, Resizes, Starts, Keeping, Keeps, Stops, TaskState, Writer, Rescuer, Completer, Keeper, answered, carried_answered, keeper_answered, writer_answered, write_answered, rescuer_answered}
 
 line_idle : (setup : Setup) (doing : Doing) (line : Line) → line_answered setup doing line.lists Nothing ≡ record { doing = doing; lists = line.lists }
 line_idle setup Rests line = refl
@@ -19,13 +19,13 @@ line_idle setup (Copies bio master leg Punts) line = refl
 line_idle setup (Copies bio master leg (Links hand)) line = refl
 line_idle setup (Breaks breach kept) line = refl
 
-write_idle : (setup : Setup) (writer : ℕ) (todo : List Todo) (taken : Taken) (line : Line) → write_answered setup writer todo taken line Nothing ≡ Writer writer todo taken line
+write_idle : (setup : Setup) (writer : ℕ) (todo : List Todo) (taken : Gathered) (line : Line) → write_answered setup writer todo taken line Nothing ≡ Writer writer todo taken line
 write_idle setup writer [] taken line = refl
 write_idle setup writer (todo ∷ later) NoBio line = refl
 write_idle setup writer (todo ∷ later) (HasBio bio) line = refl
 write_idle setup writer (todo ∷ later) (HasBoth bio vector) line = refl
 
-writer_idle : (setup : Setup) (writer : ℕ) (todo : List Todo) (taken : Taken) (doing : Doing) (line : Line) → line.doing ≡ doing
+writer_idle : (setup : Setup) (writer : ℕ) (todo : List Todo) (taken : Gathered) (doing : Doing) (line : Line) → line.doing ≡ doing
     → writer_answered setup writer todo taken doing line Nothing ≡ Writer writer todo taken line
 writer_idle setup writer todo taken Rests line e = write_idle setup writer todo taken line
 writer_idle setup writer todo taken doing line e = ap (Writer writer todo taken) (line_idle setup doing line ∙ ap (λ d. record { doing = d; lists = line.lists }) (sym e))

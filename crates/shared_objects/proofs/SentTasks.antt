@@ -35,7 +35,7 @@ use Rattle.task_steps.specs.contracts.completer.Load as load
 use Rattle.task_steps.specs.contracts.completer.Carried as carried
 use Rattle.task_steps.specs.contracts.rescuer.Rescuer as rescuer
 use Rattle.task_steps.specs.contracts.writer.Writer as writer
-use Rattle.task_steps.specs.contracts.writer.begin.Taken as taken
+use Rattle.task_steps.specs.contracts.writer.begin.Gathered as taken
 use Rattle.task_steps.specs.contracts.routes.Routes as routes
 use Rattle.task_steps.specs.contracts.task.Kind as kind
 use Rattle.task_steps.specs.contracts.task.Task as task

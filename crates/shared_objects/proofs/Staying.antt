@@ -13,7 +13,7 @@ use Rattle.run_machine.specs.Events.{what_of, resize_of}
 use Rattle.run_machine.specs.Lines.{Doing, Rests, Drives, Copies, Breaks, Ask, ToPush, ToCut, ToRecord, ToMaster, Want, Takes, Punts, Links, Line, line_request, line_answered}
 use Rattle.run_machine.specs.Requests.{Request, Reply, GiveBio, GiveVec, GiveSlip, NextRound, HadBio, HadVec, HadSlip, Missed, Did, Popped, Completed, LinkedTo, DroppedTo, OutIs, Nothing, Spent}
 use Rattle.run_machine.specs.Scene.{Setup}
-use Rattle.run_machine.specs.Tasks.{Todo, Taken, NoBio, HasBio, HasBoth, Carried, Empty, Brings, Carries, Fails, Duty, Resizes, Starts, Keeping, Keeps, Stops, TaskState, Writer, Rescuer, Completer, Keeper, needs_vector, with_bio, write_request, writer_request, rescuer_request, closed_request, carried_request, keeper_request, request, write_answered, writer_answered, rescuer_answered, carried_answered, after_resize, keeper_answered, answered}
+use Rattle.run_machine.specs.Tasks.{Todo, Gathered, NoBio, HasBio, HasBoth, Carried, Empty, Brings, Carries, Fails, Duty, Resizes, Starts, Keeping, Keeps, Stops, TaskState, Writer, Rescuer, Completer, Keeper, needs_vector, with_bio, write_request, writer_request, rescuer_request, closed_request, carried_request, keeper_request, request, write_answered, writer_answered, rescuer_answered, carried_answered, after_resize, keeper_answered, answered}
 use Rattle.task_steps.specs.Stage.{Stage, Owes}
 use Rattle.shared_objects.specs.Calls.{struck}
 use Rattle.shared_objects.specs.Logs.{is_event, is_stop, is_glance}
@@ -114,7 +114,7 @@ with_stays stage setup writer false todo later bio line (LinkedTo (NoRoom back))
 with_stays stage setup writer false todo later bio line (LinkedTo (Stray back)) is owed = absurd (cc is)
 with_stays stage setup writer false todo later bio line reply is owed = absurd owed
 
-write_stays : (stage : Stage) (setup : Setup) (writer : ℕ) (todo : List Todo) (taken : Taken) (line : Line) (reply : Reply)
+write_stays : (stage : Stage) (setup : Setup) (writer : ℕ) (todo : List Todo) (taken : Gathered) (line : Line) (reply : Reply)
     → is_glance (write_request writer todo taken) reply ≡ true → Owes stage (write_request writer todo taken) reply
     → write_answered setup writer todo taken line reply ≡ Writer writer todo taken line
 write_stays stage setup writer [] taken line Spent is owed = absurd (cc is)
@@ -131,7 +131,7 @@ write_stays stage setup writer (todo ∷ later) (HasBoth bio vector) line (Linke
 write_stays stage setup writer (todo ∷ later) (HasBoth bio vector) line (LinkedTo (Stray back)) is owed = absurd (cc is)
 write_stays stage setup writer (todo ∷ later) (HasBoth bio vector) line reply is owed = absurd owed
 
-writer_stays : (stage : Stage) (setup : Setup) (writer : ℕ) (todo : List Todo) (taken : Taken) (doing : Doing) (line : Line) (reply : Reply) → line.doing ≡ doing
+writer_stays : (stage : Stage) (setup : Setup) (writer : ℕ) (todo : List Todo) (taken : Gathered) (doing : Doing) (line : Line) (reply : Reply) → line.doing ≡ doing
     → is_glance (writer_request setup writer todo taken doing line) reply ≡ true → Owes stage (writer_request setup writer todo taken doing line) reply
     → writer_answered setup writer todo taken doing line reply ≡ Writer writer todo taken line
 writer_stays stage setup writer todo taken Rests line reply e is owed = write_stays stage setup writer todo taken line reply is owed

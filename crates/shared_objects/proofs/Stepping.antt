@@ -21,7 +21,7 @@ use Rattle.run_machine.specs.Events.{id_of, what_of, resize_of}
 use Rattle.run_machine.specs.Laws.{Object, OfNone, object_of}
 use Rattle.run_machine.specs.Scene.{Setup}
 use Rattle.task_steps.specs.Stage.{Stage, Owes}
-use Rattle.run_machine.specs.Tasks.{Todo, Taken, NoBio, HasBio, HasBoth, Carried, Empty, Brings, Carries, Fails, Duty, Keeping, Keeps, carried_answered, carried_request, Stops, TaskState, Writer, Rescuer, Completer, Keeper, writer_look, request, look_of, lets, answered}
+use Rattle.run_machine.specs.Tasks.{Todo, Gathered, NoBio, HasBio, HasBoth, Carried, Empty, Brings, Carries, Fails, Duty, Keeping, Keeps, carried_answered, carried_request, Stops, TaskState, Writer, Rescuer, Completer, Keeper, writer_look, request, look_of, lets, answered}
 use Rattle.task_steps.specs.Turns.{Turns, Rested, Waited, Asked, Saw, Asks, silent_step, step_by, step_of, resting_step, breach_of, idle_step}
 use Rattle.object_things.specs.Stamps.{is_spent, PassBy}
 use Rattle.object_things.specs.Histories.{Call}
@@ -214,7 +214,7 @@ module _ (setup : Setup) (first : TaskState) where
   look_call LookLeft is old new reply s = (s, (λ e. cc), refl)
   look_call look is old new reply s = elim is [ inl e ↦ absurd (cc e) | inr e ↦ absurd (cc e) ]
 
-  writer_looks : (todo : List Todo) (taken : Taken) (doing : Doing) (look : Request) → writer_look todo taken doing ≡ Some look → (look ≡ LookRound) ⊎ (look ≡ LookLeft)
+  writer_looks : (todo : List Todo) (taken : Gathered) (doing : Doing) (look : Request) → writer_look todo taken doing ≡ Some look → (look ≡ LookRound) ⊎ (look ≡ LookLeft)
   writer_looks (todo ∷ later) NoBio Rests look e = inl (cc e)
   writer_looks todo taken doing look e = absurd (cc e)
 

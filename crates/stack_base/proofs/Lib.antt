@@ -20,3 +20,4 @@ pub mod DeclaredSums
 pub mod DeclaredKinds
 pub mod DeclaredBounds
 pub mod FaultLemmas
+pub mod NumeralLemmas

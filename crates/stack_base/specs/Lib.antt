@@ -8,3 +8,4 @@ pub mod Cutting
 pub mod Even
 pub mod Declaration
 pub mod Fault
+pub mod Numerals

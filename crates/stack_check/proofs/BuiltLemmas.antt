@@ -5,7 +5,7 @@ use Rattle.std.proofs.lemmas.Bool.{ne_eqb, true≢false}
 use Rattle.std.proofs.lemmas.List.{append_assoc, length-map, map_push}
 use Rattle.std.proofs.lemmas.List.Elements.{All-head, All-tail}
 use Rattle.stack_base.specs.declared.stack.Device.{Device}
-use Rattle.decl_text.specs.Known.{BadOf, Declared, is_disk}
+use Rattle.decl_text.specs.Known.{BadOf, Declared, declares_disk}
 use Rattle.decl_text.specs.Checks.{is_disk_device}
 use Rattle.decl_text.specs.Accepting.{bad_of, shown}
 use Rattle.stack_check.specs.Sound.{AreOfDisks}
@@ -32,13 +32,13 @@ module _ (all : List Declared) (built : List Device) (next : Declared) (rest : L
       ∙ ap (λ d. (map shown built ++ d ∷ []) ++ rest) same
       ∙ append_assoc (map shown built) (next ∷ []) rest ∙ so_far
 
-clean : (all : List Declared) (n : ℕ) (device : Declared) (k : ℕ) → slice_get all n ≡ Some device → is_disk device.what ≡ false → is_disk_device (slice_get all k) ≡ true → k ≡ n → ⊥
+clean : (all : List Declared) (n : ℕ) (device : Declared) (k : ℕ) → slice_get all n ≡ Some device → declares_disk device.what ≡ false → is_disk_device (slice_get all k) ≡ true → k ≡ n → ⊥
 clean all n device k found other disk same =
     true≢false (sym disk ∙ ap (λ m. is_disk_device (slice_get all m)) same ∙ ap is_disk_device found ∙ other)
 
 -- a device that is no disk has no bad ranges
 pub clean_ranges :
-    (all : List Declared) (n : ℕ) (device : Declared) (bad : List BadOf) → slice_get all n ≡ Some device → is_disk device.what ≡ false → AreOfDisks all bad → ranges_of bad n ≡ []
+    (all : List Declared) (n : ℕ) (device : Declared) (bad : List BadOf) → slice_get all n ≡ Some device → declares_disk device.what ≡ false → AreOfDisks all bad → ranges_of bad n ≡ []
 clean_ranges all n device [] found other disks = refl
 clean_ranges all n device (b ∷ bad) found other disks =
     let of_disk = λ (x : BadOf). is_disk_device (slice_get all x.disk) ≡ true in

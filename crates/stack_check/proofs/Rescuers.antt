@@ -14,7 +14,7 @@ use Rattle.fail_script.specs.Script.{Answers}
 use Rattle.stack_base.specs.declared.ids.PoolId.{PoolId}
 use Rattle.decl_text.specs.Text.{words}
 use Rattle.decl_text.specs.Items.{said}
-use Rattle.decl_text.specs.Known.{Known, Declared, after_line, declared, is_mirror, nothing, number_in}
+use Rattle.decl_text.specs.Known.{Known, Declared, after_line, declared, declares_mirror, nothing, number_in}
 use Rattle.decl_text.specs.Checks.{needs_rescuer}
 use Rattle.decl_text.specs.Accepting.{Means, shown, what_of}
 use Rattle.decl_text.specs.Refusals.{check, item_checks, known_after, refusal, said_reason}
@@ -26,7 +26,7 @@ use Rattle.decl_text.proofs.Unrefused.{finds_nothing, kept_behind, line_passes}
 
 -- a device that copies to two members or more has a rescuer
 abbrev IsHelped : Declared → Type 0
-IsHelped device = is_mirror device.what ≡ true → 2 ≤ length device.members → device.rescuer ≡ true
+IsHelped device = declares_mirror device.what ≡ true → 2 ≤ length device.members → device.rescuer ≡ true
 
 abbrev AreHelped : Known → Type 0
 AreHelped known = (number : ℕ) (device : Declared) → slice_get known.devices number ≡ Some device → IsHelped device
@@ -47,7 +47,7 @@ after_helped known (Some (item.Device name does members reserve rescuer)) none a
     let free : needs_rescuer known said ≡ false = finds_nothing item_checks known said 7 (check reason.NeedsRescuer needs_rescuer) none refl in
     λ number device found.
     helped_more known.devices (declared known.devices name does members reserve rescuer) device number all
-    (λ mirror many. helped_by (is_mirror does) (nat_le 2 (length members)) rescuer free mirror (le-leb 2 (length members) (omega (arith, many, length-map members (number_in known.devices)))))
+    (λ mirror many. helped_by (declares_mirror does) (nat_le 2 (length members)) rescuer free mirror (le-leb 2 (length members) (omega (arith, many, length-map members (number_in known.devices)))))
     (pushed known.devices (declared known.devices name does members reserve rescuer) device number found)
 after_helped known (Some (item.Bad disk range kind)) none all = all
 after_helped known (Some (item.Fs bios vecs)) none all = all
@@ -67,7 +67,7 @@ pub stack_helped : (all : List (List ℕ)) (stack : Stack) (scripts : List (Pool
 stack_helped all stack scripts none means = λ number records device found mirror many.
     let here : slice_get (known_after nothing all).devices number ≡ Some (shown device) =
     ap (λ (ds : List Declared). slice_get ds number) (sym means.devices) ∙ slice_get-map shown stack.devices.items number ∙ ap (option_map shown) found in
-    lines_helped all none number (shown device) here (ap (λ (k : Kind). is_mirror (what_of k)) mirror) (omega (arith, many, length-map device.members.items (λ (m : DevId). m.0)))
+    lines_helped all none number (shown device) here (ap (λ (k : Kind). declares_mirror (what_of k)) mirror) (omega (arith, many, length-map device.members.items (λ (m : DevId). m.0)))
 
 pub HasRescuers-prop : (stack : Stack) → IsProp (HasRescuers stack)
 HasRescuers-prop stack = hlevel Bool-set

@@ -2,7 +2,7 @@
 use Rattle.std.specs.Prelude.{◌+◌, ◌==◌, ◌&&◌, ◌||◌, if◌then◌else◌, nat_lt, nat_le, not, Bool, false, List, [], ◌∷◌, ℕ, length, map, is_none, is_some, Option, None, Some}
 use Rattle.std.specs.List.{list_any}
 use Rattle.stack_base.specs.Tree.{size}
-use Rattle.decl_text.specs.Known.{Declared, all_members, device_of, is_mirror, number_in, tree_over, trees}
+use Rattle.decl_text.specs.Known.{Declared, all_members, device_of, declares_mirror, number_in, tree_over, trees}
 use Rattle.decl_text.specs.Checks.{all_sectors, disks, has_count, is_among, repeats}
 use Rattle.decl_text.specs.declared.reason.Reason.{Reason}
 use Rattle.decl_text.specs.declared.reason.Reason.TheVariants as reason
@@ -47,5 +47,5 @@ device_reason devices name does members reserve rescuer =
     else (if has_no_room devices does || is_large does reserve then Some reason.TooLarge
     else (if size_with devices does (map (number_in devices) members) == 0 then Some reason.EmptyDevice
     else (if has_zero does reserve then Some reason.ReserveZero
-    else (if is_mirror does && nat_le 2 (length members) && not rescuer then Some reason.NeedsRescuer
+    else (if declares_mirror does && nat_le 2 (length members) && not rescuer then Some reason.NeedsRescuer
     else None)))))))

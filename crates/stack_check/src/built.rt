@@ -2,7 +2,7 @@
 ghost use Rattle.std.specs.Prelude.{◌≡◌, ℕ, ◌<◌, ◌≤◌, [], All, IfOk, IsTrue, Some, false, length, map, slice_get};
 ghost use Rattle.stack_base.specs.declared.stack.Device.{Device as Built};
 ghost use Rattle.decl_text.specs.Text.{is_name};
-ghost use Rattle.decl_text.specs.Known.{is_disk};
+ghost use Rattle.decl_text.specs.Known.{declares_disk};
 ghost use Rattle.decl_text.specs.Accepting.{bad_of, shown, what_of};
 ghost use Rattle.stack_check.specs.Finish.{AreBuilt, ranges_of};
 ghost use Rattle.stack_check.specs.Sound.{AreSound, AreOfDisks, IsFit, records_of_what};
@@ -41,7 +41,7 @@ fn device_of(
     bad: &[BadAt],
 ) -> Result<Device, AllocError>
     requires fit { IsFit placed }
-    requires clean { is_disk placed.what ≡ false → ranges_of bad.now number ≡ [] }
+    requires clean { declares_disk placed.what ≡ false → ranges_of bad.now number ≡ [] }
     ensures { IfOk result (λ device. (shown device ≡ placed.entry) × (bad_of device.kind ≡ ranges_of bad.entry.now number)) }
 {
     let kind = kind_of(alloc, placed.what, number, bad)?;
@@ -57,7 +57,7 @@ fn device_of(
 /// The kind of a device that does this, with the bad ranges of its number.
 fn kind_of(alloc: Global, what: What, number: u32, bad: &[BadAt]) -> Result<Kind, AllocError>
     requires few { records_of_what what ≤ 1024 }
-    requires clean { is_disk what ≡ false → ranges_of bad.now number ≡ [] }
+    requires clean { declares_disk what ≡ false → ranges_of bad.now number ≡ [] }
     ensures { IfOk result (λ kind. (what_of kind ≡ what) × (bad_of kind ≡ ranges_of bad.now number)) }
 {
     match what {

@@ -1,6 +1,6 @@
 //! What a declared device does: how many members it takes, its reserves and its size.
 ghost use Rattle.std.specs.Prelude.{◌≡◌, ◌<◌, ◌≤◌, ◌^◌, ◌&&◌, nat_le, not, IsTrue, length, sum};
-ghost use Rattle.decl_text.specs.Known.{is_disk, is_mirror, sectors_of};
+ghost use Rattle.decl_text.specs.Known.{declares_disk, declares_mirror, sectors_of};
 ghost use Rattle.decl_text.specs.Checks.{has_count};
 ghost use Rattle.stack_check.specs.Rows.{has_zero, is_large};
 ghost use Rattle.stack_check.specs.Sound.{HasNumbers, what_size};
@@ -49,7 +49,7 @@ pub(crate) fn has_zero(what: What, reserve: u64) -> bool
 
 /// Whether it copies to two members or more, and its set has no rescuer. Then a write may wait for a bio that no one gives back.
 pub(crate) fn lacks_rescuer(what: What, count: usize, rescuer: bool) -> bool
-    ensures { result ≡ (is_mirror what && nat_le 2 count && not rescuer) }
+    ensures { result ≡ (declares_mirror what && nat_le 2 count && not rescuer) }
 {
     match what {
         What::Mirror { .. } => count >= 2 && !rescuer,
@@ -59,7 +59,7 @@ pub(crate) fn lacks_rescuer(what: What, count: usize, rescuer: bool) -> bool
 
 /// Whether it is a disk.
 pub(crate) fn is_disk(what: What) -> bool
-    ensures { result ≡ is_disk what }
+    ensures { result ≡ declares_disk what }
 {
     matches!(what, What::Disk { .. })
 }

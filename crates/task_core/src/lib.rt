@@ -16,7 +16,7 @@ pub use plain::index::{ObjectIndex, place};
 pub use plain::tally::Tally;
 pub use run_machine::{Breach, End, Event, Got, How, TaskId, What};
 pub use task_steps::{
-    Ask, Carried, Chooser, Cut, Doing, Driver, DriverAsk, Duty, HandedBack, Keeper, Kept, Kind,
-    Line, Load, Manner, Objects, Oldest, Rescuer, Routes, Step, Taken, Task, Todo, Todos, Unmade,
+    Ask, Carried, Chooser, Cut, Doing, Driver, DriverAsk, Duty, Gathered, HandedBack, Keeper, Kept,
+    Kind, Line, Load, Manner, Objects, Oldest, Rescuer, Routes, Step, Task, Todo, Todos, Unmade,
     Want, Writer, first_bio, homes, needs_vector, pool_of, within,
 };

@@ -31,7 +31,7 @@ use Rattle.task_steps.specs.declared.routes.driver.Driver.{Driver}
 use Rattle.task_steps.specs.declared.routes.driver.Driver.TheVariants as driver
 use Rattle.task_steps.specs.declared.routes.driver.Manner.{Manner}
 use Rattle.task_steps.specs.declared.routes.driver.Manner.TheVariants as manner
-use Rattle.run_machine.specs.Scene.{Setup, number_of}
+use Rattle.run_machine.specs.Scene.{Setup, tree_number}
 use Rattle.run_machine.specs.Lines.{asks_at, cut_at, leg_at, legs_of, goes_on}
 use Rattle.task_steps.specs.Within.{IsWithinDevice, first_cut, is_cut}
 use Rattle.task_steps.specs.Routed.{keeps, copies_bios, sizes_at, IsDriver, MapOf, map_of, IsFirstCut, HasNoFirst, manner_by, legs_by, IsLegBy, manner_of, asked_by, IsManner, sent, IsCutAt, IsLegAt}
@@ -184,7 +184,7 @@ leg_is stack good bio device found is within leg node m at_leg =
     record {
       made_is = λ hand.
           let placed : ℕ → Item Pad = λ dev. record hand { pad = record { leg = leg }; bio = record bio { dev = record { 0 = dev }; set = Of bio.dev; node = node } } in
-          ap (leg_at bio hand leg node) whole ∙ ap (λ t. placed (number_of t)) here ∙ ap placed (number_of_tree stack m.0);
+          ap (leg_at bio hand leg node) whole ∙ ap (λ t. placed (tree_number t)) here ∙ ap placed (number_of_tree stack m.0);
       within = record { device = omega arith; some = within.some; within = omega (arith, within.within, ap size whole) };
     }
 

@@ -21,26 +21,26 @@ use Rattle.layout_model.proofs.FirstRuns.{member_there, first_run_is}
 use Rattle.layout_model.proofs.Over.{can_cut}
 use Rattle.bio_records.specs.declared.bio.Bio.{Bio}
 use Rattle.task_steps.specs.declared.routes.Cut.{Cut}
-use Rattle.run_machine.specs.Scene.{number_of}
+use Rattle.run_machine.specs.Scene.{tree_number}
 use Rattle.run_machine.specs.Lines.{first_length, mapped, landed}
 use Rattle.task_steps.specs.Within.{IsWithinDevice, first_cut, is_handed_on}
 use Rattle.task_steps.specs.Routed.{sizes_at, handed, IsFirstCut, HasNoFirst, IsBelow, Stays, IsLanded}
 
-number_of_shape : (shape : Shape) (number : ℕ) (kind : Kind) (members : List Tree) → number_of (over_shape shape number kind members) ≡ number
+number_of_shape : (shape : Shape) (number : ℕ) (kind : Kind) (members : List Tree) → tree_number (over_shape shape number kind members) ≡ number
 unfolding over_shape
 number_of_shape (Keeps sectors) number kind members = refl
 number_of_shape Cuts number kind members = refl
 number_of_shape Copies number kind members = refl
 
-number_of_built : (number : ℕ) (device : Option Device) (below : ℕ → Tree) → number_of (built number device below) ≡ number
+number_of_built : (number : ℕ) (device : Option Device) (below : ℕ → Tree) → tree_number (built number device below) ≡ number
 number_of_built number None below = refl
 number_of_built number (Some device) below = number_of_shape (shape_of device.kind) number device.kind _
 
 -- the tree of a device has its number
-pub number_of_tree : (stack : Stack) (number : ℕ) → number_of (tree stack number) ≡ number
+pub number_of_tree : (stack : Stack) (number : ℕ) → tree_number (tree stack number) ≡ number
 unfolding tree_below
 number_of_tree stack number =
-    ap (λ bound. number_of (tree_below bound stack number)) (add-one number)
+    ap (λ bound. tree_number (tree_below bound stack number)) (add-one number)
     ∙ number_of_built number (slice_get stack.devices.items number) (tree_below number stack)
 
 pub same_is_true : (a b : ℕ) → a ≡ b → (a == b) ≡ true
@@ -91,9 +91,9 @@ module _ (stack : Stack) (good : IsStack stack) (bio : Bio) (device : Device) (f
         let placed : ℕ → ℕ → ℕ → Option Cut = λ n dev at. Some (record { sectors = n; dev = record { 0 = dev }; start = at }) in
         record {
           first = ap (λ t. first_cut t bio.range) split
-              ∙ ap (λ n. placed n (number_of (members to.member)) to.at) (sym length_is)
-              ∙ ap (λ (to : Slot). placed piece.len (number_of (members to.member)) to.at) is.place
-              ∙ ap (λ t. placed piece.len (number_of t) piece.at) leg
+              ∙ ap (λ n. placed n (tree_number (members to.member)) to.at) (sym length_is)
+              ∙ ap (λ (to : Slot). placed piece.len (tree_number (members to.member)) to.at) is.place
+              ∙ ap (λ t. placed piece.len (tree_number t) piece.at) leg
               ∙ ap (λ n. placed piece.len n piece.at) (number_of_tree stack m.0);
           some = is.some;
           most = is.within;
@@ -105,7 +105,7 @@ module _ (stack : Stack) (good : IsStack stack) (bio : Bio) (device : Device) (f
               ap (λ t. landed t bio) split
               ∙ ap (λ b. cond b (landed (members to.member) (mapped to members bio)) bio) one
               ∙ ap (λ (to : Slot). landed (members to.member) (mapped to members bio)) is.place
-              ∙ ap (λ t. landed t (record bio { dev = record { 0 = number_of t }; range = record bio.range { start = piece.at } })) leg
+              ∙ ap (λ t. landed t (record bio { dev = record { 0 = tree_number t }; range = record bio.range { start = piece.at } })) leg
               ∙ ap (λ n. landed (tree stack m.0) (record bio { dev = record { 0 = n }; range = record bio.range { start = piece.at } })) (number_of_tree stack m.0);
         }
 

@@ -20,12 +20,12 @@ use Rattle.bio_books.specs.Drops as end
 use Rattle.bio_books.specs.Links.{Made, NoRoom, Stray}
 use Rattle.run_machine.specs.declared.event.Got.{Got}
 use Rattle.run_machine.specs.declared.event.What.{What}
-use Rattle.run_machine.specs.Scene.{is_device, has_set as has_set_of, is_mirror as copies_at, keeps_data}
+use Rattle.run_machine.specs.Scene.{is_device, has_set, is_mirror, keeps_data}
 use Rattle.run_machine.specs.Requests as requests
 use Rattle.run_machine.specs.Requests.{Request, Reply}
 use Rattle.run_machine.specs.Tasks.{TaskState, Writer, Rescuer, Completer, Keeper, request}
 use Rattle.run_machine.specs.Events.{id_of, take_of, miss_of, resize_of, pool_of, what_of}
-use Rattle.run_machine.specs.Named.{is_disk, is_mirror, has_set, is_any, HasDevice, HasPool, HasTask, HasWhat}
+use Rattle.run_machine.specs.Named.{is_disk_kind, is_mirror_kind, is_stacked_kind, is_any, HasDevice, HasPool, HasTask, HasWhat}
 use Rattle.task_steps.specs.Homes.{IsTaskOf}
 use Rattle.task_steps.specs.Named.{TasksNameTheStack}
 use Rattle.task_steps.specs.Routed.{routing_setup}
@@ -48,19 +48,19 @@ module _ (stage : Stage) (good : IsStack stage.routing.stack) where
   record IsThere (dev : ℕ) : Type 0 where
     device : Device
     found : slice_get stage.routing.stack.devices.items dev ≡ Some device
-    keeps : keeps_data (tree stage.routing.stack dev) ≡ is_disk device.kind
-    copies : copies_at (tree stage.routing.stack dev) ≡ is_mirror device.kind
+    keeps : keeps_data (tree stage.routing.stack dev) ≡ is_disk_kind device.kind
+    copies : is_mirror (tree stage.routing.stack dev) ≡ is_mirror_kind device.kind
 
   by_kind : (dev : ℕ) (device : Device) → slice_get stage.routing.stack.devices.items dev ≡ Some device → (kind : Kind) → device.kind ≡ kind
-      → (keeps_data (tree stage.routing.stack dev) ≡ is_disk kind) × (copies_at (tree stage.routing.stack dev) ≡ is_mirror kind)
+      → (keeps_data (tree stage.routing.stack dev) ≡ is_disk_kind kind) × (is_mirror (tree stage.routing.stack dev) ≡ is_mirror_kind kind)
   by_kind dev device found (Disk sectors bad) e =
-      let t = keeps_is stage.routing.stack good dev device found sectors (ap shape_of e) in (ap keeps_data t, ap copies_at t)
-  by_kind dev device found Linear e = let t = cuts_is stage.routing.stack good dev device found (ap shape_of e) in (ap keeps_data t, ap copies_at t)
-  by_kind dev device found (Stripe chunk) e = let t = cuts_is stage.routing.stack good dev device found (ap shape_of e) in (ap keeps_data t, ap copies_at t)
-  by_kind dev device found (Zoned chunk) e = let t = cuts_is stage.routing.stack good dev device found (ap shape_of e) in (ap keeps_data t, ap copies_at t)
+      let t = keeps_is stage.routing.stack good dev device found sectors (ap shape_of e) in (ap keeps_data t, ap is_mirror t)
+  by_kind dev device found Linear e = let t = cuts_is stage.routing.stack good dev device found (ap shape_of e) in (ap keeps_data t, ap is_mirror t)
+  by_kind dev device found (Stripe chunk) e = let t = cuts_is stage.routing.stack good dev device found (ap shape_of e) in (ap keeps_data t, ap is_mirror t)
+  by_kind dev device found (Zoned chunk) e = let t = cuts_is stage.routing.stack good dev device found (ap shape_of e) in (ap keeps_data t, ap is_mirror t)
   by_kind dev device found (Limit longest chunk) e =
-      let t = cuts_is stage.routing.stack good dev device found (ap shape_of e) in (ap keeps_data t, ap copies_at t)
-  by_kind dev device found (Mirror records) e = let t = copies_is stage.routing.stack good dev device found (ap shape_of e) in (ap keeps_data t, ap copies_at t)
+      let t = cuts_is stage.routing.stack good dev device found (ap shape_of e) in (ap keeps_data t, ap is_mirror t)
+  by_kind dev device found (Mirror records) e = let t = copies_is stage.routing.stack good dev device found (ap shape_of e) in (ap keeps_data t, ap is_mirror t)
 
   there : (dev : ℕ) → IsTrue (is_device (routing_setup stage.routing) dev) → IsThere dev
   there dev is = elim ((slice_get_cases stage.routing.stack.devices.items dev).1) [
@@ -75,18 +75,18 @@ module _ (stage : Stage) (good : IsStack stage.routing.stack) where
   any_device : (dev : DevId) → IsTrue (is_device (routing_setup stage.routing) dev.0) → HasDevice is_any stage.routing.stack dev
   any_device dev is = let at = there dev.0 is in suited is_any dev at.device at.found refl
 
-  disk_device : (dev : DevId) → IsTrue (has_disk stage dev) → HasDevice is_disk stage.routing.stack dev
+  disk_device : (dev : DevId) → IsTrue (has_disk stage dev) → HasDevice is_disk_kind stage.routing.stack dev
   disk_device dev is =
-      let at = there dev.0 (is_left _ _ is) in suited is_disk dev at.device at.found (sym at.keeps ∙ is_right (is_device (routing_setup stage.routing) dev.0) _ is)
+      let at = there dev.0 (is_left _ _ is) in suited is_disk_kind dev at.device at.found (sym at.keeps ∙ is_right (is_device (routing_setup stage.routing) dev.0) _ is)
 
-  set_device : (dev : DevId) → IsTrue (has_set_of (routing_setup stage.routing) dev.0) → HasDevice has_set stage.routing.stack dev
+  set_device : (dev : DevId) → IsTrue (has_set (routing_setup stage.routing) dev.0) → HasDevice is_stacked_kind stage.routing.stack dev
   set_device dev is =
       let at = there dev.0 (is_left _ _ is) in
-      suited has_set dev at.device at.found (ap not (sym at.keeps) ∙ is_right (is_device (routing_setup stage.routing) dev.0) _ is)
+      suited is_stacked_kind dev at.device at.found (ap not (sym at.keeps) ∙ is_right (is_device (routing_setup stage.routing) dev.0) _ is)
 
-  mirror_device : (dev : DevId) → IsTrue (has_mirror stage dev) → HasDevice is_mirror stage.routing.stack dev
+  mirror_device : (dev : DevId) → IsTrue (has_mirror stage dev) → HasDevice is_mirror_kind stage.routing.stack dev
   mirror_device dev is =
-      let at = there dev.0 (is_left _ _ is) in suited is_mirror dev at.device at.found (sym at.copies ∙ is_right (is_device (routing_setup stage.routing) dev.0) _ is)
+      let at = there dev.0 (is_left _ _ is) in suited is_mirror_kind dev at.device at.found (sym at.copies ∙ is_right (is_device (routing_setup stage.routing) dev.0) _ is)
 
   -- pools
   set_pool : (set : SetId) → IsTrue (is_set stage set) → HasPool stage.routing.stack (bios_of set)
@@ -103,16 +103,16 @@ module _ (stage : Stage) (good : IsStack stage.routing.stack) where
   bios_pool number is = by_test (number == 65) refl (number == 64) refl (number % 2 == 0) refl is
     where
       by_test : (a : Bool) → (number == 65) ≡ a → (b : Bool) → (number == 64) ≡ b → (c : Bool) → (number % 2 == 0) ≡ c
-          → IsTrue (number == 65 || (number % 2 == 0 && has_set_of (routing_setup stage.routing) (number / 2)))
+          → IsTrue (number == 65 || (number % 2 == 0 && has_set (routing_setup stage.routing) (number / 2)))
           → HasPool stage.routing.stack (pool_of number)
       by_test true p b q c r is = rw (p) tt
       by_test false p true q c r is = rw (p, q) tt
       by_test false p false q true r is =
-          rw (p, q, r) (set_device (record { 0 = number / 2 }) (subst (λ b. IsTrue (b && has_set_of (routing_setup stage.routing) (number / 2))) r
-          (subst (λ b. IsTrue (b || (number % 2 == 0 && has_set_of (routing_setup stage.routing) (number / 2)))) p is)))
+          rw (p, q, r) (set_device (record { 0 = number / 2 }) (subst (λ b. IsTrue (b && has_set (routing_setup stage.routing) (number / 2))) r
+          (subst (λ b. IsTrue (b || (number % 2 == 0 && has_set (routing_setup stage.routing) (number / 2)))) p is)))
       by_test false p false q false r is =
-          absurd (true≢false (sym (subst (λ b. IsTrue (b && has_set_of (routing_setup stage.routing) (number / 2))) r
-          (subst (λ b. IsTrue (b || (number % 2 == 0 && has_set_of (routing_setup stage.routing) (number / 2)))) p is))))
+          absurd (true≢false (sym (subst (λ b. IsTrue (b && has_set (routing_setup stage.routing) (number / 2))) r
+          (subst (λ b. IsTrue (b || (number % 2 == 0 && has_set (routing_setup stage.routing) (number / 2)))) p is))))
 
   vecs_pool : (number : ℕ) → IsTrue (is_vecs stage number) → HasPool stage.routing.stack (pool_of number)
   vecs_pool number is =

@@ -15,7 +15,7 @@ use Rattle.run_machine.specs.declared.event.Breach.TheVariants as breach
 use Rattle.run_machine.specs.Kept.{Kept}
 use Rattle.run_machine.specs.Requests.{Reply, HadBio, HadVec, Popped, Completed, LinkedTo, DroppedTo, OutIs, Did, Spent}
 use Rattle.run_machine.specs.Lines.{Doing, Rests, Breaks, Line, settled, line_request, line_answered}
-use Rattle.run_machine.specs.Tasks.{Todo, Taken, NoBio, HasBio, HasBoth, besides, Carried, Empty, Brings, Carries, Fails, Duty, Resizes, Starts, Keeping, Keeps, Stops, TaskState, Writer, Rescuer, Completer, Keeper, needs_vector, filled, filled_short, with_bio, write_request, writer_request, rescuer_request, closed_request, carried_request, keeper_request, duty_request, request, begins, write_answered, writer_answered, rescuer_answered, given, after_drop, parent_or, carried_answered, after_resize, keeper_answered, answered}
+use Rattle.run_machine.specs.Tasks.{Todo, Gathered, NoBio, HasBio, HasBoth, besides, Carried, Empty, Brings, Carries, Fails, Duty, Resizes, Starts, Keeping, Keeps, Stops, TaskState, Writer, Rescuer, Completer, Keeper, needs_vector, filled, filled_short, with_bio, write_request, writer_request, rescuer_request, closed_request, carried_request, keeper_request, duty_request, request, begins, write_answered, writer_answered, rescuer_answered, given, after_drop, parent_or, carried_answered, after_resize, keeper_answered, answered}
 use Rattle.task_steps.specs.Routed.{routing_setup}
 use Rattle.task_steps.specs.Within.{IsItemWithin}
 use Rattle.task_steps.specs.Stage.{Stage, has_book, is_vecs, IsHome, IsBioHome, IsVecHome, IsSlipHome, TopFits, DropFits, RequestFits, Owes, has_rescuer, has_disk}
@@ -28,7 +28,7 @@ with_bio_asks : (stage : Stage) (writer : ℕ) (needs : Bool) (todo : Todo) → 
 with_bio_asks stage writer true todo book fits = tt
 with_bio_asks stage writer false todo book fits = (book, (fits.number, tt))
 
-write_asks : (stage : Stage) (writer : ℕ) (todos : List Todo) (taken : Taken) → IsTrue (has_book stage writer) → All (TodoFits stage) todos
+write_asks : (stage : Stage) (writer : ℕ) (todos : List Todo) (taken : Gathered) → IsTrue (has_book stage writer) → All (TodoFits stage) todos
     → TakenIsHome stage taken → RequestFits stage (write_request writer todos taken)
 write_asks stage writer [] taken book all home = tt
 write_asks stage writer (todo ∷ later) NoBio book all home = refl
@@ -37,7 +37,7 @@ write_asks stage writer (todo ∷ later) (HasBio bio) book all home =
 write_asks stage writer (todo ∷ later) (HasBoth bio vector) book all home =
     (book, ((All-head (TodoFits stage) todo later all).number, home.1))
 
-writer_asks : (stage : Stage) → IsStack stage.routing.stack → (writer : ℕ) (todos : List Todo) (taken : Taken) (doing : Doing) (line : Line)
+writer_asks : (stage : Stage) → IsStack stage.routing.stack → (writer : ℕ) (todos : List Todo) (taken : Gathered) (doing : Doing) (line : Line)
     → IsTrue (has_book stage writer) → All (TodoFits stage) todos → TakenIsHome stage taken
     → RequestFits stage (line_request (routing_setup stage.routing) doing line.lists)
     → RequestFits stage (writer_request (routing_setup stage.routing) writer todos taken doing line)
@@ -98,12 +98,12 @@ module _ (stage : Stage) (good : IsStack stage.routing.stack) where
       (All-cons (IsOwned stage) item [] owned (All-nil (IsOwned stage)))
 
   -- what is left of what was taken is at home
-  besides_home : (taken : Taken) → TakenIsHome stage taken → TakenIsHome stage (besides taken)
+  besides_home : (taken : Gathered) → TakenIsHome stage taken → TakenIsHome stage (besides taken)
   besides_home NoBio home = tt
   besides_home (HasBio bio) home = home
   besides_home (HasBoth bio vector) home = home.0
 
-  begins_home : (writer : ℕ) (later : List Todo) (bio : ℕ → Item Pad) (taken : Taken) (todo : Todo) (line : Line) (answer : Linked)
+  begins_home : (writer : ℕ) (later : List Todo) (bio : ℕ → Item Pad) (taken : Gathered) (todo : Todo) (line : Line) (answer : Linked)
       → IsTrue (has_book stage writer) → All (TodoFits stage) (todo ∷ later) → TakenIsHome stage taken → IsLineOf stage line
       → ((node : ℕ) → IsItemWithin stage.routing.stack (bio node) × IsOwned stage (bio node))
       → IsTaskOf stage (begins (routing_setup stage.routing) writer later bio taken todo line answer)
@@ -112,7 +112,7 @@ module _ (stage : Stage) (good : IsStack stage.routing.stack) where
   begins_home writer later bio taken todo line (NoRoom back) book all home is bios = (book, all, besides_home taken home, broken line _ _ is)
   begins_home writer later bio taken todo line (Stray back) book all home is bios = (book, all, besides_home taken home, broken line _ _ is)
 
-  write_home : (writer : ℕ) (todos : List Todo) (taken : Taken) (line : Line) (reply : Reply) → IsTrue (has_book stage writer)
+  write_home : (writer : ℕ) (todos : List Todo) (taken : Gathered) (line : Line) (reply : Reply) → IsTrue (has_book stage writer)
       → All (TodoFits stage) todos → TakenIsHome stage taken → IsLineOf stage line → Owes stage (write_request writer todos taken) reply
       → IsTaskOf stage (write_answered (routing_setup stage.routing) writer todos taken line reply)
   write_home writer todos taken line Spent book all home is owes = (book, all, besides_home taken home, broken line breach.Spent _ is)
@@ -133,7 +133,7 @@ module _ (stage : Stage) (good : IsStack stage.routing.stack) where
       (λ node. (record { device = w.known; some = w.some; within = w.within }, record { writer = book; home = home.0 }))
   write_home writer todos taken line _ book all home is owes = (book, all, home, is)
 
-  writer_home : (writer : ℕ) (todos : List Todo) (taken : Taken) (doing : Doing) (line : Line) (reply : Reply) → IsTrue (has_book stage writer)
+  writer_home : (writer : ℕ) (todos : List Todo) (taken : Gathered) (doing : Doing) (line : Line) (reply : Reply) → IsTrue (has_book stage writer)
       → All (TodoFits stage) todos → TakenIsHome stage taken → IsLineOf stage line
       → (Owes stage (line_request (routing_setup stage.routing) doing line.lists) reply
       → IsLineOf stage (line_answered (routing_setup stage.routing) doing line.lists reply))

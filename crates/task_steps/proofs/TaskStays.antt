@@ -12,7 +12,7 @@ use Rattle.bio_books.specs.Drops.{Closed}
 use Rattle.bio_books.specs.Links.{Linked, Made, NoRoom, Stray}
 use Rattle.run_machine.specs.Scene.{setup_of}
 use Rattle.run_machine.specs.Lines.{Doing, Rests, Line}
-use Rattle.run_machine.specs.Tasks.{Todo, Taken, NoBio, HasBio, HasBoth, Carried, Empty, Brings, Carries, Fails, Duty, Resizes, Starts, Keeping, Keeps, Stops, TaskState, Writer, Rescuer, Completer, Keeper, needs_vector, filled, filled_short, with_bio, write_request, writer_request, rescuer_request, closed_request, carried_request, keeper_request, duty_request, request, begins, write_answered, writer_answered, rescuer_answered, answered}
+use Rattle.run_machine.specs.Tasks.{Todo, Gathered, NoBio, HasBio, HasBoth, Carried, Empty, Brings, Carries, Fails, Duty, Resizes, Starts, Keeping, Keeps, Stops, TaskState, Writer, Rescuer, Completer, Keeper, needs_vector, filled, filled_short, with_bio, write_request, writer_request, rescuer_request, closed_request, carried_request, keeper_request, duty_request, request, begins, write_answered, writer_answered, rescuer_answered, answered}
 use Rattle.run_machine.specs.Requests.{Reply, HadBio, HadVec, Popped, LinkedTo, Spent}
 use Rattle.task_steps.specs.Within.{IsWithinDevice, IsItemWithin, LineFits, DoingFits, TaskFits, AskedFits, ReplyFits, TasksStayWithin}
 use Rattle.task_steps.proofs.Fits.{settled_fits, line_fits, line_asks}
@@ -23,7 +23,7 @@ IsTodo stack todo = IsWrite stack todo.write
 
 module _ (stack : Stack) (good : IsStack stack) (places : ℕ → ℕ) where
   -- a write begins
-  pub begins_fits : (writer : ℕ) (later : List Todo) (bio : ℕ → Item Pad) (taken : Taken) (todo : Todo) (line : Line) (answer : Linked)
+  pub begins_fits : (writer : ℕ) (later : List Todo) (bio : ℕ → Item Pad) (taken : Gathered) (todo : Todo) (line : Line) (answer : Linked)
       → ((node : ℕ) → IsWithinDevice stack (bio node).bio) → All (IsTodo stack) (todo ∷ later) → LineFits stack line
       → TaskFits stack (begins (setup_of stack places) writer later bio taken todo line answer)
   begins_fits writer later bio taken todo line (Made node) within all fits = (
@@ -33,7 +33,7 @@ module _ (stack : Stack) (good : IsStack stack) (places : ℕ → ℕ) where
   begins_fits writer later bio taken todo line (NoRoom back) within all fits = (all, record { doing = tt; lists = fits.lists })
   begins_fits writer later bio taken todo line (Stray back) within all fits = (all, record { doing = tt; lists = fits.lists })
 
-  write_fits : (writer : ℕ) (todos : List Todo) (taken : Taken) (line : Line) (reply : Reply) → All (IsTodo stack) todos → LineFits stack line
+  write_fits : (writer : ℕ) (todos : List Todo) (taken : Gathered) (line : Line) (reply : Reply) → All (IsTodo stack) todos → LineFits stack line
       → TaskFits stack (write_answered (setup_of stack places) writer todos taken line reply)
   write_fits writer todos taken line Spent all fits = (all, record { doing = tt; lists = fits.lists })
   write_fits writer (todo ∷ later) NoBio line (HadBio got bio) all fits = (all, fits)
@@ -48,7 +48,7 @@ module _ (stack : Stack) (good : IsStack stack) (places : ℕ → ℕ) where
       (λ node. record { device = is.known; some = is.some; within = is.within }) all fits
   write_fits writer todos taken line _ all fits = (all, fits)
 
-  writer_fits : (writer : ℕ) (todos : List Todo) (taken : Taken) (doing : Doing) (line : Line) (reply : Reply) → All (IsTodo stack) todos
+  writer_fits : (writer : ℕ) (todos : List Todo) (taken : Gathered) (doing : Doing) (line : Line) (reply : Reply) → All (IsTodo stack) todos
       → DoingFits stack doing → LineFits stack line
       → TaskFits stack (writer_answered (setup_of stack places) writer todos taken doing line reply)
   writer_fits writer todos taken Rests line reply all doing_fits fits = write_fits writer todos taken line reply all fits
@@ -75,13 +75,13 @@ with_bio_asks : (stack : Stack) (writer : ℕ) (needs : Bool) (todo : Todo) → 
 with_bio_asks stack writer true todo = tt
 with_bio_asks stack writer false todo = tt
 
-write_asks : (stack : Stack) (writer : ℕ) (todos : List Todo) (taken : Taken) → AskedFits stack (write_request writer todos taken)
+write_asks : (stack : Stack) (writer : ℕ) (todos : List Todo) (taken : Gathered) → AskedFits stack (write_request writer todos taken)
 write_asks stack writer [] taken = tt
 write_asks stack writer (todo ∷ later) NoBio = tt
 write_asks stack writer (todo ∷ later) (HasBio bio) = with_bio_asks stack writer (needs_vector todo.write) todo
 write_asks stack writer (todo ∷ later) (HasBoth bio vector) = tt
 
-writer_asks : (stack : Stack) (places : ℕ → ℕ) (writer : ℕ) (todos : List Todo) (taken : Taken) (doing : Doing) (line : Line) → LineFits stack line
+writer_asks : (stack : Stack) (places : ℕ → ℕ) (writer : ℕ) (todos : List Todo) (taken : Gathered) (doing : Doing) (line : Line) → LineFits stack line
     → AskedFits stack (writer_request (setup_of stack places) writer todos taken doing line)
 writer_asks stack places writer todos taken Rests line fits = write_asks stack writer todos taken
 writer_asks stack places writer todos taken doing line fits = line_asks stack places doing line.lists fits.lists

@@ -13,7 +13,7 @@ use Rattle.task_steps.specs.declared.writer.begin.Attempt.{Attempt}
 use Rattle.run_machine.specs.Scene.{Setup}
 use Rattle.run_machine.specs.Requests.{Request, Reply, TakeBio, TakeVec, TakeSlip, GiveBio, GiveVec, GiveSlip, Punt, Pop, Push, Complete, Link, Drop, Done, Resize, NextRound, LookRound, LookLeft, Rest, HadBio, HadVec, HadSlip, Missed, Did, Popped, Completed, LinkedTo, DroppedTo, OutIs, Present, LeftOver, Nothing, Spent}
 use Rattle.run_machine.specs.Lines.{Takes, Punts, Links, ToPush, ToCut, ToRecord, ToMaster, Doing, Rests, Drives, Copies, Breaks, Line, line_request, line_answered}
-use Rattle.run_machine.specs.Tasks.{Todo, Taken, NoBio, HasBio, HasBoth, TaskState, Writer, Rescuer, needs_vector, with_bio, write_request, writer_request, writer_look, lets, rescuer_request, writer_answered, rescuer_answered, request}
+use Rattle.run_machine.specs.Tasks.{Todo, Gathered, NoBio, HasBio, HasBoth, TaskState, Writer, Rescuer, needs_vector, with_bio, write_request, writer_request, writer_look, lets, rescuer_request, writer_answered, rescuer_answered, request}
 use Rattle.task_steps.specs.Turns.{Asks, Turns, Rested, Waited, Asked, Saw, doing_breach, resting_step}
 use Rattle.task_steps.specs.LineViews.{is_asking, is_over}
 use Rattle.task_steps.specs.Answers.{AnswersSubmission}
@@ -49,7 +49,7 @@ module _ {S : Type 0} (serves : S → Request → Reply → S → Type 0) (owes 
   it_rests (Copies bio master leg want) asking none = absurd (true≢false asking)
 
   -- such a writer, or one that has broken off, asks for what its submission does, and looks at nothing
-  no_look : (todo : List Todo) (taken : Taken) (doing : Doing) → is_over doing ≡ false → writer_look todo taken doing ≡ None
+  no_look : (todo : List Todo) (taken : Gathered) (doing : Doing) → is_over doing ≡ false → writer_look todo taken doing ≡ None
   no_look [] taken doing over = refl
   no_look (todo ∷ later) (HasBio bio) doing over = refl
   no_look (todo ∷ later) (HasBoth bio vector) doing over = refl
@@ -58,14 +58,14 @@ module _ {S : Type 0} (serves : S → Request → Reply → S → Type 0) (owes 
   no_look (todo ∷ later) NoBio (Drives bio ask) over = refl
   no_look (todo ∷ later) NoBio (Copies bio master leg want) over = refl
 
-  writer_asks : (number : ℕ) (todo : List Todo) (taken : Taken) (doing : Doing) (line : Line) → is_over doing ≡ false
+  writer_asks : (number : ℕ) (todo : List Todo) (taken : Gathered) (doing : Doing) (line : Line) → is_over doing ≡ false
       → writer_request setup number todo taken doing line ≡ line_request setup doing line.lists
   writer_asks number todo taken Rests line over = absurd (true≢false over)
   writer_asks number todo taken (Breaks breach kept) line over = refl
   writer_asks number todo taken (Drives bio ask) line over = refl
   writer_asks number todo taken (Copies bio master leg want) line over = refl
 
-  writer_goes_on : (number : ℕ) (todo : List Todo) (taken : Taken) (doing : Doing) (line : Line) (reply : Reply) → is_over doing ≡ false
+  writer_goes_on : (number : ℕ) (todo : List Todo) (taken : Gathered) (doing : Doing) (line : Line) (reply : Reply) → is_over doing ≡ false
       → Writer number todo taken (line_answered setup doing line.lists reply) ≡ writer_answered setup number todo taken doing line reply
   writer_goes_on number todo taken Rests line reply over = absurd (true≢false over)
   writer_goes_on number todo taken (Breaks breach kept) line reply over = refl
@@ -73,7 +73,7 @@ module _ {S : Type 0} (serves : S → Request → Reply → S → Type 0) (owes 
   writer_goes_on number todo taken (Copies bio master leg want) line reply over = refl
 
   -- a step of its submission is a writer's
-  pub line_turns_writer : (number : ℕ) (todo : List Todo) (taken : Taken) (line next : Line) (old new : S) (step : Step) → is_asking line.doing ≡ true
+  pub line_turns_writer : (number : ℕ) (todo : List Todo) (taken : Gathered) (line next : Line) (old new : S) (step : Step) → is_asking line.doing ≡ true
       → AnswersSubmission serves owes setup (id.Writer number) line.doing line.lists old next new step
       → Turns serves owes setup (Writer number todo taken line) old (Writer number todo taken next) new step
   line_turns_writer number todo taken line next old new step asking answers =
@@ -96,14 +96,14 @@ module _ {S : Type 0} (serves : S → Request → Reply → S → Type 0) (owes 
   broken_is (Drives bio ask) breach broken = refl
   broken_is (Copies bio master leg want) breach broken = refl
 
-  pub writer_broken : (number : ℕ) (todo : List Todo) (taken : Taken) (line : Line) (old : S) (breach : Breach) → doing_breach line.doing ≡ Some breach
+  pub writer_broken : (number : ℕ) (todo : List Todo) (taken : Gathered) (line : Line) (old : S) (breach : Breach) → doing_breach line.doing ≡ Some breach
       → Turns serves owes setup (Writer number todo taken line) old (Writer number todo taken line) old (Broken breach)
   writer_broken number todo taken line old breach broken =
       Rested (writer_asks number todo taken line.doing line (broken_is line.doing breach broken) ∙ broken_asks line.doing line.lists breach broken)
       refl refl (ap resting_step (sym broken))
 
   -- one with no write left has ended
-  pub writer_ended : (number : ℕ) (todo : List Todo) (taken : Taken) (line : Line) (old : S) → line.doing ≡ Rests → todo ≡ []
+  pub writer_ended : (number : ℕ) (todo : List Todo) (taken : Gathered) (line : Line) (old : S) → line.doing ≡ Rests → todo ≡ []
       → Turns serves owes setup (Writer number todo taken line) old (Writer number todo taken line) old Ended
   writer_ended number todo taken line old rests none =
       Rested (ap (λ (todo : List Todo). writer_request setup number todo taken line.doing line) none
@@ -115,12 +115,12 @@ module _ {S : Type 0} (serves : S → Request → Reply → S → Type 0) (owes 
   with_bio_any number true todo = refl
   with_bio_any number false todo = refl
 
-  write_asks_any : (number : ℕ) (todo : Todo) (later : List Todo) (taken : Taken) → asks_any (write_request number (todo ∷ later) taken) ≡ true
+  write_asks_any : (number : ℕ) (todo : Todo) (later : List Todo) (taken : Gathered) → asks_any (write_request number (todo ∷ later) taken) ≡ true
   write_asks_any number todo later NoBio = refl
   write_asks_any number todo later (HasBio bio) = with_bio_any number (needs_vector todo.write) todo
   write_asks_any number todo later (HasBoth bio vector) = refl
 
-  pub write_asks : (number : ℕ) (todos : List Todo) (taken : Taken) (line : Line) (todo : Todo) (later : List Todo) (old : S) (next : TaskState) (new : S)
+  pub write_asks : (number : ℕ) (todos : List Todo) (taken : Gathered) (line : Line) (todo : Todo) (later : List Todo) (old : S) (next : TaskState) (new : S)
       (step : Step) → line.doing ≡ Rests → todos ≡ todo ∷ later
       → WriteAnswers serves owes setup number (write_request number (todo ∷ later) taken) (todo ∷ later) taken line old next new step
       → Asks serves owes setup (Writer number todos taken line) old next new step
@@ -132,45 +132,45 @@ module _ {S : Type 0} (serves : S → Request → Reply → S → Type 0) (owes 
       (answers.goes_on ∙ ap (λ (doing : Doing). writer_answered setup number (todo ∷ later) taken doing line answers.reply) (sym rests)) answers.tells)
 
   -- a writer without a bio for its next write asks for one
-  pub bio_asks : (number : ℕ) (todos : List Todo) (taken : Taken) (line : Line) (came : Attempt) (old new : S) (step : Step) → line.doing ≡ Rests
+  pub bio_asks : (number : ℕ) (todos : List Todo) (taken : Gathered) (line : Line) (came : Attempt) (old new : S) (step : Step) → line.doing ≡ Rests
       → taken ≡ NoBio → todos ≢ []
       → ((todo : Todo) (later : List Todo) → WriteAnswers serves owes setup number (TakeBio Fs true) (todo ∷ later) NoBio line old (tried came number (todo ∷ later) line) new step)
       → Asks serves owes setup (Writer number todos taken line) old (tried came number todos line) new step
   bio_asks number [] taken line came old new step rests none some answers = absurd (some refl)
   bio_asks number (todo ∷ later) taken line came old new step rests none some answers =
-      subst (λ (taken : Taken). Asks serves owes setup (Writer number (todo ∷ later) taken line) old (tried came number (todo ∷ later) line) new step) (sym none)
+      subst (λ (taken : Gathered). Asks serves owes setup (Writer number (todo ∷ later) taken line) old (tried came number (todo ∷ later) line) new step) (sym none)
       (write_asks number (todo ∷ later) NoBio line todo later old (tried came number (todo ∷ later) line) new step rests refl (answers todo later))
 
   -- with a bio it looks at nothing
-  taken_look : (todos : List Todo) (taken : Taken) (doing : Doing) → is_taken taken ≡ true → writer_look todos taken doing ≡ None
+  taken_look : (todos : List Todo) (taken : Gathered) (doing : Doing) → is_taken taken ≡ true → writer_look todos taken doing ≡ None
   taken_look [] taken doing has = refl
   taken_look (todo ∷ later) NoBio doing has = absurd (true≢false (sym has))
   taken_look (todo ∷ later) (HasBio bio) doing has = refl
   taken_look (todo ∷ later) (HasBoth bio vector) doing has = refl
 
-  pub taken_turns : (number : ℕ) (todos : List Todo) (taken : Taken) (line : Line) (old : S) (next : TaskState) (new : S) (step : Step)
+  pub taken_turns : (number : ℕ) (todos : List Todo) (taken : Gathered) (line : Line) (old : S) (next : TaskState) (new : S) (step : Step)
       → is_taken taken ≡ true → Asks serves owes setup (Writer number todos taken line) old next new step
       → Turns serves owes setup (Writer number todos taken line) old next new step
   taken_turns number todos taken line old next new step has asks = Asked (taken_look todos taken line.doing has) asks
 
   -- without one it looks at the round
-  no_taken : (taken : Taken) → is_taken taken ≡ false → taken ≡ NoBio
+  no_taken : (taken : Gathered) → is_taken taken ≡ false → taken ≡ NoBio
   no_taken NoBio has = refl
   no_taken (HasBio bio) has = absurd (true≢false has)
   no_taken (HasBoth bio vector) has = absurd (true≢false has)
 
-  looks : (todos : List Todo) (taken : Taken) (doing : Doing) (todo : Todo) (later : List Todo) → doing ≡ Rests → taken ≡ NoBio → todos ≡ todo ∷ later
+  looks : (todos : List Todo) (taken : Gathered) (doing : Doing) (todo : Todo) (later : List Todo) → doing ≡ Rests → taken ≡ NoBio → todos ≡ todo ∷ later
       → writer_look todos taken doing ≡ Some LookRound
   looks todos taken doing todo later rests none first = λ k. writer_look (first k) (none k) (rests k)
 
-  pub look_waits : (number : ℕ) (todos : List Todo) (taken : Taken) (line : Line) (todo : Todo) (later : List Todo) (old : S) (round : ℕ) (new : S)
+  pub look_waits : (number : ℕ) (todos : List Todo) (taken : Gathered) (line : Line) (todo : Todo) (later : List Todo) (old : S) (round : ℕ) (new : S)
       → line.doing ≡ Rests → is_taken taken ≡ false → todos ≡ todo ∷ later → serves old LookRound (Present round) new → nat_le todo.round round ≡ false
       → Turns serves owes setup (Writer number todos taken line) old (Writer number todos taken line) new Waiting
   look_waits number todos taken line todo later old round new rests has first served early =
       Waited LookRound (Present round) (looks todos taken line.doing todo later rests (no_taken taken has) first) served
       (ap (λ (ts : List Todo). lets (Writer number ts taken line) (Present round)) first ∙ early) refl refl
 
-  pub look_asks : (number : ℕ) (todos : List Todo) (taken : Taken) (line : Line) (todo : Todo) (later : List Todo) (old : S) (round : ℕ) (between : S)
+  pub look_asks : (number : ℕ) (todos : List Todo) (taken : Gathered) (line : Line) (todo : Todo) (later : List Todo) (old : S) (round : ℕ) (between : S)
       (next : TaskState) (new : S) (step : Step) → line.doing ≡ Rests → is_taken taken ≡ false → todos ≡ todo ∷ later
       → serves old LookRound (Present round) between → nat_le todo.round round ≡ true
       → Asks serves owes setup (Writer number todos taken line) between next new step

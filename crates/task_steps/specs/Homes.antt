@@ -8,7 +8,7 @@ use Rattle.bio_records.specs.declared.bio.Pad.{Pad}
 use Rattle.bio_records.specs.Items.{Item}
 use Rattle.run_machine.specs.Requests.{Reply}
 use Rattle.run_machine.specs.Lines.{Want, Takes, Punts, Links, Ask, ToPush, ToCut, ToRecord, ToMaster, Doing, Rests, Drives, Copies, Breaks, Line, line_request, line_answered}
-use Rattle.run_machine.specs.Tasks.{Todo, Taken, NoBio, HasBio, HasBoth, Carried, Empty, Brings, Carries, Fails, Duty, Resizes, Starts, Keeping, Keeps, Stops, TaskState, Writer, Rescuer, Completer, Keeper, request, answered}
+use Rattle.run_machine.specs.Tasks.{Todo, Gathered, NoBio, HasBio, HasBoth, Carried, Empty, Brings, Carries, Fails, Duty, Resizes, Starts, Keeping, Keeps, Stops, TaskState, Writer, Rescuer, Completer, Keeper, request, answered}
 use Rattle.task_steps.specs.Routed.{routing_setup}
 use Rattle.task_steps.specs.Stage.{Stage, has_book, has_rescuer, has_disk, is_pool, is_bios, is_vecs, is_slips, IsHome, ClosedFits, RequestFits, Owes}
 use Rattle.task_steps.specs.Within.{LineFits}
@@ -50,7 +50,7 @@ pub record TodoFits (stage : Stage) (todo : Todo) : Type 0 where
   pub number : todo.number < stage.writes
   pub few : todo.write.count ≤ 2048
 
-abbrev pub TakenIsHome : Stage → Taken → Type 0
+abbrev pub TakenIsHome : Stage → Gathered → Type 0
 TakenIsHome stage NoBio = Unit {0}
 TakenIsHome stage (HasBio bio) = IsHome stage is_bios bio.share
 TakenIsHome stage (HasBoth bio vector) = IsHome stage is_bios bio.share × IsHome stage is_vecs vector.share

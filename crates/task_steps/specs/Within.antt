@@ -12,7 +12,7 @@ use Rattle.bio_records.specs.declared.bio.Pad.{Pad}
 use Rattle.bio_records.specs.declared.tasks.TaskLists.{TaskLists}
 use Rattle.bio_records.specs.Items.{Item}
 use Rattle.task_steps.specs.declared.routes.Cut.{Cut}
-use Rattle.run_machine.specs.Scene.{number_of, keeps_data, is_mirror, setup_of}
+use Rattle.run_machine.specs.Scene.{tree_number, keeps_data, is_mirror, setup_of}
 use Rattle.run_machine.specs.Requests.{Request, Reply, Punt, Popped}
 use Rattle.run_machine.specs.Lines.{Ask, ToPush, ToCut, ToRecord, ToMaster, Doing, Rests, Drives, Copies, Breaks, Line, first_length, legs_of, settled, line_request, line_answered}
 use Rattle.run_machine.specs.Tasks.{Todo, TaskState, Writer, Rescuer, Completer, Keeper, request, answered}
@@ -39,7 +39,7 @@ first_cut (Leaf number sectors) range = None
 first_cut (Mirrored number sizes members) range = None
 first_cut (Split number kind sizes members) range =
     let to = slot kind sizes range.start in
-    Some (record { sectors = first_length kind sizes range; dev = record { 0 = number_of (members to.member) }; start = to.at })
+    Some (record { sectors = first_length kind sizes range; dev = record { 0 = tree_number (members to.member) }; start = to.at })
 
 -- whether a run is one piece at a device that cuts, which hands it on as it is, and whether it is more than one
 abbrev pub is_handed_on : Tree → Range → Bool

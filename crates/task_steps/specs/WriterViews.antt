@@ -9,8 +9,8 @@ use Rattle.run_machine.specs.declared.event.Breach.TheVariants as breach
 use Rattle.run_machine.specs.declared.event.TaskId.TheVariants as id
 use Rattle.task_steps.specs.declared.objects.Objects.{Ghosts}
 use Rattle.task_steps.specs.declared.step.Step.{Step}
-use Rattle.task_steps.specs.declared.writer.begin.Taken.{Taken as RealTaken}
-use Rattle.task_steps.specs.declared.writer.begin.Taken.TheVariants as taken
+use Rattle.task_steps.specs.declared.writer.begin.Gathered.{Gathered as RealTaken}
+use Rattle.task_steps.specs.declared.writer.begin.Gathered.TheVariants as taken
 use Rattle.task_steps.specs.declared.writer.begin.Attempt.{Attempt}
 use Rattle.task_steps.specs.declared.writer.begin.Attempt.TheVariants as attempt
 use Rattle.task_steps.specs.declared.writer.begin.Next.{Next}
@@ -19,7 +19,7 @@ use Rattle.run_machine.specs.Scene.{Setup}
 use Rattle.run_machine.specs.Requests.{Request, Reply, Opening, Write, TakeBio, TakeVec, Link, LinkedTo, Spent}
 use Rattle.run_machine.specs.Kept.{opening_kept}
 use Rattle.run_machine.specs.Lines.{Breaks, Line, refused}
-use Rattle.run_machine.specs.Tasks.{Todo, Taken, NoBio, HasBio, HasBoth, TaskState, Writer, filled_vector, write_answered, write_request}
+use Rattle.run_machine.specs.Tasks.{Todo, Gathered, NoBio, HasBio, HasBoth, TaskState, Writer, filled_vector, write_answered, write_request}
 use Rattle.task_steps.specs.Turns.{step_of}
 use Rattle.task_steps.specs.Routed.{Routing, routing_setup}
 use Rattle.task_steps.specs.Stage.{Owes, has_book}
@@ -31,14 +31,14 @@ use Rattle.task_steps.specs.Answers.{CallDoes, finds}
 pub record WriterState : Type 0 where
   pub number : ℕ
   pub todo : List Todo
-  pub taken : Taken
+  pub taken : Gathered
   pub line : Line
 
 abbrev pub writer_task : WriterState → TaskState
 writer_task w = Writer w.number w.todo w.taken w.line
 
 -- what it has taken
-abbrev pub taken_of : RealTaken → Taken
+abbrev pub taken_of : RealTaken → Gathered
 taken_of taken.NoBio = NoBio
 taken_of (taken.HasBio bio) = HasBio (item_of bio)
 taken_of (taken.HasBoth bio vector) = HasBoth (item_of bio) (vec_item vector)
@@ -74,7 +74,7 @@ IsNextAlone (next.Waits taken) = IsTakenAlone taken
 
 -- a writer outside of a submission has asked the objects for this, and goes on with their reply
 pub record WriteAnswers {S : Type 0} (serves : S → Request → Reply → S → Type 0) (owes : Request → Reply → Type 0) (setup : Setup) (number : ℕ)
-    (asked : Request) (todo : List Todo) (taken : Taken) (line : Line) (old : S) (next : TaskState) (new : S) (step : Step) : Type 0 where
+    (asked : Request) (todo : List Todo) (taken : Gathered) (line : Line) (old : S) (next : TaskState) (new : S) (step : Step) : Type 0 where
   pub reply : Reply
   pub replied : serves old asked reply new
   pub owed : owes asked reply
@@ -144,13 +144,13 @@ LinksWrite words routing number todo taken line old done after new =
     (Link number (Write todo.number (write_vector todo taken))) (todo ∷ later) (taken_of taken) line old (next_of done.0 number todo later after) new done.1) new
 
 -- one has asked for what its next write needs, for which it has taken this
-abbrev pub WriteGoesOn : {S : Type 0} → Ghosts S → Routing → ℕ → Todo → Taken → Line → S → Next × Step → Line → S → Type 0
+abbrev pub WriteGoesOn : {S : Type 0} → Ghosts S → Routing → ℕ → Todo → Gathered → Line → S → Next × Step → Line → S → Type 0
 WriteGoesOn words routing number todo taken line old done after new =
     CallDoes words old ((later : List Todo) → WriteAnswers words.serves (Owes (words.stage old)) (routing_setup routing) number
     (write_request number (todo ∷ later) taken) (todo ∷ later) taken line old (next_of done.0 number todo later after) new done.1) new
 
 -- whether it has taken a bio
-abbrev pub is_taken : Taken → Bool
+abbrev pub is_taken : Gathered → Bool
 is_taken NoBio = false
 is_taken (HasBio bio) = true
 is_taken (HasBoth bio vector) = true

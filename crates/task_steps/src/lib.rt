@@ -29,5 +29,5 @@ pub use submission::{Doing, DriverAsk, HandedBack, Kept, Line, Want};
 pub use task::{Kind, Task};
 pub use todo::{Todo, Todos};
 pub use writer::Writer;
-pub use writer::begin::Taken;
+pub use writer::begin::Gathered;
 pub use writer::first_bio::{first_bio, needs_vector};

@@ -20,7 +20,7 @@ use crate::routes::Routes;
 use crate::step::Step;
 use crate::submission::{Kept, Line};
 use crate::todo::{Todo, Todos};
-use crate::writer::begin::{Attempt, Next, Taken, go_on, take_bio};
+use crate::writer::begin::{Attempt, Gathered, Next, go_on, take_bio};
 use run_machine::{Breach, TaskId};
 use std::marker::Model;
 use std::mem;
@@ -30,7 +30,7 @@ use std::mem;
 pub struct Writer {
     number: u32,
     todo: Todos,
-    taken: Taken,
+    taken: Gathered,
     line: Line,
 }
 
@@ -52,7 +52,7 @@ impl Writer {
         Writer {
             number,
             todo,
-            taken: Taken::NoBio,
+            taken: Gathered::NoBio,
             line: Line::rests(),
         }
     }
@@ -93,7 +93,7 @@ impl Writer {
         requires some { is_taken self.old.taken ≡ true }
         ensures does { TaskDoes O.Objects routes.now (writer_task self.old) objects.old (writer_task self.new) objects.new result }
     {
-        let taken = mem::replace(&mut self.taken, Taken::NoBio);
+        let taken = mem::replace(&mut self.taken, Gathered::NoBio);
         let (next, step) = go_on(objects, routes, self.number, todo, taken, &mut self.line);
         self.put(next);
         step
@@ -110,7 +110,7 @@ impl Writer {
         ensures { writer_task self.new ≡ tried attempt self.old.number self.old.todo self.old.line }
     {
         match attempt {
-            Attempt::Had(bio) => self.taken = Taken::HasBio(bio),
+            Attempt::Had(bio) => self.taken = Gathered::HasBio(bio),
             Attempt::Missed => {}
             Attempt::Spent => self.line.breaks(Breach::Spent, Kept::nothing()),
         }
@@ -149,8 +149,8 @@ impl Writer {
         ensures { result ≡ is_taken self.now.taken }
     {
         match self.taken {
-            Taken::NoBio => false,
-            Taken::HasBio(_) | Taken::HasBoth(..) => true,
+            Gathered::NoBio => false,
+            Gathered::HasBio(_) | Gathered::HasBoth(..) => true,
         }
     }
 

@@ -26,13 +26,13 @@ use Rattle.run_machine.specs.declared.event.End.TheVariants as end
 use Rattle.run_machine.specs.declared.event.What.{What}
 use Rattle.run_machine.specs.declared.event.What.TheVariants as what
 use Rattle.run_machine.specs.declared.event.Event.{Event}
-use Rattle.trace_text.specs.Names.{HasDevice, HasPool, DevicesAreNamed, has_set, is_any, is_disk, is_mirror}
+use Rattle.trace_text.specs.Names.{HasDevice, HasPool, DevicesAreNamed, is_stacked_kind, is_any, is_disk_kind, is_mirror_kind}
 use Rattle.trace_text.specs.Lines.{Fits, IsEventOf, end_word, got_word, how_word, line_of_event, device_name, pool_word, status_word, task_word, what_words, words_of}
 use Rattle.trace_text.specs.Reading.{at_end, both, event_of, field, made, fixed_word, task_of_word, what_of}
 use Rattle.trace_text.specs.Laws.{IsEventLine, IsEventRead, is_line_byte}
 use Rattle.trace_text.proofs.NameLemmas.{any_of}
 use Rattle.trace_text.proofs.NameWords.{is_visible, list_all_follows, name_is_word}
-use Rattle.trace_text.proofs.NumberLemmas.{numerals}
+use Rattle.stack_base.proofs.NumeralLemmas.{numerals}
 use Rattle.trace_text.proofs.Readers.{made_again, made_takes, of_word, then}
 use Rattle.trace_text.proofs.TaskLemmas.{IsTask, task_is}
 use Rattle.trace_text.proofs.VerbLemmas.{IsWhat, what_is}
@@ -57,15 +57,15 @@ joined_unbroken a b first second = rw (list_all-append is_visible a b, first, se
 pool_unbroken : (stack : Stack) (pool : PoolId) → DevicesAreNamed stack → HasPool stack pool → is_unbroken (pool_word stack pool) ≡ true
 pool_unbroken stack FsBios named has = refl
 pool_unbroken stack FsVecs named has = refl
-pool_unbroken stack (Bios dev) named has = joined_unbroken (device_name stack dev) (codes ".bios") (name_unbroken stack dev named (any_of has_set stack dev has)) refl
+pool_unbroken stack (Bios dev) named has = joined_unbroken (device_name stack dev) (codes ".bios") (name_unbroken stack dev named (any_of is_stacked_kind stack dev has)) refl
 pool_unbroken stack (Records dev) named has =
-    joined_unbroken (device_name stack dev) (codes ".records") (name_unbroken stack dev named (any_of is_mirror stack dev has)) refl
+    joined_unbroken (device_name stack dev) (codes ".records") (name_unbroken stack dev named (any_of is_mirror_kind stack dev has)) refl
 
 task_unbroken : (stack : Stack) (one : TaskId) → DevicesAreNamed stack → IsTask stack one → is_unbroken (task_word stack one) ≡ true
 task_unbroken stack (task.Writer number) named is = joined_unbroken (codes "w") (decimal number) refl (number_unbroken number (omega (arith, is.1)))
 task_unbroken stack (task.Rescuer dev) named is = joined_unbroken (codes "r:") (device_name stack dev) refl (name_unbroken stack dev named is.0)
 task_unbroken stack (task.Completer disk) named is =
-    joined_unbroken (codes "c:") (device_name stack disk) refl (name_unbroken stack disk named (any_of is_disk stack disk is.0))
+    joined_unbroken (codes "c:") (device_name stack disk) refl (name_unbroken stack disk named (any_of is_disk_kind stack disk is.0))
 task_unbroken stack task.Keeper named is = refl
 
 got_unbroken : (one : Got) → is_unbroken (got_word one) ≡ true
@@ -105,9 +105,9 @@ what_unbroken stack (what.Give pool) named is = (refl, (pool_unbroken stack pool
 what_unbroken stack (what.Punt dev moved) named is = (refl, (name_unbroken stack dev named is.0, (number_unbroken moved is.1, tt)))
 what_unbroken stack (what.Pop dev) named is = (refl, (name_unbroken stack dev named is.0, tt))
 what_unbroken stack (what.Push disk at len leg) named is =
-    (refl, (name_unbroken stack disk named (any_of is_disk stack disk is.0), (number_unbroken at is.1.0, (number_unbroken len is.1.1, (refl, (short_unbroken leg is.1.2, tt))))))
+    (refl, (name_unbroken stack disk named (any_of is_disk_kind stack disk is.0), (number_unbroken at is.1.0, (number_unbroken len is.1.1, (refl, (short_unbroken leg is.1.2, tt))))))
 what_unbroken stack (what.Complete disk index status) named is =
-    (refl, (name_unbroken stack disk named (any_of is_disk stack disk is.0), (number_unbroken index is.1, (status_unbroken status, tt))))
+    (refl, (name_unbroken stack disk named (any_of is_disk_kind stack disk is.0), (number_unbroken index is.1, (status_unbroken status, tt))))
 what_unbroken stack (what.Link writer how node) named is = (refl, (short_unbroken writer is.1.0, (how_unbroken how, (short_unbroken node is.1.1, tt))))
 what_unbroken stack (what.Drop writer node status end) named is =
     (refl, (short_unbroken writer is.1.0, (short_unbroken node is.1.1, (status_unbroken status, (end_unbroken end, tt)))))

@@ -12,7 +12,7 @@ use Rattle.run_machine.specs.declared.event.How.TheVariants as how
 use Rattle.run_machine.specs.declared.event.End.TheVariants as end
 use Rattle.run_machine.specs.declared.event.What.TheVariants as what
 use Rattle.trace_text.specs.Lines.{line_of_event, device_name}
-use Rattle.trace_text.specs.Reading.{long_of, number_of, short_of}
+use Rattle.trace_text.specs.Reading.{long_of, plain_number, short_of}
 
 a : DevId
 a = record { 0 = 0 }
@@ -80,33 +80,33 @@ started stack = rw digit_1 refl
 
 -- numbers have no leading zero, digits alone, one at least, and end where their fields do
 plain : short_of (codes "10") ≡ Some 10
-unfolding number_of
+unfolding plain_number
 plain = refl
 
 led : short_of (codes "010") ≡ None
-unfolding number_of
+unfolding plain_number
 led = refl
 
 signed : short_of (codes "+1") ≡ None
-unfolding number_of
+unfolding plain_number
 signed = refl
 
 empty : short_of (codes "") ≡ None
-unfolding number_of
+unfolding plain_number
 empty = refl
 
 most_short : short_of (codes "4294967295") ≡ Some 4294967295
-unfolding number_of
+unfolding plain_number
 most_short = refl
 
 past_short : short_of (codes "4294967296") ≡ None
-unfolding number_of
+unfolding plain_number
 past_short = refl
 
 most_long : long_of (codes "18446744073709551615") ≡ Some 18446744073709551615
-unfolding number_of
+unfolding plain_number
 most_long = refl
 
 past_long : long_of (codes "18446744073709551616") ≡ None
-unfolding number_of
+unfolding plain_number
 past_long = refl

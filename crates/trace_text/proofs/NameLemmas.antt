@@ -14,7 +14,7 @@ use Rattle.stack_base.specs.declared.ids.DevId.{DevId}
 use Rattle.stack_base.specs.declared.stack.Kind.{Kind}
 use Rattle.stack_base.specs.declared.stack.Device.{Device}
 use Rattle.stack_base.specs.declared.stack.Stack.{Stack}
-use Rattle.trace_text.specs.Names.{DevicesAreNamed, HasDevice, has_device, is_any, is_disk}
+use Rattle.trace_text.specs.Names.{DevicesAreNamed, HasDevice, has_device, is_any, is_disk_kind}
 use Rattle.trace_text.specs.Lines.{device_name}
 use Rattle.trace_text.specs.Reading.{device_of, if_suits, disk_of}
 use Rattle.trace_text.proofs.Readers.{IsWord}
@@ -101,11 +101,11 @@ pub suited_again : (suits : Kind → Bool) (stack : Stack) (dev : DevId) → Dev
     → option_and_then (if_suits suits stack) (device_of stack (device_name stack dev)) ≡ Some dev
 suited_again suits stack dev named has = rw (device_again stack dev named (any_of suits stack dev has), has) refl
 
-pub disk_is : (stack : Stack) → DevicesAreNamed stack → IsWord (device_name stack) (HasDevice is_disk stack) (disk_of stack)
+pub disk_is : (stack : Stack) → DevicesAreNamed stack → IsWord (device_name stack) (HasDevice is_disk_kind stack) (disk_of stack)
 unfolding disk_of
 disk_is stack named = record {
-  again = λ dev has. suited_again is_disk stack dev named has;
+  again = λ dev has. suited_again is_disk_kind stack dev named has;
   takes = λ name dev e.
-      let some = suits_some is_disk stack (device_of stack name) dev e in
+      let some = suits_some is_disk_kind stack (device_of stack name) dev e in
       (some.1, (device_takes stack name dev some.0).1);
 }

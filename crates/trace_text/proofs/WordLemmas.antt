@@ -20,8 +20,8 @@ use Rattle.run_machine.specs.declared.event.End.TheVariants as end
 use Rattle.trace_text.specs.declared.verb.Verb.{Verb}
 use Rattle.trace_text.specs.declared.verb.Verb.TheVariants as verb
 use Rattle.trace_text.specs.Lines.{status_word, got_word, how_word, end_word}
-use Rattle.trace_text.specs.Reading.{with_word, all_verbs, verb_word, verb_of_word, all_statuses, status_of_word, all_gots, got_of_word, all_hows, how_of_word, all_ends, end_of_word, is_plain, number_of, fixed_word}
-use Rattle.trace_text.proofs.NumberLemmas.{AllAreDigits, numerals}
+use Rattle.trace_text.specs.Reading.{with_word, all_verbs, verb_word, verb_of_word, all_statuses, status_of_word, all_gots, got_of_word, all_hows, how_of_word, all_ends, end_of_word, is_plain, plain_number, fixed_word}
+use Rattle.stack_base.proofs.NumeralLemmas.{AllAreDigits, numerals}
 use Rattle.trace_text.proofs.Readers.{IsWord}
 
 -- what was found has the word
@@ -112,15 +112,15 @@ plain_decimal (suc n) small =
     let first : 48 < get_or (decimal (suc n)) 0 0 = first_decimal (suc n) (omega arith) small in
     plain_from (decimal (suc n)) some digits first
 
-number_again : (limit n : ℕ) → limit ≤ 2 ^ 64 → n < limit → number_of limit (decimal n) ≡ Some n
-unfolding number_of
+number_again : (limit n : ℕ) → limit ≤ 2 ^ 64 → n < limit → plain_number limit (decimal n) ≡ Some n
+unfolding plain_number
 number_again limit n most small =
     let plain : is_plain (decimal n) ≡ true = plain_decimal n (omega arith) in
     let value : digits_value 10 (decimal n) ≡ n = digits_value-decimal numerals n (omega arith) in
     rw (plain, value) (grind (arith, nat_tests))
 
-number_takes : (limit : ℕ) (word : List ℕ) (n : ℕ) → limit ≤ 2 ^ 64 → number_of limit word ≡ Some n → (n < limit) × (word ≡ decimal n)
-unfolding number_of
+number_takes : (limit : ℕ) (word : List ℕ) (n : ℕ) → limit ≤ 2 ^ 64 → plain_number limit word ≡ Some n → (n < limit) × (word ≡ decimal n)
+unfolding plain_number
 number_takes limit word n most e =
     let parts = cond_some (is_plain word && nat_lt (digits_value 10 word) limit) (digits_value 10 word) n e in
     let plain : is_plain word ≡ true = grind (arith, nat_tests) in
@@ -130,7 +130,7 @@ number_takes limit word n most e =
     let first : get_or word 0 0 ≡ 48 → length word ≡ 1 = grind (arith, nat_tests) in
     (subst (λ m. m < limit) parts.1 small, sym (decimal-digits_value numerals word digits some first (omega arith)) ∙ ap decimal parts.1)
 
-pub number_is : (limit : ℕ) → limit ≤ 2 ^ 64 → IsWord decimal (λ n. n < limit) (number_of limit)
+pub number_is : (limit : ℕ) → limit ≤ 2 ^ 64 → IsWord decimal (λ n. n < limit) (plain_number limit)
 number_is limit most = record {
   again = λ n small. number_again limit n most small;
   takes = λ word n e. number_takes limit word n most e;

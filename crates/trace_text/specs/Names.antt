@@ -10,7 +10,7 @@ use Rattle.stack_base.specs.declared.stack.Device.{Device}
 use Rattle.stack_base.specs.declared.stack.Stack.{Stack}
 use Rattle.decl_text.specs.Text.{is_name}
 use Rattle.decl_text.specs.declared.accepted.Accepted.{Accepted}
-pub use Rattle.run_machine.specs.Named.{is_disk, is_mirror, has_set, is_any, has_device, HasDevice, HasPool}
+pub use Rattle.run_machine.specs.Named.{is_disk_kind, is_mirror_kind, is_stacked_kind, is_any, has_device, HasDevice, HasPool}
 
 -- each device has a name, and no two have the same
 pub record DevicesAreNamed (stack : Stack) : Type 0 where

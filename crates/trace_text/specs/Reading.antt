@@ -26,7 +26,7 @@ use Rattle.run_machine.specs.declared.event.End.TheVariants as end
 use Rattle.run_machine.specs.declared.event.What.{What}
 use Rattle.run_machine.specs.declared.event.What.TheVariants as what
 use Rattle.run_machine.specs.declared.event.Event.{Event}
-use Rattle.trace_text.specs.Names.{has_device, has_set, is_disk, is_mirror}
+use Rattle.trace_text.specs.Names.{has_device, is_stacked_kind, is_disk_kind, is_mirror_kind}
 use Rattle.trace_text.specs.Lines.{status_word, got_word, how_word, end_word}
 use Rattle.trace_text.specs.declared.verb.Verb.{Verb}
 use Rattle.trace_text.specs.declared.verb.Verb.TheVariants as verb
@@ -117,14 +117,14 @@ abbrev pub is_plain : List ℕ → Bool
 is_plain word = nat_lt 0 (length word) && (not (slice_index_or word 0 0 == 48) || length word == 1) && list_all is_ascii_digit word
 
 -- the number below the limit that the word writes
-unfoldable pub number_of : ℕ → List ℕ → Option ℕ
-number_of limit word = if is_plain word && nat_lt (digits_value 10 word) limit then Some (digits_value 10 word) else None
+unfoldable pub plain_number : ℕ → List ℕ → Option ℕ
+plain_number limit word = if is_plain word && nat_lt (digits_value 10 word) limit then Some (digits_value 10 word) else None
 
 abbrev pub short_of : List ℕ → Option ℕ
-short_of word = number_of (2 ^ 32) word
+short_of word = plain_number (2 ^ 32) word
 
 abbrev pub long_of : List ℕ → Option ℕ
-long_of word = number_of (2 ^ 64) word
+long_of word = plain_number (2 ^ 64) word
 
 -- the device of this name
 unfoldable pub device_of : Stack → List ℕ → Option DevId
@@ -136,15 +136,15 @@ abbrev pub if_suits : (Kind → Bool) → Stack → DevId → Option DevId
 if_suits suits stack dev = if has_device suits stack dev.0 then Some dev else None
 
 unfoldable pub disk_of : Stack → List ℕ → Option DevId
-disk_of stack name = option_and_then (if_suits is_disk stack) (device_of stack name)
+disk_of stack name = option_and_then (if_suits is_disk_kind stack) (device_of stack name)
 
 -- the pool of bios of the device of this name
 unfoldable pub bios_of : Stack → List ℕ → Option PoolId
-bios_of stack name = option_map Bios (option_and_then (if_suits has_set stack) (device_of stack name))
+bios_of stack name = option_map Bios (option_and_then (if_suits is_stacked_kind stack) (device_of stack name))
 
 -- its pool of records
 unfoldable pub records_of : Stack → List ℕ → Option PoolId
-records_of stack name = option_map Records (option_and_then (if_suits is_mirror stack) (device_of stack name))
+records_of stack name = option_map Records (option_and_then (if_suits is_mirror_kind stack) (device_of stack name))
 
 abbrev pub fs_pool : List ℕ → Option PoolId
 fs_pool kept = if bytes_eq kept (codes "bios") then Some FsBios else (if bytes_eq kept (codes "vecs") then Some FsVecs else None)

@@ -4,7 +4,7 @@ ghost use Rattle.std.specs.Option.{option_map};
 ghost use Rattle.std.specs.List.{list_all};
 ghost use Rattle.std.specs.Char.{is_ascii_digit};
 ghost use Rattle.std.specs.Str.{bytes_eq};
-ghost use Rattle.trace_text.specs.Names.{is_disk, is_mirror};
+ghost use Rattle.trace_text.specs.Names.{is_disk_kind, is_mirror_kind};
 ghost use Rattle.trace_text.specs.Reading.{past_front, bios_of, completer_of_word, device_of, device_pool, disk_of, fs_pool, is_dot, is_plain, long_of, pool_of, records_of, rescuer_of_word, short_of, task_of_word, writer_of_word};
 
 use run_machine::TaskId;
@@ -39,7 +39,7 @@ fn digits_text(word: &[u8]) -> &str
 }
 
 /// The number of 32 bits that the word writes in decimal, without leading zeros.
-#[tactic(auto, unfolding(crate::specs::Reading::number_of))]
+#[tactic(auto, unfolding(crate::specs::Reading::plain_number))]
 pub(crate) fn short_of(word: &[u8]) -> Option<u32>
     ensures { result ≡ short_of word.now }
 {
@@ -50,7 +50,7 @@ pub(crate) fn short_of(word: &[u8]) -> Option<u32>
 }
 
 /// The number of 64 bits that the word writes in decimal, without leading zeros.
-#[tactic(auto, unfolding(crate::specs::Reading::number_of))]
+#[tactic(auto, unfolding(crate::specs::Reading::plain_number))]
 pub(crate) fn long_of(word: &[u8]) -> Option<u64>
     ensures { result ≡ long_of word.now }
 {
@@ -60,14 +60,14 @@ pub(crate) fn long_of(word: &[u8]) -> Option<u64>
     digits_text(word).parse().ok()
 }
 
-fn is_disk(kind: &Kind) -> bool
-    ensures { result ≡ is_disk kind.now }
+fn is_disk_kind(kind: &Kind) -> bool
+    ensures { result ≡ is_disk_kind kind.now }
 {
     matches!(kind, Kind::Disk { .. })
 }
 
-fn is_mirror(kind: &Kind) -> bool
-    ensures { result ≡ is_mirror kind.now }
+fn is_mirror_kind(kind: &Kind) -> bool
+    ensures { result ≡ is_mirror_kind kind.now }
 {
     matches!(kind, Kind::Mirror { .. })
 }
@@ -100,7 +100,7 @@ pub(crate) fn disk_of(stack: &Stack, name: &[u8]) -> Option<DevId>
     ensures { result ≡ disk_of stack.now name.now }
 {
     let dev = device_of(stack, name)?;
-    if is_disk(&stack.devices[dev.0 as usize].kind) {
+    if is_disk_kind(&stack.devices[dev.0 as usize].kind) {
         Some(dev)
     } else {
         None
@@ -114,7 +114,7 @@ fn bios_of(stack: &Stack, name: &[u8]) -> Option<PoolId>
     ensures { result ≡ bios_of stack.now name.now }
 {
     let dev = device_of(stack, name)?;
-    if is_disk(&stack.devices[dev.0 as usize].kind) {
+    if is_disk_kind(&stack.devices[dev.0 as usize].kind) {
         None
     } else {
         Some(PoolId::Bios(dev))
@@ -128,7 +128,7 @@ fn records_of(stack: &Stack, name: &[u8]) -> Option<PoolId>
     ensures { result ≡ records_of stack.now name.now }
 {
     let dev = device_of(stack, name)?;
-    if is_mirror(&stack.devices[dev.0 as usize].kind) {
+    if is_mirror_kind(&stack.devices[dev.0 as usize].kind) {
         Some(PoolId::Records(dev))
     } else {
         None

@@ -11,10 +11,10 @@ use run_machine::{End, Event, Got, How, TaskId, What};
 use stack_base::{DevId, PoolId, Stack, Status};
 
 // A line as it is written. The longest one has 103 bytes.
-type Line = ArrayVec<u8, 128>;
+type LineBytes = ArrayVec<u8, 128>;
 
 // A blank and a word.
-fn put(into: &mut Line, word: &[u8])
+fn put(into: &mut LineBytes, word: &[u8])
     requires { length into.old.items + 1 + length word.now ≤ 128 }
     ensures items { into.new.items ≡ into.old.items ++ 32 ∷ word.now }
     ensures len { length into.new.items ≡ length into.old.items + 1 + length word.now }
@@ -24,7 +24,7 @@ fn put(into: &mut Line, word: &[u8])
 }
 
 // A blank and a word of two parts.
-fn put_joined(into: &mut Line, front: &[u8], back: &[u8])
+fn put_joined(into: &mut LineBytes, front: &[u8], back: &[u8])
     requires { length into.old.items + 1 + length front.now + length back.now ≤ 128 }
     ensures items { into.new.items ≡ into.old.items ++ 32 ∷ (front.now ++ back.now) }
     ensures len { length into.new.items ≡ length into.old.items + 1 + length front.now + length back.now }
@@ -34,7 +34,7 @@ fn put_joined(into: &mut Line, front: &[u8], back: &[u8])
 }
 
 // A blank and a number.
-fn put_number(into: &mut Line, number: u64)
+fn put_number(into: &mut LineBytes, number: u64)
     requires { length into.old.items ≤ 107 }
     ensures items { into.new.items ≡ into.old.items ++ 32 ∷ decimal number }
     ensures len { length into.new.items ≤ length into.old.items + 21 }
@@ -55,7 +55,7 @@ fn device_name(stack: &Stack, dev: DevId) -> &[u8]
 }
 
 // A blank and the name of a device.
-fn put_device(into: &mut Line, stack: &Stack, dev: DevId)
+fn put_device(into: &mut LineBytes, stack: &Stack, dev: DevId)
     requires { length into.old.items ≤ 111 }
     ensures items { into.new.items ≡ into.old.items ++ 32 ∷ device_name stack.now dev }
     ensures len { length into.new.items ≤ length into.old.items + 17 }
@@ -64,7 +64,7 @@ fn put_device(into: &mut Line, stack: &Stack, dev: DevId)
 }
 
 // A blank and the name of a pool.
-fn put_pool(into: &mut Line, stack: &Stack, pool: PoolId)
+fn put_pool(into: &mut LineBytes, stack: &Stack, pool: PoolId)
     requires { length into.old.items ≤ 103 }
     ensures items { into.new.items ≡ into.old.items ++ 32 ∷ pool_word stack.now pool }
     ensures len { length into.new.items ≤ length into.old.items + 25 }
@@ -78,7 +78,7 @@ fn put_pool(into: &mut Line, stack: &Stack, pool: PoolId)
 }
 
 // A blank and the word of a task.
-fn put_task(into: &mut Line, stack: &Stack, task: TaskId)
+fn put_task(into: &mut LineBytes, stack: &Stack, task: TaskId)
     requires { length into.old.items ≤ 100 }
     ensures items { into.new.items ≡ into.old.items ++ 32 ∷ task_word stack.now task }
     ensures len { length into.new.items ≤ length into.old.items + 22 }
@@ -96,7 +96,7 @@ fn put_task(into: &mut Line, stack: &Stack, task: TaskId)
 
 // Each of the following puts what a task did.
 
-fn take(into: &mut Line, stack: &Stack, pool: PoolId, got: Got)
+fn take(into: &mut LineBytes, stack: &Stack, pool: PoolId, got: Got)
     requires { length into.old.items ≤ 27 }
     ensures { into.new.items ≡ into.old.items ++ spaced (what_words stack.now (what.Take pool got)) }
 {
@@ -105,7 +105,7 @@ fn take(into: &mut Line, stack: &Stack, pool: PoolId, got: Got)
     put(into, got_word(got));
 }
 
-fn try_take(into: &mut Line, stack: &Stack, pool: PoolId, got: Got)
+fn try_take(into: &mut LineBytes, stack: &Stack, pool: PoolId, got: Got)
     requires { length into.old.items ≤ 27 }
     ensures { into.new.items ≡ into.old.items ++ spaced (what_words stack.now (what.Try pool got)) }
 {
@@ -114,7 +114,7 @@ fn try_take(into: &mut Line, stack: &Stack, pool: PoolId, got: Got)
     put(into, got_word(got));
 }
 
-fn give(into: &mut Line, stack: &Stack, pool: PoolId)
+fn give(into: &mut LineBytes, stack: &Stack, pool: PoolId)
     requires { length into.old.items ≤ 27 }
     ensures { into.new.items ≡ into.old.items ++ spaced (what_words stack.now (what.Give pool)) }
 {
@@ -122,7 +122,7 @@ fn give(into: &mut Line, stack: &Stack, pool: PoolId)
     put_pool(into, stack, pool);
 }
 
-fn punt(into: &mut Line, stack: &Stack, dev: DevId, moved: u64)
+fn punt(into: &mut LineBytes, stack: &Stack, dev: DevId, moved: u64)
     requires { length into.old.items ≤ 27 }
     ensures { into.new.items ≡ into.old.items ++ spaced (what_words stack.now (what.Punt dev moved)) }
 {
@@ -131,7 +131,7 @@ fn punt(into: &mut Line, stack: &Stack, dev: DevId, moved: u64)
     put_number(into, moved);
 }
 
-fn pop(into: &mut Line, stack: &Stack, dev: DevId)
+fn pop(into: &mut LineBytes, stack: &Stack, dev: DevId)
     requires { length into.old.items ≤ 27 }
     ensures { into.new.items ≡ into.old.items ++ spaced (what_words stack.now (what.Pop dev)) }
 {
@@ -139,7 +139,7 @@ fn pop(into: &mut Line, stack: &Stack, dev: DevId)
     put_device(into, stack, dev);
 }
 
-fn push(into: &mut Line, stack: &Stack, disk: DevId, at: u64, len: u64, leg: u32)
+fn push(into: &mut LineBytes, stack: &Stack, disk: DevId, at: u64, len: u64, leg: u32)
     requires { length into.old.items ≤ 27 }
     ensures { into.new.items ≡ into.old.items ++ spaced (what_words stack.now (what.Push disk at len leg)) }
 {
@@ -151,7 +151,7 @@ fn push(into: &mut Line, stack: &Stack, disk: DevId, at: u64, len: u64, leg: u32
     put_number(into, u64::from(leg));
 }
 
-fn complete(into: &mut Line, stack: &Stack, disk: DevId, index: u64, status: Status)
+fn complete(into: &mut LineBytes, stack: &Stack, disk: DevId, index: u64, status: Status)
     requires { length into.old.items ≤ 27 }
     ensures { into.new.items ≡ into.old.items ++ spaced (what_words stack.now (what.Complete disk index status)) }
 {
@@ -161,7 +161,7 @@ fn complete(into: &mut Line, stack: &Stack, disk: DevId, index: u64, status: Sta
     put(into, status_word(status));
 }
 
-fn link(into: &mut Line, writer: u32, how: How, node: u32)
+fn link(into: &mut LineBytes, writer: u32, how: How, node: u32)
     requires { length into.old.items ≤ 27 }
     ensures { into.new.items ≡ into.old.items ++ spaced (codes "link" ∷ decimal writer ∷ how_word how ∷ decimal node ∷ []) }
 {
@@ -171,7 +171,7 @@ fn link(into: &mut Line, writer: u32, how: How, node: u32)
     put_number(into, u64::from(node));
 }
 
-fn drop_node(into: &mut Line, writer: u32, node: u32, status: Status, end: End)
+fn drop_node(into: &mut LineBytes, writer: u32, node: u32, status: Status, end: End)
     requires { length into.old.items ≤ 27 }
     ensures { into.new.items ≡ into.old.items ++ spaced (codes "drop" ∷ decimal writer ∷ decimal node ∷ status_word status ∷ end_word end ∷ []) }
 {
@@ -182,7 +182,7 @@ fn drop_node(into: &mut Line, writer: u32, node: u32, status: Status, end: End)
     put(into, end_word(end));
 }
 
-fn done(into: &mut Line, write: u32, status: Status)
+fn done(into: &mut LineBytes, write: u32, status: Status)
     requires { length into.old.items ≤ 27 }
     ensures { into.new.items ≡ into.old.items ++ spaced (codes "done" ∷ decimal write ∷ status_word status ∷ []) }
 {
@@ -191,7 +191,7 @@ fn done(into: &mut Line, write: u32, status: Status)
     put(into, status_word(status));
 }
 
-fn resize(into: &mut Line, stack: &Stack, pool: PoolId, min: u32)
+fn resize(into: &mut LineBytes, stack: &Stack, pool: PoolId, min: u32)
     requires { length into.old.items ≤ 27 }
     ensures { into.new.items ≡ into.old.items ++ spaced (what_words stack.now (what.Resize pool min)) }
 {
@@ -200,7 +200,7 @@ fn resize(into: &mut Line, stack: &Stack, pool: PoolId, min: u32)
     put_number(into, u64::from(min));
 }
 
-fn round_starts(into: &mut Line, round: u32)
+fn round_starts(into: &mut LineBytes, round: u32)
     requires { length into.old.items ≤ 27 }
     ensures { into.new.items ≡ into.old.items ++ spaced (codes "round" ∷ decimal round ∷ []) }
 {
@@ -209,7 +209,7 @@ fn round_starts(into: &mut Line, round: u32)
 }
 
 // What a task did.
-fn put_what(into: &mut Line, stack: &Stack, what: What)
+fn put_what(into: &mut LineBytes, stack: &Stack, what: What)
     requires { length into.old.items ≤ 27 }
     ensures { into.new.items ≡ into.old.items ++ spaced (what_words stack.now what) }
 {

@@ -2,7 +2,7 @@
 ghost use Rattle.std.specs.Prelude.{◌≡◌};
 ghost use Rattle.work_text.specs.Lines.{CanStandAt, HasSectors, IsToldWork, Tells, item_of};
 
-use decl_text::{Item, Line, LineFault, Stand, Word, is_blank_line};
+use decl_text::{Item, LineFault, Stand, TextLine, Word, is_blank_line};
 use stack_base::Range;
 use std::alloc::Global;
 
@@ -41,7 +41,7 @@ pub(crate) fn told_by<'a>(
     if is_blank_line(bytes) {
         return Ok(None);
     }
-    let line = Line::of(alloc, bytes)?;
+    let line = TextLine::of(alloc, bytes)?;
     match line.said(alloc, stand)? {
         None => Ok(None),
         Some(item) => Ok(Some(work_of(item))),

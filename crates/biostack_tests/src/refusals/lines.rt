@@ -1,7 +1,7 @@
 //! Texts with a wrong line, by its reason, each with the line.
-use crate::refusals::Line;
+use crate::refusals::RefusedText;
 
-pub const BAD_NUMBERS: &[Line] = &[
+pub const BAD_NUMBERS: &[RefusedText] = &[
     ("disk a x\n", 1),
     ("disk a -1\n", 1),
     ("disk a +64\n", 1),
@@ -42,7 +42,7 @@ pub const BAD_NUMBERS: &[Line] = &[
     ("disk a 64\nwrite 0 a 0 1 0\nwrite 0 a 1 0 0\n", 3),
 ];
 
-pub const NAMES_TAKEN: &[Line] = &[
+pub const NAMES_TAKEN: &[RefusedText] = &[
     ("disk a 64\ndisk a 64\n", 2),
     ("disk a 64\ndisk b 64\ndisk a 8\n", 3),
     ("disk a 64\ndisk b 64\nmirror b a\n", 3),
@@ -61,7 +61,7 @@ pub const NAMES_TAKEN: &[Line] = &[
     ),
 ];
 
-pub const NO_DEVICES: &[Line] = &[
+pub const NO_DEVICES: &[RefusedText] = &[
     ("linear n a\n", 1),
     ("linear n a\ndisk a 64\n", 1),
     ("disk a 64\nlinear n a b\n", 2),
@@ -82,7 +82,7 @@ pub const NO_DEVICES: &[Line] = &[
     ("disk a 64\nwrite 0 a 0 1 0\n\nwrite 0 b 1 1 0\n", 4),
 ];
 
-pub const MEMBERS_TAKEN: &[Line] = &[
+pub const MEMBERS_TAKEN: &[RefusedText] = &[
     ("disk a 64\nstripe s chunk=8 a a\n", 2),
     ("disk a 64\nmirror m a a\n", 2),
     ("disk a 64\ndisk b 64\nlinear n a b a\n", 3),
@@ -92,7 +92,7 @@ pub const MEMBERS_TAKEN: &[Line] = &[
     ("disk a 64\nlinear n a\nlinear o n\nlinear p n\n", 4),
 ];
 
-pub const BAD_SHAPES: &[Line] = &[
+pub const BAD_SHAPES: &[RefusedText] = &[
     ("linear n\n", 1),
     ("linear n reserve=2 rescuer=no\n", 1),
     ("stripe s chunk=8\n", 1),
@@ -105,7 +105,7 @@ pub const BAD_SHAPES: &[Line] = &[
     ("disk a 8\nlimit l max=1 a\nbad l 0 1 medium\n", 3),
 ];
 
-pub const TOO_LARGE: &[Line] = &[
+pub const TOO_LARGE: &[RefusedText] = &[
     ("disk a 262145\n", 1),
     ("disk a 262144\ndisk b 1\n", 2),
     ("disk a 131072\ndisk b 131072\ndisk c 1\n", 3),
@@ -126,7 +126,7 @@ pub const TOO_LARGE: &[Line] = &[
     ("fs vecs=4294967297\n", 1),
 ];
 
-pub const EMPTY_DEVICES: &[Line] = &[
+pub const EMPTY_DEVICES: &[RefusedText] = &[
     ("disk a 0\n", 1),
     ("disk a 8\ndisk b 000\n", 2),
     ("disk a 7\nstripe s chunk=8 a\n", 2),
@@ -136,7 +136,7 @@ pub const EMPTY_DEVICES: &[Line] = &[
     ("disk a 9\ndisk b 9\nmirror m a b\nstripe s chunk=10 m\n", 4),
 ];
 
-pub const RESERVES_ZERO: &[Line] = &[
+pub const RESERVES_ZERO: &[RefusedText] = &[
     ("disk a 8\nlinear n reserve=0 a\n", 2),
     ("disk a 8\nstripe s reserve=00 chunk=8 a\n", 2),
     ("disk a 8\nlimit l max=1 a reserve=0\n", 2),
@@ -146,7 +146,7 @@ pub const RESERVES_ZERO: &[Line] = &[
     ("fs bios=1 vecs=0\n", 1),
 ];
 
-pub const RESCUERS_MISSING: &[Line] = &[
+pub const RESCUERS_MISSING: &[RefusedText] = &[
     ("disk a 8\ndisk b 8\nmirror m a b rescuer=no\n", 3),
     (
         "disk a 8\ndisk b 8\nmirror m a b reserve=1 records=1 rescuer=no\nmemory none\nwrite 0 m 0 1 0\n",
@@ -162,7 +162,7 @@ pub const RESCUERS_MISSING: &[Line] = &[
     ),
 ];
 
-pub const NOT_TOPS: &[Line] = &[
+pub const NOT_TOPS: &[RefusedText] = &[
     ("disk a 64\nlinear n a\nwrite 0 a 0 1 0\n", 3),
     (
         "disk a 64\nlimit l max=1 a\nmirror m l\nwrite 0 l 0 1 0\n",
@@ -178,7 +178,7 @@ pub const NOT_TOPS: &[Line] = &[
     ),
 ];
 
-pub const PAST_ENDS: &[Line] = &[
+pub const PAST_ENDS: &[RefusedText] = &[
     ("disk a 64\nwrite 0 a 64 1 5\n", 2),
     ("disk a 64\nwrite 0 a 60 5 0\n", 2),
     ("disk a 64\nwrite 0 a 18446744073709551615 1 0\n", 2),
@@ -203,7 +203,7 @@ pub const PAST_ENDS: &[Line] = &[
     ("disk a 8\nlimit l max=1 a\nwrite 0 l 8 1 0\n", 3),
 ];
 
-pub const OVERLAPS: &[Line] = &[
+pub const OVERLAPS: &[RefusedText] = &[
     ("disk a 64\nwrite 0 a 0 8 0\nwrite 1 a 7 2 0\n", 3),
     ("disk a 64\nwrite 0 a 8 8 0\nwrite 0 a 7 2 0\n", 3),
     ("disk a 64\nwrite 0 a 5 1 0\nwrite 0 a 5 1 0\n", 3),
@@ -219,7 +219,7 @@ pub const OVERLAPS: &[Line] = &[
     ),
 ];
 
-pub const TOO_MANY_SEGMENTS: &[Line] = &[
+pub const TOO_MANY_SEGMENTS: &[RefusedText] = &[
     ("disk a 4096\nwrite 0 a 0 2049 0\n", 2),
     (
         "disk a 4097\nwrite 0 a 0 2048 0\nwrite 0 a 2048 2049 0\n",
@@ -229,7 +229,7 @@ pub const TOO_MANY_SEGMENTS: &[Line] = &[
     ("disk a 262144\nwrite 0 a 0 262144 0\n", 2),
 ];
 
-pub const NO_POOLS: &[Line] = &[
+pub const NO_POOLS: &[RefusedText] = &[
     ("script a.bios + +\n", 1),
     ("disk a 64\nscript a.bios + +\n", 2),
     ("disk a 64\nscript a.records + +\n", 2),

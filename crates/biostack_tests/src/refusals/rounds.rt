@@ -1,9 +1,9 @@
 //! Texts with wrong `sync` and `resize` lines.
 use crate::made::Part;
-use crate::refusals::{Fault, Line};
+use crate::refusals::{Fault, RefusedText};
 
 /// Wrong words, and lines that may not stand where they do.
-pub const BAD_WORDS: &[Line] = &[
+pub const BAD_WORDS: &[RefusedText] = &[
     ("sync 1\n", 1),
     ("sync sync\n", 1),
     ("sync x=1\n", 1),
@@ -34,14 +34,14 @@ pub const BAD_WORDS: &[Line] = &[
     ("disk a 8\nsync\nresize fs.bios 2\nbad a 0 1 io\n", 4),
 ];
 
-pub const BAD_NUMBERS: &[Line] = &[
+pub const BAD_NUMBERS: &[RefusedText] = &[
     ("sync\nresize fs.bios x\n", 2),
     ("sync\nresize fs.bios -1\n", 2),
     ("sync\nresize fs.bios 18446744073709551616\n", 2),
     ("sync\nresize nowhere 2a\n", 2),
 ];
 
-pub const NAMES_TAKEN: &[Line] = &[
+pub const NAMES_TAKEN: &[RefusedText] = &[
     ("sync\nresize fs.bios 2\nresize fs.bios 2\n", 3),
     (
         "sync\nresize fs.bios 2\n\n# more\nresize fs.vecs 3\nresize fs.bios 4\n",
@@ -53,7 +53,7 @@ pub const NAMES_TAKEN: &[Line] = &[
     ),
 ];
 
-pub const TOO_LARGE: &[Line] = &[
+pub const TOO_LARGE: &[RefusedText] = &[
     ("sync\nresize fs.bios 1025\n", 2),
     ("sync\nresize fs.vecs 18446744073709551615\n", 2),
     (
@@ -62,7 +62,7 @@ pub const TOO_LARGE: &[Line] = &[
     ),
 ];
 
-pub const RESERVES_ZERO: &[Line] = &[
+pub const RESERVES_ZERO: &[RefusedText] = &[
     ("sync\nresize fs.bios 0\n", 2),
     ("sync\nresize fs.vecs 00\n", 2),
     (
@@ -71,14 +71,14 @@ pub const RESERVES_ZERO: &[Line] = &[
     ),
 ];
 
-pub const NO_POOLS: &[Line] = &[
+pub const NO_POOLS: &[RefusedText] = &[
     ("sync\nresize a.bios 2\n", 2),
     ("disk a 8\nsync\nresize a.bios 1\n", 3),
     ("disk a 8\nlinear n a\nsync\nresize n.records 2\n", 4),
     ("disk a 8\nsync\nresize fs 2\n", 3),
 ];
 
-pub const OVERLAPS: &[Line] = &[
+pub const OVERLAPS: &[RefusedText] = &[
     ("disk a 8\nwrite 0 a 0 2 0\nwrite 1 a 1 2 1000\n", 3),
     (
         "disk a 8\nwrite 0 a 0 2 0\nsync\nwrite 1 a 1 2 0\nwrite 2 a 2 1 0\n",

@@ -1,8 +1,8 @@
 //! Texts with a wrong word, each with the line of it.
-use crate::refusals::Line;
+use crate::refusals::RefusedText;
 
 /// A first word that is none, or too few words or too many.
-pub const WORD_COUNTS: &[Line] = &[
+pub const WORD_COUNTS: &[RefusedText] = &[
     ("disc a 64\n", 1),
     ("Disk a 64\n", 1),
     ("diska 64\n", 1),
@@ -34,7 +34,7 @@ pub const WORD_COUNTS: &[Line] = &[
 ];
 
 /// An option that is unknown for its line, stands twice or is missing.
-pub const OPTIONS: &[Line] = &[
+pub const OPTIONS: &[RefusedText] = &[
     ("disk a x=3\n", 1),
     ("disk x=a 64\n", 1),
     ("disk a 64 reserve=2\n", 1),
@@ -79,7 +79,7 @@ pub const OPTIONS: &[Line] = &[
 ];
 
 /// A name that is none, or a word that is not one of a few.
-pub const WORDS: &[Line] = &[
+pub const WORDS: &[RefusedText] = &[
     ("disk a2345678901234567 64\n", 1),
     ("disk 1a 64\n", 1),
     ("disk 1 64\n", 1),
@@ -114,7 +114,7 @@ pub const WORDS: &[Line] = &[
 ];
 
 /// A declaration behind a write.
-pub const BEHIND_A_WRITE: &[Line] = &[
+pub const BEHIND_A_WRITE: &[RefusedText] = &[
     ("disk a 64\nwrite 0 a 0 1 0\ndisk b 64\n", 3),
     ("disk a 64\nwrite 0 a 0 1 0\nbad a 0 1 io\n", 3),
     ("disk a 64\ndisk b 64\nwrite 0 a 0 1 0\nlinear n b\n", 4),

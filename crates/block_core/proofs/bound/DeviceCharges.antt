@@ -19,7 +19,7 @@ use Rattle.bio_records.specs.declared.bio.Pad.{Pad}
 use Rattle.bio_records.specs.Items.{Item}
 use Rattle.bio_split.specs.Split.{split_rest}
 use Rattle.bio_books.specs.Books.{SlipItem}
-use Rattle.run_machine.specs.Scene.{Setup, tree_at, number_of, setup_of}
+use Rattle.run_machine.specs.Scene.{Setup, tree_at, tree_number, setup_of}
 use Rattle.run_machine.specs.Lines.{Want, ToPush, ToCut, ToMaster, first_length, landed, legs_of, leg_at}
 use Rattle.block_core.specs.Charges.{run_charge, run_at, leg_charge}
 use Rattle.block_core.specs.Payers.{Record, PieceBio, Fragment, Paid, cost}
@@ -136,10 +136,10 @@ module _ (price : Paid → ℕ) (stack : Stack) (good : IsStack stack) (places :
           let within = run.within in
           let ne : n ≢ range.len = λ q. search (many, q, arith) in
           let fewer : n < range.len = omega (arith, ne, within) in
-          let dev : number_of (members (slot device.kind sizes range.start).member) ≡ to.dev.0 = ap number_of to.is ∙ number_of_tree stack to.dev.0 in
-          let same : tree stack (number_of (members (slot device.kind sizes range.start).member)) ≡ members (slot device.kind sizes range.start).member = ap (tree stack) dev ∙ sym to.is in
+          let dev : tree_number (members (slot device.kind sizes range.start).member) ≡ to.dev.0 = ap tree_number to.is ∙ number_of_tree stack to.dev.0 in
+          let same : tree stack (tree_number (members (slot device.kind sizes range.start).member)) ≡ members (slot device.kind sizes range.start).member = ap (tree stack) dev ∙ sym to.is in
           let at : ℕ = (slot device.kind sizes range.start).at in
-          let child : run_charge price (tree stack (number_of (members (slot device.kind sizes range.start).member))) at n ≡ run_charge price (members (slot device.kind sizes range.start).member) at n =
+          let child : run_charge price (tree stack (tree_number (members (slot device.kind sizes range.start).member))) at n ≡ run_charge price (members (slot device.kind sizes range.start).member) at n =
           ap (λ t. run_charge price t at n) same in
           let both = charge_more price bio.bio.dev.0 device.kind sizes members range.start range.len n (is_cut_of bio.bio.dev.0 device found e) refl fewer in
           omega (arith, child, both))

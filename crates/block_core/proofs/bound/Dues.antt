@@ -16,7 +16,7 @@ use Rattle.bio_books.specs.declared.node.Role.TheVariants as role
 use Rattle.bio_books.specs.Books.{Node, SlipItem, later_part}
 use Rattle.run_machine.specs.Scene.{Setup, tree_at}
 use Rattle.run_machine.specs.Lines.{copies, legs_of}
-use Rattle.run_machine.specs.Tasks.{Todo, Taken, NoBio, HasBio, HasBoth, Carried, Empty, Brings, Carries, Fails}
+use Rattle.run_machine.specs.Tasks.{Todo, Gathered, NoBio, HasBio, HasBoth, Carried, Empty, Brings, Carries, Fails}
 use Rattle.block_core.specs.Weights.{Weight, Spot, Lined, Rescued, Pending, Brought, line_weight, carried_weight}
 use Rattle.block_core.specs.Charges.{there}
 use Rattle.block_core.specs.Fragments.{todo_fragments, legs_come, leg_fragments}
@@ -56,7 +56,7 @@ todo_run setup todo = 4 * needed (tree_at setup todo.write.dev) todo.write.start
 abbrev pub write_due : Setup → Todo → ℕ
 write_due setup todo = 4 + 2 * vectors todo.write.count + todo_run setup todo
 
-abbrev pub todos_due : Setup → List Todo → Taken → ℕ
+abbrev pub todos_due : Setup → List Todo → Gathered → ℕ
 todos_due setup [] taken = 0
 todos_due setup (todo ∷ later) NoBio = write_due setup todo + sum_by (write_due setup) later
 todos_due setup (todo ∷ later) (HasBio bio) = write_due setup todo + sum_by (write_due setup) later

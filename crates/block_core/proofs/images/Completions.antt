@@ -15,7 +15,7 @@ use Rattle.run_machine.specs.Events.{what_of}
 use Rattle.run_machine.specs.Maps.{upd}
 use Rattle.run_machine.specs.Scene.{Setup, Scene}
 use Rattle.run_machine.specs.Lines.{Takes, Punts as WantsPunt, Links, ToPush, ToCut, ToRecord, ToMaster, Doing, Rests, Drives, Copies, Breaks, Line, line_request}
-use Rattle.run_machine.specs.Tasks.{TaskState, Writer, Rescuer, Completer, Keeper, Keeping, Keeps, Stops, Resizes, Starts, Todo, Taken, NoBio, HasBio, HasBoth, Carried, Empty, Brings, Carries, Fails, request, answered, closed_request, with_bio, needs_vector, write_request, writer_request}
+use Rattle.run_machine.specs.Tasks.{TaskState, Writer, Rescuer, Completer, Keeper, Keeping, Keeps, Stops, Resizes, Starts, Todo, Gathered, NoBio, HasBio, HasBoth, Carried, Empty, Brings, Carries, Fails, request, answered, closed_request, with_bio, needs_vector, write_request, writer_request}
 use Rattle.run_machine.specs.Requests as requests
 use Rattle.run_machine.specs.Requests.{Request, Reply}
 use Rattle.run_machine.specs.Runs.{State, Steps}
@@ -48,7 +48,7 @@ line_other setup (Copies bio master leg (Takes waits)) lists = tt
 line_other setup (Copies bio master leg WantsPunt) lists = tt
 line_other setup (Copies bio master leg (Links hand)) lists = tt
 
-write_other : (writer : ℕ) (todos : List Todo) (taken : Taken) → IsOther (write_request writer todos taken)
+write_other : (writer : ℕ) (todos : List Todo) (taken : Gathered) → IsOther (write_request writer todos taken)
 write_other writer [] taken = tt
 write_other writer (todo ∷ later) NoBio = tt
 write_other writer (todo ∷ later) (HasBio bio) = by_need (needs_vector todo.write)
@@ -58,7 +58,7 @@ write_other writer (todo ∷ later) (HasBio bio) = by_need (needs_vector todo.wr
     by_need false = tt
 write_other writer (todo ∷ later) (HasBoth bio vector) = tt
 
-writer_other : (setup : Setup) (writer : ℕ) (todos : List Todo) (taken : Taken) (doing : Doing) (line : Line) → IsOther (writer_request setup writer todos taken doing line)
+writer_other : (setup : Setup) (writer : ℕ) (todos : List Todo) (taken : Gathered) (doing : Doing) (line : Line) → IsOther (writer_request setup writer todos taken doing line)
 writer_other setup writer todos taken Rests line = write_other writer todos taken
 writer_other setup writer todos taken (Drives bio ask) line = line_other setup (Drives bio ask) line.lists
 writer_other setup writer todos taken (Copies bio master leg want) line = line_other setup (Copies bio master leg want) line.lists

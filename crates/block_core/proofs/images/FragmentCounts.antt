@@ -22,7 +22,7 @@ use Rattle.bio_records.specs.Items.{Item}
 use Rattle.bio_records.specs.Runs.{place_number, place_at}
 use Rattle.bio_split.specs.Split.{split_rest}
 use Rattle.bio_books.specs.Books.{SlipItem}
-use Rattle.run_machine.specs.Scene.{Setup, tree_at, number_of, setup_of}
+use Rattle.run_machine.specs.Scene.{Setup, tree_at, tree_number, setup_of}
 use Rattle.run_machine.specs.Lines.{ToPush, ToMaster, first_length, landed, legs_of, leg_at}
 use Rattle.block_core.specs.Fragments.{offset_of, fragment_of, fragments_of, leg_fragments}
 use Rattle.block_core.proofs.moves.Moves.{piece}
@@ -171,7 +171,7 @@ module _ (stack : Stack) (good : IsStack stack) (places : ℕ → ℕ) (value : 
               let within = run.within in
               let ne : n ≢ range.len = λ q. search (many, q, arith) in
               let fewer : n < range.len = omega (arith, ne, within) in
-              let dev : number_of (members (slot device.kind sizes range.start).member) ≡ to.dev.0 = ap number_of to.is ∙ number_of_tree stack to.dev.0 in
+              let dev : tree_number (members (slot device.kind sizes range.start).member) ≡ to.dev.0 = ap tree_number to.is ∙ number_of_tree stack to.dev.0 in
               let at : ℕ = (slot device.kind sizes range.start).at in
               let o : ℕ = offset_of bio.bio in
               let child = (piece bio hand n key device.kind sizes members).bio in

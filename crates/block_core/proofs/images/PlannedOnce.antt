@@ -13,7 +13,7 @@ use Rattle.layout_model.specs.Writes.{IsWrite}
 use Rattle.layout_model.proofs.PlanLaws.{plan_gives_fragments, plan_fragments_differ, trees_are_sound}
 use Rattle.model_disks.specs.Disks.{DiskState}
 use Rattle.run_machine.specs.Scene.{Scene}
-use Rattle.run_machine.specs.Tasks.{TaskState, Writer, Rescuer, Completer, Keeper, Taken, NoBio, HasBio, HasBoth, Todo}
+use Rattle.run_machine.specs.Tasks.{TaskState, Writer, Rescuer, Completer, Keeper, Gathered, NoBio, HasBio, HasBoth, Todo}
 use Rattle.run_machine.specs.Opened.{Scenario, scene, todos, setup as setup_in}
 use Rattle.run_machine.specs.Runs.{State}
 use Rattle.block_core.specs.Weights.{Weight, Pending, Rescued, one, total, sum_at, weigh_option, task_weight, taken_weight, book_weight}
@@ -176,7 +176,7 @@ module _ (scene : Scene) (state : State) (value : Fragment → ℕ) where
   abbrev w : Weight
   w = to_come scene.setup value
 
-  taken_none : (taken : Taken) → taken_weight w taken ≡ 0
+  taken_none : (taken : Gathered) → taken_weight w taken ≡ 0
   taken_none NoBio = refl
   taken_none (HasBio bio) = refl
   taken_none (HasBoth bio vector) = refl

@@ -11,7 +11,7 @@ use Rattle.bio_records.specs.declared.bio.Bio.{Bio}
 use Rattle.bio_records.specs.declared.bio.Pad.{Pad}
 use Rattle.bio_records.specs.Items.{Item}
 use Rattle.bio_split.specs.Split.{split_rest}
-use Rattle.run_machine.specs.Scene.{Setup, tree_at, number_of}
+use Rattle.run_machine.specs.Scene.{Setup, tree_at, tree_number}
 use Rattle.run_machine.specs.Lines.{first_length, mapped, landed, legs_of, leg_at}
 use Rattle.block_core.specs.Weights.{one}
 use Rattle.std.proofs.Math.Numerals.{add-one}
@@ -63,21 +63,21 @@ pub record Lands (setup : Setup) (bio to : Bio) : Type 0 where
   pub low : to.dev.0 ≤ bio.dev.0
   pub settles : Settles (tree_at setup to.dev) to.range
 
-number_of_shape : (shape : Shape) (number : ℕ) (kind : Kind) (members : List Tree) → number_of (over_shape shape number kind members) ≡ number
+number_of_shape : (shape : Shape) (number : ℕ) (kind : Kind) (members : List Tree) → tree_number (over_shape shape number kind members) ≡ number
 unfolding over_shape
 number_of_shape (Keeping_ sectors) number kind members = refl
 number_of_shape Cuts number kind members = refl
 number_of_shape Copying_ number kind members = refl
 
-number_of_built : (number : ℕ) (device : Option Device) (below : ℕ → Tree) → number_of (built number device below) ≡ number
+number_of_built : (number : ℕ) (device : Option Device) (below : ℕ → Tree) → tree_number (built number device below) ≡ number
 number_of_built number None below = refl
 number_of_built number (Some device) below = number_of_shape (shape_of device.kind) number device.kind _
 
 -- the tree of a device has its number
-pub number_of_tree : (stack : Stack) (number : ℕ) → number_of (tree stack number) ≡ number
+pub number_of_tree : (stack : Stack) (number : ℕ) → tree_number (tree stack number) ≡ number
 unfolding tree_below
 number_of_tree stack number =
-    ap (λ bound. number_of (tree_below bound stack number)) (add-one number)
+    ap (λ bound. tree_number (tree_below bound stack number)) (add-one number)
     ∙ number_of_built number (slice_get stack.devices.items number) (tree_below number stack)
 
 abbrev pub sizes_at : Stack → Device → List ℕ
@@ -140,7 +140,7 @@ module _ (stack : Stack) (good : IsStack stack) (places : ℕ → ℕ) where
       let members = members_at stack bio.dev.0 device in
       ap (λ t. landed t bio) (cuts_is stack good bio.dev.0 device found cuts)
       ∙ ap (λ b. cond b (landed (members (slot device.kind sizes bio.range.start).member) (mapped (slot device.kind sizes bio.range.start) members bio)) bio) one
-      ∙ ap (λ t. landed t (record bio { dev = record { 0 = number_of t }; range = record { start = (first_piece stack device bio.range).at; len = bio.range.len } })) to.is
+      ∙ ap (λ t. landed t (record bio { dev = record { 0 = tree_number t }; range = record { start = (first_piece stack device bio.range).at; len = bio.range.len } })) to.is
       ∙ ap (λ n. landed (tree stack to.dev.0) (record bio { dev = record { 0 = n }; range = record { start = (first_piece stack device bio.range).at; len = bio.range.len } })) (number_of_tree stack to.dev.0)
 
   landed_here : (bio : Bio) (device : Device) → slice_get stack.devices.items bio.dev.0 ≡ Some device → shape_of device.kind ≡ Cuts
@@ -272,7 +272,7 @@ module _ (stack : Stack) (good : IsStack stack) (places : ℕ → ℕ) where
               let within = there.within in
               let fewer : first.len < range.len = omega (arith, ne) in
               let child = (piece bio hand first.len key device.kind (sizes_at stack device) (members_at stack bio.bio.dev.0 device)).bio in
-              let dev : child.dev.0 ≡ to.dev.0 = ap number_of to.is ∙ number_of_tree stack to.dev.0 in
+              let dev : child.dev.0 ≡ to.dev.0 = ap tree_number to.is ∙ number_of_tree stack to.dev.0 in
               let wide : size (tree stack child.dev.0) ≡ size (tree stack to.dev.0) = ap (λ n. size (tree stack n)) dev in
               let known = run.known in
               let same : needs child ≡ needed (tree stack to.dev.0) first.at first.len = ap (λ n. needed (tree stack n) first.at first.len) dev in
@@ -320,10 +320,10 @@ module _ (stack : Stack) (good : IsStack stack) (places : ℕ → ℕ) where
               let m : DevId = get_or items leg (record { 0 = 0 }) in
               let at : slice_get items leg ≡ Some m = slice_get-get_or items leg (record { 0 = 0 }) few in
               let member : members_at stack bio.dev.0 device leg ≡ tree stack m.0 = member_is stack good bio.dev.0 device found leg m at in
-              let dev : number_of (members_at stack bio.dev.0 device leg) ≡ m.0 = ap number_of member ∙ number_of_tree stack m.0 in
+              let dev : tree_number (members_at stack bio.dev.0 device leg) ≡ m.0 = ap tree_number member ∙ number_of_tree stack m.0 in
               let below : m.0 < bio.dev.0 = (good.each bio.dev.0 device found).below leg m at in
               let wide = leg_size stack good bio.dev.0 device found e leg m at in
-              let same_size : size (tree stack (number_of (members_at stack bio.dev.0 device leg))) ≡ size (tree stack m.0) = ap (λ n. size (tree stack n)) dev in
+              let same_size : size (tree stack (tree_number (members_at stack bio.dev.0 device leg))) ≡ size (tree stack m.0) = ap (λ n. size (tree stack n)) dev in
               let within = there.within in
               let known = there.device in
               (record { device = omega (arith, dev, below, known); some = there.some; within = omega (arith, wide, same_size, within) }, omega (arith, dev, below), refl, refl)

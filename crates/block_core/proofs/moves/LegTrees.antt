@@ -9,12 +9,12 @@ use Rattle.stack_base.specs.declared.stack.Stack.{Stack}
 use Rattle.stack_base.specs.Stack.{IsStack}
 use Rattle.stack_base.specs.Tree.{Tree, Leaf, Split, Mirrored, Shape, Keeps as Keeping_, Cuts, Copies as Copying_, shape_of, size, tree}
 use Rattle.layout_model.proofs.ByShape.{cuts_is, copies_is, keeps_is, member_is}
-use Rattle.run_machine.specs.Scene.{number_of}
+use Rattle.run_machine.specs.Scene.{tree_number}
 use Rattle.block_core.proofs.moves.Geometry.{number_of_tree, members_at, sizes_at}
 
 -- where a mirror has such a leg, what is below it there is the tree of the member's number
 abbrev pub GoesDown : Stack → Tree → ℕ → Type 0
-GoesDown stack (Mirrored number sizes members) leg = leg < length sizes → tree stack (number_of (members leg)) ≡ members leg
+GoesDown stack (Mirrored number sizes members) leg = leg < length sizes → tree stack (tree_number (members leg)) ≡ members leg
 GoesDown stack (Leaf number sectors) leg = Unit {0}
 GoesDown stack (Split number kind sizes members) leg = Unit {0}
 
@@ -29,11 +29,11 @@ legs_go_down stack good dev leg known = elim ((slice_get_cases stack.devices.ite
     by_shape device found Cuts e = subst (λ t. GoesDown stack t leg) (sym (cuts_is stack good dev device found e)) tt
     by_shape device found Copying_ e = subst (λ t. GoesDown stack t leg) (sym (copies_is stack good dev device found e)) here
       where
-        here : leg < length (sizes_at stack device) → tree stack (number_of (members_at stack dev device leg)) ≡ members_at stack dev device leg
+        here : leg < length (sizes_at stack device) → tree stack (tree_number (members_at stack dev device leg)) ≡ members_at stack dev device leg
         here lt =
             let items = device.members.items in
             let few : leg < length items = omega (arith, lt, length-map items (λ (m : DevId). size (tree stack m.0))) in
             let m : DevId = get_or items leg (record { 0 = 0 }) in
             let at : slice_get items leg ≡ Some m = slice_get-get_or items leg (record { 0 = 0 }) few in
             let member : members_at stack dev device leg ≡ tree stack m.0 = member_is stack good dev device found leg m at in
-            ap (tree stack) (ap number_of member ∙ number_of_tree stack m.0) ∙ sym member
+            ap (tree stack) (ap tree_number member ∙ number_of_tree stack m.0) ∙ sym member

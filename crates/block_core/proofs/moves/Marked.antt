@@ -8,7 +8,7 @@ use Rattle.bio_books.specs.Links.{IsVacant}
 use Rattle.bio_books.specs.Drops.{Closed}
 use Rattle.run_machine.specs.Maps.{upd}
 use Rattle.run_machine.specs.Scene.{Scene}
-use Rattle.run_machine.specs.Tasks.{Todo, Taken}
+use Rattle.run_machine.specs.Tasks.{Todo, Gathered}
 use Rattle.run_machine.specs.Runs.{State}
 use Rattle.block_core.specs.Weights.{Weight, Spot, total, one, refs, names_node, under, legs_left, count_of}
 use Rattle.block_core.proofs.moves.Sums.{upd-same, upd-other, one-same, same_or_not}
@@ -56,7 +56,7 @@ no_factor (suc x) (suc m) le h = absurd (grind (arith, h))
 
 -- a weight that is no more than another one, for all that does not refer to this place
 pub record IsUnmoved (u v : Weight) (writer key : ℕ) : Type 0 where
-  pub todo : (n : ℕ) (todos : List Todo) (taken : Taken) → u.todo n todos taken ≤ v.todo n todos taken
+  pub todo : (n : ℕ) (todos : List Todo) (taken : Gathered) → u.todo n todos taken ≤ v.todo n todos taken
   pub bio : (spot : Spot) (item : Item Pad) → names_node writer key item ≡ 0 → u.bio spot item ≤ v.bio spot item
   pub copy : (bio : Bio) (master leg : ℕ) → one bio.writer writer * one master key ≡ 0 → u.copy bio master leg ≤ v.copy bio master leg
   pub hand : (item : Item Pad) → u.hand item ≤ v.hand item

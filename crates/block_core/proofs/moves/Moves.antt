@@ -24,7 +24,7 @@ use Rattle.model_disks.specs.Moves.{pushed, Completes}
 use Rattle.run_machine.specs.Maps.{upd}
 use Rattle.run_machine.specs.Scene.{Scene, tree_at}
 use Rattle.run_machine.specs.Lines.{Want, Takes, Punts as WantsPunt, Links, ToPush, ToCut, ToRecord, ToMaster, Doing, Drives, Copies, Line, rests, settled, goes_on, copies, first_length, mapped, legs_of, leg_at, punted, not_punted}
-use Rattle.run_machine.specs.Tasks.{Todo, Taken, NoBio, HasBio, HasBoth, Carried, Empty, Brings, Carries, Fails, Duty, Resizes, Starts, Keeps, TaskState, Writer, Rescuer, Completer, Keeper, filled, filled_short, filled_vector}
+use Rattle.run_machine.specs.Tasks.{Todo, Gathered, NoBio, HasBio, HasBoth, Carried, Empty, Brings, Carries, Fails, Duty, Resizes, Starts, Keeps, TaskState, Writer, Rescuer, Completer, Keeper, filled, filled_short, filled_vector}
 use Rattle.run_machine.specs.Objects.{Objects, clear_bio, clear_vector, clear_slip, done_one}
 use Rattle.run_machine.specs.Requests.{Request, TakeBio, TakeVec, TakeSlip}
 use Rattle.run_machine.specs.Tasks.{request, needs_vector}
@@ -94,7 +94,7 @@ IsTake gives = ⊥
 IsTake (resizes min) = ⊥
 
 -- what a writer has in hand, by whether it has a vector
-abbrev pub taken_of : Item Pad → Option VectorItem → Taken
+abbrev pub taken_of : Item Pad → Option VectorItem → Gathered
 taken_of item None = HasBio item
 taken_of item (Some vector) = HasBoth item vector
 

@@ -12,7 +12,7 @@ use Rattle.bio_books.specs.Drops.{Closed}
 use Rattle.model_disks.specs.Disks.{DiskState}
 use Rattle.run_machine.specs.Scene.{Setup, Scene, tree_at}
 use Rattle.run_machine.specs.Lines.{Want, Takes, Punts, Links, Ask, ToPush, ToCut, ToRecord, ToMaster, Doing, Rests, Drives, Copies, Breaks, Line}
-use Rattle.run_machine.specs.Tasks.{TaskState, Writer, Rescuer, Completer, Keeper, Todo, Taken, NoBio, HasBio, HasBoth, Carried, Empty, Brings, Carries, Fails}
+use Rattle.run_machine.specs.Tasks.{TaskState, Writer, Rescuer, Completer, Keeper, Todo, Gathered, NoBio, HasBio, HasBoth, Carried, Empty, Brings, Carries, Fails}
 use Rattle.run_machine.specs.Runs.{State}
 use Rattle.block_core.specs.Weights.{Weight, Spot, Lined, Rescued, Pending, Brought, total, sum_at, one, weigh_option, want_weight, ask_weight, doing_weight, line_weight, taken_weight, carried_weight, task_weight, book_weight, refs, under, legs_left}
 use Rattle.block_core.specs.Rooms.{legs_need, room}
@@ -51,7 +51,7 @@ line_part w place (Keeper keeping) doing lists h = absurd h
 
 -- one weight is within three others
 pub record IsWithin (u v x y : Weight) : Type 0 where
-  pub todo : (writer : ℕ) (todos : List Todo) (taken : Taken) → u.todo writer todos taken ≤ v.todo writer todos taken + x.todo writer todos taken + y.todo writer todos taken
+  pub todo : (writer : ℕ) (todos : List Todo) (taken : Gathered) → u.todo writer todos taken ≤ v.todo writer todos taken + x.todo writer todos taken + y.todo writer todos taken
   pub bio : (spot : Spot) (item : Item Pad) → u.bio spot item ≤ v.bio spot item + x.bio spot item + y.bio spot item
   pub copy : (bio : Bio) (master leg : ℕ) → u.copy bio master leg ≤ v.copy bio master leg + x.copy bio master leg + y.copy bio master leg
   pub hand : (item : Item Pad) → u.hand item ≤ v.hand item + x.hand item + y.hand item
@@ -97,7 +97,7 @@ module _ (u v x y : Weight) (le : IsWithin u v x y) where
         list_within (u.bio (Lined limit)) (v.bio (Lined limit)) (x.bio (Lined limit)) (y.bio (Lined limit)) line.lists.list1 (le.bio (Lined limit)),
       )
 
-  taken_within : (taken : Taken) → taken_weight u taken ≤ taken_weight v taken + taken_weight x taken + taken_weight y taken
+  taken_within : (taken : Gathered) → taken_weight u taken ≤ taken_weight v taken + taken_weight x taken + taken_weight y taken
   taken_within NoBio = omega arith
   taken_within (HasBio bio) = le.hand bio
   taken_within (HasBoth bio vector) = omega (arith, le.hand bio, le.vector vector)
@@ -179,7 +179,7 @@ line_carries limit line = omega (arith, by_doing line.doing, nothing_in line.lis
 task_carries : (place : ℕ) (task : TaskState) → task_weight carrying place task ≤ 1
 task_carries place (Writer number todo taken line) = omega (arith, by_taken taken, line_carries 32 line)
   where
-    by_taken : (taken : Taken) → taken_weight carrying taken ≡ 0
+    by_taken : (taken : Gathered) → taken_weight carrying taken ≡ 0
     by_taken NoBio = refl
     by_taken (HasBio bio) = refl
     by_taken (HasBoth bio vector) = refl

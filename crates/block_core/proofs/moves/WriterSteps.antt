@@ -11,7 +11,7 @@ use Rattle.bio_books.specs.Books.{VectorItem, told}
 use Rattle.run_machine.specs.Maps.{upd}
 use Rattle.run_machine.specs.Scene.{Scene}
 use Rattle.run_machine.specs.Lines.{Doing, Rests, Drives, Copies, Breaks, rests}
-use Rattle.run_machine.specs.Tasks.{TaskState, Writer, Todo, Taken, NoBio, HasBio, HasBoth}
+use Rattle.run_machine.specs.Tasks.{TaskState, Writer, Todo, Gathered, NoBio, HasBio, HasBoth}
 use Rattle.run_machine.specs.Runs.{State}
 use Rattle.block_core.specs.Paying.{end_told}
 use Rattle.block_core.specs.Payers.{Paid}
@@ -115,7 +115,7 @@ module _ (scene : Scene) (s : State) (f : Fair scene) (i : Kept scene s) (place 
   seen_round number todo later (requests.Present round, served, lets_it) = let le = lets_it in let same = served.0 in search (le, same, arith)
   seen_round number todo later (_, served, lets_it) = absurd served
 
-  writer_rests : (number : ℕ) (todos : List Todo) (taken : Taken) → s.task place ≡ Writer number todos taken rests → number < scene.books
+  writer_rests : (number : ℕ) (todos : List Todo) (taken : Gathered) → s.task place ≡ Writer number todos taken rests → number < scene.books
       → IsLet scene.ledger s.objects (Writer number todos taken rests) (look_of (Writer number todos taken rests)) → (reply : Reply)
       → what_of (request scene.setup (Writer number todos taken rests)) reply ≡ Some what
       → Serves scene.ledger s.objects (request scene.setup (Writer number todos taken rests)) reply new.objects
@@ -130,7 +130,7 @@ module _ (scene : Scene) (s : State) (f : Fair scene) (i : Kept scene s) (place 
       what_of (request scene.setup x) reply ≡ Some what → Serves scene.ledger s.objects (request scene.setup x) reply new.objects
       → Goes (answered scene.setup x reply) → IsMove scene s place what new
 
-  pub writes : (number : ℕ) (todo : List Todo) (taken : Taken) (doing : Doing) (lists : TaskLists) → s.task place ≡ Writer number todo taken (record { doing = doing; lists = lists })
+  pub writes : (number : ℕ) (todo : List Todo) (taken : Gathered) (doing : Doing) (lists : TaskLists) → s.task place ≡ Writer number todo taken (record { doing = doing; lists = lists })
       → TaskFits scene (Writer number todo taken (record { doing = doing; lists = lists }))
       → IsLet scene.ledger s.objects (Writer number todo taken (record { doing = doing; lists = lists })) (look_of (Writer number todo taken (record { doing = doing; lists = lists })))
       → (reply : Reply) → Moved (Writer number todo taken (record { doing = doing; lists = lists })) reply

@@ -14,7 +14,7 @@ use Rattle.bio_books.specs.Books.{Node, VectorItem, SlipItem, Holding, node_at, 
 use Rattle.model_disks.specs.Disks.{DiskState}
 use Rattle.run_machine.specs.Scene.{Setup, Scene, tree_at}
 use Rattle.run_machine.specs.Lines.{Want, Takes, Punts, Links, ToPush, ToCut, ToRecord, ToMaster, Doing, Rests, Drives, Copies, Breaks, Line, rests, copies, first_length, landed, legs_of, leg_at}
-use Rattle.run_machine.specs.Tasks.{TaskState, Writer, Rescuer, Completer, Keeper, Todo, Taken, NoBio, HasBio, HasBoth, Carried, Empty, Brings, Carries, Fails}
+use Rattle.run_machine.specs.Tasks.{TaskState, Writer, Rescuer, Completer, Keeper, Todo, Gathered, NoBio, HasBio, HasBoth, Carried, Empty, Brings, Carries, Fails}
 use Rattle.run_machine.specs.Runs.{State}
 use Rattle.block_core.specs.Weights.{Weight, Spot, Lined, Rescued, Pending, total, sum_at, weigh_option, want_weight, doing_weight, line_weight, taken_weight, carried_weight, task_weight, book_weight, elements_of_pool, holding_elements, one}
 use Rattle.block_core.specs.Charges.{there}
@@ -39,7 +39,7 @@ abbrev pub write_need : Setup → Todo → ℕ
 write_need setup todo = 1 + vectors todo.write.count + needed (tree_at setup todo.write.dev) todo.write.start todo.write.count
 
 -- those that a writer has, or that its writes have still to take; one that has a vector needs no other
-abbrev pub writes_need : Setup → List Todo → Taken → ℕ
+abbrev pub writes_need : Setup → List Todo → Gathered → ℕ
 writes_need setup todos NoBio = sum_by (write_need setup) todos
 writes_need setup [] (HasBio bio) = 1
 writes_need setup (todo ∷ later) (HasBio bio) = write_need setup todo + sum_by (write_need setup) later
@@ -216,14 +216,14 @@ module _ (scene : Scene) (s : State) (g : Ground scene.setup) (n : Needs scene.s
       by_slip None = omega arith
       by_slip (Some slip) = few slip.share q
 
-  taken_out : (q : ℕ) (todos : List Todo) (taken : Taken) → taken_weight (elements_of_pool q) taken ≤ writes_need scene.setup todos taken
+  taken_out : (q : ℕ) (todos : List Todo) (taken : Gathered) → taken_weight (elements_of_pool q) taken ≤ writes_need scene.setup todos taken
   taken_out q todos NoBio = omega arith
   taken_out q [] (HasBio bio) = few bio.share q
   taken_out q (todo ∷ later) (HasBio bio) = omega (arith, few bio.share q)
   taken_out q [] (HasBoth bio vector) = omega (arith, few bio.share q, few vector.share q)
   taken_out q (todo ∷ later) (HasBoth bio vector) = omega (arith, few bio.share q, few vector.share q)
 
-  hand_free : (taken : Taken) → taken_weight (worth scene.setup) taken ≡ 0
+  hand_free : (taken : Gathered) → taken_weight (worth scene.setup) taken ≡ 0
   hand_free NoBio = refl
   hand_free (HasBio bio) = refl
   hand_free (HasBoth bio vector) = refl

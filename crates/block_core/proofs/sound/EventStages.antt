@@ -11,7 +11,7 @@ use Rattle.bio_books.specs.declared.node.Role.TheVariants as role
 use Rattle.bio_books.specs.Books.{parent_of}
 use Rattle.run_machine.specs.Scene.{Scene, tree_at}
 use Rattle.run_machine.specs.Lines.{Takes, Punts as WantsPunt, Links, ToPush, ToCut, ToRecord, ToMaster, Doing, Rests, Drives, Copies, Breaks, Line, settled, goes_on, copies, first_length, leg_at, punted}
-use Rattle.run_machine.specs.Tasks.{Todo, Taken, NoBio, HasBio, HasBoth, Carried, Empty, Brings, Carries, Fails}
+use Rattle.run_machine.specs.Tasks.{Todo, Gathered, NoBio, HasBio, HasBoth, Carried, Empty, Brings, Carries, Fails}
 use Rattle.run_machine.specs.Objects.{clear_bio, clear_vector}
 use Rattle.run_machine.specs.Runs.{State}
 use Rattle.block_core.specs.Weights.{Weight, total, doing_weight, line_weight, carried_weight}
@@ -27,13 +27,13 @@ ended_worth worth (moves.Ends place disk writer closed) = worth closed.write
 ended_worth worth m = 0
 
 -- what is to come loses and gains where a writer takes for its write, and where it begins it
-abbrev pub to_come_before : (List Todo → Taken → ℕ) → Move → ℕ
+abbrev pub to_come_before : (List Todo → Gathered → ℕ) → Move → ℕ
 to_come_before f (moves.TakesFirst place writer todo later move) = f (todo ∷ later) NoBio
 to_come_before f (moves.TakesVector place writer todo later item move) = f (todo ∷ later) (HasBio item)
 to_come_before f (moves.Begins place writer todo later item vector key) = f (todo ∷ later) (taken_of item vector)
 to_come_before f m = 0
 
-abbrev pub to_come_after : Scene → (List Todo → Taken → ℕ) → (ℕ → ℕ) → Move → ℕ
+abbrev pub to_come_after : Scene → (List Todo → Gathered → ℕ) → (ℕ → ℕ) → Move → ℕ
 to_come_after scene f worth (moves.TakesFirst place writer todo later move) = f (todo ∷ later) (HasBio (clear_bio (scene.ledger 65)))
 to_come_after scene f worth (moves.TakesVector place writer todo later item move) = f (todo ∷ later) (HasBoth item (clear_vector (scene.ledger 64)))
 to_come_after scene f worth (moves.Begins place writer todo later item vector key) = f later NoBio + worth todo.number
@@ -52,7 +52,7 @@ pub zeros : (items : List (Item Pad)) → sum_by (λ item. 0) items ≡ 0
 zeros [] = refl
 zeros (item ∷ items) = omega (arith, sum_by-cons (λ (item : Item Pad). 0) item items, zeros items)
 
-module _ (f : List Todo → Taken → ℕ) (worth : ℕ → ℕ) where
+module _ (f : List Todo → Gathered → ℕ) (worth : ℕ → ℕ) where
   abbrev w : Weight
   w = by_stage f worth
 

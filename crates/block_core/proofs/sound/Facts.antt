@@ -11,7 +11,7 @@ use Rattle.bio_books.specs.declared.node.Role.TheVariants as role
 use Rattle.bio_books.specs.Books.{Node, node_at, keeping}
 use Rattle.run_machine.specs.Scene.{Setup, Scene, tree_at}
 use Rattle.run_machine.specs.Lines.{Ask, ToPush, ToCut, ToRecord, ToMaster, Doing, Rests, Drives, Copies, Breaks, Line, rests, legs_of}
-use Rattle.run_machine.specs.Tasks.{TaskState, Writer, Rescuer, Completer, Keeper, Keeping, Keeps, Stops, Taken, NoBio, HasBio, HasBoth}
+use Rattle.run_machine.specs.Tasks.{TaskState, Writer, Rescuer, Completer, Keeper, Keeping, Keeps, Stops, Gathered, NoBio, HasBio, HasBoth}
 use Rattle.run_machine.specs.Runs.{State}
 use Rattle.block_core.specs.Weights.{total, elements_of_pool, refs, count_of}
 use Rattle.block_core.specs.Roles.{named}
@@ -49,7 +49,7 @@ abbrev pub LineFits : Setup → Line → Type 0
 LineFits setup line = DoingFits setup line.doing line.lists
 
 -- a writer has something in hand only where nothing is submitted
-abbrev pub HandFits : Taken → Line → Type 0
+abbrev pub HandFits : Gathered → Line → Type 0
 HandFits NoBio line = Unit {0}
 HandFits (HasBio item) line = line ≡ rests
 HandFits (HasBoth item vector) line = line ≡ rests

@@ -15,7 +15,7 @@ use Rattle.bio_records.specs.Items.{Item}
 use Rattle.bioset_pools.specs.Sets.{bios_of}
 use Rattle.run_machine.specs.Scene.{Setup, Scene, tree_at}
 use Rattle.run_machine.specs.Lines.{Want, Takes, Punts as WantsPunt, Links, Ask, ToPush, ToCut, ToRecord, ToMaster, Doing, Rests, Drives, Copies, Breaks, Line}
-use Rattle.run_machine.specs.Tasks.{TaskState, Writer, Rescuer, Completer, Keeper, Taken, NoBio, HasBio, HasBoth, Empty, Brings, Carries, Fails}
+use Rattle.run_machine.specs.Tasks.{TaskState, Writer, Rescuer, Completer, Keeper, Gathered, NoBio, HasBio, HasBoth, Empty, Brings, Carries, Fails}
 use Rattle.run_machine.specs.Runs.{State}
 use Rattle.block_core.specs.Orders.{IsAbove, AreAbove, GoUp, IsSetOf, IsOwnBelow, IsLegOf, DoingInOrder, DoingBelow, AreBelow, TaskInOrder, AreInListOrder}
 use Rattle.block_core.specs.Hands.{TakenIsRight, WantIsRight, AskIsRight, DoingIsRight, HandIsRight, HandsAreRight}
@@ -123,7 +123,7 @@ module _ (setup : Setup) where
   doing_right limit (Copies bio master leg want) lists fits d = (fits, want_right bio.dev want d.6)
   doing_right limit (Breaks breach kept) lists fits d = fits
 
-  taken_right : (taken : Taken) (line : Line) → HandFits taken line → HandHome taken → TakenIsRight taken line
+  taken_right : (taken : Gathered) (line : Line) → HandFits taken line → HandHome taken → TakenIsRight taken line
   taken_right NoBio line fits home = tt
   taken_right (HasBio item) line fits home = (home, fits)
   taken_right (HasBoth item vector) line fits home = (home.0, home.1, fits)

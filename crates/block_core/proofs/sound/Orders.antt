@@ -18,7 +18,7 @@ use Rattle.bioset_pools.specs.Sets.{bios_of}
 use Rattle.bio_books.specs.Books.{VectorItem, keeping}
 use Rattle.run_machine.specs.Scene.{Setup, tree_at}
 use Rattle.run_machine.specs.Lines.{Want, Takes, Punts as WantsPunt, Links, Ask, ToPush, ToCut, ToRecord, ToMaster, Doing, Rests, Drives, Copies, Breaks, Line, settled, goes_on, copies, asks_at, first_waits, first_length, landed, legs_of, leg_at, is_of, not_punted}
-use Rattle.run_machine.specs.Tasks.{TaskState, Writer, Rescuer, Completer, Keeper, Todo, Taken, NoBio, HasBio, HasBoth, first_bio}
+use Rattle.run_machine.specs.Tasks.{TaskState, Writer, Rescuer, Completer, Keeper, Todo, Gathered, NoBio, HasBio, HasBoth, first_bio}
 use Rattle.run_machine.specs.Runs.{State}
 use Rattle.block_core.proofs.moves.Moves.{Wants, with_want, filled_of, cut_lists, piece}
 use Rattle.block_core.proofs.moves.Geometry.{is_cut, IsThere, IsCopied, Settles, Lands}
@@ -71,7 +71,7 @@ DoingPlaced setup limit (Breaks breach kept) lists = Unit {0}
 abbrev pub LinePlaced : Setup → ℕ → Line → Type 0
 LinePlaced setup limit line = DoingPlaced setup limit line.doing line.lists
 
-abbrev pub HandHome : Taken → Type 0
+abbrev pub HandHome : Gathered → Type 0
 HandHome NoBio = Unit {0}
 HandHome (HasBio item) = item.share.no ≡ 65
 HandHome (HasBoth item vector) = (item.share.no ≡ 65) × (vector.share.no ≡ 64)

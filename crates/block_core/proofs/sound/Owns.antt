@@ -12,7 +12,7 @@ use Rattle.bio_books.specs.declared.node.Role.TheVariants as role
 use Rattle.bio_books.specs.Books.{Node, BookState, VectorItem, node_at, top_node, child_node, master_node, leg_node, keeping, raised, lowered, told, later_part}
 use Rattle.run_machine.specs.Scene.{Setup, Scene, tree_at}
 use Rattle.run_machine.specs.Lines.{Want, Takes, Punts as WantsPunt, Links, ToPush, ToCut, ToRecord, ToMaster, Doing, Rests, Drives, Copies, Breaks, rests, settled, first_length, legs_of, leg_at}
-use Rattle.run_machine.specs.Tasks.{TaskState, Writer, Rescuer, Completer, Keeper, Todo, Taken, NoBio, HasBio, HasBoth, Carried, Empty, Brings, Carries, Fails}
+use Rattle.run_machine.specs.Tasks.{TaskState, Writer, Rescuer, Completer, Keeper, Todo, Gathered, NoBio, HasBio, HasBoth, Carried, Empty, Brings, Carries, Fails}
 use Rattle.run_machine.specs.Runs.{State}
 use Rattle.block_core.specs.Weights.{total, sum_at, one, weigh_option, want_weight, doing_weight, task_weight, line_weight, taken_weight, carried_weight, book_weight, refs, names_node, count_of}
 use Rattle.block_core.proofs.moves.Moves.{Move, IsTaking, place_of, Can, after, lost, gained, limit_of, with_line, HasLine, Wants, with_want, taken_of, filled_of, vector_of, cut_lists, IsTake, Tells, Hands, piece, with_pool, with_book}
@@ -46,7 +46,7 @@ module _ (setup : Setup) (w k : ℕ) where
   doing_le limit (Copies bio master leg want) = omega (arith, want_le want)
   doing_le limit (Breaks breach kept) = omega arith
 
-  taken_le : (taken : Taken) → taken_weight (named w k) taken ≤ taken_weight (refs setup w k) taken
+  taken_le : (taken : Gathered) → taken_weight (named w k) taken ≤ taken_weight (refs setup w k) taken
   taken_le NoBio = omega arith
   taken_le (HasBio item) = omega arith
   taken_le (HasBoth item vector) = omega arith

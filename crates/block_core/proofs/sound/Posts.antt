@@ -17,7 +17,7 @@ use Rattle.model_disks.specs.Moves.{pushed}
 use Rattle.run_machine.specs.Maps.{upd}
 use Rattle.run_machine.specs.Scene.{Scene, tree_at}
 use Rattle.run_machine.specs.Lines.{Links, ToPush, ToCut, ToRecord, ToMaster, Doing, Drives, Copies, Line, rests}
-use Rattle.run_machine.specs.Tasks.{TaskState, Writer, Rescuer, Completer, Keeper, Keeps, Stops, Duty, Resizes, Starts, Todo, Taken, NoBio, HasBio, HasBoth, Carried, Empty, Brings, Carries, Fails}
+use Rattle.run_machine.specs.Tasks.{TaskState, Writer, Rescuer, Completer, Keeper, Keeps, Stops, Duty, Resizes, Starts, Todo, Gathered, NoBio, HasBio, HasBoth, Carried, Empty, Brings, Carries, Fails}
 use Rattle.run_machine.specs.Objects.{done_one}
 use Rattle.run_machine.specs.Runs.{State}
 use Rattle.block_core.proofs.moves.Moves.{Move, IsTaking, place_of, Can, after, lost, gained, limit_of, with_line, HasLine, Wants, with_want, taken_of, filled_of, vector_of, cut_lists, IsTake, Tells, Hands, piece, with_pool, with_book}
@@ -40,7 +40,7 @@ ByRounds [] = Unit {0}
 ByRounds (todo ∷ todos) = Each (λ (other : Todo). todo.round ≤ other.round) todos × ByRounds todos
 
 -- something is taken for a write alone
-abbrev pub TakenFits : List Todo → Taken → Type 0
+abbrev pub TakenFits : List Todo → Gathered → Type 0
 TakenFits todo NoBio = Unit {0}
 TakenFits [] (HasBio item) = ⊥
 TakenFits (todo ∷ todos) (HasBio item) = Unit {0}

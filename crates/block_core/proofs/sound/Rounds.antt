@@ -9,7 +9,7 @@ use Rattle.bio_books.specs.Drops.{Closed}
 use Rattle.run_machine.specs.Maps.{upd}
 use Rattle.run_machine.specs.Scene.{Scene}
 use Rattle.run_machine.specs.Lines.{Line, rests}
-use Rattle.run_machine.specs.Tasks.{TaskState, Writer, Rescuer, Completer, Keeper, Keeping, Keeps, Stops, Duty, Resizes, Starts, Todo, Taken, NoBio, Carries}
+use Rattle.run_machine.specs.Tasks.{TaskState, Writer, Rescuer, Completer, Keeper, Keeping, Keeps, Stops, Duty, Resizes, Starts, Todo, Gathered, NoBio, Carries}
 use Rattle.run_machine.specs.Runs.{State}
 use Rattle.block_core.specs.Weights.{Weight, total, one, task_weight}
 use Rattle.block_core.proofs.moves.Moves.{Move, IsTaking, place_of, Can, after, lost, gained, limit_of, with_line, HasLine, Wants, with_want, taken_of, filled_of, vector_of, cut_lists, IsTake, Tells, Hands, piece, with_pool, with_book}
@@ -212,7 +212,7 @@ module _ (rounds : List ℕ) (keeper : ℕ) (scene : Scene) (s : State) (i : Tal
   }
 
   -- a write that is begun is not of a later round
-  not_later : (place writer : ℕ) (todo : Todo) (later : List Todo) (taken : Taken) (line : Line) → s.task place ≡ Writer writer (todo ∷ later) taken line → todo.round ≤ s.objects.tally.round
+  not_later : (place writer : ℕ) (todo : Todo) (later : List Todo) (taken : Gathered) (line : Line) → s.task place ≡ Writer writer (todo ∷ later) taken line → todo.round ≤ s.objects.tally.round
       → (r : ℕ) → s.objects.tally.round < r → 0 ≡ is_of_round rounds r todo.number
   not_later place writer todo later taken line is le r lt =
       let t = at_task place _ is in

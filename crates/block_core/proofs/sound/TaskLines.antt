@@ -11,7 +11,7 @@ use Rattle.bio_books.specs.Books.{keeping}
 use Rattle.run_machine.specs.Maps.{upd}
 use Rattle.run_machine.specs.Scene.{Setup, Scene, tree_at}
 use Rattle.run_machine.specs.Lines.{Want, Takes, Punts as WantsPunt, Links, ToPush, ToCut, ToRecord, ToMaster, Doing, Rests, Drives, Copies, Breaks, Line, rests, settled, goes_on, copies, asks_at, first_waits, first_length, landed, legs_of, leg_at, not_punted}
-use Rattle.run_machine.specs.Tasks.{TaskState, Writer, Rescuer, Completer, Keeper, Taken, NoBio, HasBio, HasBoth}
+use Rattle.run_machine.specs.Tasks.{TaskState, Writer, Rescuer, Completer, Keeper, Gathered, NoBio, HasBio, HasBoth}
 use Rattle.run_machine.specs.Objects.{clear_slip}
 use Rattle.run_machine.specs.Runs.{State}
 use Rattle.block_core.proofs.moves.Moves.{Move, IsTaking, place_of, Can, after, lost, gained, limit_of, with_line, HasLine, Wants, with_want, taken_of, filled_of, vector_of, cut_lists, IsTake, Tells, Hands, piece, with_pool, with_book}
@@ -91,7 +91,7 @@ line_keeps scene (Writer number todo taken line) doing lists new fits h busy to 
     not_resting : (l : Line) → l ≡ record { doing = doing; lists = lists } → l ≡ rests → ⊥
     not_resting l is at_rest = subst (λ (other : Line). IsBusy other.doing) (sym is ∙ at_rest) busy
 
-    no_hand : (taken : Taken) → HandFits taken line → HandFits taken new
+    no_hand : (taken : Gathered) → HandFits taken line → HandFits taken new
     no_hand NoBio hand = tt
     no_hand (HasBio item) hand = absurd (not_resting line h hand)
     no_hand (HasBoth item vector) hand = absurd (not_resting line h hand)

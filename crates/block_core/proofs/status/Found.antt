@@ -12,7 +12,7 @@ use Rattle.bio_books.specs.Drops.{Closed}
 use Rattle.model_disks.specs.Disks.{DiskState}
 use Rattle.run_machine.specs.Scene.{Scene}
 use Rattle.run_machine.specs.Lines.{Want, Takes, Punts, Links, Ask, ToPush, ToCut, ToRecord, ToMaster, Doing, Rests, Drives, Copies, Breaks, Line}
-use Rattle.run_machine.specs.Tasks.{Todo, Taken, NoBio, HasBio, HasBoth, Carried, Empty, Brings, Carries, Fails, TaskState, Writer, Rescuer, Completer, Keeper}
+use Rattle.run_machine.specs.Tasks.{Todo, Gathered, NoBio, HasBio, HasBoth, Carried, Empty, Brings, Carries, Fails, TaskState, Writer, Rescuer, Completer, Keeper}
 use Rattle.run_machine.specs.Runs.{State}
 use Rattle.block_core.specs.Weights.{Weight, Spot, Lined, Rescued, Pending, Brought, sum_at, weigh_option, doing_weight, line_weight, taken_weight, want_weight, ask_weight, task_weight, book_weight, total}
 use Rattle.block_core.specs.AtWork.{DoingHolds, LineHolds, CarriedHolds, LineOf, IsBrought, IsInDisk, IsAtWork}
@@ -137,7 +137,7 @@ module _ (scene : Scene) (s : State) (w : Weight) where
 
   -- where nothing else does
   pub record IsOfWork : Type 0 where
-    pub todo : (writer : ℕ) (todos : List Todo) (taken : Taken) → w.todo writer todos taken ≡ 0
+    pub todo : (writer : ℕ) (todos : List Todo) (taken : Gathered) → w.todo writer todos taken ≡ 0
     pub hand : (item : Item Pad) → w.hand item ≡ 0
     pub vector : (vector : VectorItem) → w.vector vector ≡ 0
     pub slip : (slip : SlipItem) → w.slip slip ≡ 0
@@ -154,7 +154,7 @@ module _ (scene : Scene) (s : State) (w : Weight) where
     no_ask ToRecord = refl
     no_ask (ToMaster slip) = o.slip slip
 
-    no_taken : (taken : Taken) → taken_weight w taken ≡ 0
+    no_taken : (taken : Gathered) → taken_weight w taken ≡ 0
     no_taken NoBio = refl
     no_taken (HasBio bio) = o.hand bio
     no_taken (HasBoth bio vector) = omega (arith, o.hand bio, o.vector vector)

@@ -30,7 +30,7 @@ use Rattle.bio_records.specs.declared.bio.Pad.{Pad}
 use Rattle.bio_records.specs.Items.{Item}
 use Rattle.bio_split.specs.Split.{split_rest}
 use Rattle.bio_books.specs.Books.{SlipItem}
-use Rattle.run_machine.specs.Scene.{Setup, tree_at, number_of, setup_of}
+use Rattle.run_machine.specs.Scene.{Setup, tree_at, tree_number, setup_of}
 use Rattle.run_machine.specs.Lines.{ToPush, ToMaster, first_length, landed, legs_of, leg_at}
 use Rattle.block_core.specs.Fragments.{offset_of, fragment_of}
 use Rattle.block_core.proofs.status.Marks.{yes, may, bio_may, leg_may}
@@ -241,7 +241,7 @@ module _ (stack : Stack) (good : IsStack stack) (places : ℕ → ℕ) (ends : F
               let fewer : n < range.len = omega (arith, ne, within) in
               let m : Tree = members (slot device.kind sizes range.start).member in
               let at : ℕ = (slot device.kind sizes range.start).at in
-              let dev : number_of m ≡ to.dev.0 = ap number_of to.is ∙ number_of_tree stack to.dev.0 in
+              let dev : tree_number m ≡ to.dev.0 = ap tree_number to.is ∙ number_of_tree stack to.dev.0 in
               let o : ℕ = offset_of bio.bio in
               let child = (piece bio hand n key device.kind sizes members).bio in
               let rest = (split_rest bio n).bio in
@@ -253,7 +253,7 @@ module _ (stack : Stack) (good : IsStack stack) (places : ℕ → ℕ) (ends : F
               ap (λ t. plan t bio.bio.write o range.start range.len) cuts
               ∙ pieces_are number device.kind sizes members bio.bio.write o range.start range.len
               ∙ ap (Pieces number) (piece_plans_first device.kind sizes members bio.bio.write o range.start range.len n (cut_at_ends number device found e) (omega (arith, some)) refl) in
-              let child_is : plan (tree stack (number_of m)) bio.bio.write o at n ≡ first =
+              let child_is : plan (tree stack (tree_number m)) bio.bio.write o at n ≡ first =
               ap (λ k. plan (tree stack k) bio.bio.write o at n) dev ∙ ap (λ t. plan t bio.bio.write o at n) (sym to.is) in
               let rest_is : plan (tree stack number) bio.bio.write (offset_of rest) (range.start + n) (range.len - n) ≡ Pieces number others =
               ap (λ k. plan (tree stack number) bio.bio.write k (range.start + n) (range.len - n)) place
@@ -286,8 +286,8 @@ module _ (stack : Stack) (good : IsStack stack) (places : ℕ → ℕ) (ends : F
               let m : DevId = get_or items leg (record { 0 = 0 }) in
               let at : slice_get items leg ≡ Some m = slice_get-get_or items leg (record { 0 = 0 }) few in
               let member : members_at stack bio.dev.0 device leg ≡ tree stack m.0 = member_is stack good bio.dev.0 device found leg m at in
-              let dev : number_of (members_at stack bio.dev.0 device leg) ≡ m.0 = ap number_of member ∙ number_of_tree stack m.0 in
-              let same : tree stack (number_of (members_at stack bio.dev.0 device leg)) ≡ members_at stack bio.dev.0 device leg = ap (tree stack) dev ∙ sym member in
+              let dev : tree_number (members_at stack bio.dev.0 device leg) ≡ m.0 = ap tree_number member ∙ number_of_tree stack m.0 in
+              let same : tree stack (tree_number (members_at stack bio.dev.0 device leg)) ≡ members_at stack bio.dev.0 device leg = ap (tree stack) dev ∙ sym member in
               ap (λ t. run_can t bio (offset_of bio) bio.range.start bio.range.len end) same
 
   DiskOf : Bio → Status → Tree → Type 0

@@ -21,7 +21,7 @@ use Rattle.bio_books.specs.Books.{Node, node_at, parent_of}
 use Rattle.bio_books.specs.Drops.{Closed}
 use Rattle.run_machine.specs.Scene.{Setup, Scene, tree_at}
 use Rattle.run_machine.specs.Lines.{Copies, Line}
-use Rattle.run_machine.specs.Tasks.{Todo, Taken, Writer, Completer, Carries}
+use Rattle.run_machine.specs.Tasks.{Todo, Gathered, Writer, Completer, Carries}
 use Rattle.run_machine.specs.Opened.{Scenario}
 use Rattle.run_machine.specs.Runs.{State}
 use Rattle.block_core.specs.DoneWrites.{IsGiven}
@@ -166,7 +166,7 @@ module _ (s : Scenario) (scene : Scene) (bios : ℕ → ℕ → Bio) (state : St
       may_given s todo.number end (omega (arith, may_one, none end, sum_by-cons (λ todo. todo_may setup ends todo end - write_may s todo.number end) todo todos)))
       (todos_begin todos (λ end. omega (arith, none end, sum_by-cons (λ todo. todo_may setup ends todo end - write_may s todo.number end) todo todos)))
 
-  writer_begins : (place writer : ℕ) (todos : List Todo) (taken : Taken) (line : Line) → place < scene.tasks → state.task place ≡ Writer writer todos taken line → All Begins todos
+  writer_begins : (place writer : ℕ) (todos : List Todo) (taken : Gathered) (line : Line) → place < scene.tasks → state.task place ≡ Writer writer todos taken line → All Begins todos
   writer_begins place writer todos taken line lt at =
       todos_begin todos (λ end. omega (arith, h.fits end, task_part scene (off end) state place (Writer writer todos taken line) lt at))
 

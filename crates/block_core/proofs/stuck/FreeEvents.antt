@@ -10,7 +10,7 @@ use Rattle.bio_books.specs.Links.{IsVacant}
 use Rattle.run_machine.specs.Maps.{upd}
 use Rattle.run_machine.specs.Scene.{Setup, Scene}
 use Rattle.run_machine.specs.Lines.{Doing, Rests, Drives, Copies, Breaks, Line}
-use Rattle.run_machine.specs.Tasks.{TaskState, Writer, Rescuer, Completer, Keeper, Todo, Taken, NoBio, HasBio, HasBoth}
+use Rattle.run_machine.specs.Tasks.{TaskState, Writer, Rescuer, Completer, Keeper, Todo, Gathered, NoBio, HasBio, HasBoth}
 use Rattle.run_machine.specs.Objects.{Objects}
 use Rattle.run_machine.specs.Runs.{State}
 use Rattle.block_core.specs.Weights.{Weight, total, sum_at, weigh_option, doing_weight, task_weight, line_weight, book_weight, refs, count_of}
@@ -48,7 +48,7 @@ free_place v (suc n) f some lt = by_last (λ less. free_place v n f some less) (
         (r.0, let few = r.1 in omega (arith, few), r.2)
 
 -- a task that submits looks at nothing
-writer_none : (todo : List Todo) (taken : Taken) (doing : Doing) → IsBusy doing → writer_look todo taken doing ≡ None
+writer_none : (todo : List Todo) (taken : Gathered) (doing : Doing) → IsBusy doing → writer_look todo taken doing ≡ None
 writer_none [] taken doing busy = refl
 writer_none (t ∷ todo) (HasBio item) doing busy = refl
 writer_none (t ∷ todo) (HasBoth item vector) doing busy = refl

@@ -10,7 +10,7 @@ use Rattle.bio_books.specs.Books.{VectorItem, with_node, top_node, keeping}
 use Rattle.run_machine.specs.Maps.{upd}
 use Rattle.run_machine.specs.Scene.{Setup, Scene}
 use Rattle.run_machine.specs.Lines.{Doing, Rests, Drives, Copies, Breaks, Line, rests}
-use Rattle.run_machine.specs.Tasks.{TaskState, Writer, Rescuer, Completer, Keeper, Todo, Taken, NoBio, HasBio, HasBoth, Empty, Brings, Carries, Fails, filled_vector}
+use Rattle.run_machine.specs.Tasks.{TaskState, Writer, Rescuer, Completer, Keeper, Todo, Gathered, NoBio, HasBio, HasBoth, Empty, Brings, Carries, Fails, filled_vector}
 use Rattle.run_machine.specs.Objects.{clear_bio, clear_vector}
 use Rattle.run_machine.specs.Runs.{State}
 use Rattle.block_core.specs.Weights.{one, refs}
@@ -42,10 +42,10 @@ module _ (scene : Scene) (s : State) (f : Fair scene) (worth : Worth scene.setup
   setup = scene.setup
 
   -- a writer that has nothing submitted
-  abbrev At_rest : ℕ → List Todo → Taken → TaskState
+  abbrev At_rest : ℕ → List Todo → Gathered → TaskState
   At_rest number todo taken = Writer number todo taken rests
 
-  opens_free : (place : ℕ) → place < scene.tasks → (number : ℕ) (todo : Todo) (later : List Todo) (taken : Taken) → s.task place ≡ At_rest number (todo ∷ later) taken → number < scene.books
+  opens_free : (place : ℕ) → place < scene.tasks → (number : ℕ) (todo : Todo) (later : List Todo) (taken : Gathered) → s.task place ≡ At_rest number (todo ∷ later) taken → number < scene.books
       → look_of (At_rest number (todo ∷ later) taken) ≡ None → (vector : Option VectorItem) → request setup (At_rest number (todo ∷ later) taken) ≡ requests.Link number (requests.Write todo.number vector) → HasFree scene s
   opens_free place here number todo later taken at lt look vector asks =
       let part = task_in scene s (places setup number) place (At_rest number (todo ∷ later) taken) here at in
@@ -57,7 +57,7 @@ module _ (scene : Scene) (s : State) (f : Fair scene) (worth : Worth scene.setup
       (subst (λ r. Serves scene.ledger s.objects r (requests.LinkedTo (Made v.0)) (with_book s.objects number book)) (sym asks)
       (link_serves scene s number (requests.Write todo.number vector) (Made v.0) book (v.1, refl)))
 
-  writer_free : (place : ℕ) → place < scene.tasks → (number : ℕ) (todo : List Todo) (taken : Taken) → s.task place ≡ At_rest number todo taken → number < scene.books → TakenFits todo taken
+  writer_free : (place : ℕ) → place < scene.tasks → (number : ℕ) (todo : List Todo) (taken : Gathered) → s.task place ≡ At_rest number todo taken → number < scene.books → TakenFits todo taken
       → HasFree scene s ⊎ StillTaken s todo taken
   writer_free place here number [] NoBio at lt fits = inr tt
   writer_free place here number (todo ∷ later) NoBio at lt fits = by_round (below_or s.objects.tally.round todo.round) (zero_or (spares s 65))
@@ -111,7 +111,7 @@ module _ (scene : Scene) (s : State) (f : Fair scene) (worth : Worth scene.setup
       let none : line.lists ≡ no_lists = subst (λ (d : Doing). DoingFits setup d line.lists) is fits in
       ap (λ (d : Doing). record { doing = d; lists = line.lists }) is ∙ ap (λ (l : TaskLists). record { doing = Rests; lists = l }) none
 
-  busy_writer : (todo : List Todo) (taken : Taken) (doing : Doing) → IsBusy doing → StillDoing s doing → StillWriter s todo taken doing
+  busy_writer : (todo : List Todo) (taken : Gathered) (doing : Doing) → IsBusy doing → StillDoing s doing → StillWriter s todo taken doing
   busy_writer todo taken Rests busy still = absurd busy
   busy_writer todo taken (Drives bio ask) busy still = still
   busy_writer todo taken (Copies bio master leg want) busy still = still

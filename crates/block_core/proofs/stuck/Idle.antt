@@ -12,7 +12,7 @@ use Rattle.bio_books.specs.Drops.{Closed}
 use Rattle.model_disks.specs.Disks.{DiskState}
 use Rattle.run_machine.specs.Scene.{Scene}
 use Rattle.run_machine.specs.Lines.{Doing, Rests, Drives, Copies, Breaks, Line}
-use Rattle.run_machine.specs.Tasks.{TaskState, Writer, Rescuer, Completer, Keeper, Todo, Taken, NoBio, HasBio, HasBoth, Empty, Brings, Carries, Fails}
+use Rattle.run_machine.specs.Tasks.{TaskState, Writer, Rescuer, Completer, Keeper, Todo, Gathered, NoBio, HasBio, HasBoth, Empty, Brings, Carries, Fails}
 use Rattle.run_machine.specs.Runs.{State}
 use Rattle.block_core.specs.Weights.{Weight, Rescued, Pending, total, sum_at, one, weigh_option, line_weight, task_weight, book_weight, elements_of_pool, refs, names_node, under, legs_left, count_of}
 use Rattle.block_core.proofs.moves.Moves.{HasLine}
@@ -38,7 +38,7 @@ pub record NoneBegun (scene : Scene) (s : State) : Type 0 where
   pub tops : (writer key : ℕ) (node : Node) → writer < scene.books → node_at (s.objects.book writer) key ≡ Some node → parent_of node.role ≡ None → ⊥
   pub carried : (place : ℕ) (disk : DevId) (writer : ℕ) (closed : Closed) → place < scene.tasks → s.task place ≡ Completer disk (Carries writer closed)
       → closed.parent ≡ None → ⊥
-  pub hands : (place number : ℕ) (todos : List Todo) (taken : Taken) (line : Line) → place < scene.tasks → s.task place ≡ Writer number todos taken line → taken ≡ NoBio
+  pub hands : (place number : ℕ) (todos : List Todo) (taken : Gathered) (line : Line) → place < scene.tasks → s.task place ≡ Writer number todos taken line → taken ≡ NoBio
 
 -- a book with an open node is one of the books, and the node is a part of all
 pub open_in_books : (scene : Scene) (s : State) → Kept scene s → (writer key : ℕ) (node : Node) → node_at (s.objects.book writer) key ≡ Some node → writer < scene.books

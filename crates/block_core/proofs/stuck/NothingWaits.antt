@@ -10,7 +10,7 @@ use Rattle.bio_records.specs.Items.{Item}
 use Rattle.bio_books.specs.Books.{keeping}
 use Rattle.run_machine.specs.Scene.{Setup, Scene, tree_at}
 use Rattle.run_machine.specs.Lines.{Want, Takes, Punts as WantsPunt, Links, ToPush, ToCut, ToRecord, ToMaster, Doing, Rests, Drives, Copies, Breaks, Line, legs_of}
-use Rattle.run_machine.specs.Tasks.{TaskState, Writer, Rescuer, Completer, Keeper, Todo, Taken, NoBio, HasBio, HasBoth, Empty, Brings, Carries, Fails}
+use Rattle.run_machine.specs.Tasks.{TaskState, Writer, Rescuer, Completer, Keeper, Todo, Gathered, NoBio, HasBio, HasBoth, Empty, Brings, Carries, Fails}
 use Rattle.run_machine.specs.Runs.{State}
 use Rattle.block_core.specs.Weights.{Weight, Lined, sum_at, one, line_weight}
 use Rattle.block_core.proofs.moves.Sums.{one-other, same_or_not}
@@ -51,12 +51,12 @@ abbrev pub StillFirst : State → List Todo → Type 0
 StillFirst s [] = Unit {0}
 StillFirst s (todo ∷ later) = (s.objects.tally.round < todo.round) ⊎ (spares s 65 ≡ 0)
 
-abbrev pub StillTaken : State → List Todo → Taken → Type 0
+abbrev pub StillTaken : State → List Todo → Gathered → Type 0
 StillTaken s todo NoBio = StillFirst s todo
 StillTaken s todo (HasBio item) = spares s 64 ≡ 0
 StillTaken s todo (HasBoth item vector) = ⊥
 
-abbrev pub StillWriter : State → List Todo → Taken → Doing → Type 0
+abbrev pub StillWriter : State → List Todo → Gathered → Doing → Type 0
 StillWriter s todo taken Rests = StillTaken s todo taken
 StillWriter s todo taken doing = StillDoing s doing
 

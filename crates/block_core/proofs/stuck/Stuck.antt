@@ -10,7 +10,7 @@ use Rattle.bio_books.specs.Books.{Node, node_at, keeping}
 use Rattle.model_disks.specs.Disks.{DiskState}
 use Rattle.run_machine.specs.Scene.{Setup, Scene}
 use Rattle.run_machine.specs.Lines.{Doing, Rests, Drives, Copies, Breaks, Line}
-use Rattle.run_machine.specs.Tasks.{TaskState, Writer, Rescuer, Completer, Keeper, Keeping, Keeps, Stops, Resizes, Starts, Todo, Taken, NoBio, HasBio, HasBoth, Carried, Empty, Brings, Carries, Fails}
+use Rattle.run_machine.specs.Tasks.{TaskState, Writer, Rescuer, Completer, Keeper, Keeping, Keeps, Stops, Resizes, Starts, Todo, Gathered, NoBio, HasBio, HasBoth, Carried, Empty, Brings, Carries, Fails}
 use Rattle.run_machine.specs.Runs.{State}
 use Rattle.block_core.specs.Weights.{Weight, Pending, Rescued, sum_at, weigh_option, task_weight, taken_weight, book_weight}
 use Rattle.block_core.proofs.moves.Moves.{with_pool}
@@ -123,7 +123,7 @@ module _ (scene : Scene) (s : State) (level : ℕ → ℕ → ℕ) (known : Know
     later_rounds : (todo : Todo) (todos : List Todo) → now < todo.round → ByRounds (todo ∷ todos) → Each (λ (t : Todo). now < t.round) (todo ∷ todos)
     later_rounds todo todos lt by = (lt, each_map (λ (t : Todo). todo.round ≤ t.round) (λ (t : Todo). now < t.round) (λ t le. omega (arith, le, lt)) todos by.0)
 
-    writer_rests : (todo : List Todo) (taken : Taken) → StillTaken s todo taken → ByRounds todo → Each (λ (t : Todo). now < t.round) todo
+    writer_rests : (todo : List Todo) (taken : Gathered) → StillTaken s todo taken → ByRounds todo → Each (λ (t : Todo). now < t.round) todo
     writer_rests [] NoBio h by = tt
     writer_rests (todo ∷ todos) NoBio (inl held) by = later_rounds todo todos held by
     writer_rests (todo ∷ todos) NoBio (inr none) by = absurd (spare 65 (inl refl) none)
@@ -134,7 +134,7 @@ module _ (scene : Scene) (s : State) (level : ℕ → ℕ → ℕ) (known : Know
     busy_none limit doing lists fits d busy h =
         let b = line_below scene s known.ground (off_levels level) (off_levels level) limit doing lists fits d busy h in spare b.0 b.4 b.3
 
-    writer_later : (number : ℕ) (todo : List Todo) (taken : Taken) (doing : Doing) (lists : TaskLists) → DoingFits setup doing lists → DoingPlaced setup 32 doing lists → StillWriter s todo taken doing → ByRounds todo
+    writer_later : (number : ℕ) (todo : List Todo) (taken : Gathered) (doing : Doing) (lists : TaskLists) → DoingFits setup doing lists → DoingPlaced setup 32 doing lists → StillWriter s todo taken doing → ByRounds todo
         → Each (λ (t : Todo). now < t.round) todo
     writer_later number todo taken Rests lists fits d h by = writer_rests todo taken h by
     writer_later number todo taken (Drives bio ask) lists fits d h by = absurd (busy_none 32 (Drives bio ask) lists fits d tt h)
@@ -151,7 +151,7 @@ module _ (scene : Scene) (s : State) (level : ℕ → ℕ → ℕ) (known : Know
     abbrev u : Weight
     u = unfinished_of (is_of_round rounds now)
 
-    taken_zero : (taken : Taken) → taken_weight u taken ≡ 0
+    taken_zero : (taken : Gathered) → taken_weight u taken ≡ 0
     taken_zero NoBio = refl
     taken_zero (HasBio item) = refl
     taken_zero (HasBoth item vector) = refl

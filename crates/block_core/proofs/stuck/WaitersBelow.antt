@@ -11,7 +11,7 @@ use Rattle.bio_books.specs.Books.{Node, VectorItem, SlipItem, Holding, node_at, 
 use Rattle.model_disks.specs.Disks.{DiskState}
 use Rattle.run_machine.specs.Scene.{Setup, Scene}
 use Rattle.run_machine.specs.Lines.{Doing, Rests, Drives, Copies, Breaks, Line, rests}
-use Rattle.run_machine.specs.Tasks.{TaskState, Writer, Rescuer, Completer, Keeper, Todo, Taken, NoBio, HasBio, HasBoth, Empty, Brings, Carries, Fails}
+use Rattle.run_machine.specs.Tasks.{TaskState, Writer, Rescuer, Completer, Keeper, Todo, Gathered, NoBio, HasBio, HasBoth, Empty, Brings, Carries, Fails}
 use Rattle.run_machine.specs.Runs.{State}
 use Rattle.block_core.specs.Weights.{Weight, Pending, Rescued, Lined, total, sum_at, one, weigh_option, doing_weight, task_weight, line_weight, book_weight, elements_of_pool, holding_elements, refs, names_node, under, legs_left, count_of}
 use Rattle.block_core.proofs.sound.Facts.{DoingFits, LineFits, TaskFits, Kept}
@@ -44,7 +44,7 @@ module _ (scene : Scene) (s : State) (level : ℕ → ℕ → ℕ) (known : Know
   off = off_levels level
 
   -- a busy line of a task
-  still_line : (s : State) (todo : List Todo) (taken : Taken) (doing : Doing) → IsBusy doing → StillWriter s todo taken doing → StillDoing s doing
+  still_line : (s : State) (todo : List Todo) (taken : Gathered) (doing : Doing) → IsBusy doing → StillWriter s todo taken doing → StillDoing s doing
   still_line s todo taken Rests busy still = absurd busy
   still_line s todo taken (Drives bio ask) busy still = still
   still_line s todo taken (Copies bio master leg want) busy still = still
@@ -80,7 +80,7 @@ module _ (scene : Scene) (s : State) (level : ℕ → ℕ → ℕ) (known : Know
   abbrev Has : Weight → Type 0
   Has u = ((limit : ℕ) × Found scene s known.ground u off limit) ⊎ ((item : Item Pad) × (1 ≤ u.hand item) × (item.share.no ≡ 65) × (spares s 64 ≡ 0))
 
-  task_found : (u : Weight) → ((n : ℕ) (todos : List Todo) (taken : Taken) → u.todo n todos taken ≡ 0) → (place : ℕ) (x : TaskState) → TaskFits scene x → TaskPlaced setup x → TaskWaits setup x → IsStill s x
+  task_found : (u : Weight) → ((n : ℕ) (todos : List Todo) (taken : Gathered) → u.todo n todos taken ≡ 0) → (place : ℕ) (x : TaskState) → TaskFits scene x → TaskPlaced setup x → TaskWaits setup x → IsStill s x
       → 1 ≤ task_weight u place x → task_weight off place x ≡ 0 → Has u
   task_found u todos place (Writer number todo NoBio line) fits t w still some none =
       let z = todos number todo NoBio in
@@ -170,7 +170,7 @@ module _ (scene : Scene) (s : State) (level : ℕ → ℕ → ℕ) (known : Know
       lower setup s (2 * bio.dev.0 + 1) (level w k) (omega (arith, a, none)) below
 
   -- what weighs something weighs it in a task, in a rescuer's list or in a node
-  found_at : {X : Type 0} (u : Weight) → ((n : ℕ) (todos : List Todo) (taken : Taken) → u.todo n todos taken ≡ 0) → 1 ≤ total scene u s → (Has u → X)
+  found_at : {X : Type 0} (u : Weight) → ((n : ℕ) (todos : List Todo) (taken : Gathered) → u.todo n todos taken ≡ 0) → 1 ≤ total scene u s → (Has u → X)
       → ((item : Item Pad) → Below setup s (min item.share.no 64) → 1 ≤ u.bio Rescued item → off.bio Rescued item ≡ 0 → X)
       → ((v j : ℕ) → v < scene.books → j < length (s.objects.book v).nodes → 1 ≤ weigh_option (u.node v j) (node_at (s.objects.book v) j) → X) → X
   found_at u todos some by_task by_rescue by_node =

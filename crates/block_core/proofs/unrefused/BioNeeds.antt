@@ -9,7 +9,7 @@ use Rattle.bio_records.specs.declared.bio.Bio.{Bio}
 use Rattle.bio_records.specs.declared.bio.Pad.{Pad}
 use Rattle.bio_records.specs.Items.{Item}
 use Rattle.bio_split.specs.Split.{split_rest}
-use Rattle.run_machine.specs.Scene.{Setup, tree_at, number_of}
+use Rattle.run_machine.specs.Scene.{Setup, tree_at, tree_number}
 use Rattle.run_machine.specs.Lines.{first_length, landed, legs_of, leg_at}
 use Rattle.std.proofs.lemmas.Option.{slice_get-get_or}
 use Rattle.std.proofs.lemmas.List.{length-map}
@@ -80,8 +80,8 @@ module _ (stack : Stack) (good : IsStack stack) (places : ℕ → ℕ) where
               let m : DevId = get_or items leg (record { 0 = 0 }) in
               let at : slice_get items leg ≡ Some m = slice_get-get_or items leg (record { 0 = 0 }) few in
               let member : members leg ≡ tree stack m.0 = member_is stack good bio.dev.0 device found leg m at in
-              let dev : number_of (members leg) ≡ m.0 = ap number_of member ∙ number_of_tree stack m.0 in
-              let own : needed (tree stack (number_of (members leg))) bio.range.start bio.range.len ≡ f leg =
+              let dev : tree_number (members leg) ≡ m.0 = ap tree_number member ∙ number_of_tree stack m.0 in
+              let own : needed (tree stack (tree_number (members leg))) bio.range.start bio.range.len ≡ f leg =
               ap (λ n. needed (tree stack n) bio.range.start bio.range.len) dev ∙ ap (λ t. needed t bio.range.start bio.range.len) (sym member) in
               let left : length sizes - leg ≡ suc (length sizes - (leg + 1)) = omega (arith, lt) in
               let all : sum_by f (range_with_len leg (length sizes - leg)) ≡ f leg + sum_by f (range_with_len (leg + 1) (length sizes - (leg + 1))) =

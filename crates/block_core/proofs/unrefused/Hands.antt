@@ -5,7 +5,7 @@ use Rattle.run_machine.specs.declared.event.Event.{Event}
 use Rattle.run_machine.specs.Maps.{upd}
 use Rattle.run_machine.specs.Scene.{Scene}
 use Rattle.run_machine.specs.Lines.{Doing, Line}
-use Rattle.run_machine.specs.Tasks.{TaskState, Writer, Rescuer, Completer, Keeper, Todo, Taken, NoBio, HasBio, HasBoth}
+use Rattle.run_machine.specs.Tasks.{TaskState, Writer, Rescuer, Completer, Keeper, Todo, Gathered, NoBio, HasBio, HasBoth}
 use Rattle.run_machine.specs.Opened.{scene, todos, duties}
 use Rattle.run_machine.specs.Runs.{State, IsRun}
 use Rattle.block_core.specs.Breaks.{failed}
@@ -19,7 +19,7 @@ use Rattle.block_core.proofs.start.FactsAtStart.{Begins}
 use Rattle.block_core.proofs.sound.Wholes.{Whole, runs_whole}
 
 -- something is taken for a write alone
-abbrev pub IsForOne : List Todo → Taken → Type 0
+abbrev pub IsForOne : List Todo → Gathered → Type 0
 IsForOne todos NoBio = Unit {0}
 IsForOne [] (HasBio item) = ⊥
 IsForOne (todo ∷ later) (HasBio item) = Unit {0}

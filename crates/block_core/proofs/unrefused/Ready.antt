@@ -19,7 +19,7 @@ use Rattle.run_machine.specs.Scene.{Setup, Scene, tree_at}
 use Rattle.run_machine.specs.Lines.{Takes, Punts, Links, ToPush, ToCut, ToRecord, ToMaster, Doing, Rests, Drives, Copies, Breaks, Line, line_request}
 use Rattle.run_machine.specs.Requests as requests
 use Rattle.run_machine.specs.Requests.{Request, Reply, Opening}
-use Rattle.run_machine.specs.Tasks.{TaskState, Writer, Rescuer, Completer, Keeper, Keeping, Keeps, Stops, Resizes, Starts, Todo, Taken, NoBio, HasBio, HasBoth, Carried, Empty, Brings, Carries, Fails, request, with_bio, needs_vector}
+use Rattle.run_machine.specs.Tasks.{TaskState, Writer, Rescuer, Completer, Keeper, Keeping, Keeps, Stops, Resizes, Starts, Todo, Gathered, NoBio, HasBio, HasBoth, Carried, Empty, Brings, Carries, Fails, request, with_bio, needs_vector}
 use Rattle.run_machine.specs.Objects.{Objects, Serves}
 use Rattle.run_machine.specs.Runs.{State}
 use Rattle.block_core.specs.Weights.{sum_at, one, weigh_option, task_weight, book_weight, refs, count_of, legs_left}
@@ -333,7 +333,7 @@ module _ (scene : Scene) (s : State) (n : Needs scene.setup) (small : IsSmall sc
       (has_vacant x writer is (in_books writer master stands) (omega (arith, few, lt, all, line_part (room scene.setup writer) place x doing lists h)), stands)
 
   -- a writer that has still to begin a write
-  begins : (number : ℕ) (todo : Todo) (later : List Todo) (taken : Taken) (line : Line) → s.task place ≡ Writer number (todo ∷ later) taken line → number < scene.books
+  begins : (number : ℕ) (todo : Todo) (later : List Todo) (taken : Gathered) (line : Line) → s.task place ≡ Writer number (todo ∷ later) taken line → number < scene.books
       → HasVacant (s.objects.book number)
   begins number todo later taken line is lt =
       let all = ap (λ k. k * sum_by (todo_need scene.setup) (todo ∷ later)) (one-same number) in
@@ -343,7 +343,7 @@ module _ (scene : Scene) (s : State) (n : Needs scene.setup) (small : IsSmall sc
   vector_or_not true number todo vacant = tt
   vector_or_not false number todo vacant = vacant
 
-  ready_writer : (number : ℕ) (todos : List Todo) (taken : Taken) (doing : Doing) (lists : TaskLists)
+  ready_writer : (number : ℕ) (todos : List Todo) (taken : Gathered) (doing : Doing) (lists : TaskLists)
       → s.task place ≡ Writer number todos taken (record { doing = doing; lists = lists }) → number < scene.books
       → IsReady s.objects (request scene.setup (Writer number todos taken (record { doing = doing; lists = lists })))
   ready_writer number [] taken Rests lists is lt = tt

@@ -8,7 +8,7 @@ use Rattle.bio_books.specs.Drops.{Closed}
 use Rattle.run_machine.specs.Scene.{Scene}
 use Rattle.run_machine.specs.Lines.{Line}
 use Rattle.run_machine.specs.Requests as requests
-use Rattle.run_machine.specs.Tasks.{Writer, Completer, Keeper, Keeps, Resizes, Duty, Todo, Taken, NoBio, HasBio, HasBoth, Carries}
+use Rattle.run_machine.specs.Tasks.{Writer, Completer, Keeper, Keeps, Resizes, Duty, Todo, Gathered, NoBio, HasBio, HasBoth, Carries}
 use Rattle.run_machine.specs.Runs.{State, IsLet}
 use Rattle.block_core.specs.Weights.{total, one}
 use Rattle.block_core.proofs.sound.OffLevels.{AreLeveled, off_levels, parent_off}
@@ -69,7 +69,7 @@ module _ (rounds : List ℕ) (keeper : ℕ) (scene : Scene) (s : State) (i : Kep
       worth = ap (λ parent. tops_left parent * one r r) top ∙ ap (λ n. 1 * n) (one-same r)
 
   -- what is in a hand is for the first of some writes
-  no_hand : (place number : ℕ) (todos : List Todo) (taken : Taken) (line : Line) → place < scene.tasks → s.task place ≡ Writer number todos taken line → taken ≡ NoBio
+  no_hand : (place number : ℕ) (todos : List Todo) (taken : Gathered) (line : Line) → place < scene.tasks → s.task place ≡ Writer number todos taken line → taken ≡ NoBio
   no_hand place number todos NoBio line here is = refl
   no_hand place number [] (HasBio item) line here is = absurd (subst GoesOnCarrying is (on place))
   no_hand place number [] (HasBoth item vector) line here is = absurd (subst GoesOnCarrying is (on place))

@@ -13,7 +13,7 @@ use Rattle.plain_core.specs.objects.Plain.{CoreObjects, objects_of_core}
 use Rattle.plain_core.specs.steps.Submissions.{IsSubmitting}
 
 -- a busy task asks for what its submission does
-pub busy_writer : (s : Setup) (n : ℕ) (todo : List task.Todo) (taken : task.Taken) (doing : line.Doing) (l : line.Line) → IsSubmitting doing
+pub busy_writer : (s : Setup) (n : ℕ) (todo : List task.Todo) (taken : task.Gathered) (doing : line.Doing) (l : line.Line) → IsSubmitting doing
     → task.writer_request s n todo taken doing l ≡ line.line_request s doing l.lists
 busy_writer s n todo taken line.Rests l busy = absurd busy
 busy_writer s n todo taken (line.Drives part ask) l busy = refl
@@ -41,7 +41,7 @@ round_let old n next later lists false is = λ seen. by seen.0 seen.1 seen.2
         no_both e = cc
     by _ serves lets = absurd serves
 
-pub writer_let : (old : CoreObjects) (n : ℕ) (todo : List task.Todo) (next : task.Todo) (later : List task.Todo) (taken : task.Taken) (l : line.Line) (answer : Bool)
+pub writer_let : (old : CoreObjects) (n : ℕ) (todo : List task.Todo) (next : task.Todo) (later : List task.Todo) (taken : task.Gathered) (l : line.Line) (answer : Bool)
     → todo ≡ next ∷ later → taken ≡ task.NoBio → l.doing ≡ line.Rests → nat_le next.round old.tally.round ≡ answer → IsDecisionOf answer (TaskIsLet old (task.Writer n todo taken l))
 writer_let old n todo next later taken l answer is none rests test =
     subst (λ ts. IsDecisionOf answer (TaskIsLet old (task.Writer n ts taken l))) (sym is)

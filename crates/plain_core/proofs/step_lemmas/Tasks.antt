@@ -115,7 +115,7 @@ rescuer_line r old new dev (line.Breaks breach kept) lists after what (Err fault
 rescuer_line r old new dev (line.Breaks breach kept) lists after what (Err fault.Memory) busy m = (m.0, ap (task.Rescuer dev) m.1, busy, tt, m.2)
 
 -- a writer's submission: it looks at nothing
-no_look : (todo : List task.Todo) (taken : task.Taken) (doing : line.Doing) → IsSubmitting doing → task.writer_look todo taken doing ≡ None
+no_look : (todo : List task.Todo) (taken : task.Gathered) (doing : line.Doing) → IsSubmitting doing → task.writer_look todo taken doing ≡ None
 no_look [] taken doing busy = refl
 no_look (t ∷ todo) task.NoBio line.Rests busy = absurd busy
 no_look (t ∷ todo) task.NoBio (line.Drives bio ask) busy = refl
@@ -124,21 +124,21 @@ no_look (t ∷ todo) task.NoBio (line.Breaks breach kept) busy = refl
 no_look (t ∷ todo) (task.HasBio bio) doing busy = refl
 no_look (t ∷ todo) (task.HasBoth bio vector) doing busy = refl
 
-asks_line : (r : Routing) (n : ℕ) (todo : List task.Todo) (taken : task.Taken) (doing : line.Doing) (lists : TaskLists) → IsSubmitting doing
+asks_line : (r : Routing) (n : ℕ) (todo : List task.Todo) (taken : task.Gathered) (doing : line.Doing) (lists : TaskLists) → IsSubmitting doing
     → task.request (routing_setup r) (task.Writer n todo taken (record { doing = doing; lists = lists })) ≡ line.line_request (routing_setup r) doing lists
 asks_line r n todo taken line.Rests lists busy = absurd busy
 asks_line r n todo taken (line.Drives bio ask) lists busy = refl
 asks_line r n todo taken (line.Copies bio master leg want) lists busy = refl
 asks_line r n todo taken (line.Breaks breach kept) lists busy = refl
 
-answers_line : (r : Routing) (n : ℕ) (todo : List task.Todo) (taken : task.Taken) (doing : line.Doing) (lists : TaskLists) (reply : Reply) → IsSubmitting doing
+answers_line : (r : Routing) (n : ℕ) (todo : List task.Todo) (taken : task.Gathered) (doing : line.Doing) (lists : TaskLists) (reply : Reply) → IsSubmitting doing
     → task.Writer n todo taken (line.line_answered (routing_setup r) doing lists reply) ≡ task.answered (routing_setup r) (task.Writer n todo taken (record { doing = doing; lists = lists })) reply
 answers_line r n todo taken line.Rests lists reply busy = absurd busy
 answers_line r n todo taken (line.Drives bio ask) lists reply busy = refl
 answers_line r n todo taken (line.Copies bio master leg want) lists reply busy = refl
 answers_line r n todo taken (line.Breaks breach kept) lists reply busy = refl
 
-pub writer_line : (r : Routing) (old new : CoreObjects) (n : ℕ) (todo : List task.Todo) (taken : task.Taken) (before after : line.Line) (what : What) (result : Result (Unit {0}) CoreFault)
+pub writer_line : (r : Routing) (old new : CoreObjects) (n : ℕ) (todo : List task.Todo) (taken : task.Gathered) (before after : line.Line) (what : What) (result : Result (Unit {0}) CoreFault)
     → IsSubmitting before.doing → LineMoves r old before what result new after
     → TaskMoves r old (task.Writer n todo taken before) what result new (task.Writer n todo taken after)
 writer_line r old new n todo taken before after what (Ok d) busy m = (
@@ -158,7 +158,7 @@ writer_line r old new n todo taken before after what (Err fault.Memory) busy m =
 )
 
 -- a writer at rest
-pub writer_ok : (r : Routing) (old new : CoreObjects) (n : ℕ) (tds : List task.Todo) (taken : task.Taken) (before : line.Line) (what : What) (reply : Reply) (after : task.TaskState)
+pub writer_ok : (r : Routing) (old new : CoreObjects) (n : ℕ) (tds : List task.Todo) (taken : task.Gathered) (before : line.Line) (what : What) (reply : Reply) (after : task.TaskState)
     → before.doing ≡ line.Rests → IsLet ledger_of (objects_of_core old) (task.Writer n tds taken before) (task.writer_look tds taken line.Rests)
     → IsAnswer old (task.write_request n tds taken) what reply new → after ≡ task.write_answered (routing_setup r) n tds taken before reply
     → TaskMoves r old (task.Writer n tds taken before) what (Ok (tt {0})) new after
@@ -169,7 +169,7 @@ writer_ok r old new n tds taken before what reply after rests is_let answer is_a
   is_after ∙ ap (λ d. task.writer_answered (routing_setup r) n tds taken d before reply) (sym rests),
 )
 
-pub writer_failed : (r : Routing) (old new : CoreObjects) (n : ℕ) (tds : List task.Todo) (taken : task.Taken) (before : line.Line) (what : What) (e : CoreFault)
+pub writer_failed : (r : Routing) (old new : CoreObjects) (n : ℕ) (tds : List task.Todo) (taken : task.Gathered) (before : line.Line) (what : What) (e : CoreFault)
     → before.doing ≡ line.Rests → FailsRequest old (task.write_request n tds taken) what e new
     → TaskMoves r old (task.Writer n tds taken before) what (Err e) new (task.Writer n tds taken before)
 writer_failed r old new n tds taken before what fault.NotEnabled rests f =
@@ -181,7 +181,7 @@ pub round_come : (old : CoreObjects) (n : ℕ) (next : task.Todo) (later : List 
     → IsLet ledger_of (objects_of_core old) (task.Writer n (next ∷ later) task.NoBio before) (Some LookRound)
 round_come old n next later before come = (Present old.tally.round, (refl, refl), come)
 
-pub bio_taken : (r : Routing) (old new : CoreObjects) (n : ℕ) (tds later : List task.Todo) (next : task.Todo) (taken : task.Taken) (before : line.Line) (what : What) (part : Item Pad)
+pub bio_taken : (r : Routing) (old new : CoreObjects) (n : ℕ) (tds later : List task.Todo) (next : task.Todo) (taken : task.Gathered) (before : line.Line) (what : What) (part : Item Pad)
     → before.doing ≡ line.Rests → taken ≡ task.NoBio → tds ≡ next ∷ later → nat_le next.round old.tally.round ≡ true → TakesPart old Fs true what (Ok (Some part)) new
     → TaskMoves r old (task.Writer n tds taken before) what (Ok (tt {0})) new (task.Writer n tds (task.HasBio part) before)
 bio_taken r old new n tds later next taken before what part rests none is come t =
@@ -189,7 +189,7 @@ bio_taken r old new n tds later next taken before what part rests none is come t
     (subst (λ l. TaskMoves r old (task.Writer n l task.NoBio before) what (Ok (tt {0})) new (task.Writer n l (task.HasBio part) before)) (sym is)
     (writer_ok r old new n (next ∷ later) task.NoBio before what (HadBio t.0 part) (task.Writer n (next ∷ later) (task.HasBio part) before) rests (round_come old n next later before come) t.1 refl))
 
-pub bio_missed : (r : Routing) (old new : CoreObjects) (n : ℕ) (tds later : List task.Todo) (next : task.Todo) (taken : task.Taken) (before : line.Line) (what : What)
+pub bio_missed : (r : Routing) (old new : CoreObjects) (n : ℕ) (tds later : List task.Todo) (next : task.Todo) (taken : task.Gathered) (before : line.Line) (what : What)
     → before.doing ≡ line.Rests → taken ≡ task.NoBio → tds ≡ next ∷ later → nat_le next.round old.tally.round ≡ true → TakesPart old Fs true what (Ok None) new
     → TaskMoves r old (task.Writer n tds taken before) what (Ok (tt {0})) new (task.Writer n tds taken before)
 bio_missed r old new n tds later next taken before what rests none is come t =
@@ -207,7 +207,7 @@ rescuer_popped r old new dev before after what part rests answer is = (
   ap (task.Rescuer dev) is ∙ ap (λ d. task.rescuer_answered (routing_setup r) dev d before (Popped part)) (sym rests),
 )
 
-module _ (r : Routing) (old new : CoreObjects) (n : ℕ) (tds later : List task.Todo) (next : task.Todo) (taken : task.Taken) (before : line.Line) (what : What) (rests : before.doing ≡ line.Rests) (is : tds ≡ next ∷ later) where
+module _ (r : Routing) (old new : CoreObjects) (n : ℕ) (tds later : List task.Todo) (next : task.Todo) (taken : task.Gathered) (before : line.Line) (what : What) (rests : before.doing ≡ line.Rests) (is : tds ≡ next ∷ later) where
   -- with a bio, and with a vector too
   pub vector_taken : (part : Item Pad) (vector : VectorItem) → taken ≡ task.HasBio part → task.needs_vector next.write ≡ true → TakesVector old what (Ok (Some vector)) new
       → TaskMoves r old (task.Writer n tds taken before) what (Ok (tt {0})) new (task.Writer n tds (task.HasBoth part vector) before)

@@ -10,8 +10,8 @@ use Rattle.plain_core.specs.declared.steps.task.Ask.TheVariants as ask
 use Rattle.plain_core.specs.declared.steps.task.Doing.{Doing}
 use Rattle.plain_core.specs.declared.steps.task.Doing.TheVariants as doing
 use Rattle.plain_core.specs.declared.steps.task.Line.{Line}
-use Rattle.plain_core.specs.declared.steps.task.Taken.{Taken}
-use Rattle.plain_core.specs.declared.steps.task.Taken.TheVariants as taken
+use Rattle.plain_core.specs.declared.steps.task.Gathered.{Gathered}
+use Rattle.plain_core.specs.declared.steps.task.Gathered.TheVariants as taken
 use Rattle.plain_core.specs.declared.steps.task.Carried.{Carried}
 use Rattle.plain_core.specs.declared.steps.task.Carried.TheVariants as carried
 use Rattle.plain_core.specs.declared.steps.task.Writer.{Writer}
@@ -40,7 +40,7 @@ doing_of_plain (doing.Copies copying want) = line.Copies copying.bio copying.mas
 abbrev pub line_of_plain : Line → line.Line
 line_of_plain l = record { doing = doing_of_plain l.doing; lists = lists_of l.lists }
 
-abbrev pub taken_of_plain : Taken → task.Taken
+abbrev pub taken_of_plain : Gathered → task.Gathered
 taken_of_plain taken.NoBio = task.NoBio
 taken_of_plain (taken.HasBio part) = task.HasBio part
 taken_of_plain (taken.HasBoth part vector) = task.HasBoth part vector

@@ -9,7 +9,7 @@ ghost use Rattle.plain_core.specs.steps.Views.{keeper_of, task_of_plain, writer_
 ghost use Rattle.plain_core.specs.opening.Opening.{IsSeating};
 
 use crate::opening::seats::{open_slots, resting, seat};
-use crate::steps::task::{Carried, Completer, Duty, Keeper, Rescuer, Taken, Task, Writer};
+use crate::steps::task::{Carried, Completer, Duty, Gathered, Keeper, Rescuer, Task, Writer};
 use std::alloc::{AllocError, Global};
 use task_core as opened;
 use task_core::Kind;
@@ -54,7 +54,7 @@ fn writer_seen(alloc: Global, writer: &opened::Writer) -> Result<Writer, AllocEr
         number: writer.number(),
         todo: Vec::from_slice(alloc, writer.todo().rest())?,
         begun: 0,
-        taken: Taken::NoBio,
+        taken: Gathered::NoBio,
         line: resting(alloc),
     })
 }

@@ -10,7 +10,7 @@ ghost use Rattle.plain_core.specs.declared.steps.need.Need.TheVariants as need;
 use crate::objects::{Objects, number_of};
 use crate::steps::keeper::next_duty;
 use crate::steps::need::{Need, task_need};
-use crate::steps::task::{Keeper, Taken, Task, Writer};
+use crate::steps::task::{Gathered, Keeper, Task, Writer};
 use crate::steps::writer::next_todo;
 
 // Whether the writer's book has a vacant place, and the node at the place of a parent can wait for one more end.
@@ -72,9 +72,9 @@ fn write_is_let(objects: &Objects, writer: &Writer) -> bool
         return true;
     };
     match &writer.taken {
-        Taken::NoBio => objects.round() >= next.round,
-        Taken::HasBio(_) => true,
-        Taken::HasBoth(_, _) => true,
+        Gathered::NoBio => objects.round() >= next.round,
+        Gathered::HasBio(_) => true,
+        Gathered::HasBoth(_, _) => true,
     }
 }
 

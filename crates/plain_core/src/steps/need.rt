@@ -13,7 +13,7 @@ use crate::objects::node::Closed;
 use crate::objects::part::Part;
 use crate::steps::keeper::next_duty;
 use crate::steps::task::{
-    Ask, Carried, Completer, Copying, Doing, Keeper, Line, Rescuer, Taken, Task, Want, Writer,
+    Ask, Carried, Completer, Copying, Doing, Gathered, Keeper, Line, Rescuer, Task, Want, Writer,
 };
 use crate::steps::writer::next_todo;
 use stack_base::{DevId, PoolId};
@@ -122,11 +122,11 @@ fn write_need(writer: &Writer) -> Need
         return Need::Never;
     };
     match &writer.taken {
-        Taken::NoBio => Need::Spare {
+        Gathered::NoBio => Need::Spare {
             pool: PoolId::FsBios,
             waits: true,
         },
-        Taken::HasBio(_) => {
+        Gathered::HasBio(_) => {
             if needs_vector(&next.write) {
                 Need::Spare {
                     pool: PoolId::FsVecs,
@@ -136,7 +136,7 @@ fn write_need(writer: &Writer) -> Need
                 Need::Place(writer.number)
             }
         }
-        Taken::HasBoth(_, _) => Need::Place(writer.number),
+        Gathered::HasBoth(_, _) => Need::Place(writer.number),
     }
 }
 

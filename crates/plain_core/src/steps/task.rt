@@ -74,21 +74,21 @@ impl Line {
 
 /// What a writer has taken for its next write.
 #[derive(Drop)]
-pub enum Taken {
+pub enum Gathered {
     NoBio,
     HasBio(Hand),
     HasBoth(Hand, Vector),
 }
 
-impl Taken {
+impl Gathered {
     /// The same once more.
-    pub fn again(&self) -> Taken
+    pub fn again(&self) -> Gathered
         ensures { taken_of_plain result ≡ taken_of_plain self.now }
     {
         match self {
-            Taken::NoBio => Taken::NoBio,
-            Taken::HasBio(hand) => Taken::HasBio(hand.again()),
-            Taken::HasBoth(hand, vector) => Taken::HasBoth(hand.again(), vector.again()),
+            Gathered::NoBio => Gathered::NoBio,
+            Gathered::HasBio(hand) => Gathered::HasBio(hand.again()),
+            Gathered::HasBoth(hand, vector) => Gathered::HasBoth(hand.again(), vector.again()),
         }
     }
 }
@@ -138,7 +138,7 @@ pub struct Writer {
     pub number: u32,
     pub todo: Vec<Todo>,
     pub begun: usize,
-    pub taken: Taken,
+    pub taken: Gathered,
     pub line: Line,
 }
 

@@ -15,7 +15,7 @@ use crate::objects::part::{Data, Hand, Part, Vector};
 use crate::steps::asks;
 use crate::steps::line::take::take_part;
 use crate::steps::line::{drive, line_step};
-use crate::steps::task::{Line, Taken, Writer};
+use crate::steps::task::{Gathered, Line, Writer};
 use bio_records::Pad;
 use layout_model::Write;
 use stack_base::{PoolId, SetId};
@@ -66,7 +66,7 @@ fn begin(routes: &Routes, writer: &mut Writer, part: Part)
     ensures { writer_of writer.new ≡ begun_with routes.now writer.old part }
 {
     start(routes, part, &mut writer.line);
-    writer.taken = Taken::NoBio;
+    writer.taken = Gathered::NoBio;
     writer.begun += 1;
 }
 
@@ -88,7 +88,7 @@ fn take_step(
         Err(fault) => Err(fault),
         Ok(None) => Ok(()),
         Ok(Some(hand)) => {
-            writer.taken = Taken::HasBio(hand);
+            writer.taken = Gathered::HasBio(hand);
             Ok(())
         }
     }
@@ -109,7 +109,7 @@ fn vector_step(
         Err(fault) => Err(fault),
         Ok(None) => Ok(()),
         Ok(Some(vector)) => {
-            writer.taken = Taken::HasBoth(hand.again(), vector);
+            writer.taken = Gathered::HasBoth(hand.again(), vector);
             Ok(())
         }
     }
@@ -184,15 +184,15 @@ fn write_step(
     };
     let next = *next;
     match writer.taken.again() {
-        Taken::NoBio => take_step(objects, writer, next.round, what),
-        Taken::HasBio(hand) => {
+        Gathered::NoBio => take_step(objects, writer, next.round, what),
+        Gathered::HasBio(hand) => {
             if needs_vector(&next.write) {
                 vector_step(objects, writer, &hand, what)
             } else {
                 short_step(routes, objects, writer, &next, &hand, what)
             }
         }
-        Taken::HasBoth(hand, vector) => {
+        Gathered::HasBoth(hand, vector) => {
             long_step(routes, objects, writer, &next, &hand, &vector, what)
         }
     }

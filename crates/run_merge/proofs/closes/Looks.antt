@@ -11,7 +11,7 @@ use Rattle.run_machine.specs.Lines.{Doing, Rests}
 use Rattle.run_machine.specs.Objects.{TallyState}
 use Rattle.run_machine.specs.Opened.{Scenario, setup, start}
 use Rattle.run_machine.specs.Requests.{Request, Reply, LookRound, LookLeft, Present, LeftOver}
-use Rattle.run_machine.specs.Tasks.{Todo, Taken, NoBio, TaskState, Writer, Rescuer, Completer, Keeper, Keeps, Stops, look_of, writer_look}
+use Rattle.run_machine.specs.Tasks.{Todo, Gathered, NoBio, TaskState, Writer, Rescuer, Completer, Keeper, Keeps, Stops, look_of, writer_look}
 use Rattle.task_core.specs.declared.plain.Plain.{Plain}
 use Rattle.object_things.specs.Histories.{Call, drawn_in}
 use Rattle.object_things.specs.Stamps.{ThingState, StepOf, is_spent}
@@ -70,7 +70,7 @@ is_some_look : Option Request → Bool
 is_some_look None = false
 is_some_look (Some look) = true
 
-writer_looks : (todo : List Todo) (taken : Taken) (doing : Doing) (look : Request) → writer_look todo taken doing ≡ Some look → IsLook look
+writer_looks : (todo : List Todo) (taken : Gathered) (doing : Doing) (look : Request) → writer_look todo taken doing ≡ Some look → IsLook look
 unfolding some_or is_some_look
 writer_looks (todo ∷ later) NoBio Rests look is = subst IsLook (ap (some_or look) is) round_look
 writer_looks [] taken doing look is = absurd (true≢false (sym (ap is_some_look is)))

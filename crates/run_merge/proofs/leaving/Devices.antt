@@ -21,7 +21,7 @@ use Rattle.task_core.proofs.opened.Filling.{filter_more}
 use Rattle.task_steps.specs.Routed.{Routing, routing_setup}
 use Rattle.run_merge.specs.Falling.{DevicePools, at_number, below, with_facts, falling_below}
 
-keeps_by : (n : ℕ) (k : Kind) (trees : List Tree) → keeps_data (over n k trees) ≡ kinds.is_disk k
+keeps_by : (n : ℕ) (k : Kind) (trees : List Tree) → keeps_data (over n k trees) ≡ kinds.is_disk_kind k
 unfolding over_shape
 keeps_by n (kind.Disk sectors bad) trees = refl
 keeps_by n kind.Linear trees = refl
@@ -30,7 +30,7 @@ keeps_by n (kind.Zoned chunk) trees = refl
 keeps_by n (kind.Limit longest chunk) trees = refl
 keeps_by n (kind.Mirror records) trees = refl
 
-mirrors_by : (n : ℕ) (k : Kind) (trees : List Tree) → is_mirror (over n k trees) ≡ kinds.is_mirror k
+mirrors_by : (n : ℕ) (k : Kind) (trees : List Tree) → is_mirror (over n k trees) ≡ kinds.is_mirror_kind k
 unfolding over_shape
 mirrors_by n (kind.Disk sectors bad) trees = refl
 mirrors_by n kind.Linear trees = refl
@@ -49,16 +49,16 @@ module _ (r : Routing) (good : IsStack r.stack) (n : ℕ) (device : Device) (fou
   tree_here : tree r.stack n ≡ over n device.kind (map (λ (m : DevId). tree r.stack m.0) device.members.items)
   tree_here = tree_is r.stack good n device found
 
-  keeps_here : keeps_data (tree r.stack n) ≡ kinds.is_disk device.kind
+  keeps_here : keeps_data (tree r.stack n) ≡ kinds.is_disk_kind device.kind
   keeps_here = ap keeps_data tree_here ∙ keeps_by n device.kind (map (λ (m : DevId). tree r.stack m.0) device.members.items)
 
-  pub disk_is : is_disk (routing_setup r) n ≡ kinds.is_disk device.kind
+  pub disk_is : is_disk (routing_setup r) n ≡ kinds.is_disk_kind device.kind
   disk_is = ap (λ b. b && keeps_data (tree r.stack n)) there ∙ keeps_here
 
-  pub set_is : has_set (routing_setup r) n ≡ kinds.has_set device.kind
+  pub set_is : has_set (routing_setup r) n ≡ kinds.is_stacked_kind device.kind
   set_is = ap (λ b. b && not (keeps_data (tree r.stack n))) there ∙ ap not keeps_here
 
-  pub records_is : has_records r n ≡ kinds.is_mirror device.kind
+  pub records_is : has_records r n ≡ kinds.is_mirror_kind device.kind
   records_is = ap (λ b. b && is_mirror (tree r.stack n)) there ∙ ap is_mirror tree_here
       ∙ mirrors_by n device.kind (map (λ (m : DevId). tree r.stack m.0) device.members.items)
 
@@ -72,7 +72,7 @@ module _ (r : Routing) (n : ℕ) (past : length r.stack.devices.items ≤ n) whe
 
 -- the disks of devices are those that tests find
 pub disks_found : (is : ℕ → Bool) (n : ℕ) (devices : List Device)
-    → ((i : ℕ) (device : Device) → slice_get devices i ≡ Some device → is (n + i) ≡ kinds.is_disk device.kind)
+    → ((i : ℕ) (device : Device) → slice_get devices i ≡ Some device → is (n + i) ≡ kinds.is_disk_kind device.kind)
     → disks_from n devices ≡ map at (filter is (range_with_len n (length devices)))
 unfolding disks_from
 disks_found is n [] each = refl
@@ -89,7 +89,7 @@ disks_found is n (device ∷ more) each =
     with_test : (b c : Bool) → b ≡ c → {ds : List DevId} → ds ≡ map at (cond c (n ∷ rest) rest) → ds ≡ map at (cond b (n ∷ rest) rest)
     with_test b c is {ds} alike = subst (λ (b : Bool). ds ≡ map at (cond b (n ∷ rest) rest)) (sym is) alike
 
-    by_kind : (k : Kind) (b : Bool) → b ≡ kinds.is_disk k → disks_from (n + 1) more ≡ map at rest → disk_at n k ++ disks_from (n + 1) more ≡ map at (cond b (n ∷ rest) rest)
+    by_kind : (k : Kind) (b : Bool) → b ≡ kinds.is_disk_kind k → disks_from (n + 1) more ≡ map at rest → disk_at n k ++ disks_from (n + 1) more ≡ map at (cond b (n ∷ rest) rest)
     by_kind (kind.Disk sectors bad) b is rests = with_test b true is (ap (λ ds. at n ∷ ds) rests)
     by_kind kind.Linear b is rests = with_test b false is rests
     by_kind (kind.Stripe chunk) b is rests = with_test b false is rests
@@ -131,16 +131,16 @@ module _ {A : Type 0} (has : ℕ → Bool) (entry : ℕ → A) where
 
 module _ (pools : DevicePools) where
   -- one device more
-  by_kind : (n : ℕ) (k : Kind) (set mirror : Bool) → set ≡ kinds.has_set k → mirror ≡ kinds.is_mirror k
+  by_kind : (n : ℕ) (k : Kind) (set mirror : Bool) → set ≡ kinds.is_stacked_kind k → mirror ≡ kinds.is_mirror_kind k
       → cond mirror (with_facts pools (Records (at n)) ∷ []) [] ++ (cond set (with_facts pools (Bios (at n)) ∷ []) [] ++ falling_below pools n)
       ≡ map (with_facts pools) (pools_at n k) ++ falling_below pools n
   by_kind n k set mirror set_is mirror_is =
       ap (λ b. cond mirror (with_facts pools (Records (at n)) ∷ []) [] ++ (cond b (with_facts pools (Bios (at n)) ∷ []) [] ++ falling_below pools n)) set_is
-      ∙ ap (λ b. cond b (with_facts pools (Records (at n)) ∷ []) [] ++ (cond (kinds.has_set k) (with_facts pools (Bios (at n)) ∷ []) [] ++ falling_below pools n)) mirror_is
+      ∙ ap (λ b. cond b (with_facts pools (Records (at n)) ∷ []) [] ++ (cond (kinds.is_stacked_kind k) (with_facts pools (Bios (at n)) ∷ []) [] ++ falling_below pools n)) mirror_is
       ∙ of_kind k
     where
-      of_kind : (k : Kind) → cond (kinds.is_mirror k) (with_facts pools (Records (at n)) ∷ []) []
-          ++ (cond (kinds.has_set k) (with_facts pools (Bios (at n)) ∷ []) [] ++ falling_below pools n) ≡ map (with_facts pools) (pools_at n k) ++ falling_below pools n
+      of_kind : (k : Kind) → cond (kinds.is_mirror_kind k) (with_facts pools (Records (at n)) ∷ []) []
+          ++ (cond (kinds.is_stacked_kind k) (with_facts pools (Bios (at n)) ∷ []) [] ++ falling_below pools n) ≡ map (with_facts pools) (pools_at n k) ++ falling_below pools n
       of_kind (kind.Disk sectors bad) = refl
       of_kind kind.Linear = refl
       of_kind (kind.Stripe chunk) = refl
@@ -150,7 +150,7 @@ module _ (pools : DevicePools) where
 
   -- the pools of devices by falling number
   pub falls : (n : ℕ) (devices : List Device)
-      → ((i : ℕ) (device : Device) → slice_get devices i ≡ Some device → (pools.has_set (n + i) ≡ kinds.has_set device.kind) × (pools.is_mirror (n + i) ≡ kinds.is_mirror device.kind))
+      → ((i : ℕ) (device : Device) → slice_get devices i ≡ Some device → (pools.has_set (n + i) ≡ kinds.is_stacked_kind device.kind) × (pools.is_mirror (n + i) ≡ kinds.is_mirror_kind device.kind))
       → falling_below pools (n + length devices) ≡ map (with_facts pools) (falling_from n devices) ++ falling_below pools n
   unfolding falling_from falling_below
   falls n [] each = ap (falling_below pools) none
@@ -177,7 +177,7 @@ module _ (pools : DevicePools) where
       later : (i : ℕ) → n + 1 + i ≡ n + suc i
       later i = omega arith
 
-      here : (pools.has_set (n + 0) ≡ kinds.has_set device.kind) × (pools.is_mirror (n + 0) ≡ kinds.is_mirror device.kind)
+      here : (pools.has_set (n + 0) ≡ kinds.is_stacked_kind device.kind) × (pools.is_mirror (n + 0) ≡ kinds.is_mirror_kind device.kind)
       here = each 0 device refl
 
   -- there are as many as the rows have

@@ -147,7 +147,7 @@ module _ (closed : Closed) (has : HasClosed closed) where
 
   -- all pools by falling number
   each_device : (i : ℕ) (device : Device) → slice_get routing.stack.devices.items i ≡ Some device
-      → (pools_in.has_set (0 + i) ≡ kinds.has_set device.kind) × (pools_in.is_mirror (0 + i) ≡ kinds.is_mirror device.kind)
+      → (pools_in.has_set (0 + i) ≡ kinds.is_stacked_kind device.kind) × (pools_in.is_mirror (0 + i) ≡ kinds.is_mirror_kind device.kind)
   each_device i device found = (ap pools_in.has_set same ∙ set_is routing good i device found, ap pools_in.is_mirror same ∙ records_is routing good i device found)
     where
       same : 0 + i ≡ i
@@ -186,7 +186,7 @@ module _ (closed : Closed) (has : HasClosed closed) where
       omega (arith, sets, many, records, more, fall, all, long, room)
 
   -- and the disks
-  each_disk : (i : ℕ) (device : Device) → slice_get routing.stack.devices.items i ≡ Some device → is_disk (routing_setup routing) (0 + i) ≡ kinds.is_disk device.kind
+  each_disk : (i : ℕ) (device : Device) → slice_get routing.stack.devices.items i ≡ Some device → is_disk (routing_setup routing) (0 + i) ≡ kinds.is_disk_kind device.kind
   each_disk i device found = ap (is_disk (routing_setup routing)) same ∙ disk_is routing good i device found
     where
       same : 0 + i ≡ i

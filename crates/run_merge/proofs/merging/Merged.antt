@@ -10,7 +10,7 @@ use Rattle.run_machine.specs.Lines.{Doing, Rests}
 use Rattle.run_machine.specs.Opened.{Scenario, scene, start, setup}
 use Rattle.run_machine.specs.Requests.{Present, LeftOver}
 use Rattle.run_machine.specs.Runs.{State, IsLet}
-use Rattle.run_machine.specs.Tasks.{TaskState, Writer, Rescuer, Completer, Keeper, Keeps, Stops, Todo, Taken, NoBio, request, look_of, writer_look, later_of}
+use Rattle.run_machine.specs.Tasks.{TaskState, Writer, Rescuer, Completer, Keeper, Keeps, Stops, Todo, Gathered, NoBio, request, look_of, writer_look, later_of}
 use Rattle.block_core.specs.Scenarios.{IsScenario, IsNaming}
 use Rattle.shared_objects.specs.Calls.{is_same_object, struck}
 use Rattle.shared_objects.specs.Logs.{is_event}
@@ -57,7 +57,7 @@ module _ (s : Scenario) (ledger : ℕ → LedgerId) (good : IsScenario s) (namin
     pub still_let : (place : ℕ) (x : TaskState) → state.task place ≡ x → LetsAsk s ledger (history_of OfTally hs) ticket x (look_of x) → IsLet ledger state.objects x (look_of x)
     still_let place (Writer number todo taken line) at looked = by_writer todo taken line.doing looked
       where
-        by_writer : (todo : List Todo) (taken : Taken) (doing : Doing)
+        by_writer : (todo : List Todo) (taken : Gathered) (doing : Doing)
             → LetsAsk s ledger (history_of OfTally hs) ticket (Writer number todo taken line) (writer_look todo taken doing)
             → IsLet ledger state.objects (Writer number todo taken line) (writer_look todo taken doing)
         by_writer [] taken doing looked = tt

@@ -9,7 +9,7 @@ use Rattle.stack_base.specs.declared.ids.DevId.{DevId}
 use Rattle.run_machine.specs.Scene.{Setup}
 use Rattle.run_machine.specs.Lines.{Takes, Punts, Links, ToPush, ToCut, ToRecord, ToMaster, Doing, Rests, Drives, Copies, Breaks, Line, line_request}
 use Rattle.run_machine.specs.Requests.{Request, NextRound, Resize}
-use Rattle.run_machine.specs.Tasks.{Todo, Taken, NoBio, HasBio, HasBoth, Carried, Empty, Brings, Carries, Fails, request, write_request, with_bio, needs_vector, writer_request, rescuer_request, carried_request, closed_request}
+use Rattle.run_machine.specs.Tasks.{Todo, Gathered, NoBio, HasBio, HasBoth, Carried, Empty, Brings, Carries, Fails, request, write_request, with_bio, needs_vector, writer_request, rescuer_request, carried_request, closed_request}
 use Rattle.shared_objects.specs.Calls.{struck}
 
 -- the requests of keepers
@@ -31,7 +31,7 @@ line_keeps_none setup (Copies bio master leg (Takes waits)) lists = refl
 line_keeps_none setup (Copies bio master leg Punts) lists = refl
 line_keeps_none setup (Copies bio master leg (Links hand)) lists = refl
 
-write_keeps_none : (writer : ℕ) (todo : List Todo) (taken : Taken) → is_keeping (struck (write_request writer todo taken)) ≡ false
+write_keeps_none : (writer : ℕ) (todo : List Todo) (taken : Gathered) → is_keeping (struck (write_request writer todo taken)) ≡ false
 write_keeps_none writer [] taken = refl
 write_keeps_none writer (todo ∷ later) NoBio = refl
 write_keeps_none writer (todo ∷ later) (HasBio bio) = by_need (needs_vector todo.write)
@@ -49,7 +49,7 @@ closed_keeps_none writer closed None None (Some slip) parent = refl
 closed_keeps_none writer closed None None None (Some parent) = refl
 closed_keeps_none writer closed None None None None = refl
 
-pub writer_keeps_none : (setup : Setup) (number : ℕ) (todo : List Todo) (taken : Taken) (doing : Doing) (line : Line)
+pub writer_keeps_none : (setup : Setup) (number : ℕ) (todo : List Todo) (taken : Gathered) (doing : Doing) (line : Line)
     → is_keeping (struck (writer_request setup number todo taken doing line)) ≡ false
 writer_keeps_none setup number todo taken Rests line = write_keeps_none number todo taken
 writer_keeps_none setup number todo taken (Drives bio ask) line = line_keeps_none setup (Drives bio ask) line.lists

@@ -12,7 +12,7 @@ use Rattle.run_machine.specs.Opened.{Scenario, setup}
 use Rattle.run_machine.specs.Requests as requests
 use Rattle.run_machine.specs.Requests.{Request, Reply, Resize, NextRound, Did, Present, LeftOver}
 use Rattle.run_machine.specs.Runs.{State, IsLet}
-use Rattle.run_machine.specs.Tasks.{TaskState, Writer, Rescuer, Completer, Keeper, Keeps, Stops, Duty, Resizes, Starts, Todo, Taken, NoBio, request, look_of, writer_look, later_of}
+use Rattle.run_machine.specs.Tasks.{TaskState, Writer, Rescuer, Completer, Keeper, Keeps, Stops, Duty, Resizes, Starts, Todo, Gathered, NoBio, request, look_of, writer_look, later_of}
 use Rattle.shared_objects.specs.Calls.{is_same_object, struck}
 use Rattle.run_merge.specs.Entries.{Entry}
 use Rattle.run_merge.specs.ObjectsByName.{get}
@@ -102,7 +102,7 @@ module _ (s : Scenario) (ledger : ℕ → LedgerId) (before : List Entry) (state
   pub lets : (place : ℕ) (x : TaskState) → state.task place ≡ x → ComesBehind s before x (struck (request (setup s) x)) → IsLet ledger state.objects x (look_of x)
   lets place (Writer number todo taken line) at comes = by_writer todo taken line.doing comes.takes
     where
-      by_writer : (todo : List Todo) (taken : Taken) (doing : Doing) → RoundHasCome todo taken doing before
+      by_writer : (todo : List Todo) (taken : Gathered) (doing : Doing) → RoundHasCome todo taken doing before
           → IsLet ledger state.objects (Writer number todo taken line) (writer_look todo taken doing)
       by_writer [] taken doing come = tt
       by_writer (todo ∷ later) NoBio Rests come = (Present state.objects.tally.round, (refl, refl), le-leb todo.round state.objects.tally.round (omega (arith, come, count)))
@@ -131,7 +131,7 @@ module _ (s : Scenario) (ledger : ℕ → LedgerId) (before : List Entry) (state
       by_round : (round now : ℕ) → now ≡ state.objects.tally.round → nat_le round now ≡ true → round ≤ rounds_started before
       by_round round now at le = let few = leb-true round now le in omega (arith, at, few, count)
 
-      by_writer : (todo : List Todo) (taken : Taken) (doing : Doing) → IsLet ledger state.objects (Writer number todo taken line) (writer_look todo taken doing)
+      by_writer : (todo : List Todo) (taken : Gathered) (doing : Doing) → IsLet ledger state.objects (Writer number todo taken line) (writer_look todo taken doing)
           → RoundHasCome todo taken doing before
       by_writer [] taken doing may = tt
       by_writer (todo ∷ later) NoBio Rests (Present now, serves, le) = by_round todo.round now serves.0 le

@@ -35,9 +35,9 @@ asked_is old (TakeBio set false) (what.Round number) needs = absurd needs
 asked_is old request (what.Round number) needs = absurd needs
 asked_is old request told needs = refl
 
-number_of : Request → ℕ
-number_of (NextRound number) = number
-number_of request = 0
+round_number : Request → ℕ
+round_number (NextRound number) = number
+round_number request = 0
 
 none : {X : Type 0} (b : Bool) → b ≡ true → b ≡ false → X
 none b is not = absurd (true≢false (sym is ∙ not))
@@ -45,7 +45,7 @@ none b is not = absurd (true≢false (sym is ∙ not))
 module _ (s : Scenario) (before : List Entry) (state : State) (known : Known s before state) where
   -- which is the one behind the present round
   number_is : (place number : ℕ) (x : TaskState) → state.task place ≡ x → request (setup s) x ≡ NextRound number → number ≡ state.objects.tally.round + 1
-  unfolding number_of
+  unfolding round_number
   number_is place number (Writer writer todo taken line) at is =
       none (is_keeping (struck (request (setup s) (Writer writer todo taken line)))) (ap (λ r. is_keeping (struck r)) is) (writer_keeps_none (setup s) writer todo taken line.doing line)
   number_is place number (Rescuer dev line) at is =
@@ -54,7 +54,7 @@ module _ (s : Scenario) (before : List Entry) (state : State) (known : Known s b
       none (is_keeping (struck (request (setup s) (Completer disk carried)))) (ap (λ r. is_keeping (struck r)) is) (completer_keeps_none disk carried)
   number_is place number (Keeper (Keeps [])) at is = none false (ap is_keeping is) refl
   number_is place number (Keeper (Keeps (Resizes pool min later ∷ duties))) at is = none false (ap is_next_round is) refl
-  number_is place number (Keeper (Keeps (Starts round later ∷ duties))) at is = sym (ap number_of is) ∙ known.next place round later duties at
+  number_is place number (Keeper (Keeps (Starts round later ∷ duties))) at is = sym (ap round_number is) ∙ known.next place round later duties at
   number_is place number (Keeper (Stops breach)) at is = none false (ap is_keeping is) refl
 
 module _ (s : Scenario) (ledger : ℕ → LedgerId) (good : IsScenario s) (naming : IsNaming ledger) where

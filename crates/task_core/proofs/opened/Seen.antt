@@ -18,7 +18,7 @@ use Rattle.run_machine.specs.Scene.{Setup}
 use Rattle.run_machine.specs.Lines.{Doing, Rests, Drives, Copies, Breaks}
 use Rattle.run_machine.specs.Requests as requests
 use Rattle.run_machine.specs.Requests.{Request, Reply}
-use Rattle.run_machine.specs.Tasks.{TaskState, Writer, Rescuer, Completer, Keeper, Keeps, Stops, Todo, Taken, NoBio, HasBio, HasBoth, request, writer_look, look_of, lets, answered}
+use Rattle.run_machine.specs.Tasks.{TaskState, Writer, Rescuer, Completer, Keeper, Keeps, Stops, Todo, Gathered, NoBio, HasBio, HasBoth, request, writer_look, look_of, lets, answered}
 use Rattle.run_machine.specs.Objects.{Objects, Serves}
 use Rattle.run_machine.specs.Events.{id_of, what_of}
 use Rattle.run_machine.specs.Runs.{IsLet, Steps}
@@ -46,7 +46,7 @@ look_at look b e is = subst IsLook (same e) is
     same : Some b ≡ Some look → b ≡ look
     same e = cc
 
-writer_looks : (todos : List Todo) (taken : Taken) (doing : Doing) (look : Request) → writer_look todos taken doing ≡ Some look → IsLook look
+writer_looks : (todos : List Todo) (taken : Gathered) (doing : Doing) (look : Request) → writer_look todos taken doing ≡ Some look → IsLook look
 writer_looks (todo ∷ later) NoBio Rests look e = look_at look requests.LookRound e tt
 writer_looks (todo ∷ later) NoBio (Drives bio ask) look e = absurd (none_is look e)
 writer_looks (todo ∷ later) NoBio (Copies bio master leg want) look e = absurd (none_is look e)

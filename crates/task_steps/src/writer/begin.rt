@@ -12,7 +12,7 @@ ghost use Rattle.run_machine.specs.declared.event.What.TheVariants as what;
 ghost use Rattle.run_machine.specs.Lines.{Line as LineState, Rests, Breaks};
 ghost use Rattle.run_machine.specs.Tasks.{Todo as TodoState, Writer as WriterTask, needs_vector, filled, filled_short, filled_vector, write_request};
 ghost use Rattle.task_steps.specs.Routed.{routing_setup};
-ghost use Rattle.task_steps.specs.declared.writer.begin.Taken.TheVariants.{HasBio, HasBoth};
+ghost use Rattle.task_steps.specs.declared.writer.begin.Gathered.TheVariants.{HasBio, HasBoth};
 ghost use Rattle.task_steps.specs.WriterViews.{taken_of, is_taken, IsTakenAlone, tried, IsAttemptAtBioAlone, next_of, IsNextAlone, WriteAnswers, OpensWrite, LinksWrite, TriesBio, TriesVector, WriteGoesOn, WriteReady};
 ghost use Rattle.task_steps.specs.Answers.{Ready};
 
@@ -26,13 +26,13 @@ use crate::writer::first_bio::{filled, filled_short, filled_vector, needs_vector
 use bio_books::{Back, Link};
 use bio_records::{BioElement, VecElement};
 use layout_model::Write;
-use mempool_core::Taken as Took;
+use mempool_core::Taken;
 use run_machine::{Breach, Event, Got, How, TaskId, What};
 use stack_base::{PoolId, SetId};
 
 /// What a writer has taken for its next write.
 #[derive(Drop)]
-pub enum Taken {
+pub enum Gathered {
     NoBio,
     HasBio(BioElement),
     /// Also a vector, which has no segments yet.
@@ -45,7 +45,7 @@ pub(crate) enum Next {
     // Its bio is submitted.
     Begins,
     // It waits for more, or can't begin.
-    Waits(Taken),
+    Waits(Gathered),
 }
 
 // What came of an attempt at the bio of a write.
@@ -68,9 +68,9 @@ pub(crate) fn take_bio<O: Objects>(objects: &mut O, number: u32) -> (Attempt, St
     let task = TaskId::Writer(number);
     let pool = PoolId::FsBios;
     match objects.take_bio(SetId::Fs, true) {
-        Ok(Took::Ordinary(bio)) => (Attempt::Had(bio), had(task, true, pool, Got::Ordinary)),
-        Ok(Took::Spare(bio)) => (Attempt::Had(bio), had(task, true, pool, Got::Spare)),
-        Ok(Took::Miss { used }) => (Attempt::Missed, missed(task, true, used, pool)),
+        Ok(Taken::Ordinary(bio)) => (Attempt::Had(bio), had(task, true, pool, Got::Ordinary)),
+        Ok(Taken::Spare(bio)) => (Attempt::Had(bio), had(task, true, pool, Got::Spare)),
+        Ok(Taken::Miss { used }) => (Attempt::Missed, missed(task, true, used, pool)),
         Err(nothing) => {
             drop(nothing);
             (Attempt::Spent, Step::Broken(Breach::Spent))
@@ -84,7 +84,7 @@ fn take_vector<O: Objects>(
     number: u32,
     bio: BioElement,
     line: &mut Line,
-) -> (Taken, Step)
+) -> (Gathered, Step)
     requires ready { Ready O.Objects objects.old TakeVec }
     requires alone { IsAlone bio }
     requires rests { line.old.doing ≡ Rests }
@@ -94,19 +94,19 @@ fn take_vector<O: Objects>(
     let task = TaskId::Writer(number);
     let pool = PoolId::FsVecs;
     match objects.take_vec() {
-        Ok(Took::Ordinary(vector)) => (
-            Taken::HasBoth(bio, vector),
+        Ok(Taken::Ordinary(vector)) => (
+            Gathered::HasBoth(bio, vector),
             had(task, true, pool, Got::Ordinary),
         ),
-        Ok(Took::Spare(vector)) => (
-            Taken::HasBoth(bio, vector),
+        Ok(Taken::Spare(vector)) => (
+            Gathered::HasBoth(bio, vector),
             had(task, true, pool, Got::Spare),
         ),
-        Ok(Took::Miss { used }) => (Taken::HasBio(bio), missed(task, true, used, pool)),
+        Ok(Taken::Miss { used }) => (Gathered::HasBio(bio), missed(task, true, used, pool)),
         Err(nothing) => {
             drop(nothing);
             line.breaks(Breach::Spent, Kept::nothing());
-            (Taken::HasBio(bio), Step::Broken(Breach::Spent))
+            (Gathered::HasBio(bio), Step::Broken(Breach::Spent))
         }
     }
 }
@@ -188,7 +188,7 @@ fn link_short<O: Objects>(
             line.becomes(Line::begin(routes, bio));
             (Next::Begins, opened(number, node))
         }
-        Err(step) => (Next::Waits(Taken::HasBio(bio)), step),
+        Err(step) => (Next::Waits(Gathered::HasBio(bio)), step),
     }
 }
 
@@ -216,7 +216,7 @@ fn link_long<O: Objects>(
             line.becomes(Line::begin(routes, bio));
             (Next::Begins, opened(number, node))
         }
-        Err(step) => (Next::Waits(Taken::HasBio(bio)), step),
+        Err(step) => (Next::Waits(Gathered::HasBio(bio)), step),
     }
 }
 
@@ -226,7 +226,7 @@ pub(crate) fn go_on<O: Objects>(
     routes: &Routes,
     number: u32,
     todo: &Todo,
-    taken: Taken,
+    taken: Gathered,
     line: &mut Line,
 ) -> (Next, Step)
     requires ready { WriteReady O.Objects objects.old number todo.now taken }
@@ -238,14 +238,16 @@ pub(crate) fn go_on<O: Objects>(
     ensures alone { IsNextAlone result.0 }
 {
     match taken {
-        Taken::HasBio(bio) => {
+        Gathered::HasBio(bio) => {
             if !needs_vector(&todo.write) {
                 return link_short(objects, routes, number, todo, bio, line);
             }
             let (taken, step) = take_vector(objects, number, bio, line);
             (Next::Waits(taken), step)
         }
-        Taken::HasBoth(bio, vector) => link_long(objects, routes, number, todo, bio, vector, line),
-        Taken::NoBio => unreachable!(),
+        Gathered::HasBoth(bio, vector) => link_long(
+            objects, routes, number, todo, bio, vector, line,
+        ),
+        Gathered::NoBio => unreachable!(),
     }
 }

@@ -19,7 +19,7 @@ use Rattle.run_machine.specs.declared.event.Event.{Event}
 use Rattle.run_machine.specs.declared.event.What.{What}
 use Rattle.run_machine.specs.declared.event.What.TheVariants as what
 use Rattle.run_machine.specs.Lines.{Want, Takes, Punts, Links, Ask, ToPush, ToCut, ToRecord, ToMaster, Doing, Rests, Drives, Copies, Breaks, Line}
-use Rattle.run_machine.specs.Tasks.{Taken, NoBio, HasBio, HasBoth, Carried, Empty, Brings, Carries, Fails, TaskState, Writer, Rescuer, Completer, Keeper}
+use Rattle.run_machine.specs.Tasks.{Gathered, NoBio, HasBio, HasBoth, Carried, Empty, Brings, Carries, Fails, TaskState, Writer, Rescuer, Completer, Keeper}
 use Rattle.run_machine.specs.Requests.{Request, Reply, Opening, Write, Chain, Master, Leg, GiveBio, GiveVec, GiveSlip, Punt, Push, Link, Drop, HadBio, HadVec, HadSlip, Popped, Completed, LinkedTo, DroppedTo}
 use Rattle.plain_core.specs.objects.Ledgers.{ledger_of}
 
@@ -74,7 +74,7 @@ doing_to to gone (Breaks breach kept) = Breaks breach kept
 abbrev pub line_to : Places → ℕ → Line → Line
 line_to to gone line = record { doing = doing_to to gone line.doing; lists = lists_to to line.lists }
 
-abbrev pub taken_to : Taken → Taken
+abbrev pub taken_to : Gathered → Gathered
 taken_to NoBio = NoBio
 taken_to (HasBio bio) = HasBio (hand_to bio)
 taken_to (HasBoth bio vector) = HasBoth (hand_to bio) (vector_to vector)

@@ -19,7 +19,7 @@ use Rattle.bio_books.specs.Links.{Made, NoRoom, Stray}
 use Rattle.run_machine.specs.declared.event.What.{What}
 use Rattle.run_machine.specs.Scene.{Setup, tree_at}
 use Rattle.run_machine.specs.Lines.{Takes, Punts as WantsPunt, Links, ToPush, ToCut, ToRecord, ToMaster, Doing, Rests, Drives, Copies, Breaks, first_length, mapped, legs_of, leg_at, cut_at, copies, goes_on, after_miss, line_request, line_answered}
-use Rattle.run_machine.specs.Tasks.{Todo, Taken, NoBio, HasBio, HasBoth, Carried, Empty, Brings, Carries, Fails, Resizes, Starts, Keeping, Keeps, Stops, TaskState, Writer, Rescuer, Completer, Keeper, needs_vector, filled, filled_short, with_bio, write_request, writer_request, rescuer_request, closed_request, carried_request, keeper_request, request, after_drop, carried_answered, answered}
+use Rattle.run_machine.specs.Tasks.{Todo, Gathered, NoBio, HasBio, HasBoth, Carried, Empty, Brings, Carries, Fails, Resizes, Starts, Keeping, Keeps, Stops, TaskState, Writer, Rescuer, Completer, Keeper, needs_vector, filled, filled_short, with_bio, write_request, writer_request, rescuer_request, closed_request, carried_request, keeper_request, request, after_drop, carried_answered, answered}
 use Rattle.run_machine.specs.Requests.{Request, Reply, Drop, HadBio, HadVec, HadSlip, Missed, Did, Popped, Completed, LinkedTo, DroppedTo, OutIs, Nothing}
 use Rattle.run_machine.specs.Objects.{Objects, Serves}
 use Rattle.run_machine.specs.Events.{what_of}
@@ -132,7 +132,7 @@ module _ (setup : Setup) (to : Places) (gone fresh : ℕ) (ledger : ℕ → Ledg
   bio_goes writer todo later bio lists false (LinkedTo (Stray back)) is = untold event is.1
   bio_goes writer todo later bio lists false _ is = absurd is.0
 
-  write_goes : (writer : ℕ) (todo : List Todo) (taken : Taken) (lists : TaskLists) (reply : Reply) → Serving (write_request writer todo taken) reply
+  write_goes : (writer : ℕ) (todo : List Todo) (taken : Gathered) (lists : TaskLists) (reply : Reply) → Serving (write_request writer todo taken) reply
       → Goes (Writer writer todo taken (record { doing = Rests; lists = lists })) (writer_in (write_request writer todo taken)) reply
   write_goes writer [] taken lists reply is = absurd is.0
   write_goes writer (todo ∷ later) NoBio lists (HadBio got bio) is = (gone, refl)
@@ -145,7 +145,7 @@ module _ (setup : Setup) (to : Places) (gone fresh : ℕ) (ledger : ℕ → Ledg
   write_goes writer (todo ∷ later) (HasBoth bio vector) lists (LinkedTo (Stray back)) is = untold event is.1
   write_goes writer (todo ∷ later) (HasBoth bio vector) lists _ is = absurd is.0
 
-  writer_goes : (writer : ℕ) (todo : List Todo) (taken : Taken) (doing : Doing) (lists : TaskLists) (reply : Reply) → HasLeg setup doing
+  writer_goes : (writer : ℕ) (todo : List Todo) (taken : Gathered) (doing : Doing) (lists : TaskLists) (reply : Reply) → HasLeg setup doing
       → Serving (writer_request setup writer todo taken doing (record { doing = doing; lists = lists })) reply
       → Goes (Writer writer todo taken (record { doing = doing; lists = lists })) (writer_in (writer_request setup writer todo taken doing (record { doing = doing; lists = lists }))) reply
   writer_goes writer todo taken Rests lists reply has is = write_goes writer todo taken lists reply is

@@ -9,7 +9,7 @@ use Rattle.bio_books.specs.Books.{VectorItem, SlipItem}
 use Rattle.bio_books.specs.Drops.{Closed}
 use Rattle.run_machine.specs.Scene.{Setup}
 use Rattle.run_machine.specs.Lines.{Takes, Punts as WantsPunt, Links, ToPush, ToCut, ToRecord, ToMaster, Doing, Rests, Drives, Copies, Breaks, Line, line_request}
-use Rattle.run_machine.specs.Tasks.{Todo, Taken, NoBio, HasBio, HasBoth, Carried, Empty, Brings, Carries, Fails, TaskState, Writer, Rescuer, Completer, Keeper, Keeps, Stops, Resizes, Starts, needs_vector, with_bio, write_request, writer_request, rescuer_request, closed_request, carried_request, keeper_request, Keeping, request, look_of, writer_look}
+use Rattle.run_machine.specs.Tasks.{Todo, Gathered, NoBio, HasBio, HasBoth, Carried, Empty, Brings, Carries, Fails, TaskState, Writer, Rescuer, Completer, Keeper, Keeps, Stops, Resizes, Starts, needs_vector, with_bio, write_request, writer_request, rescuer_request, closed_request, carried_request, keeper_request, Keeping, request, look_of, writer_look}
 use Rattle.run_machine.specs.Requests.{Punt}
 use Rattle.trace_replay.proofs.renaming.Renaming.{Places, item_with, vector_to, slip_to, taken_to, lists_to, doing_to, line_to, closed_to, carried_to, task_to, request_to}
 use Rattle.trace_replay.proofs.renaming.Lists.{punted_to}
@@ -32,13 +32,13 @@ module _ (setup : Setup) (to : Places) (gone : ℕ) where
   bio_asks writer todo true = refl
   bio_asks writer todo false = refl
 
-  write_asks : (writer : ℕ) (todo : List Todo) (taken : Taken) → write_request writer todo (taken_to taken) ≡ request_to to gone (write_request writer todo taken)
+  write_asks : (writer : ℕ) (todo : List Todo) (taken : Gathered) → write_request writer todo (taken_to taken) ≡ request_to to gone (write_request writer todo taken)
   write_asks writer [] taken = refl
   write_asks writer (todo ∷ later) NoBio = refl
   write_asks writer (todo ∷ later) (HasBio bio) = bio_asks writer todo (needs_vector todo.write)
   write_asks writer (todo ∷ later) (HasBoth bio vector) = refl
 
-  writer_asks : (writer : ℕ) (todo : List Todo) (taken : Taken) (doing : Doing) (line : Line)
+  writer_asks : (writer : ℕ) (todo : List Todo) (taken : Gathered) (doing : Doing) (line : Line)
       → writer_request setup writer todo (taken_to taken) (doing_to to gone doing) (line_to to gone line) ≡ request_to to gone (writer_request setup writer todo taken doing line)
   writer_asks writer todo taken Rests line = write_asks writer todo taken
   writer_asks writer todo taken (Drives bio ask) line = line_asks (Drives bio ask) line.lists
@@ -79,7 +79,7 @@ module _ (setup : Setup) (to : Places) (gone : ℕ) where
   asks (Completer disk carried) = carried_asks disk carried
   asks (Keeper keeping) = keeper_asks keeping
 
-  look_by : (todo : List Todo) (taken : Taken) (doing : Doing) → writer_look todo (taken_to taken) (doing_to to gone doing) ≡ writer_look todo taken doing
+  look_by : (todo : List Todo) (taken : Gathered) (doing : Doing) → writer_look todo (taken_to taken) (doing_to to gone doing) ≡ writer_look todo taken doing
   look_by [] taken doing = refl
   look_by (todo ∷ later) NoBio Rests = refl
   look_by (todo ∷ later) NoBio (Drives bio ask) = refl

@@ -13,7 +13,7 @@ use Rattle.run_machine.specs.declared.event.Event.{Event}
 use Rattle.run_machine.specs.Maps.{upd}
 use Rattle.run_machine.specs.Scene.{Scene, Setup}
 use Rattle.run_machine.specs.Lines.{Takes, Punts as WantsPunt, Links, ToPush, ToCut, ToRecord, ToMaster, Doing, Rests, Drives, Copies, Breaks, Line, line_request}
-use Rattle.run_machine.specs.Tasks.{Todo, Taken, NoBio, HasBio, HasBoth, Carried, Empty, Brings, Carries, Fails, Resizes, Starts, Keeping, Keeps, Stops, TaskState, Writer, Rescuer, Completer, Keeper, needs_vector, with_bio, write_request, writer_request, rescuer_request, closed_request, carried_request, keeper_request, request, look_of, answered}
+use Rattle.run_machine.specs.Tasks.{Todo, Gathered, NoBio, HasBio, HasBoth, Carried, Empty, Brings, Carries, Fails, Resizes, Starts, Keeping, Keeps, Stops, TaskState, Writer, Rescuer, Completer, Keeper, needs_vector, with_bio, write_request, writer_request, rescuer_request, closed_request, carried_request, keeper_request, request, look_of, answered}
 use Rattle.run_machine.specs.Requests.{Request, Present, LeftOver}
 use Rattle.run_machine.specs.Objects.{Objects, Serves}
 use Rattle.run_machine.specs.Events.{id_of, what_of}
@@ -69,13 +69,13 @@ module _ (scene : Scene) where
   bio_within writer todo true = tt
   bio_within writer todo false = tt
 
-  write_within : (writer : ℕ) (todo : List Todo) (taken : Taken) → Within (write_request writer todo taken)
+  write_within : (writer : ℕ) (todo : List Todo) (taken : Gathered) → Within (write_request writer todo taken)
   write_within writer [] taken = tt
   write_within writer (todo ∷ later) NoBio = tt
   write_within writer (todo ∷ later) (HasBio bio) = bio_within writer todo (needs_vector todo.write)
   write_within writer (todo ∷ later) (HasBoth bio vector) = tt
 
-  writer_within : (writer : ℕ) (todo : List Todo) (taken : Taken) (doing : Doing) (line : Line) → Within (writer_request scene.setup writer todo taken doing line)
+  writer_within : (writer : ℕ) (todo : List Todo) (taken : Gathered) (doing : Doing) (line : Line) → Within (writer_request scene.setup writer todo taken doing line)
   writer_within writer todo taken Rests line = write_within writer todo taken
   writer_within writer todo taken (Drives bio ask) line = line_within (Drives bio ask) line.lists
   writer_within writer todo taken (Copies bio master leg want) line = line_within (Copies bio master leg want) line.lists
@@ -115,7 +115,7 @@ module _ (scene : Scene) where
 
 -- the tally lets it ask
 module _ (ledger : ℕ → LedgerId) (one other : Objects) (tally : other.tally ≡ one.tally) (to : Places) (gone : ℕ) where
-  writer_let : (number : ℕ) (todo : List Todo) (taken : Taken) (doing : Doing) (lists : TaskLists)
+  writer_let : (number : ℕ) (todo : List Todo) (taken : Gathered) (doing : Doing) (lists : TaskLists)
       → IsLet ledger one (Writer number todo taken (record { doing = doing; lists = lists })) (look_of (Writer number todo taken (record { doing = doing; lists = lists })))
       → IsLet ledger_of other (task_to to gone (Writer number todo taken (record { doing = doing; lists = lists }))) (look_of (Writer number todo taken (record { doing = doing; lists = lists })))
   writer_let number [] taken doing lists is = tt

@@ -1,6 +1,6 @@
 -- `parse` reads a word of 1 to 20 digits.
 use Rattle.std.proofs.Common.{◌∙◌, ◌<◌, length, arith, rules}
-use Rattle.biostack_words.proofs.NumberLemmas.{AllAreDigits, number_is_parsed}
+use Rattle.stack_base.proofs.NumeralLemmas.{AllAreDigits, number_is_parsed}
 use Rattle.biostack_words.proofs.number.number.Goals as goal
 
 pub returns : goal.returns

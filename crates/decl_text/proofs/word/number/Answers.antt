@@ -1,6 +1,6 @@
 -- `parse` reads a word of 1 to 20 digits.
 use Rattle.std.proofs.Common.{◌∙◌, ◌<◌, length, arith, rules}
-use Rattle.decl_text.proofs.NumberLemmas.{AllAreDigits, number_is_parsed}
+use Rattle.stack_base.proofs.NumeralLemmas.{AllAreDigits, number_is_parsed}
 use Rattle.decl_text.proofs.word.number.Goals as goal
 
 pub returns : goal.returns

@@ -1,5 +1,5 @@
 -- Digits are text.
-use Rattle.trace_text.proofs.NumberLemmas.{digits_are_text, text_is_read}
+use Rattle.stack_base.proofs.NumeralLemmas.{digits_are_text, text_is_read}
 use Rattle.trace_text.proofs.word.digits_text.Goals as goal
 
 pub unwrap-requires : goal.unwrap-requires

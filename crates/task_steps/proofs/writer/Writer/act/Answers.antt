@@ -1,6 +1,6 @@
 use Rattle.std.proofs.Common.{◌≡◌, List, ◌∷◌, drop, sym, subst, arith, rules}
 use Rattle.std.specs.Prelude.{All}
-use Rattle.task_steps.specs.declared.writer.begin.Taken.{Taken}
+use Rattle.task_steps.specs.declared.writer.begin.Gathered.{Gathered}
 use Rattle.run_machine.specs.Lines.{Rests}
 use Rattle.run_machine.specs.Tasks.{Todo, TaskState, write_request}
 use Rattle.task_steps.specs.Routed.{routing_setup}
@@ -27,7 +27,7 @@ returns g c =
     let rests = subst (λ (s : WriterState). s.line.doing ≡ Rests) (sym c.self.view_is) c.requires.rests in
     let first = subst (λ (s : WriterState). s.todo ≡ todo ∷ drop 1 s.todo) (sym c.self.view_is) c.requires.first in
     let answers =
-    subst (λ (taken : Taken). WriteAnswers serves owes known w.number (write_request w.number (todo ∷ later) (taken_of taken)) (todo ∷ later) (taken_of taken) w.line old after new step)
+    subst (λ (taken : Gathered). WriteAnswers serves owes known w.number (write_request w.number (todo ∷ later) (taken_of taken)) (todo ∷ later) (taken_of taken) w.line old after new step)
     c.replace-taken.ensures.value (c.go_on-next.ensures.does.came later) in
     let asks =
     subst (λ (next : TaskState). Asks serves owes known (writer_task c.args.self.now) old next new step) (sym (c.put.ensures todo first))

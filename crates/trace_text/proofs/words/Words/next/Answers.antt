@@ -1,6 +1,6 @@
 use Rattle.std.proofs.Common.{◌==◌, ◌∙◌, sym, ap}
 use Rattle.trace_text.specs.Reading.{words_in}
-use Rattle.trace_text.proofs.SplitLemmas.{cut_at, cut_none}
+use Rattle.decl_text.proofs.SplitLemmas.{cut_at, cut_none}
 use Rattle.trace_text.proofs.words.Words.next.Goals as goal
 
 pub returns-in-None : goal.returns-in-None

@@ -9,7 +9,7 @@ use Rattle.std.proofs.lemmas.Bool.Decides.{nat_tests}
 use Rattle.std.proofs.lemmas.Fmt.{IsAscii-from_digits}
 use Rattle.std.proofs.lemmas.Str.{IsUtf8-from_ascii}
 use Rattle.std.proofs.lemmas.Str.Parse.{IsNumeralModel, IsDigitsTest, numerals_by_value, parse_digits}
-use Rattle.decl_text.specs.Text.{number_of}
+use Rattle.stack_base.specs.Numerals.{number_of}
 
 abbrev pub AllAreDigits : List ℕ → Type 0
 AllAreDigits word = list_all is_ascii_digit word ≡ true
@@ -17,7 +17,7 @@ AllAreDigits word = list_all is_ascii_digit word ≡ true
 digits_test : IsDigitsTest AllAreDigits
 digits_test = search rules
 
-numerals : IsNumeralModel AllAreDigits (digits_value 10)
+pub numerals : IsNumeralModel AllAreDigits (digits_value 10)
 numerals = numerals_by_value AllAreDigits digits_test
 
 pub digits_are_text : (word : List ℕ) → AllAreDigits word → IsUtf8 word
