@@ -5,7 +5,7 @@ usage: bench/beside.py [NAME ..]      a NAME is a folder beside this script (poo
                                       if left out
 
 It needs `rt`, which proves and builds each measured program in a throw-away repository, and `rustc`. That takes a few minutes a program. Libraries that
-are built (`rt lib`, `./biostack prove`) are taken along.
+are built (`rt check`, `rt lib`) are taken along.
 A folder has the program in main.rt.txt and the twin in twin.rs, perhaps others in twin_*.rs, and of the program's proof the invariants of a
 function F in F.antt.txt, or what else there is in proofs/ or specs/, each file with .txt behind its name. Each program gets a number of calls as its argument, and
 writes a line for each row: its name, the nanoseconds that all calls took, and how many of the calls were served.
