@@ -94,7 +94,9 @@ fn count_pieces(stack: &Stack, device: &Device, dev: DevId, start: u64, len: u64
 }
 
 /// What the run needs at a device that cuts it after this first piece.
+// Most runs are not cut: the way down pays for no registers of this loop, nor of that over a mirror's members.
 #[cycle(counts)]
+#[inline(never)]
 fn count_split(
     stack: &Stack,
     device: &Device,
@@ -132,6 +134,7 @@ fn count_split(
 
 /// What the run needs at a mirror: a record, a bio for each member, and what the run needs at each of them.
 #[cycle(counts)]
+#[inline(never)]
 fn count_legs(stack: &Stack, dev: DevId, start: u64, len: u64) -> Counts
     requires stack { IsStack stack.now }
     requires known { dev.0 < length stack.now.devices.items }

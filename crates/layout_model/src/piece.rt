@@ -2,7 +2,7 @@
 ghost use Rattle.std.specs.Prelude.{◌≡◌, ℕ, ◌+◌, ◌^◌, ◌<◌, ◌≤◌, All, List, length, sum, map, slice_get};
 ghost use Rattle.stack_base.specs.Piece.{IsPiece};
 ghost use Rattle.stack_base.specs.Mapping.{size_of};
-ghost use Rattle.stack_base.specs.Stack.{HasShape, IsStack};
+ghost use Rattle.stack_base.specs.Stack.{AreMemberSizes, HasShape, IsStack};
 ghost use Rattle.stack_base.specs.Tree.{Cuts, shape_of, size, tree};
 ghost use Rattle.layout_model.specs.Pieces.{IsFirstRun};
 
@@ -60,6 +60,7 @@ pub fn limit_piece(max: u64, chunk: u64, start: u64, len: u64) -> Piece
 
 /// The first piece at a device whose members stand one behind the other: it ends with its member (`linear_make_request`,
 /// `drivers/md/md-linear.c`).
+#[inline(always)]
 pub fn linear_piece(stack: &Stack, members: &[DevId], start: u64, len: u64) -> Piece
     requires stack { IsStack stack.now }
     requires known { All (λ m. m.0 < length stack.now.devices.items) members.now }
@@ -96,7 +97,18 @@ pub fn zoned_piece(chunk: u64, sizes: ArrayVec<u64, 8>, start: u64, len: u64) ->
     Zoned::new(chunk, sizes).piece(start, len)
 }
 
+// The sizes of the device's members. They are large, and a caller that makes them itself pays for them at other kinds too.
+#[inline(never)]
+fn member_sizes(stack: &Stack, dev: DevId) -> ArrayVec<u64, 8>
+    requires stack { IsStack stack.now }
+    requires device { dev.0 < length stack.now.devices.items }
+    ensures { AreMemberSizes stack.now dev.0 result.items }
+{
+    stack.member_sizes(dev)
+}
+
 /// The first piece of a run at a device that cuts. Only at linear and zoned devices does it go by the members' sizes.
+#[inline(always)]
 fn kind_piece(stack: &Stack, device: &Device, dev: DevId, start: u64, len: u64) -> Piece
     requires stack { IsStack stack.now }
     requires found { slice_get stack.now.devices.items dev.0 ≡ Some device.now }
@@ -107,7 +119,7 @@ fn kind_piece(stack: &Stack, device: &Device, dev: DevId, start: u64, len: u64) 
 {
     match device.kind {
         Kind::Stripe { chunk } => stripe_piece(chunk, device.members.len() as u64, start, len),
-        Kind::Zoned { chunk } => zoned_piece(chunk, stack.member_sizes(dev), start, len),
+        Kind::Zoned { chunk } => zoned_piece(chunk, member_sizes(stack, dev), start, len),
         Kind::Limit { max, chunk } => limit_piece(max, chunk, start, len),
         Kind::Linear => linear_piece(stack, &device.members, start, len),
         Kind::Disk { .. } | Kind::Mirror { .. } => unreachable!(),
@@ -115,6 +127,8 @@ fn kind_piece(stack: &Stack, device: &Device, dev: DevId, start: u64, len: u64) 
 }
 
 /// Where a device that cuts sends the first piece of a run.
+// Each step down a chain of devices takes one: it stands in its caller, so that the step is no call.
+#[inline(always)]
 pub fn first_piece(stack: &Stack, device: &Device, dev: DevId, start: u64, len: u64) -> FirstRun
     requires stack { IsStack stack.now }
     requires found { slice_get stack.now.devices.items dev.0 ≡ Some device.now }
