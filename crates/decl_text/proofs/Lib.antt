@@ -9,6 +9,7 @@ pub mod Fronts
 pub mod Cuts
 pub mod Declaring
 mod StepLemmas
+mod ShortNumbers
 pub mod ShownTrees
 pub mod FewEntries
 pub mod Fits

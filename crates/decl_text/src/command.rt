@@ -79,6 +79,10 @@ impl Command {
     pub fn of(word: &Word<'_>) -> Option<Command>
         ensures { result ≡ command_of word.now }
     {
+        // Nearly all lines of a long text are writes.
+        if word.is(b"write") {
+            return Some(Command::Write);
+        }
         ALL.iter()
             .copied()
             .find(|command| command.word() == word.bytes())

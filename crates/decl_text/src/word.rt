@@ -1,8 +1,9 @@
 //! Words of a line.
-ghost use Rattle.std.specs.Prelude.{◌≡◌, ◌^◌, ◌<◌, ◌==◌, ◌++◌, true, false, true, is_some, MatchOption, Some, IfOk, length, codes, map, position, Contains};
+ghost use Rattle.std.specs.Prelude.{◌≡◌, ◌^◌, ◌<◌, ◌≤◌, ◌==◌, ◌++◌, true, false, true, is_some, MatchOption, Some, IfOk, length, codes, map, position, Contains};
 ghost use Rattle.std.specs.List.{list_all, list_any, position_or_len};
 ghost use Rattle.std.specs.Char.{is_ascii_digit};
 ghost use Rattle.std.specs.Str.{bytes_eq};
+ghost use Rattle.std.specs.Str.Parse.{digits_value};
 ghost use Rattle.std.specs.Option.{option_map};
 ghost use Rattle.decl_text.specs.Text.{IsOption, begins_with_letter, is_entry, is_name, is_name_byte, is_number, is_option, is_pattern, number_of};
 ghost use Rattle.decl_text.specs.Forms.{value_of};
@@ -173,6 +174,19 @@ fn digits_text(word: &[u8]) -> &str
     str::from_utf8(word).unwrap()
 }
 
+// The number that at most 19 digits write, which fits 64 bits.
+fn short_number(digits: &[u8]) -> u64
+    requires digits { list_all is_ascii_digit digits.now ≡ true }
+    requires few { length digits.now ≤ 19 }
+    ensures { result ≡ digits_value 10 digits.now }
+{
+    let mut number = 0;
+    'reading: for digit in digits {
+        number = 10 * number + u64::from(*digit - b'0');
+    }
+    number
+}
+
 // The number that the digits write, where they are 1 to 20 and it fits 64 bits.
 #[tactic(auto, unfolding(crate::specs::Text::number_of))]
 fn number(word: &[u8]) -> Option<u64>
@@ -180,6 +194,9 @@ fn number(word: &[u8]) -> Option<u64>
 {
     if word.is_empty() || word.len() > 20 || !all_digits(word) {
         return None;
+    }
+    if word.len() < 20 {
+        return Some(short_number(word));
     }
     digits_text(word).parse().ok()
 }
