@@ -1,5 +1,5 @@
 -- What a set is made of, and when an attempt at one of its bios does not wait.
-use Rattle.std.specs.Prelude.{◌≡◌, ◌≤◌, Bool, true, IsTrue, [], Option, None, Some, MatchOption, IsSomeAnd, ℕ}
+use Rattle.std.specs.Prelude.{◌≡◌, ◌≤◌, ◌&&◌, ◌||◌, not, Bool, true, false, IsTrue, List, [], ◌∷◌, Option, None, Some, MatchOption, IsSomeAnd, ℕ}
 use Rattle.stack_base.specs.declared.ids.SetId.{SetId}
 use Rattle.stack_base.specs.declared.ids.SetId.TheVariants.{Fs, Of}
 use Rattle.stack_base.specs.declared.ids.PoolId.{PoolId}
@@ -8,9 +8,10 @@ use Rattle.stack_base.specs.PoolId.{pool_number}
 use Rattle.fail_script.specs.Script.{Answers}
 use Rattle.mempool_core.specs.Pool.{LedgerPool}
 use Rattle.mempool_core.specs.Move.{opened}
+use Rattle.bio_records.specs.declared.bio.Pad.{Pad}
+use Rattle.bio_records.specs.Items.{Item}
 use Rattle.bio_records.specs.Rescue.{Rescue}
 use Rattle.bio_records.specs.declared.tasks.TaskLists.{TaskLists}
-use Rattle.bio_records.specs.Waiting.{IsBusy}
 use Rattle.bioset_pools.specs.declared.SetPlan.{SetPlan}
 use Rattle.bioset_pools.specs.declared.SetParts.{SetParts}
 
@@ -48,6 +49,17 @@ pub record IsPlanned (plan : SetPlan) (bios vecs : Answers) (parts : SetParts) :
   pub vecs_pool : MatchOption plan.vecs (parts.vecs ≡ None) (λ min. IsSomeAnd parts.vecs (IsFull FsVecs min vecs))
   pub rescue_list : parts.list ≡ rescue_of plan
 
--- the set has a rescuer, and one of the task's lists has a bio
+abbrev pub is_empty : List (Item Pad) → Bool
+is_empty [] = true
+is_empty (bio ∷ bios) = false
+
+-- Whether the first attempt at a bio of a set waits, by whether the set has a rescuer. It does, unless there is one and one of the two lists
+-- has a bio: such a bio may be of this very set, and nobody else would serve it while the task waits for its like. Then the task tries without
+-- waiting, and if that misses it hands the bios of the set to the rescuer and waits (`bio_alloc_bioset`, block/bio.c, which takes
+-- __GFP_DIRECT_RECLAIM away where `current->bio_list` has a bio and the set has a `rescue_workqueue`).
+abbrev pub waits_first : Bool → TaskLists → Bool
+waits_first rescuer lists = not rescuer || (is_empty lists.list0 && is_empty lists.list1)
+
+-- the first attempt at a bio of the set of this plan is one that does not wait
 abbrev pub IsFirstTry : SetPlan → TaskLists → Type 0
-IsFirstTry plan lists = IsTrue plan.rescuer × IsBusy lists
+IsFirstTry plan lists = IsTrue (not (waits_first plan.rescuer lists))

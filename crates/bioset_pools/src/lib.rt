@@ -6,7 +6,7 @@ ghost use Rattle.std.specs.Prelude.{◌≡◌, ◌≢◌, ◌≤◌, ◌<◌, �
 ghost use Rattle.stack_base.specs.PoolId.{pool_number};
 ghost use Rattle.bio_records.specs.Items.{item_of, IsAlone};
 ghost use Rattle.bio_records.specs.Clear.{IsClearBody};
-ghost use Rattle.bioset_pools.specs.Sets.{IsPlan, IsPlanned, bios_of, rescue_of, IsFirstTry};
+ghost use Rattle.bioset_pools.specs.Sets.{IsPlan, IsPlanned, bios_of, rescue_of, waits_first, IsFirstTry};
 
 use bio_records::{Bio, BioBody, BioElement, Pad, RescueList, Vector, Waits};
 use elem_ledger::Fresh;
@@ -109,12 +109,19 @@ impl BioSet {
     }
 }
 
-/// Whether the first attempt at a bio of this set, within a submission, is one that does not wait (`bio_alloc_bioset`): where the set has a
-/// rescuer and one of the task's lists has a bio, which only this task could submit.
+/// Whether the first attempt at a bio of a set, within a submission, waits (`bio_alloc_bioset`): where the set has no rescuer, or none of the
+/// task's lists has a bio, which only this task could submit.
+pub fn waits_first<L: Waits>(rescuer: bool, lists: &L) -> bool
+    ensures { result ≡ waits_first rescuer (L.waiting lists.now) }
+{
+    !rescuer || !lists.busy()
+}
+
+/// Whether the first attempt at a bio of the set of this plan is one that does not wait.
 pub fn first_is_try<L: Waits>(plan: &SetPlan, lists: &L) -> bool
     ensures { IsTrue result ↔ IsFirstTry plan.now (L.waiting lists.now) }
 {
-    plan.rescuer && lists.busy()
+    !waits_first(plan.rescuer, lists)
 }
 
 /// Fills a bio that was taken (`bio_init`). Its own segments stay.

@@ -13,6 +13,7 @@ use Rattle.bio_records.specs.declared.bio.Pad.{Pad}
 use Rattle.bio_records.specs.declared.tasks.TaskLists.{TaskLists}
 use Rattle.bio_records.specs.Items.{Item}
 use Rattle.bio_split.specs.Split.{split_front, split_rest}
+use Rattle.bioset_pools.specs.Sets.{waits_first}
 use Rattle.bio_lists.specs.Submission.{no_lists, submitted, order}
 use Rattle.bio_books.specs.Books.{SlipItem}
 use Rattle.bio_books.specs.Links.{Linked, Made, NoRoom, Stray}
@@ -53,16 +54,9 @@ pub record Line : Type 0 where
 abbrev pub rests : Line
 rests = record { doing = Rests; lists = no_lists }
 
-abbrev pub is_empty : List (Item Pad) → Bool
-is_empty [] = true
-is_empty (bio ∷ bios) = false
-
--- Whether the first attempt at a bio of a device's set waits. It does, unless the set has a rescuer and one of the two lists has a bio: such
--- a bio may be of this very set, and nobody else would serve it while the task waits for its like. Then the task tries without waiting,
--- and if that misses it hands the bios of the set to the rescuer and waits (`bio_alloc_bioset`, block/bio.c, which takes
--- __GFP_DIRECT_RECLAIM away where `current->bio_list` has a bio and the set has a `rescue_workqueue`).
+-- whether the first attempt at a bio of a device's set waits
 abbrev pub first_waits : Setup → DevId → TaskLists → Bool
-first_waits setup dev lists = not (setup.rescuer dev.0) || (is_empty lists.list0 && is_empty lists.list1)
+first_waits setup dev lists = waits_first (setup.rescuer dev.0) lists
 
 -- how long the first piece of a run is
 abbrev pub first_length : Kind → List ℕ → Range → ℕ

@@ -1,4 +1,3 @@
-pub mod FirstTries
 pub mod Landing
 pub mod Waiting
 pub mod StripeSizes

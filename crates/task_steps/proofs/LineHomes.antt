@@ -26,7 +26,8 @@ use Rattle.bio_books.specs.Links.{Linked, Made, NoRoom, Stray}
 use Rattle.run_machine.specs.Scene.{is_device, has_set, keeps_data, is_mirror}
 use Rattle.run_machine.specs.Requests.{Reply, HadBio, HadSlip, Missed, Did, LinkedTo, Spent}
 use Rattle.run_machine.specs.Kept.{Kept}
-use Rattle.run_machine.specs.Lines.{Takes, Punts, Links, ToPush, ToCut, ToRecord, ToMaster, Doing, Rests, Drives, Copies, Breaks, first_length, first_waits, is_empty, mapped, landed, asks_at, driven, settled, goes_on, cut_at, legs_of, leg_at, copies, line_request, after_chain, after_master, after_leg, at_hand, punts_of, spent, line_answered}
+use Rattle.bioset_pools.specs.Sets.{is_empty}
+use Rattle.run_machine.specs.Lines.{Takes, Punts, Links, ToPush, ToCut, ToRecord, ToMaster, Doing, Rests, Drives, Copies, Breaks, first_length, first_waits, mapped, landed, asks_at, driven, settled, goes_on, cut_at, legs_of, leg_at, copies, line_request, after_chain, after_master, after_leg, at_hand, punts_of, spent, line_answered}
 use Rattle.task_steps.specs.Routed.{routing_setup, places_at, sent}
 use Rattle.task_steps.specs.Routed.{copies_bios as copies_shape}
 use Rattle.task_steps.specs.Within.{IsWithinDevice, IsItemWithin, ListsAreWithin, is_cut, DoingFits}

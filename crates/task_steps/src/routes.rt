@@ -11,7 +11,8 @@ pub(crate) mod driver;
 
 use crate::routes::driver::{Driver, Manner, driver_of, members_of};
 use arrayvec::ArrayVec;
-use bio_records::{Bio, Pad, TaskLists, Waits};
+use bio_records::{Bio, Pad, Waits};
+use bioset_pools::waits_first;
 use stack_base::{DevId, MapLaw, Range, Stack};
 use std::alloc::{AllocError, Global};
 use std::marker::Model;
@@ -142,11 +143,11 @@ impl Routes {
     }
 
     /// Whether the first attempt at a bio of the device's set waits, where the task has these lists (`bio_alloc_bioset`, `block/bio.c`).
-    pub fn first_waits(&self, dev: DevId, lists: &TaskLists) -> bool
+    pub fn first_waits<L: Waits>(&self, dev: DevId, lists: &L) -> bool
         requires { dev.0 < length self.now.stack.devices.items }
-        ensures { result ≡ first_waits (routing_setup self.now) dev lists.now }
+        ensures { result ≡ first_waits (routing_setup self.now) dev (L.waiting lists.now) }
     {
-        !self.rescuer(dev) || !lists.busy()
+        waits_first(self.rescuer(dev), lists)
     }
 
     // The first piece of a bio, where its device is one that cuts.

@@ -27,7 +27,7 @@ use Rattle.block_core.proofs.sound.TaskLines.{all-upd, line_fits}
 use Rattle.block_core.proofs.sound.Orders.{Each, Above, IsPlaced, IsOwn, DoingPlaced, TaskPlaced, Placed, Ground, of_set}
 use Rattle.std.specs.Prelude.{All}
 use Rattle.std.proofs.lemmas.List.Elements.{All-nil, All-cons}
-use Rattle.run_machine.specs.Lines.{is_empty}
+use Rattle.bioset_pools.specs.Sets.{is_empty}
 use Rattle.block_core.proofs.sound.OrdersKept.{all_at, line_placed}
 use Rattle.block_core.specs.Waits.{NoneBehind, DoesNotWaitForItself, TaskDoesNotWait, NoneWaitsForItself}
 

@@ -1,11 +1,13 @@
 //! The lists of tasks and rescuers, of plain elements.
-ghost use Rattle.std.specs.Prelude.{◌≡◌, ℕ, ◌&&◌, ◌+◌, ◌*◌, ◌-◌, ◌^◌, ◌<◌, ◌≤◌, ◌++◌, [], ◌∷◌, not, min, length, filter, drop, MatchOption, OnOk, OnErr};
+ghost use Rattle.std.specs.Prelude.{◌≡◌, ℕ, ◌+◌, ◌*◌, ◌-◌, ◌^◌, ◌<◌, ◌≤◌, ◌++◌, [], ◌∷◌, not, min, length, filter, drop, MatchOption, OnOk, OnErr};
 ghost use Rattle.std.specs.VecDeque.{deque_capacity};
 ghost use Rattle.bio_lists.specs.Submission.{no_lists, submitted, order};
-ghost use Rattle.run_machine.specs.Lines.{is_empty, is_of, punted, not_punted};
+ghost use Rattle.bioset_pools.specs.Sets.{is_empty};
+ghost use Rattle.run_machine.specs.Lines.{is_of, punted, not_punted};
 ghost use Rattle.plain_core.specs.objects.Lists.{lists_of, is_picked, ListsHaveCapacity, IsFirstOfBios};
 
 use crate::objects::part::Part;
+use bio_records::Waits;
 use stack_base::{DevId, SetId};
 use std::alloc::{AllocError, Global};
 use std::collections::VecDeque;
@@ -83,6 +85,14 @@ fn sift(from: &mut VecDeque<Part>, dev: DevId, into: &mut VecDeque<Part>)
     }
 }
 
+impl Waits for Lists {
+    ghost waiting = { lists_of };
+
+    fn busy(&self) -> bool {
+        !self.list0.is_empty() || !self.list1.is_empty()
+    }
+}
+
 impl Lists {
     /// Two empty lists.
     pub fn new(alloc: Global) -> Lists
@@ -113,13 +123,6 @@ impl Lists {
         self.list0.reserve(2)?;
         self.list1.reserve(2 * (self.list0.len() + 2))?;
         Ok(())
-    }
-
-    /// Whether a bio waits.
-    pub fn busy(&self) -> bool
-        ensures { result ≡ not (is_empty self.now.list0.items && is_empty self.now.list1.items) }
-    {
-        !(self.list0.is_empty() && self.list1.is_empty())
     }
 
     /// How many bios that wait are of a device's set, or `u64::MAX` where there are more.

@@ -1,6 +1,6 @@
 //! Steps of submissions.
 ghost use Rattle.std.specs.Prelude.{◌≡◌, ◌<◌, length, IfOk};
-ghost use Rattle.run_machine.specs.Lines.{first_waits, driven, goes_on};
+ghost use Rattle.run_machine.specs.Lines.{driven, goes_on};
 ghost use Rattle.task_steps.specs.Routed.{routing_setup};
 ghost use Rattle.task_steps.specs.Within.{IsWithinDevice, ListsAreWithin, DoingFits, LineFits};
 ghost use Rattle.plain_core.specs.objects.Lists.{lists_of, ListsHaveCapacity};
@@ -24,14 +24,6 @@ use bio_records::Bio;
 use stack_base::DevId;
 use task_core::{Manner, Routes, What};
 
-// Whether the first attempt at a bio of the device's set waits.
-pub(crate) fn first_waits(routes: &Routes, dev: DevId, lists: &Lists) -> bool
-    requires { dev.0 < length routes.now.stack.devices.items }
-    ensures { result ≡ first_waits (routing_setup routes.now) dev (lists_of lists.now) }
-{
-    !routes.rescuer(dev) || !lists.busy()
-}
-
 /// What comes behind an answer to what a submission asked for. A step changes what the submission does in its place, as long as it goes on with
 /// that, and answers this for `turn` to do.
 #[derive(Drop)]
@@ -51,7 +43,7 @@ fn first_ask(routes: &Routes, dev: DevId, lists: &Lists) -> Ask
 {
     match routes.manner(dev) {
         Manner::Keeps => Ask::ToPush,
-        Manner::Cuts => Ask::ToCut(Want::Takes(first_waits(routes, dev, lists))),
+        Manner::Cuts => Ask::ToCut(Want::Takes(routes.first_waits(dev, lists))),
         Manner::Copies => Ask::ToRecord,
     }
 }

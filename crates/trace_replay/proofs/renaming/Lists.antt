@@ -12,7 +12,8 @@ use Rattle.bio_records.specs.Items.{Item}
 use Rattle.bio_records.specs.Sorting.{is_lower, is_same}
 use Rattle.bio_lists.specs.Submission.{submitted, order}
 use Rattle.run_machine.specs.Scene.{Setup, tree_at}
-use Rattle.run_machine.specs.Lines.{Takes, ToCut, Drives, Copies, is_empty, first_waits, first_length, mapped, landed, asks_at, driven, settled, goes_on, legs_of, copies, is_of, punted, not_punted}
+use Rattle.bioset_pools.specs.Sets.{is_empty}
+use Rattle.run_machine.specs.Lines.{Takes, ToCut, Drives, Copies, first_waits, first_length, mapped, landed, asks_at, driven, settled, goes_on, legs_of, copies, is_of, punted, not_punted}
 use Rattle.trace_replay.proofs.renaming.Renaming.{Places, share_to, bio_to, item_to, lists_to, doing_to, line_to}
 
 -- a filter that does not see what a map changes

@@ -2,7 +2,7 @@
 ghost use Rattle.std.specs.Prelude.{◌≡◌, ◌+◌, ◌<◌, length, true, IfOk};
 ghost use Rattle.stack_base.specs.Tree.{tree};
 ghost use Rattle.bio_lists.specs.Submission.{submitted};
-ghost use Rattle.run_machine.specs.Lines.{first_waits, copies, legs_of};
+ghost use Rattle.run_machine.specs.Lines.{copies, legs_of};
 ghost use Rattle.task_steps.specs.Routed.{routing_setup};
 ghost use Rattle.task_steps.specs.Within.{IsWithinDevice, ListsAreWithin, DoingFits};
 ghost use Rattle.plain_core.specs.objects.Lists.{lists_of, ListsHaveCapacity};
@@ -14,7 +14,7 @@ use crate::objects::Objects;
 use crate::objects::lists::Lists;
 use crate::objects::part::Hand;
 use crate::steps::line::take::take_for;
-use crate::steps::line::{Next, first_waits, go_on, stay};
+use crate::steps::line::{Next, go_on, stay};
 use crate::steps::task::{Copying, Doing, Line, Want};
 use bio_records::Bio;
 use task_core::{Routes, What};
@@ -49,7 +49,7 @@ fn copy_on(routes: &Routes, copying: &mut Copying, want: &mut Want, lists: &List
     if copying.leg == legs {
         return Next::Returns(dev);
     }
-    *want = Want::Takes(first_waits(routes, dev, lists));
+    *want = Want::Takes(routes.first_waits(dev, lists));
     Next::Stays
 }
 
@@ -104,7 +104,7 @@ pub(crate) fn begin_copy(routes: &Routes, bio: Bio, master: u32, line: &mut Line
     if routes.legs(bio.dev) == 0 {
         return go_on(routes, bio.dev, line);
     }
-    let waits = first_waits(routes, bio.dev, &line.lists);
+    let waits = routes.first_waits(bio.dev, &line.lists);
     let copying = Copying {
         bio,
         master,

@@ -1,5 +1,9 @@
-use Rattle.task_steps.proofs.FirstTries.{first_tries}
+use Rattle.std.proofs.Common.{◌↔◌, sym, subst}
+use Rattle.std.specs.Prelude.{IsTrue, not}
+use Rattle.bioset_pools.specs.Sets.{waits_first}
+use Rattle.run_machine.specs.Lines.{first_waits}
 use Rattle.task_steps.proofs.laws.first_tries_are_one.Goals as goal
 
 pub returns : goal.returns
-returns c = first_tries
+returns c = λ setup dev plan lists same.
+    subst (λ rescuer. IsTrue (not (first_waits setup dev lists)) ↔ IsTrue (not (waits_first rescuer lists))) (sym same) (λ so. so, λ so. so)
