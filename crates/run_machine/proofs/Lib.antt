@@ -1,3 +1,5 @@
+pub mod TreeNumbers
+pub mod Beginnings
 pub mod Turns
 pub mod Texts
 pub mod Able

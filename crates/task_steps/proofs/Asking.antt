@@ -1,5 +1,5 @@
 -- What a task has asked, from what an object has replied.
-use Rattle.std.proofs.Common.{◌≡◌, ◌≢◌, ℕ, Bool, true, false, List, ◌∷◌, Some, None, inl, inr, refl, sym, ap, ◌∙◌, subst, true≢false}
+use Rattle.std.proofs.Common.{◌≡◌, ◌≢◌, ℕ, Bool, true, false, List, ◌∷◌, inl, inr, refl, sym, ap, ◌∙◌, subst, true≢false}
 use Rattle.stack_base.specs.declared.ids.DevId.{DevId}
 use Rattle.run_machine.specs.declared.event.Breach.{Breach}
 use Rattle.run_machine.specs.declared.event.TaskId.TheVariants as id
@@ -9,7 +9,7 @@ use Rattle.run_machine.specs.Scene.{Setup}
 use Rattle.run_machine.specs.Requests.{Request, Reply, Pop, LookLeft, Rest, LeftOver, Nothing}
 use Rattle.run_machine.specs.Kept.{Kept}
 use Rattle.run_machine.specs.Lines.{Doing, Rests, Line}
-use Rattle.run_machine.specs.Tasks.{TaskState, Rescuer, Completer, Keeper, Keeping, Keeps, Resizes, Starts, Duty, Carried, Fails, carried_request, carried_answered, duty_request, keeper_answered, rescuer_request, rescuer_answered, request, look_of, answered}
+use Rattle.run_machine.specs.Tasks.{TaskState, Rescuer, Completer, Keeper, Keeping, Keeps, Resizes, Starts, Duty, Carried, Fails, carried_request, carried_answered, duty_request, keeper_answered, rescuer_request, rescuer_answered, request, answered}
 use Rattle.run_machine.specs.Events.{id_of}
 use Rattle.task_steps.specs.Turns.{step_of, idle_step, Asks, Turns, Rested, Asked}
 use Rattle.task_steps.specs.Answers.{finds}

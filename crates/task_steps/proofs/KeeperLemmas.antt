@@ -1,5 +1,5 @@
 -- What the keeper has still to do, from a place on.
-use Rattle.std.proofs.Common.{◌≡◌, ◌≢◌, inl, inr, ◌+◌, ℕ, List, [], ◌∷◌, Option, Some, None, map, drop, slice_get, refl, sym, ap, ◌∙◌, subst}
+use Rattle.std.proofs.Common.{◌≡◌, ◌≢◌, inl, inr, ◌+◌, ℕ, List, [], ◌∷◌, Option, Some, None, map, drop, slice_get, refl, sym, ap, ◌∙◌, subst, eq-eqb, ne_eqb}
 use Rattle.std.proofs.lemmas.List.{drop_more, drop_all}
 use Rattle.std.proofs.lemmas.Option.{slice_get_cases, slice_get_within, get_or_from_slice_get}
 use Rattle.task_steps.specs.declared.keeper.Duty.{Duty}
@@ -11,7 +11,6 @@ use Rattle.run_machine.specs.Requests.{Request, Reply, LookLeft, LeftOver}
 use Rattle.run_machine.specs.Tasks.{Duty as DutyState, Keeping, Keeps, Keeper, later_of}
 use Rattle.task_steps.specs.Turns.{Asks, Turns, Saw, Waited}
 use Rattle.task_steps.specs.KeeperViews.{duty_of, keeping_of}
-use Rattle.task_steps.proofs.Landing.{same_is_true, other_is_false}
 
 -- the duty at a place comes before those behind it
 pub duty_there : (duties : List Duty) (next : ℕ) (duty : Duty) → slice_get duties next ≡ Some duty
@@ -49,9 +48,9 @@ module _ {S : Type 0} (serves : S → Request → Reply → S → Type 0) (owes 
       → Turns serves owes setup (Keeper now) old (Keeper (keeping_of broken rest)) new step
   attends broken new step same asks =
       subst (λ keeping. Turns serves owes setup (Keeper keeping) old (Keeper (keeping_of broken rest)) new step) (sym is)
-      (Saw LookLeft (LeftOver left) between refl looked (same_is_true left (later_of (duty_of duty)) same) asks)
+      (Saw LookLeft (LeftOver left) between refl looked (eq-eqb left (later_of (duty_of duty)) same) asks)
 
   pub keeper_waits : left ≢ later_of (duty_of duty) → Turns serves owes setup (Keeper now) old (Keeper now) between Waiting
   keeper_waits other =
       subst (λ keeping. Turns serves owes setup (Keeper keeping) old (Keeper keeping) between Waiting) (sym is)
-      (Waited LookLeft (LeftOver left) refl looked (other_is_false left (later_of (duty_of duty)) other) refl refl)
+      (Waited LookLeft (LeftOver left) refl looked (ne_eqb left (later_of (duty_of duty)) other) refl refl)

@@ -1,19 +1,18 @@
 -- Where a bio comes to, device by device.
-use Rattle.std.proofs.Common.{◌≡◌, ◌≢◌, ◌⊎◌, inl, inr, ℕ, zero, suc, ◌<◌, ◌≤◌, ◌==◌, true, false, cond, List, length, map, IsSomeAnd, Option, None, Some, refl, sym, ap, ◌∙◌, subst, get_or, add-one, arith}
+use Rattle.std.proofs.Common.{◌≡◌, ◌≢◌, ◌⊎◌, inl, inr, ℕ, zero, suc, ◌<◌, ◌≤◌, ◌==◌, true, false, cond, length, map, IsSomeAnd, Option, Some, refl, sym, ap, ◌∙◌, subst, get_or, arith}
 use Rattle.std.specs.Prelude.{slice_get}
 use Rattle.std.specs.Option.{option_map_or}
-use Rattle.std.proofs.lemmas.Bool.{cases_lt}
+use Rattle.std.proofs.lemmas.Bool.{cases_lt, eq-eqb, ne_eqb}
 use Rattle.std.proofs.lemmas.Option.{slice_get-get_or, slice_get_cases}
 use Rattle.stack_base.specs.declared.ids.DevId.{DevId}
 use Rattle.stack_base.specs.declared.mapping.Piece.{Piece}
 use Rattle.stack_base.specs.declared.stack.Device.{Device}
-use Rattle.stack_base.specs.declared.stack.Kind.{Kind}
 use Rattle.stack_base.specs.declared.stack.Stack.{Stack}
 use Rattle.stack_base.specs.Cutting.{IsCut, next}
 use Rattle.stack_base.specs.Mapping.{Slot, slot, head}
 use Rattle.stack_base.specs.Piece.{IsPiece}
 use Rattle.stack_base.specs.Stack.{IsStack}
-use Rattle.stack_base.specs.Tree.{Tree, Leaf, Split, Mirrored, Shape, Keeps, Cuts, Copies, shape_of, over_shape, built, tree_below, member_at, tree}
+use Rattle.stack_base.specs.Tree.{Tree, Leaf, Split, Mirrored, Shape, Keeps, Cuts, Copies, shape_of, member_at, tree}
 use Rattle.stack_base.proofs.KindCuts.{kind_cuts}
 use Rattle.stack_base.proofs.Pieces.{is_piece, piece_len}
 use Rattle.layout_model.proofs.ByShape.{cuts_is, copies_is, keeps_is, member_is}
@@ -23,31 +22,9 @@ use Rattle.bio_records.specs.declared.bio.Bio.{Bio}
 use Rattle.task_steps.specs.declared.routes.Cut.{Cut}
 use Rattle.run_machine.specs.Scene.{tree_number}
 use Rattle.run_machine.specs.Lines.{first_length, mapped, landed}
+use Rattle.run_machine.proofs.TreeNumbers.{number_of_tree}
 use Rattle.task_steps.specs.Within.{IsWithinDevice, first_cut, is_handed_on}
 use Rattle.task_steps.specs.Routed.{sizes_at, handed, IsFirstCut, HasNoFirst, IsBelow, Stays, IsLanded}
-
-number_of_shape : (shape : Shape) (number : ℕ) (kind : Kind) (members : List Tree) → tree_number (over_shape shape number kind members) ≡ number
-unfolding over_shape
-number_of_shape (Keeps sectors) number kind members = refl
-number_of_shape Cuts number kind members = refl
-number_of_shape Copies number kind members = refl
-
-number_of_built : (number : ℕ) (device : Option Device) (below : ℕ → Tree) → tree_number (built number device below) ≡ number
-number_of_built number None below = refl
-number_of_built number (Some device) below = number_of_shape (shape_of device.kind) number device.kind _
-
--- the tree of a device has its number
-pub number_of_tree : (stack : Stack) (number : ℕ) → tree_number (tree stack number) ≡ number
-unfolding tree_below
-number_of_tree stack number =
-    ap (λ bound. tree_number (tree_below bound stack number)) (add-one number)
-    ∙ number_of_built number (slice_get stack.devices.items number) (tree_below number stack)
-
-pub same_is_true : (a b : ℕ) → a ≡ b → (a == b) ≡ true
-same_is_true a b e = search (e, arith)
-
-pub other_is_false : (a b : ℕ) → a ≢ b → (a == b) ≡ false
-other_is_false a b e = search (e, arith)
 
 -- a bio that is not handed on stays where it is
 pub lands_here : (t : Tree) (bio : Bio) → is_handed_on t bio.range ≡ false → landed t bio ≡ bio
@@ -101,7 +78,7 @@ module _ (stack : Stack) (good : IsStack stack) (bio : Bio) (device : Device) (f
           within = record { device = run.known; some = is.some; within = run.inside };
           lands = λ whole.
               let one : (first_length kind sizes bio.range == bio.range.len) ≡ true =
-              same_is_true (first_length kind sizes bio.range) bio.range.len (sym length_is ∙ whole) in
+              eq-eqb (first_length kind sizes bio.range) bio.range.len (sym length_is ∙ whole) in
               ap (λ t. landed t bio) split
               ∙ ap (λ b. cond b (landed (members to.member) (mapped to members bio)) bio) one
               ∙ ap (λ (to : Slot). landed (members to.member) (mapped to members bio)) is.place
@@ -125,7 +102,7 @@ module _ (stack : Stack) (bio : Bio) (within : IsWithinDevice stack bio) (cut : 
   pub stays_if_cut : cut.sectors < bio.range.len → Stays stack bio
   stays_if_cut fewer =
       ap (λ o. option_map_or (λ (cut : Cut). cut.sectors == bio.range.len) o false) is.first
-      ∙ other_is_false cut.sectors bio.range.len (λ e. omega arith)
+      ∙ ne_eqb cut.sectors bio.range.len (λ e. omega arith)
 
 -- a device that does not cut hands nothing on
 pub stays_if_none : (stack : Stack) (bio : Bio) → HasNoFirst stack bio → Stays stack bio

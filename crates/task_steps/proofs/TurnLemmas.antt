@@ -1,19 +1,18 @@
 -- How a step of a submission, or of a writer outside of one, is a step of its task.
-use Rattle.std.proofs.Common.{◌≡◌, ◌≢◌, ℕ, Bool, true, false, List, [], ◌∷◌, Option, None, Some, refl, sym, ap, ◌∙◌, subst}
+use Rattle.std.proofs.Common.{◌≡◌, ◌≢◌, ℕ, Bool, true, false, List, [], ◌∷◌, None, Some, refl, sym, ap, ◌∙◌, subst}
 use Rattle.std.proofs.Common.{true≢false, nat_le}
 use Rattle.stack_base.specs.declared.ids.DevId.{DevId}
 use Rattle.stack_base.specs.declared.ids.SetId.TheVariants.{Fs}
 use Rattle.bio_records.specs.declared.tasks.TaskLists.{TaskLists}
 use Rattle.run_machine.specs.declared.event.Breach.{Breach}
-use Rattle.run_machine.specs.declared.event.TaskId.{TaskId}
 use Rattle.run_machine.specs.declared.event.TaskId.TheVariants as id
 use Rattle.task_steps.specs.declared.step.Step.{Step}
 use Rattle.task_steps.specs.declared.step.Step.TheVariants.{Waiting, Broken, Ended}
 use Rattle.task_steps.specs.declared.writer.begin.Attempt.{Attempt}
 use Rattle.run_machine.specs.Scene.{Setup}
-use Rattle.run_machine.specs.Requests.{Request, Reply, TakeBio, TakeVec, TakeSlip, GiveBio, GiveVec, GiveSlip, Punt, Pop, Push, Complete, Link, Drop, Done, Resize, NextRound, LookRound, LookLeft, Rest, HadBio, HadVec, HadSlip, Missed, Did, Popped, Completed, LinkedTo, DroppedTo, OutIs, Present, LeftOver, Nothing, Spent}
+use Rattle.run_machine.specs.Requests.{Request, Reply, TakeBio, LookRound, Rest, Present}
 use Rattle.run_machine.specs.Lines.{Takes, Punts, Links, ToPush, ToCut, ToRecord, ToMaster, Doing, Rests, Drives, Copies, Breaks, Line, line_request, line_answered}
-use Rattle.run_machine.specs.Tasks.{Todo, Gathered, NoBio, HasBio, HasBoth, TaskState, Writer, Rescuer, needs_vector, with_bio, write_request, writer_request, writer_look, lets, rescuer_request, writer_answered, rescuer_answered, request}
+use Rattle.run_machine.specs.Tasks.{Todo, Gathered, NoBio, HasBio, HasBoth, TaskState, Writer, Rescuer, needs_vector, with_bio, write_request, writer_request, writer_look, lets, rescuer_request, writer_answered, rescuer_answered}
 use Rattle.task_steps.specs.Turns.{Asks, Turns, Rested, Waited, Asked, Saw, doing_breach, resting_step}
 use Rattle.task_steps.specs.LineViews.{is_asking, is_over}
 use Rattle.task_steps.specs.Answers.{AnswersSubmission}

@@ -1,6 +1,6 @@
 -- A mirror of two, with one bio and one record in reserve and no ordinary memory: 25 events, in one of which a bio is punted, after which the state
 -- has ended.
-use Rattle.std.proofs.Common.{◌≡◌, ◌+◌, ◌==◌, ◌++◌, ℕ, Bool, inl, List, [], ◌∷◌, length, slice_index_or, codes, Option, None, Some, refl, subst, arith, false, true}
+use Rattle.std.proofs.Common.{◌≡◌, ◌+◌, ◌==◌, ◌++◌, ℕ, Bool, inl, List, [], ◌∷◌, length, slice_index_or, codes, Option, None, Some, refl, arith, false, true}
 use Rattle.std.specs.Global.{Global}
 use Rattle.elem_ledger.specs.Ledger.{LedgerId}
 use Rattle.stack_base.specs.declared.ids.DevId.{DevId}
@@ -41,6 +41,7 @@ use Rattle.run_machine.specs.Opened.{at, no_task}
 use Rattle.run_machine.specs.Opened as texts
 use Rattle.run_machine.specs.Runs.{State, IsRun, HasEnded}
 pub use Rattle.run_machine.proofs.cases.OneMirror.{a, b, m, mirror, setup, write, todo, reserve, scripts, objects, stack, scenario, setup_is, objects_are}
+use Rattle.run_machine.proofs.Beginnings.{state_by, runs_as}
 use Rattle.run_machine.proofs.Texts.{Says, sound_at}
 use Rattle.run_machine.proofs.Turns.{Turn, follow, AreTurns, turns_run, takes, rescues, on_disk, in_book}
 
@@ -48,7 +49,7 @@ abbrev pub tasks : List TaskState
 tasks = Writer 0 (todo ∷ []) NoBio rests ∷ Rescuer m rests ∷ Completer a Empty ∷ Completer b Empty ∷ []
 
 abbrev pub start : State
-start = record { objects = objects; task = λ place. slice_index_or tasks place no_task }
+start = state_by objects tasks
 
 module _ (some : LedgerId) where
   abbrev pub ledger : ℕ → LedgerId
@@ -260,8 +261,7 @@ module _ (memory : Global) where
   scene_is some = λ k. record { setup = setup_is memory true k; tasks = length (tasks_are k); books = 8; writes = 1; ledger = ledger some }
 
   text_runs : (some : LedgerId) → IsRun (texts.scene (scenario memory true) (ledger some)) (texts.start (scenario memory true)) (events some) (follow (setup true) start (turns some))
-  text_runs some = subst (λ (x : Scene × State). IsRun x.0 x.1 (events some) (follow (setup true) start (turns some)))
-      (λ k. (scene_is some k, start_is k)) (mirror_runs some)
+  text_runs some = runs_as _ _ _ _ (events some) (follow (setup true) start (turns some)) (scene_is some) start_is (mirror_runs some)
 
   says : Says text (scenario memory true)
   unfolding refusal without_empty_end first_found command_of is_name number_of meaning pool_at over_shape size_of smallest needed begins

@@ -1,6 +1,6 @@
 -- A mirror of two disks of eight sectors, with one bio and one record in reserve and no ordinary memory, and one write of its first sector: what
 -- runs with a rescuer for the mirror's set and without one have in common.
-use Rattle.std.proofs.Common.{◌≡◌, ◌+◌, ◌==◌, if◌then◌else◌, ℕ, zero, suc, Bool, List, [], ◌∷◌, replicate, sum_by, slice_index_or, codes, None, refl, arith, false, true}
+use Rattle.std.proofs.Common.{◌≡◌, ◌+◌, ◌==◌, if◌then◌else◌, ℕ, zero, suc, Bool, List, [], ◌∷◌, sum_by, slice_index_or, codes, refl, arith, false, true}
 use Rattle.std.specs.Global.{Global}
 use Rattle.fail_script.specs.Script.{Answers, only_tail}
 use Rattle.stack_base.specs.declared.ids.DevId.{DevId}
@@ -9,19 +9,18 @@ use Rattle.stack_base.specs.declared.ids.PoolId.TheVariants.{FsBios, FsVecs, Bio
 use Rattle.stack_base.specs.declared.ids.Status.TheVariants.{Ok}
 use Rattle.stack_base.specs.declared.stack.Kind.TheVariants.{Mirror}
 use Rattle.stack_base.specs.declared.stack.Stack.{Stack}
-use Rattle.stack_base.specs.Tree.{Tree, Leaf, Mirrored, tree, tree_below, over_shape, member_at, size}
+use Rattle.stack_base.specs.Tree.{Tree, Leaf, Mirrored, tree, tree_below, over_shape, member_at}
 use Rattle.layout_model.specs.declared.write.Write.{Write}
 use Rattle.layout_model.specs.May.{bads_of}
 use Rattle.layout_model.specs.Need.{needed, begun as begins}
 use Rattle.layout_model.specs.Needs.{nodes as nodes_of}
-use Rattle.mempool_core.specs.Move.{opened}
-use Rattle.model_disks.specs.Moves as disk
 use Rattle.run_machine.specs.Scene.{Setup}
 use Rattle.run_machine.specs.Tasks.{Todo}
-use Rattle.run_machine.specs.Objects.{Objects}
-use Rattle.run_machine.specs.Events.{pool_of}
-use Rattle.run_machine.specs.Opened.{Scenario, at, places_of, reserve_of, script_at}
+use Rattle.run_machine.specs.Objects.{Objects, TallyState}
+use Rattle.run_machine.specs.Opened.{Scenario, at, places_of, reserve_of}
 use Rattle.run_machine.specs.Opened as texts
+use Rattle.run_machine.proofs.Beginnings.{IsOfScenario, objects_by}
+use Rattle.run_machine.proofs.Beginnings as begins
 use Rattle.run_machine.proofs.Texts.{device, disk as disk_of, stack_of}
 
 abbrev pub a : DevId
@@ -67,15 +66,12 @@ scripts =
     ∷ (Bios m, only_tail false)
     ∷ []
 
--- the objects as runs begin with them
+abbrev pub tally : TallyState
+tally = record { round = 0; left = 1 ∷ []; statuses = Ok ∷ [] }
+
+-- the objects as runs begin with them, with a rescuer and without
 abbrev pub objects : Objects
-objects = record {
-  pool = λ number. opened (reserve (pool_of number)) (script_at scripts number);
-  rescue = λ dev. [];
-  disk = λ dev. disk.opened (at dev) (size ((setup true).tree dev)) [];
-  book = λ writer. record { writer = writer; nodes = replicate ((setup true).places writer) None };
-  tally = record { round = 0; left = 1 ∷ []; statuses = Ok ∷ [] };
-}
+objects = objects_by (setup true) reserve scripts tally
 
 -- The scenario with a rescuer for the mirror's set, and without one: runs of both begin with these objects.
 module _ (memory : Global) where
@@ -110,14 +106,6 @@ module _ (memory : Global) where
     places_are : (writer : ℕ) → (setup rescuer).places writer ≡ places_of (scenario rescuer) writer
     places_are writer = places_if (0 == writer)
 
-    pub setup_is : setup rescuer ≡ texts.setup (scenario rescuer)
-    setup_is = λ k. record {
-      count = 3;
-      tree = λ dev. tree_is dev k;
-      rescuer = λ dev. rescuer_is dev k;
-      places = λ writer. places_are writer k;
-    }
-
     bads_are : (dev : ℕ) → [] ≡ bads_of (stack rescuer) dev
     bads_are zero = refl
     bads_are (suc zero) = refl
@@ -142,11 +130,19 @@ module _ (memory : Global) where
     reserve_is (Bios dev) = bios_are dev.0
     reserve_is (Records dev) = records_are dev.0
 
-    pub objects_are : objects ≡ texts.objects (scenario rescuer)
-    objects_are = λ k. record {
-      pool = λ number. opened (reserve_is (pool_of number) k) (script_at scripts number);
-      rescue = λ dev. [];
-      disk = λ dev. disk.opened (at dev) (size (tree_is dev k)) (bads_are dev k);
-      book = λ writer. record { writer = writer; nodes = replicate (places_are writer k) None };
-      tally = objects.tally;
+    is_of_scenario : IsOfScenario (setup rescuer) reserve tally (scenario rescuer)
+    is_of_scenario = record {
+      count_is = refl;
+      tree_is = tree_is;
+      rescuer_is = rescuer_is;
+      places_are = places_are;
+      reserve_is = reserve_is;
+      bads_are = bads_are;
+      tally_is = refl;
     }
+
+    pub setup_is : setup rescuer ≡ texts.setup (scenario rescuer)
+    setup_is = begins.setup_is (setup rescuer) reserve tally (scenario rescuer) is_of_scenario
+
+    pub objects_are : objects ≡ texts.objects (scenario rescuer)
+    objects_are = begins.objects_are (setup rescuer) reserve tally (scenario rescuer) is_of_scenario

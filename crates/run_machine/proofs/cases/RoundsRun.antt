@@ -1,5 +1,5 @@
 -- Two rounds of one write each, to sectors that they share, and a reserve that changes between them: 16 events, after which the state has ended.
-use Rattle.std.proofs.Common.{◌≡◌, ◌+◌, ◌++◌, ◌*◌, ◌==◌, if◌then◌else◌, ℕ, Bool, List, [], ◌∷◌, length, replicate, sum_by, slice_index_or, codes, Option, None, Some, refl, subst, arith, true, false}
+use Rattle.std.proofs.Common.{◌≡◌, ◌+◌, ◌++◌, ◌*◌, ◌==◌, if◌then◌else◌, ℕ, Bool, List, [], ◌∷◌, sum_by, codes, Option, None, Some, refl, arith, true, false}
 use Rattle.std.specs.Global.{Global}
 use Rattle.elem_ledger.specs.Ledger.{LedgerId}
 use Rattle.fail_script.specs.Script.{Answers, only_tail}
@@ -7,7 +7,7 @@ use Rattle.stack_base.specs.declared.ids.DevId.{DevId}
 use Rattle.stack_base.specs.declared.ids.PoolId.{PoolId}
 use Rattle.stack_base.specs.declared.ids.PoolId.TheVariants.{FsBios, FsVecs}
 use Rattle.stack_base.specs.declared.ids.Status.TheVariants.{Ok}
-use Rattle.stack_base.specs.Tree.{tree_below, over_shape, size}
+use Rattle.stack_base.specs.Tree.{tree_below, over_shape}
 use Rattle.decl_text.specs.Text.{without_empty_end, is_name, number_of}
 use Rattle.decl_text.specs.Commands.{command_of}
 use Rattle.decl_text.specs.Items.{meaning}
@@ -16,7 +16,7 @@ use Rattle.decl_text.specs.Refusals.{refusal, first_found}
 use Rattle.layout_model.specs.declared.write.Write.{Write}
 use Rattle.layout_model.specs.Need.{needed, begun}
 use Rattle.layout_model.specs.Needs.{nodes as nodes_of}
-use Rattle.mempool_core.specs.Move.{opened, takes_spare, gives, resizes}
+use Rattle.mempool_core.specs.Move.{takes_spare, gives, resizes}
 use Rattle.bio_records.specs.declared.bio.Pad.{Pad}
 use Rattle.bio_records.specs.Items.{Item}
 use Rattle.model_disks.specs.Disks.{DiskState}
@@ -38,11 +38,12 @@ use Rattle.run_machine.specs.Scene.{Setup, Scene}
 use Rattle.run_machine.specs.Requests.{HadBio, LinkedTo, Did, Completed, DroppedTo, Present, LeftOver, OutIs}
 use Rattle.run_machine.specs.Lines.{rests}
 use Rattle.run_machine.specs.Tasks.{Todo, TaskState, Writer, Completer, Keeper, NoBio, Empty, Keeps, Resizes, Starts, filled_short}
-use Rattle.run_machine.specs.Objects.{clear_bio, done_one}
-use Rattle.run_machine.specs.Events.{pool_of}
-use Rattle.run_machine.specs.Opened.{Scenario, at, no_task, places_of, script_at}
+use Rattle.run_machine.specs.Objects.{clear_bio, done_one, TallyState}
+use Rattle.run_machine.specs.Opened.{Scenario, at, places_of}
 use Rattle.run_machine.specs.Opened as texts
 use Rattle.run_machine.specs.Runs.{State, IsRun, HasEnded}
+use Rattle.run_machine.proofs.Beginnings.{IsOfScenario, objects_by, state_by, runs_as}
+use Rattle.run_machine.proofs.Beginnings as begins
 use Rattle.run_machine.proofs.Texts.{Says, sound_at}
 use Rattle.run_machine.proofs.cases.OneDisk.{tree_of, rescuer_of, reserve, stack, tree_is, rescuer_is, bads_are, reserve_is}
 use Rattle.run_machine.proofs.Turns.{Turn, follow, AreTurns, turns_run, takes, on_disk, in_book}
@@ -76,17 +77,11 @@ tasks =
 abbrev scripts : List (PoolId × Answers)
 scripts = (FsBios, only_tail false) ∷ (FsVecs, only_tail false) ∷ []
 
+abbrev pub tally : TallyState
+tally = record { round = 0; left = 1 ∷ 1 ∷ []; statuses = Ok ∷ Ok ∷ [] }
+
 abbrev pub start : State
-start = record {
-  objects = record {
-    pool = λ number. opened (reserve (pool_of number)) (script_at scripts number);
-    rescue = λ dev. [];
-    disk = λ dev. disk.opened (at dev) (size (setup.tree dev)) [];
-    book = λ writer. record { writer = writer; nodes = replicate (setup.places writer) None };
-    tally = record { round = 0; left = 1 ∷ 1 ∷ []; statuses = Ok ∷ Ok ∷ [] };
-  };
-  task = λ place. slice_index_or tasks place no_task;
-}
+start = state_by (objects_by setup reserve scripts tally) tasks
 
 module _ (some : LedgerId) where
   abbrev pub ledger : ℕ → LedgerId
@@ -252,35 +247,25 @@ module _ (memory : Global) where
   unfolding tree_below over_shape
   tasks_are = refl
 
-  pub start_is : start ≡ texts.start scenario
-  start_is = λ k. record {
-    objects = record {
-      pool = λ number. opened (reserve_is memory 8 (pool_of number) k) (script_at scripts number);
-      rescue = λ dev. [];
-      disk = λ dev. disk.opened (at dev) (size (tree_is memory 8 dev k)) (bads_are memory 8 dev k);
-      book = λ writer. record { writer = writer; nodes = replicate (places_are writer k) None };
-      tally = start.objects.tally;
-    };
-    task = λ place. slice_index_or (tasks_are k) place no_task;
+  is_of_text : IsOfScenario setup reserve tally scenario
+  is_of_text = record {
+    count_is = refl;
+    tree_is = tree_is memory 8;
+    rescuer_is = rescuer_is memory 8;
+    places_are = places_are;
+    reserve_is = reserve_is memory 8;
+    bads_are = bads_are memory 8;
+    tally_is = refl;
   }
+
+  pub start_is : start ≡ texts.start scenario
+  start_is = begins.start_is setup reserve tally scenario is_of_text tasks tasks_are
 
   pub scene_is : (some : LedgerId) → scene some ≡ texts.scene scenario (ledger some)
-  scene_is some = λ k. record {
-    setup = record {
-      count = 1;
-      tree = λ dev. tree_is memory 8 dev k;
-      rescuer = λ dev. rescuer_is memory 8 dev k;
-      places = λ writer. places_are writer k;
-    };
-    tasks = length (tasks_are k);
-    books = 8;
-    writes = 2;
-    ledger = ledger some;
-  }
+  scene_is some = begins.scene_is setup reserve tally scenario is_of_text tasks tasks_are (ledger some)
 
   text_runs : (some : LedgerId) → IsRun (texts.scene scenario (ledger some)) (texts.start scenario) (events some) (follow setup start (turns some))
-  text_runs some = subst (λ (x : Scene × State). IsRun x.0 x.1 (events some) (follow setup start (turns some)))
-      (λ k. (scene_is some k, start_is k)) (rounds_run some)
+  text_runs some = runs_as _ _ _ _ (events some) (follow setup start (turns some)) (scene_is some) start_is (rounds_run some)
 
   says : Says text scenario
   unfolding refusal without_empty_end first_found command_of is_name number_of meaning pool_at over_shape needed begun

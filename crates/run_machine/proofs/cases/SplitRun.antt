@@ -1,6 +1,6 @@
 -- A linear device over a limit and a disk: a write is cut, its first piece is cut again, and each first piece goes all the way down before a
 -- rest is cut. Then each part ends: 21 events, after which the state has ended.
-use Rattle.std.proofs.Common.{◌≡◌, ◌+◌, ◌==◌, if◌then◌else◌, ℕ, zero, suc, Bool, List, [], ◌∷◌, length, replicate, sum_by, slice_index_or, codes, Option, None, Some, refl, subst, arith, true, false}
+use Rattle.std.proofs.Common.{◌≡◌, ◌+◌, ◌==◌, if◌then◌else◌, ℕ, zero, suc, Bool, List, [], ◌∷◌, sum_by, slice_index_or, codes, Option, None, Some, refl, arith, true, false}
 use Rattle.std.specs.Global.{Global}
 use Rattle.elem_ledger.specs.Ledger.{LedgerId}
 use Rattle.fail_script.specs.Script.{Answers, only_tail}
@@ -13,7 +13,7 @@ use Rattle.stack_base.specs.declared.stack.Kind.TheVariants.{Linear, Limit}
 use Rattle.stack_base.specs.declared.stack.Stack.{Stack}
 use Rattle.stack_base.specs.Cutting.{next, next_member}
 use Rattle.stack_base.specs.Mapping.{slot, among, head, size_of, smallest}
-use Rattle.stack_base.specs.Tree.{Tree, Leaf, Split, tree, tree_below, over_shape, member_at, size}
+use Rattle.stack_base.specs.Tree.{Tree, Leaf, Split, tree, tree_below, over_shape, member_at}
 use Rattle.decl_text.specs.Text.{without_empty_end, is_name, number_of}
 use Rattle.decl_text.specs.Commands.{command_of}
 use Rattle.decl_text.specs.Items.{meaning}
@@ -23,7 +23,7 @@ use Rattle.layout_model.specs.declared.write.Write.{Write}
 use Rattle.layout_model.specs.May.{bads_of}
 use Rattle.layout_model.specs.Need.{needed, begun}
 use Rattle.layout_model.specs.Needs.{nodes as nodes_of}
-use Rattle.mempool_core.specs.Move.{opened, takes_spare, gives}
+use Rattle.mempool_core.specs.Move.{takes_spare, gives}
 use Rattle.bio_records.specs.declared.bio.Pad.{Pad}
 use Rattle.bio_records.specs.Segments.{segments_of}
 use Rattle.bio_records.specs.Items.{Item}
@@ -46,11 +46,11 @@ use Rattle.run_machine.specs.Scene.{Setup, Scene}
 use Rattle.run_machine.specs.Requests.{HadBio, LinkedTo, Did, Completed, DroppedTo, Present}
 use Rattle.run_machine.specs.Lines.{rests}
 use Rattle.run_machine.specs.Tasks.{Todo, TaskState, Writer, Completer, NoBio, Empty}
-use Rattle.run_machine.specs.Objects.{clear_bio, done_one}
-use Rattle.run_machine.specs.Events.{pool_of}
-use Rattle.run_machine.specs.Opened.{Scenario, at, no_task, places_of, reserve_of, script_at}
+use Rattle.run_machine.specs.Objects.{clear_bio, done_one, TallyState}
+use Rattle.run_machine.specs.Opened.{Scenario, at, places_of, reserve_of}
 use Rattle.run_machine.specs.Opened as texts
 use Rattle.run_machine.specs.Runs.{State, IsRun, HasEnded}
+use Rattle.run_machine.proofs.Beginnings.{IsOfScenario, objects_by, state_by, start_is, scene_is, runs_as}
 use Rattle.run_machine.proofs.Texts.{device, disk as disk_of, stack_of, Says, sound_at}
 use Rattle.run_machine.proofs.Turns.{Turn, follow, AreTurns, turns_run, takes, on_disk, in_book}
 
@@ -94,17 +94,11 @@ scripts =
     ∷ (Bios (at 2), only_tail false)
     ∷ []
 
+abbrev pub tally : TallyState
+tally = record { round = 0; left = 1 ∷ []; statuses = Ok ∷ [] }
+
 abbrev pub start : State
-start = record {
-  objects = record {
-    pool = λ number. opened (reserve (pool_of number)) (script_at scripts number);
-    rescue = λ dev. [];
-    disk = λ dev. disk.opened (at dev) (size (setup.tree dev)) [];
-    book = λ writer. record { writer = writer; nodes = replicate (setup.places writer) None };
-    tally = record { round = 0; left = 1 ∷ []; statuses = Ok ∷ [] };
-  };
-  task = λ place. slice_index_or tasks place no_task;
-}
+start = state_by (objects_by setup reserve scripts tally) tasks
 
 module _ (some : LedgerId) where
   abbrev ledger : ℕ → LedgerId
@@ -349,35 +343,21 @@ module _ (memory : Global) where
   unfolding tree_below over_shape
   tasks_are = refl
 
-  start_is : start ≡ texts.start scenario
-  start_is = λ k. record {
-    objects = record {
-      pool = λ number. opened (reserve_is (pool_of number) k) (script_at scripts number);
-      rescue = λ dev. [];
-      disk = λ dev. disk.opened (at dev) (size (tree_is dev k)) (bads_are dev k);
-      book = λ writer. record { writer = writer; nodes = replicate (places_are writer k) None };
-      tally = start.objects.tally;
-    };
-    task = λ place. slice_index_or (tasks_are k) place no_task;
-  }
-
-  scene_is : (some : LedgerId) → scene some ≡ texts.scene scenario (ledger some)
-  scene_is some = λ k. record {
-    setup = record {
-      count = 4;
-      tree = λ dev. tree_is dev k;
-      rescuer = λ dev. rescuer_is dev k;
-      places = λ writer. places_are writer k;
-    };
-    tasks = length (tasks_are k);
-    books = 8;
-    writes = 1;
-    ledger = ledger some;
+  is_of_text : IsOfScenario setup reserve tally scenario
+  is_of_text = record {
+    count_is = refl;
+    tree_is = tree_is;
+    rescuer_is = rescuer_is;
+    places_are = places_are;
+    reserve_is = reserve_is;
+    bads_are = bads_are;
+    tally_is = refl;
   }
 
   text_runs : (some : LedgerId) → IsRun (texts.scene scenario (ledger some)) (texts.start scenario) (events some) (follow setup start (turns some))
-  text_runs some = subst (λ (x : Scene × State). IsRun x.0 x.1 (events some) (follow setup start (turns some)))
-      (λ k. (scene_is some k, start_is k)) (split_runs some)
+  text_runs some =
+      runs_as _ _ _ _ (events some) (follow setup start (turns some)) (scene_is setup reserve tally scenario is_of_text tasks tasks_are (ledger some))
+      (start_is setup reserve tally scenario is_of_text tasks tasks_are) (split_runs some)
 
   says : Says text scenario
   unfolding refusal without_empty_end first_found command_of is_name number_of meaning pool_at over_shape size_of smallest needed begun head slot among next next_member

@@ -2,7 +2,6 @@ use Rattle.std.proofs.Common.{rules, refl}
 use Rattle.run_machine.specs.Requests.{Did, Spent}
 use Rattle.run_machine.specs.Tasks.{Starts}
 use Rattle.task_steps.specs.Stage.{Owes}
-use Rattle.task_steps.specs.KeeperViews.{keeping_of}
 use Rattle.task_steps.proofs.Asking.{duty_once}
 use Rattle.task_steps.proofs.keeper.start.Goals as goal
 
