@@ -4,6 +4,7 @@ pub mod PoolPayers
 pub mod TaskCharges
 pub mod EntriesLeft
 pub mod EventCharges
+pub mod SpentCharges
 pub mod ChargesAtStart
 pub mod PayerCounts
 pub mod Bounded

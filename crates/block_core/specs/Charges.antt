@@ -21,7 +21,7 @@ use Rattle.run_machine.specs.Opened.{Scenario, scene, start}
 use Rattle.run_machine.specs.Runs.{State, IsRun}
 use Rattle.block_core.specs.Payers.{Payer, WriteBio, WriteVector, Record, PieceBio, Fragment, ScriptEntry, LaterRound, ReserveChange, payer_at, Paid, MissesAtOnce, IsPunted, IsTaken, IsLinked, IsPopped, IsCompleted, EndsItself, EndsForParent, IsGiven, IsDone, cost, unit_price}
 use Rattle.block_core.specs.Touches.{is_master, none_was}
-use Rattle.block_core.specs.Weights.{Weight, Spot, Lined, Rescued, Pending, Brought, sum_at, total, weigh_option, legs_left}
+use Rattle.block_core.specs.Weights.{Weight, Spot, Lined, Rescued, Pending, Brought, sum_at, total, weigh_option, legs_left, no_weight}
 use Rattle.block_core.specs.Scenarios.{IsScenario, IsNaming}
 
 -- what begins at sector s of a run that starts at r, here and below: at a disk a fragment is pushed and completed, where the run starts;
@@ -107,13 +107,10 @@ close_charge price false (Some parent) = price (EndsForParent PieceBio)
 
 -- where what is left of a node that a task carries was a master as this says, by the places of tasks
 abbrev pub charge : (Paid → ℕ) → (ℕ → Bool) → Setup → Weight
-charge price was_master setup = record {
+charge price was_master setup = record no_weight {
   todo = λ writer todos taken. todo_charge price setup todos taken;
   bio = bio_charge price setup;
   copy = λ bio master leg. legs_charge price setup bio leg;
-  hand = λ bio. 0;
-  vector = λ vector. 0;
-  slip = λ slip. 0;
   node = λ writer place node. close_charge price (is_master node.role) (parent_of node.role) + held_charge price node.held;
   closed = λ task writer closed. close_charge price (was_master task) closed.parent + held_charge price closed.held;
 }

@@ -17,7 +17,7 @@ use Rattle.run_machine.specs.Lines.{rests}
 use Rattle.run_machine.specs.Tasks.{Todo, TaskState, Writer, Rescuer, Completer, Keeper}
 use Rattle.run_machine.specs.Opened.{Scenario, scene, start, setup, todos}
 use Rattle.run_machine.specs.Runs.{State, IsRun, HasEnded}
-use Rattle.block_core.specs.Weights.{Weight, Spot, Lined, Rescued, Pending, Brought, total, legs_left}
+use Rattle.block_core.specs.Weights.{Weight, Spot, Lined, Rescued, Pending, Brought, total, legs_left, no_weight}
 use Rattle.block_core.specs.Scenarios.{IsScenario, IsNaming}
 
 -- the place of a bio's first sector in its write
@@ -54,15 +54,10 @@ abbrev pub legs_come : Setup → (Fragment → ℕ) → Bio → ℕ → ℕ
 legs_come setup value bio leg = sum_by (λ k. sum_by value (leg_fragments (tree_at setup bio.dev) bio k)) (range_with_len leg (legs_left setup bio leg))
 
 abbrev pub to_come : Setup → (Fragment → ℕ) → Weight
-to_come setup value = record {
+to_come setup value = record no_weight {
   todo = λ writer todos taken. sum_by (λ todo. sum_by value (todo_fragments setup todo)) todos;
   bio = bio_comes setup value;
   copy = λ bio master leg. legs_come setup value bio leg;
-  hand = λ bio. 0;
-  vector = λ vector. 0;
-  slip = λ slip. 0;
-  node = λ writer place node. 0;
-  closed = λ task writer closed. 0;
 }
 
 -- the fragment of which a disk replies that it is done

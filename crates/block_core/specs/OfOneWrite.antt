@@ -8,7 +8,7 @@ use Rattle.run_machine.specs.declared.event.Event.{Event}
 use Rattle.run_machine.specs.Scene.{Scene}
 use Rattle.run_machine.specs.Opened.{Scenario, scene, start}
 use Rattle.run_machine.specs.Runs.{State, IsRun}
-use Rattle.block_core.specs.Weights.{Weight, total}
+use Rattle.block_core.specs.Weights.{Weight, total, no_weight}
 use Rattle.block_core.specs.Weights.{apart}
 use Rattle.block_core.specs.Scenarios.{IsScenario, IsNaming}
 
@@ -24,13 +24,9 @@ parent_strays write_of writer (Some parent) write = apart (write_of writer paren
 -- how far all is off these writes, of which there is one for each place of each book: a bio that names a node is of the node's write, so is
 -- one that a master's mirror copies, and so are a node under another one and what is left of it when it has closed
 abbrev pub strays : (ℕ → ℕ → ℕ) → Weight
-strays write_of = record {
-  todo = λ writer todos taken. 0;
+strays write_of = record no_weight {
   bio = λ spot. bio_strays write_of;
   copy = λ bio master leg. apart (write_of bio.writer master) bio.write;
-  hand = λ bio. 0;
-  vector = λ vector. 0;
-  slip = λ slip. 0;
   node = λ writer place node. apart (write_of writer place) node.write + parent_strays write_of writer (parent_of node.role) node.write;
   closed = λ task writer closed. parent_strays write_of writer closed.parent closed.write;
 }

@@ -9,7 +9,7 @@ use Rattle.bio_records.specs.Items.{Item}
 use Rattle.run_machine.specs.Scene.{Setup, Scene, tree_at}
 use Rattle.run_machine.specs.Tasks.{Todo}
 use Rattle.run_machine.specs.Runs.{State}
-use Rattle.block_core.specs.Weights.{Weight, Spot, Lined, Rescued, Pending, Brought, total, one}
+use Rattle.block_core.specs.Weights.{Weight, Spot, Lined, Rescued, Pending, Brought, total, one, no_weight}
 
 -- the nodes that a bio still opens
 abbrev pub bio_needs : Setup → Bio → ℕ
@@ -36,15 +36,11 @@ lined_needs setup w Brought item = 0
 
 -- the places of writer w's book that are taken or will be
 abbrev pub places : Setup → ℕ → Weight
-places setup w = record {
+places setup w = record no_weight {
   todo = λ writer todos taken. one writer w * writes_need setup todos;
   bio = lined_needs setup w;
   copy = λ bio master leg. one bio.writer w * unmade_legs_need (tree_at setup bio.dev) bio.range.start bio.range.len leg;
-  hand = λ bio. 0;
-  vector = λ vector. 0;
-  slip = λ slip. 0;
   node = λ writer place node. one writer w;
-  closed = λ task writer closed. 0;
 }
 
 -- each book has as many places as its writer's writes take

@@ -11,7 +11,7 @@ use Rattle.run_machine.specs.Scene.{Setup, Scene}
 use Rattle.run_machine.specs.Tasks.{Completer, Carries}
 use Rattle.run_machine.specs.Runs.{State}
 use Rattle.block_core.specs.Touches.{is_master}
-use Rattle.block_core.specs.Weights.{Weight, total, one, names_node, under, legs_left}
+use Rattle.block_core.specs.Weights.{Weight, total, one, names_node, under, legs_left, no_weight}
 
 abbrev pub is_leg : Role → Bool
 is_leg role.Top = false
@@ -21,56 +21,26 @@ is_leg (role.Leg parent) = true
 
 -- the bios that name the node at place k of writer w's book, in lists, with drivers, in rescue lists, in disks and in completers' hands
 abbrev pub named : ℕ → ℕ → Weight
-named w k = record {
-  todo = λ writer todos taken. 0;
-  bio = λ spot. names_node w k;
-  copy = λ bio master leg. 0;
-  hand = λ bio. 0;
-  vector = λ vector. 0;
-  slip = λ slip. 0;
-  node = λ writer place node. 0;
-  closed = λ task writer closed. 0;
-}
+named w k = record no_weight { bio = λ spot. names_node w k }
 
 -- The masters that stand for its own part, open ones and closed ones that are carried. What is left of a closed node does not tell whether it was
 -- a master; the place of the task that carries it does, by the event that closed the node.
 abbrev pub masters : (ℕ → Bool) → ℕ → ℕ → Weight
-masters was_master w k = record {
-  todo = λ writer todos taken. 0;
-  bio = λ spot bio. 0;
-  copy = λ bio master leg. 0;
-  hand = λ bio. 0;
-  vector = λ vector. 0;
-  slip = λ slip. 0;
+masters was_master w k = record no_weight {
   node = λ writer place node. if is_master node.role then under w k writer (parent_of node.role) else 0;
   closed = λ task writer closed. if was_master task then under w k writer closed.parent else 0;
 }
 
 -- its children, or its legs: the other nodes right under it, open ones and closed ones that are carried
 abbrev pub children : (ℕ → Bool) → ℕ → ℕ → Weight
-children was_master w k = record {
-  todo = λ writer todos taken. 0;
-  bio = λ spot bio. 0;
-  copy = λ bio master leg. 0;
-  hand = λ bio. 0;
-  vector = λ vector. 0;
-  slip = λ slip. 0;
+children was_master w k = record no_weight {
   node = λ writer place node. if is_master node.role then 0 else under w k writer (parent_of node.role);
   closed = λ task writer closed. if was_master task then 0 else under w k writer closed.parent;
 }
 
 -- the legs that are still to be made of it
 abbrev pub legs_to_make : Setup → ℕ → ℕ → Weight
-legs_to_make setup w k = record {
-  todo = λ writer todos taken. 0;
-  bio = λ spot bio. 0;
-  copy = λ bio master leg. one bio.writer w * one master k * legs_left setup bio leg;
-  hand = λ bio. 0;
-  vector = λ vector. 0;
-  slip = λ slip. 0;
-  node = λ writer place node. 0;
-  closed = λ task writer closed. 0;
-}
+legs_to_make setup w k = record no_weight { copy = λ bio master leg. one bio.writer w * one master k * legs_left setup bio leg }
 
 -- where a node's own part is, by what the node keeps: it is away, in the one bio that names the node, or it is in the node, while a master stands
 -- for it, or has been dropped

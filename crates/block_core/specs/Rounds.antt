@@ -5,7 +5,7 @@ use Rattle.bio_books.specs.declared.node.Role.TheVariants as role
 use Rattle.run_machine.specs.Scene.{Scene}
 use Rattle.run_machine.specs.Tasks.{Todo, Gathered, NoBio, HasBio, HasBoth}
 use Rattle.run_machine.specs.Runs.{State}
-use Rattle.block_core.specs.Weights.{Weight, total, one}
+use Rattle.block_core.specs.Weights.{Weight, total, one, no_weight}
 pub use Rattle.layout_model.specs.Laid.{round_of}
 
 -- 1 where a write is of this round
@@ -24,13 +24,8 @@ tops_left (Some parent) = 0
 
 -- what writes are worth that are to be begun, or whose top node is open or carried, where each is worth this by its number
 abbrev pub by_stage : (List Todo → Gathered → ℕ) → (ℕ → ℕ) → Weight
-by_stage to_come worth = record {
+by_stage to_come worth = record no_weight {
   todo = λ writer todos taken. to_come todos taken;
-  bio = λ spot bio. 0;
-  copy = λ bio master leg. 0;
-  hand = λ bio. 0;
-  vector = λ vector. 0;
-  slip = λ slip. 0;
   node = λ writer place node. tops node.role * worth node.write;
   closed = λ task writer closed. tops_left closed.parent * worth closed.write;
 }

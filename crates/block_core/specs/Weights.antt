@@ -48,6 +48,19 @@ pub record Weight : Type 0 where
   pub node : (writer place : ℕ) → Node → ℕ
   pub closed : (task writer : ℕ) → Closed → ℕ
 
+-- nothing weighs anything
+abbrev pub no_weight : Weight
+no_weight = record {
+  todo = λ writer todos taken. 0;
+  bio = λ spot bio. 0;
+  copy = λ bio master leg. 0;
+  hand = λ bio. 0;
+  vector = λ vector. 0;
+  slip = λ slip. 0;
+  node = λ writer place node. 0;
+  closed = λ task writer closed. 0;
+}
+
 abbrev pub want_weight : Weight → Want → ℕ
 want_weight w (Takes waits) = 0
 want_weight w Punts = 0
@@ -130,13 +143,9 @@ abbrev pub legs_left : Setup → Bio → ℕ → ℕ
 legs_left setup bio leg = legs_of (tree_at setup bio.dev) - leg
 
 abbrev pub refs : Setup → ℕ → ℕ → Weight
-refs setup w k = record {
-  todo = λ writer todos taken. 0;
+refs setup w k = record no_weight {
   bio = λ spot. names_node w k;
   copy = λ bio master leg. one bio.writer w * one master k * legs_left setup bio leg;
-  hand = λ bio. 0;
-  vector = λ vector. 0;
-  slip = λ slip. 0;
   node = λ writer place node. under w k writer (parent_of node.role);
   closed = λ task writer closed. under w k writer closed.parent;
 }

@@ -26,7 +26,8 @@ use Rattle.block_core.proofs.sound.Orders.{Ground}
 use Rattle.block_core.proofs.moves.Devices.{ground}
 use Rattle.block_core.proofs.moves.StepMoves.{step_is_move}
 use Rattle.block_core.proofs.bound.DeviceCharges.{Priced, priced}
-use Rattle.block_core.proofs.bound.EventCharges.{lowers, covers}
+use Rattle.block_core.proofs.bound.EventCharges.{lowers}
+use Rattle.block_core.proofs.bound.SpentCharges.{covers}
 use Rattle.block_core.proofs.bound.ChargesAtStart.{start_charge, start_spent}
 use Rattle.block_core.proofs.bound.PayerCounts.{few_costs}
 use Rattle.block_core.proofs.sound.Wholes.{Whole, runs_whole, start_whole}
@@ -130,8 +131,8 @@ module _ (scene : Scene) (f : Fair scene) (g : Ground scene.setup) (p : (price :
       omega (
         arith,
         runs_cost price was_master s events new i run,
-        covers price (were_masters scene s events new run was_master) scene new g (p price) j.kept j.placed,
-        covers price was_master scene s g (p price) i.kept i.placed,
+        covers price (were_masters scene s events new run was_master) scene new (p price) j.kept j.placed,
+        covers price was_master scene s (p price) i.kept i.placed,
       )
 
   pub runs_out : (q : ℕ) (s : State) (events : List Event) (new : State) → Whole scene s → IsRun scene s events new
@@ -173,7 +174,7 @@ module _ (s : Scenario) (ledger : ℕ → LedgerId) (good : IsScenario s) (namin
   run_covers events state run price was_master =
       let g = ground s.stack good.stack (setup_in s).places in
       let j = runs_whole (scene s ledger) fair g (start s) events state (start_whole s ledger good naming) run in
-      covers price was_master (scene s ledger) state g (priced price s.stack good.stack (setup_in s).places) j.kept j.placed
+      covers price was_master (scene s ledger) state (priced price s.stack good.stack (setup_in s).places) j.kept j.placed
 
   run_bounded : (events : List Event) (state : State) → IsRun (scene s ledger) (start s) events state → length events ≤ most_steps s
   run_bounded events state run = omega (arith, run_lowers [] events (start s) state refl run, start_charge s good ledger unit_price, few_costs s)
@@ -189,7 +190,7 @@ module _ (s : Scenario) (ledger : ℕ → LedgerId) (good : IsScenario s) (namin
       omega (
         arith,
         runs_cost (scene s ledger) fair g p price none_was (start s) events state i run,
-        covers price (were_masters (scene s ledger) (start s) events state run none_was) (scene s ledger) state g (p price) j.kept j.placed,
+        covers price (were_masters (scene s ledger) (start s) events state run none_was) (scene s ledger) state (p price) j.kept j.placed,
         start_charge s good ledger price,
         start_spent s good ledger price,
       )

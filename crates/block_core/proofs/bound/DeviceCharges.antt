@@ -1,5 +1,5 @@
 -- What bios are charged at the devices of a stack.
-use Rattle.std.proofs.Common.{◌≡◌, ◌≢◌, ◌+◌, ◌-◌, ◌<◌, ◌≤◌, ℕ, suc, IsTrue, List, length, Some, inl, inr, refl, sym, ◌∙◌, ap, subst, arith}
+use Rattle.std.proofs.Common.{◌≡◌, ◌≢◌, ◌+◌, ◌-◌, ◌<◌, ◌≤◌, ℕ, suc, IsTrue, List, length, Some, refl, sym, ◌∙◌, ap, subst, arith}
 use Rattle.std.specs.Prelude.{slice_get, sum_by}
 use Rattle.std.specs.List.{range_with_len}
 use Rattle.stack_base.specs.declared.ids.Range.{Range}
@@ -24,12 +24,12 @@ use Rattle.run_machine.specs.Lines.{Want, ToPush, ToCut, ToMaster, first_length,
 use Rattle.block_core.specs.Charges.{run_charge, run_at, leg_charge}
 use Rattle.block_core.specs.Payers.{Record, PieceBio, Fragment, Paid, cost}
 use Rattle.block_core.proofs.moves.Moves.{piece}
-use Rattle.block_core.proofs.moves.Geometry.{IsThere, IsWhole, is_cut, falls, goes, number_of_tree, members_at, sizes_at}
+use Rattle.run_machine.proofs.TreeNumbers.{number_of_tree}
+use Rattle.block_core.proofs.moves.Geometry.{IsThere, IsWhole, is_cut, falls, goes, members_at, of_each_shape, sizes_at}
 use Rattle.block_core.proofs.moves.LegTrees.{GoesDown, legs_go_down}
 use Rattle.block_core.proofs.sound.Orders.{AskFits}
-use Rattle.std.proofs.lemmas.Option.{slice_get_cases}
-use Rattle.stack_base.specs.Tree.{Shape, Keeps as Keeping_, Cuts, Copies as Copying_, shape_of}
-use Rattle.layout_model.proofs.ByShape.{cuts_is, copies_is, keeps_is}
+use Rattle.stack_base.specs.Tree.{Cuts, shape_of}
+use Rattle.layout_model.proofs.ByShape.{cuts_is}
 
 -- what is known of charges at the devices of a stack
 pub record Priced (price : Paid → ℕ) (setup : Setup) : Type 0 where
@@ -118,15 +118,11 @@ module _ (price : Paid → ℕ) (stack : Stack) (good : IsStack stack) (places :
 
   cut_of : (bio hand : Item Pad) (key : ℕ) → IsThere setup bio.bio → CutOf bio hand key (tree stack bio.bio.dev.0)
   unfolding CutOf
-  cut_of bio hand key is = elim ((slice_get_cases stack.devices.items bio.bio.dev.0).1) [
-    | inl x ↦ by_shape x.0 x.2 (shape_of x.0.kind) refl
-    | inr past ↦ absurd (let h = past.0 in let known = is.device in omega arith)
-  ]
+  cut_of bio hand key is = of_each_shape stack good places (CutOf bio hand key) bio.bio.dev.0 is.device (λ sectors. tt) here (λ device found e. tt)
     where
-      by_shape : (device : Device) → slice_get stack.devices.items bio.bio.dev.0 ≡ Some device → (shape : Shape) → shape_of device.kind ≡ shape → CutOf bio hand key (tree stack bio.bio.dev.0)
-      by_shape device found (Keeping_ sectors) e = subst (CutOf bio hand key) (sym (keeps_is stack good bio.bio.dev.0 device found sectors e)) tt
-      by_shape device found Copying_ e = subst (CutOf bio hand key) (sym (copies_is stack good bio.bio.dev.0 device found e)) tt
-      by_shape device found Cuts e = subst (CutOf bio hand key) (sym (cuts_is stack good bio.bio.dev.0 device found e)) (λ many.
+      here : (device : Device) → slice_get stack.devices.items bio.bio.dev.0 ≡ Some device → shape_of device.kind ≡ Cuts
+          → CutOf bio hand key (Split bio.bio.dev.0 device.kind (sizes_at stack device) (members_at stack bio.bio.dev.0 device))
+      here device found e many =
           let range = bio.bio.range in
           let sizes = sizes_at stack device in
           let members = members_at stack bio.bio.dev.0 device in
@@ -142,7 +138,7 @@ module _ (price : Paid → ℕ) (stack : Stack) (good : IsStack stack) (places :
           let child : run_charge price (tree stack (tree_number (members (slot device.kind sizes range.start).member))) at n ≡ run_charge price (members (slot device.kind sizes range.start).member) at n =
           ap (λ t. run_charge price t at n) same in
           let both = charge_more price bio.bio.dev.0 device.kind sizes members range.start range.len n (is_cut_of bio.bio.dev.0 device found e) refl fewer in
-          omega (arith, child, both))
+          omega (arith, child, both)
 
   pub priced : Priced price setup
   unfolding CutOf

@@ -17,7 +17,7 @@ use Rattle.bio_books.specs.Books.{Node, SlipItem, later_part}
 use Rattle.run_machine.specs.Scene.{Setup, tree_at}
 use Rattle.run_machine.specs.Lines.{copies, legs_of}
 use Rattle.run_machine.specs.Tasks.{Todo, Gathered, NoBio, HasBio, HasBoth, Carried, Empty, Brings, Carries, Fails}
-use Rattle.block_core.specs.Weights.{Weight, Spot, Lined, Rescued, Pending, Brought, line_weight, carried_weight}
+use Rattle.block_core.specs.Weights.{Weight, Spot, Lined, Rescued, Pending, Brought, line_weight, carried_weight, no_weight}
 use Rattle.block_core.specs.Charges.{there}
 use Rattle.block_core.specs.Fragments.{todo_fragments, legs_come, leg_fragments}
 use Rattle.block_core.specs.Places.{bio_needs, unmade_legs_need}
@@ -65,27 +65,19 @@ todos_due setup (todo ∷ later) (HasBoth bio vector) = 6 + todo_run setup todo 
 -- An open node gives back its bio, or its record, and its vector, and has an end; what is left of a closed one gives what it holds. What is in hand
 -- was taken already, so it counts apart.
 abbrev pub due : Setup → Weight
-due setup = record {
+due setup = record no_weight {
   todo = λ writer todos taken. todos_due setup todos taken;
   bio = bio_due setup;
   copy = λ bio master leg. copy_due setup bio leg;
-  hand = λ bio. 0;
-  vector = λ vector. 0;
-  slip = λ slip. 0;
   node = λ writer place node. 2 + there node.held.vector;
   closed = λ task writer closed. 1 + there closed.held.bio + there closed.held.vector + there closed.held.slip;
 }
 
 abbrev pub in_hand : Weight
-in_hand = record {
-  todo = λ writer todos taken. 0;
-  bio = λ spot bio. 0;
-  copy = λ bio master leg. 0;
+in_hand = record no_weight {
   hand = λ bio. 1;
   vector = λ vector. 1;
   slip = λ slip. 1;
-  node = λ writer place node. 0;
-  closed = λ task writer closed. 0;
 }
 
 pub blind : IsBlind in_hand

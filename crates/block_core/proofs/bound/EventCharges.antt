@@ -1,5 +1,5 @@
 -- What each event does to what is charged and spent.
-use Rattle.std.proofs.Common.{◌≡◌, ◌+◌, ◌*◌, ◌<◌, ◌≤◌, if◌then◌else◌, ℕ, zero, suc, Bool, true, false, List, [], ◌∷◌, filter, Option, None, Some, inl, inr, refl, ap, subst, arith}
+use Rattle.std.proofs.Common.{◌≡◌, ◌+◌, ◌*◌, ◌<◌, ◌≤◌, if◌then◌else◌, ℕ, Bool, true, false, List, [], ◌∷◌, filter, Option, None, Some, inl, inr, refl, ap, subst, arith}
 use Rattle.std.proofs.lemmas.List.Sums.{sum_by-cons, sum_by-append, sum_by_push}
 use Rattle.stack_base.specs.PoolId.{pool_number}
 use Rattle.stack_base.specs.Tree.{Tree, Leaf, Split, Mirrored}
@@ -8,18 +8,18 @@ use Rattle.bio_records.specs.declared.bio.Pad.{Pad}
 use Rattle.bio_records.specs.declared.tasks.TaskLists.{TaskLists}
 use Rattle.bio_records.specs.Items.{Item}
 use Rattle.bio_lists.specs.Submission.{submitted}
-use Rattle.bio_books.specs.Books.{VectorItem, parent_of, keeping, told}
+use Rattle.bio_books.specs.Books.{VectorItem, parent_of, told}
 use Rattle.bio_books.specs.Drops.{closed_of}
 use Rattle.run_machine.specs.Maps.{upd}
 use Rattle.run_machine.specs.Scene.{Scene, tree_at}
-use Rattle.run_machine.specs.Lines.{Want, Takes, Punts as WantsPunt, Links, ToPush, ToCut, ToRecord, ToMaster, Doing, Rests, Drives, Copies, Breaks, Line, rests, settled, goes_on, copies, first_length, leg_at, is_of, not_punted}
+use Rattle.run_machine.specs.Lines.{Takes, Punts as WantsPunt, Links, ToPush, ToCut, ToRecord, ToMaster, Doing, Drives, Copies, Line, rests, settled, goes_on, copies, first_length, leg_at, is_of, not_punted}
 use Rattle.run_machine.specs.Tasks.{TaskState, Writer, Rescuer, Completer, Keeper, Keeps, Resizes, Starts, Todo, NoBio, HasBio, HasBoth, Empty, Brings, Carries}
 use Rattle.run_machine.specs.Objects.{clear_bio, clear_vector, clear_slip}
 use Rattle.run_machine.specs.Runs.{State}
-use Rattle.block_core.specs.Weights.{Weight, Rescued, Lined, sum_at, doing_weight, carried_weight, task_weight, line_weight}
+use Rattle.block_core.specs.Weights.{Weight, Rescued, Lined, carried_weight, task_weight, line_weight}
 use Rattle.block_core.specs.Touches.{is_master}
-use Rattle.block_core.specs.Charges.{bio_charge, write_run, vector_charge, end_charge, held_charge, close_charge, charge, want_spent, doing_spent, task_spent, duty_charge, task_charge, charged, spent_charges}
-use Rattle.block_core.specs.Payers.{Paid, WriteBio, WriteVector, ScriptEntry, PieceBio, cost}
+use Rattle.block_core.specs.Charges.{bio_charge, write_run, vector_charge, end_charge, held_charge, close_charge, charge, task_spent, duty_charge, task_charge, charged, spent_charges}
+use Rattle.block_core.specs.Payers.{Paid, WriteBio, WriteVector, ScriptEntry, cost}
 use Rattle.block_core.specs.Payers as paid
 use Rattle.block_core.proofs.moves.Moves.{Move, place_of, Can, after, limit_of, HasLine, with_want, filled_of, cut_lists, piece}
 use Rattle.block_core.proofs.moves.PaidKinds.{kind_of}
@@ -27,11 +27,11 @@ use Rattle.block_core.proofs.moves.Moves as moves
 use Rattle.block_core.proofs.moves.Sums.{upd-same, upd-other}
 use Rattle.block_core.proofs.sound.Misplaced.{was_after}
 use Rattle.block_core.proofs.sound.Splitting.{IsSameButClosed, total_but}
-use Rattle.block_core.proofs.sound.Facts.{TaskFits, DoingFits, Kept}
+use Rattle.block_core.proofs.sound.Facts.{TaskFits, Kept}
 use Rattle.block_core.proofs.sound.Orders.{Each, IsOwn, AskFits, DoingPlaced, TodoThere, TaskPlaced, Placed, Ground}
 use Rattle.block_core.proofs.bound.TaskCharges.{charge_lands, copies_charge, pops_once, pops_not, punts_charge, later_charge, takes_spent, want_spends, new_spends, wants_below, on_tasks, on_line, tells_charge, later_give, hands_back}
 use Rattle.block_core.proofs.bound.PoolPayers.{is_write_bio, is_write_vector, is_piece_bio, is_record, leg_bio}
-use Rattle.block_core.proofs.bound.DeviceCharges.{Priced, leaf_charge, mirror_charge, cut_needs, legs_next, leg_some}
+use Rattle.block_core.proofs.bound.DeviceCharges.{Priced, leaf_charge, mirror_charge, legs_next}
 use Rattle.block_core.proofs.moves.Deltas.{delta}
 use Rattle.block_core.proofs.sound.TaskLines.{line_fits}
 use Rattle.block_core.proofs.sound.Orders.{waiting_placed}
@@ -379,35 +379,3 @@ module _ (price : Paid → ℕ) (was_master : ℕ → Bool) (scene : Scene) (s :
         on_tasks (task_charge price) scene s place x y c.0 c.1,
         sum_by-cons (duty_charge price) (Starts round later) duties,
       )
-
-  -- no more is spent than is charged
-  want_covers : (want : Want) → want_spent price want ≤ cost price PieceBio
-  want_covers (Takes true) = omega arith
-  want_covers (Takes false) = omega arith
-  want_covers WantsPunt = omega arith
-  want_covers (Links hand) = omega arith
-
-  doing_covers : (limit : ℕ) (doing : Doing) (lists : TaskLists) → DoingPlaced scene.setup limit doing lists → DoingFits scene.setup doing lists → doing_spent price doing ≤ doing_weight w limit doing
-  doing_covers limit Rests lists d f = omega arith
-  doing_covers limit (Breaks breach kept) lists d f = omega arith
-  doing_covers limit (Drives bio ToPush) lists d f = omega arith
-  doing_covers limit (Drives bio (ToCut want)) lists d f =
-      omega (arith, want_covers want, cut_needs price scene.setup p bio want (tree_at scene.setup bio.bio.dev) refl d.1.0.0 d.3)
-  doing_covers limit (Drives bio ToRecord) lists d f = omega arith
-  doing_covers limit (Drives bio (ToMaster slip)) lists d f = omega (arith, mirror_charge price (tree_at scene.setup bio.bio.dev) bio.bio.range bio.bio.dev.0 slip d.3 d.1.0.0.some)
-  doing_covers limit (Copies bio master leg want) lists d f =
-      omega (arith, want_covers want, legs_next price (tree_at scene.setup bio.dev) bio.range leg f, leg_some price (tree_at scene.setup bio.dev) bio.range leg f)
-
-  task_covers : (place : ℕ) (x : TaskState) → TaskPlaced scene.setup x → TaskFits scene x → task_spent price x ≤ task_weight w place x
-  task_covers place (Writer number todo taken line) t f = let b = doing_covers 32 line.doing line.lists t.1 f.1 in omega arith
-  task_covers place (Rescuer dev line) t f = let b = doing_covers dev.0 line.doing line.lists t f.1 in omega arith
-  task_covers place (Completer disk carried) t f = omega arith
-  task_covers place (Keeper keeping) t f = omega arith
-
-  tasks_cover : (n : ℕ) → sum_at (λ place task. task_spent price task) n s.task ≤ sum_at (task_weight w) n s.task
-  unfolding sum_at
-  tasks_cover zero = omega arith
-  tasks_cover (suc n) = omega (arith, tasks_cover n, task_covers n (s.task n) (a.tasks n) (i.tasks n))
-
-  pub covers : spent_charges price scene s ≤ charged price was_master scene s
-  covers = omega (arith, tasks_cover scene.tasks)

@@ -13,7 +13,7 @@ use Rattle.run_machine.specs.Tasks.{Carried, Empty, Brings, Carries, Fails}
 use Rattle.run_machine.specs.Runs.{State}
 use Rattle.block_core.specs.Charges.{there}
 use Rattle.block_core.specs.Roles.{named}
-use Rattle.block_core.specs.Weights.{Weight, total}
+use Rattle.block_core.specs.Weights.{Weight, total, no_weight}
 use Rattle.block_core.proofs.moves.Moves.{Move, Can, after, limit_of, filled_of, cut_lists, Tells}
 use Rattle.block_core.proofs.moves.Moves as moves
 use Rattle.block_core.proofs.moves.Deltas.{delta}
@@ -31,16 +31,7 @@ odd_holding (role.Master parent) bio slip = there bio + bare_slip slip
 odd_holding (role.Leg parent) bio slip = there slip
 
 abbrev pub odd : Weight
-odd = record {
-  todo = λ writer todos taken. 0;
-  bio = λ spot bio. 0;
-  copy = λ bio master leg. 0;
-  hand = λ bio. 0;
-  vector = λ vector. 0;
-  slip = λ slip. 0;
-  node = λ writer place node. odd_holding node.role node.held.bio node.held.slip;
-  closed = λ task writer closed. 0;
-}
+odd = record no_weight { node = λ writer place node. odd_holding node.role node.held.bio node.held.slip }
 
 blind : IsBlind odd
 blind limit item t = refl

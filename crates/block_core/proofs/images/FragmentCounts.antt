@@ -1,19 +1,17 @@
 -- What the fragments of bios count, as they land, are cut and are copied.
-use Rattle.std.proofs.Common.{◌≡◌, ◌≢◌, ◌+◌, ◌-◌, ◌%◌, ◌^◌, ◌<◌, ◌≤◌, ℕ, zero, suc, IsTrue, List, [], length, Some, inl, inr, refl, sym, ◌∙◌, ap, subst, arith}
+use Rattle.std.proofs.Common.{◌≡◌, ◌≢◌, ◌+◌, ◌-◌, ◌%◌, ◌^◌, ◌<◌, ◌≤◌, ℕ, zero, suc, IsTrue, List, [], length, Some, refl, sym, ◌∙◌, ap, subst, arith}
 use Rattle.std.specs.Prelude.{slice_get, sum_by}
 use Rattle.std.specs.List.{range_with_len, flat_map}
 use Rattle.std.proofs.lemmas.List.Sums.{sum_by-cons, sum_by-append}
-use Rattle.std.proofs.lemmas.Option.{slice_get_cases}
 use Rattle.stack_base.specs.declared.ids.Range.{Range}
 use Rattle.stack_base.specs.declared.stack.Device.{Device}
 use Rattle.stack_base.specs.declared.stack.Stack.{Stack}
 use Rattle.stack_base.specs.declared.stack.Kind.{Kind}
 use Rattle.stack_base.specs.Stack.{IsStack}
 use Rattle.stack_base.specs.Mapping.{slot}
-use Rattle.stack_base.specs.Tree.{Tree, Leaf, Split, Mirrored, Shape, Keeps as Keeping_, Cuts, Copies as Copying_, shape_of, tree}
+use Rattle.stack_base.specs.Tree.{Tree, Leaf, Split, Mirrored, Cuts, shape_of, tree}
 use Rattle.layout_model.specs.declared.fragment.Fragment.{Fragment}
 use Rattle.layout_model.specs.Plan.{frags, leaves, plan}
-use Rattle.layout_model.proofs.ByShape.{cuts_is, copies_is, keeps_is}
 use Rattle.layout_model.proofs.Planned.{leaves_plan}
 use Rattle.layout_model.proofs.Steps.{cut_none}
 use Rattle.bio_records.specs.declared.bio.Bio.{Bio}
@@ -26,7 +24,8 @@ use Rattle.run_machine.specs.Scene.{Setup, tree_at, tree_number, setup_of}
 use Rattle.run_machine.specs.Lines.{ToPush, ToMaster, first_length, landed, legs_of, leg_at}
 use Rattle.block_core.specs.Fragments.{offset_of, fragment_of, fragments_of, leg_fragments}
 use Rattle.block_core.proofs.moves.Moves.{piece}
-use Rattle.block_core.proofs.moves.Geometry.{IsThere, IsWhole, is_cut, falls, goes, number_of_tree, members_at, sizes_at}
+use Rattle.run_machine.proofs.TreeNumbers.{number_of_tree}
+use Rattle.block_core.proofs.moves.Geometry.{IsThere, IsWhole, is_cut, falls, goes, members_at, of_each_shape, sizes_at}
 use Rattle.block_core.proofs.moves.LegTrees.{GoesDown, legs_go_down}
 use Rattle.block_core.proofs.sound.Orders.{AskFits}
 
@@ -147,60 +146,45 @@ module _ (stack : Stack) (good : IsStack stack) (places : ℕ → ℕ) (value : 
 
   cut_of : (bio hand : Item Pad) (key : ℕ) → IsThere setup bio.bio → IsCounted bio.bio → CutOf bio hand key (tree stack bio.bio.dev.0)
   unfolding CutOf listed
-  cut_of bio hand key is counted = elim ((slice_get_cases stack.devices.items bio.bio.dev.0).1) [
-    | inl x ↦ by_shape x.0 x.2 (shape_of x.0.kind) refl
-    | inr past ↦ absurd (let h = past.0 in let known = is.device in omega arith)
-  ]
+  cut_of bio hand key is counted = of_each_shape stack good places (CutOf bio hand key) bio.bio.dev.0 is.device (λ sectors. tt) here (λ device found e. tt)
     where
-      by_shape : (device : Device) → slice_get stack.devices.items bio.bio.dev.0 ≡ Some device → (shape : Shape) → shape_of device.kind ≡ shape → CutOf bio hand key (tree stack bio.bio.dev.0)
-      by_shape device found (Keeping_ sectors) e = subst (CutOf bio hand key) (sym (keeps_is stack good bio.bio.dev.0 device found sectors e)) tt
-      by_shape device found Copying_ e = subst (CutOf bio hand key) (sym (copies_is stack good bio.bio.dev.0 device found e)) tt
-      by_shape device found Cuts e = subst (CutOf bio hand key) (sym (cuts_is stack good bio.bio.dev.0 device found e)) (λ many. here many)
-        where
-          here : IsTrue (is_cut (Split bio.bio.dev.0 device.kind (sizes_at stack device) (members_at stack bio.bio.dev.0 device)) bio.bio.range)
-              → worth setup value bio.bio
-              ≡ worth setup value (piece bio hand (first_length device.kind (sizes_at stack device) bio.bio.range) key device.kind (sizes_at stack device) (members_at stack bio.bio.dev.0 device)).bio
-              + worth setup value (split_rest bio (first_length device.kind (sizes_at stack device) bio.bio.range)).bio
-          here many =
-              let range = bio.bio.range in
-              let sizes = sizes_at stack device in
-              let members = members_at stack bio.bio.dev.0 device in
-              let n : ℕ = first_length device.kind sizes range in
-              let to = goes stack good bio.bio.dev.0 device found e range is.some is.within in
-              let run = to.run in
-              let within = run.within in
-              let ne : n ≢ range.len = λ q. search (many, q, arith) in
-              let fewer : n < range.len = omega (arith, ne, within) in
-              let dev : tree_number (members (slot device.kind sizes range.start).member) ≡ to.dev.0 = ap tree_number to.is ∙ number_of_tree stack to.dev.0 in
-              let at : ℕ = (slot device.kind sizes range.start).at in
-              let o : ℕ = offset_of bio.bio in
-              let child = (piece bio hand n key device.kind sizes members).bio in
-              let rest = (split_rest bio n).bio in
-              let place : offset_of rest ≡ o + n = place_on o n (omega (arith, counted, fewer)) in
-              let a = ap (sum_by value) (run.rest bio.bio.write o) in
-              let b = sum_by-append value (frags (tree stack to.dev.0) bio.bio.write o at n) (frags (tree stack bio.bio.dev.0) bio.bio.write (o + n) (range.start + n) (range.len - n)) in
-              let c : listed child ≡ sum_by value (frags (tree stack to.dev.0) bio.bio.write o at n) = ap (λ k. sum_by value (frags (tree stack k) bio.bio.write o at n)) dev in
-              let d : listed rest ≡ sum_by value (frags (tree stack bio.bio.dev.0) bio.bio.write (o + n) (range.start + n) (range.len - n)) =
-              ap (λ k. sum_by value (frags (tree stack bio.bio.dev.0) bio.bio.write k (range.start + n) (range.len - n))) place in
-              omega (arith, worth_is bio.bio, worth_is child, worth_is rest, a, b, c, d)
+      here : (device : Device) → slice_get stack.devices.items bio.bio.dev.0 ≡ Some device → shape_of device.kind ≡ Cuts
+          → IsTrue (is_cut (Split bio.bio.dev.0 device.kind (sizes_at stack device) (members_at stack bio.bio.dev.0 device)) bio.bio.range)
+          → worth setup value bio.bio
+          ≡ worth setup value (piece bio hand (first_length device.kind (sizes_at stack device) bio.bio.range) key device.kind (sizes_at stack device) (members_at stack bio.bio.dev.0 device)).bio
+          + worth setup value (split_rest bio (first_length device.kind (sizes_at stack device) bio.bio.range)).bio
+      here device found e many =
+          let range = bio.bio.range in
+          let sizes = sizes_at stack device in
+          let members = members_at stack bio.bio.dev.0 device in
+          let n : ℕ = first_length device.kind sizes range in
+          let to = goes stack good bio.bio.dev.0 device found e range is.some is.within in
+          let run = to.run in
+          let within = run.within in
+          let ne : n ≢ range.len = λ q. search (many, q, arith) in
+          let fewer : n < range.len = omega (arith, ne, within) in
+          let dev : tree_number (members (slot device.kind sizes range.start).member) ≡ to.dev.0 = ap tree_number to.is ∙ number_of_tree stack to.dev.0 in
+          let at : ℕ = (slot device.kind sizes range.start).at in
+          let o : ℕ = offset_of bio.bio in
+          let child = (piece bio hand n key device.kind sizes members).bio in
+          let rest = (split_rest bio n).bio in
+          let place : offset_of rest ≡ o + n = place_on o n (omega (arith, counted, fewer)) in
+          let a = ap (sum_by value) (run.rest bio.bio.write o) in
+          let b = sum_by-append value (frags (tree stack to.dev.0) bio.bio.write o at n) (frags (tree stack bio.bio.dev.0) bio.bio.write (o + n) (range.start + n) (range.len - n)) in
+          let c : listed child ≡ sum_by value (frags (tree stack to.dev.0) bio.bio.write o at n) = ap (λ k. sum_by value (frags (tree stack k) bio.bio.write o at n)) dev in
+          let d : listed rest ≡ sum_by value (frags (tree stack bio.bio.dev.0) bio.bio.write (o + n) (range.start + n) (range.len - n)) =
+          ap (λ k. sum_by value (frags (tree stack bio.bio.dev.0) bio.bio.write k (range.start + n) (range.len - n))) place in
+          omega (arith, worth_is bio.bio, worth_is child, worth_is rest, a, b, c, d)
 
   DiskOf : Bio → Tree → Type 0
   DiskOf bio t = AskFits t bio.range bio.dev.0 ToPush → sum_by value (leaves (plan t bio.write (offset_of bio) bio.range.start bio.range.len)) ≡ value (fragment_of bio)
 
   disk_of : (bio : Bio) → IsThere setup bio → DiskOf bio (tree stack bio.dev.0)
   unfolding DiskOf plan leaves
-  disk_of bio is = elim ((slice_get_cases stack.devices.items bio.dev.0).1) [
-    | inl x ↦ by_shape x.0 x.2 (shape_of x.0.kind) refl
-    | inr past ↦ absurd (let h = past.0 in let known = is.device in omega arith)
-  ]
+  disk_of bio is = of_each_shape stack good places (DiskOf bio) bio.dev.0 is.device here (λ device found e fits. absurd fits) (λ device found e fits. absurd fits)
     where
-      by_shape : (device : Device) → slice_get stack.devices.items bio.dev.0 ≡ Some device → (shape : Shape) → shape_of device.kind ≡ shape → DiskOf bio (tree stack bio.dev.0)
-      by_shape device found (Keeping_ sectors) e = subst (DiskOf bio) (sym (keeps_is stack good bio.dev.0 device found sectors e)) here
-        where
-          here : DiskOf bio (Leaf bio.dev.0 sectors)
-          here fits = sum_by-cons value (fragment_of bio) [] ∙ omega arith
-      by_shape device found Cuts e = subst (DiskOf bio) (sym (cuts_is stack good bio.dev.0 device found e)) (λ fits. absurd fits)
-      by_shape device found Copying_ e = subst (DiskOf bio) (sym (copies_is stack good bio.dev.0 device found e)) (λ fits. absurd fits)
+      here : (sectors : ℕ) → DiskOf bio (Leaf bio.dev.0 sectors)
+      here sectors fits = sum_by-cons value (fragment_of bio) [] ∙ omega arith
 
   pub divided : Divided setup value
   unfolding CutOf DiskOf

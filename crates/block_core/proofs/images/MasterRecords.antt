@@ -11,7 +11,7 @@ use Rattle.bio_books.specs.Books.{SlipItem}
 use Rattle.run_machine.specs.Scene.{Scene, tree_at}
 use Rattle.run_machine.specs.Lines.{Takes, Punts as WantsPunt, Links, ToPush, ToCut, ToRecord, ToMaster, Doing, Rests, Drives, Copies, Breaks, Line, settled, goes_on, copies, first_length, leg_at, punted}
 use Rattle.run_machine.specs.Runs.{State}
-use Rattle.block_core.specs.Weights.{Weight, total, doing_weight, line_weight}
+use Rattle.block_core.specs.Weights.{Weight, total, doing_weight, line_weight, no_weight}
 use Rattle.block_core.proofs.moves.Moves.{Move, Can, after, lost, gained, limit_of, with_line, HasLine, Wants, with_want, taken_of, filled_of, vector_of, cut_lists, Tells, Hands, piece}
 use Rattle.block_core.proofs.moves.Moves as moves
 use Rattle.block_core.proofs.moves.Deltas.{delta}
@@ -28,16 +28,7 @@ bare_node (role.Master parent) slip = bare_slip slip
 bare_node (role.Leg parent) slip = 0
 
 abbrev pub bare : Weight
-bare = record {
-  todo = λ writer todos taken. 0;
-  bio = λ spot bio. 0;
-  copy = λ bio master leg. 0;
-  hand = λ bio. 0;
-  vector = λ vector. 0;
-  slip = λ slip. 0;
-  node = λ writer place node. bare_node node.role node.held.slip;
-  closed = λ task writer closed. 0;
-}
+bare = record no_weight { node = λ writer place node. bare_node node.role node.held.slip }
 
 pub zeros : (items : List (Item Pad)) → sum_by (λ (item : Item Pad). 0) items ≡ 0
 zeros [] = refl

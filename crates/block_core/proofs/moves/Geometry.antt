@@ -1,5 +1,5 @@
 -- Over a valid stack: where bios land, how they are cut and copied, and what they are worth.
-use Rattle.std.proofs.Common.{◌≡◌, ◌≢◌, ◌+◌, ◌-◌, ◌<◌, ◌≤◌, ◌==◌, not, ℕ, zero, suc, Bool, true, false, IsTrue, List, length, map, Option, None, Some, inl, inr, refl, sym, ◌∙◌, ap, subst, arith, cond, get_or}
+use Rattle.std.proofs.Common.{◌≡◌, ◌≢◌, ◌+◌, ◌-◌, ◌<◌, ◌≤◌, ◌==◌, not, ℕ, zero, suc, Bool, true, false, IsTrue, List, length, map, Some, inl, inr, refl, sym, ◌∙◌, ap, subst, arith, cond, get_or}
 use Rattle.std.specs.Prelude.{slice_get}
 use Rattle.stack_base.specs.declared.ids.DevId.{DevId}
 use Rattle.stack_base.specs.declared.ids.Range.{Range}
@@ -14,7 +14,6 @@ use Rattle.bio_split.specs.Split.{split_rest}
 use Rattle.run_machine.specs.Scene.{Setup, tree_at, tree_number}
 use Rattle.run_machine.specs.Lines.{first_length, mapped, landed, legs_of, leg_at}
 use Rattle.block_core.specs.Weights.{one}
-use Rattle.std.proofs.Math.Numerals.{add-one}
 use Rattle.std.proofs.lemmas.Option.{slice_get-get_or, slice_get_cases}
 use Rattle.std.proofs.lemmas.List.{length-map}
 use Rattle.stack_base.specs.declared.mapping.Piece.{Piece}
@@ -22,7 +21,7 @@ use Rattle.stack_base.specs.declared.stack.Device.{Device}
 use Rattle.stack_base.specs.declared.stack.Kind.TheVariants as kind
 use Rattle.stack_base.specs.declared.stack.Stack.{Stack}
 use Rattle.stack_base.specs.Stack.{IsStack, HasShape}
-use Rattle.stack_base.specs.Tree.{Shape, Keeps as Keeping_, Cuts, Copies as Copying_, shape_of, over_shape, built, tree_below, member_at, tree}
+use Rattle.stack_base.specs.Tree.{Shape, Keeps as Keeping_, Cuts, Copies as Copying_, shape_of, member_at, tree}
 use Rattle.stack_base.proofs.KindCuts.{kind_cuts}
 use Rattle.stack_base.proofs.Pieces.{is_piece}
 use Rattle.layout_model.specs.Pieces.{IsFirstRun}
@@ -32,6 +31,7 @@ use Rattle.layout_model.proofs.ByShape.{cuts_is, copies_is, keeps_is, member_is}
 use Rattle.layout_model.proofs.FirstRuns.{member_there, first_run_is}
 use Rattle.layout_model.proofs.MirrorLemmas.{leg_size}
 use Rattle.run_machine.specs.Scene.{setup_of}
+use Rattle.run_machine.proofs.TreeNumbers.{number_of_tree}
 use Rattle.block_core.proofs.moves.Moves.{piece}
 
 -- whether a device cuts a run
@@ -62,23 +62,6 @@ pub record Lands (setup : Setup) (bio to : Bio) : Type 0 where
   pub there : IsThere setup to
   pub low : to.dev.0 ≤ bio.dev.0
   pub settles : Settles (tree_at setup to.dev) to.range
-
-number_of_shape : (shape : Shape) (number : ℕ) (kind : Kind) (members : List Tree) → tree_number (over_shape shape number kind members) ≡ number
-unfolding over_shape
-number_of_shape (Keeping_ sectors) number kind members = refl
-number_of_shape Cuts number kind members = refl
-number_of_shape Copying_ number kind members = refl
-
-number_of_built : (number : ℕ) (device : Option Device) (below : ℕ → Tree) → tree_number (built number device below) ≡ number
-number_of_built number None below = refl
-number_of_built number (Some device) below = number_of_shape (shape_of device.kind) number device.kind _
-
--- the tree of a device has its number
-pub number_of_tree : (stack : Stack) (number : ℕ) → tree_number (tree stack number) ≡ number
-unfolding tree_below
-number_of_tree stack number =
-    ap (λ bound. tree_number (tree_below bound stack number)) (add-one number)
-    ∙ number_of_built number (slice_get stack.devices.items number) (tree_below number stack)
 
 abbrev pub sizes_at : Stack → Device → List ℕ
 sizes_at stack device = map (λ (m : DevId). size (tree stack m.0)) device.members.items
@@ -126,6 +109,20 @@ module _ (stack : Stack) (good : IsStack stack) (places : ℕ → ℕ) where
     | inl x ↦ (x.0, x.2)
     | inr past ↦ absurd (let h = past.0 in omega arith)
   ]
+
+  -- what holds of a tree of each shape holds of the tree of a device
+  pub of_each_shape : (P : Tree → Type 0) (number : ℕ) → number < length stack.devices.items → ((sectors : ℕ) → P (Leaf number sectors))
+      → ((device : Device) → slice_get stack.devices.items number ≡ Some device → shape_of device.kind ≡ Cuts
+      → P (Split number device.kind (sizes_at stack device) (members_at stack number device)))
+      → ((device : Device) → slice_get stack.devices.items number ≡ Some device → shape_of device.kind ≡ Copying_
+      → P (Mirrored number (sizes_at stack device) (members_at stack number device)))
+      → P (tree stack number)
+  of_each_shape P number there leaf split mirror = let d = at_device number there in by_shape d.0 d.1 (shape_of d.0.kind) refl
+    where
+      by_shape : (device : Device) → slice_get stack.devices.items number ≡ Some device → (shape : Shape) → shape_of device.kind ≡ shape → P (tree stack number)
+      by_shape device found (Keeping_ sectors) e = subst P (sym (keeps_is stack good number device found sectors e)) (leaf sectors)
+      by_shape device found Cuts e = subst P (sym (cuts_is stack good number device found e)) (split device found e)
+      by_shape device found Copying_ e = subst P (sym (copies_is stack good number device found e)) (mirror device found e)
 
   -- what a bio becomes in the member that it goes to as a whole
   abbrev next_bio : Bio → DevId → ℕ → Bio
@@ -250,40 +247,36 @@ module _ (stack : Stack) (good : IsStack stack) (places : ℕ → ℕ) where
   CutOf bio hand key (Mirrored number sizes members) = Unit {0}
 
   cut_of : (bio hand : Item Pad) (key : ℕ) → IsThere setup bio.bio → CutOf bio hand key (tree stack bio.bio.dev.0)
-  cut_of bio hand key there = let d = at_device bio.bio.dev.0 there.device in by_shape d.0 d.1 (shape_of d.0.kind) refl
+  cut_of bio hand key there = of_each_shape (CutOf bio hand key) bio.bio.dev.0 there.device (λ sectors. tt) here (λ device found e. tt)
     where
-      by_shape : (device : Device) → slice_get stack.devices.items bio.bio.dev.0 ≡ Some device → (shape : Shape) → shape_of device.kind ≡ shape → CutOf bio hand key (tree stack bio.bio.dev.0)
-      by_shape device found (Keeping_ sectors) e = subst (CutOf bio hand key) (sym (keeps_is stack good bio.bio.dev.0 device found sectors e)) tt
-      by_shape device found Copying_ e = subst (CutOf bio hand key) (sym (copies_is stack good bio.bio.dev.0 device found e)) tt
-      by_shape device found Cuts e = subst (CutOf bio hand key) (sym (cuts_is stack good bio.bio.dev.0 device found e)) (λ is. here is)
-        where
-          here : IsTrue (is_cut (Split bio.bio.dev.0 device.kind (sizes_at stack device) (members_at stack bio.bio.dev.0 device)) bio.bio.range)
-              → IsCut bio hand key device.kind (sizes_at stack device) (members_at stack bio.bio.dev.0 device)
-          here is =
-              let range = bio.bio.range in
-              let first = first_piece stack device range in
-              let to = goes stack good bio.bio.dev.0 device found e range there.some there.within in
-              let run = to.run in
-              let ne : first.len ≢ range.len = λ q. search (is, q, arith) in
-              let some = run.some in
-              let less = run.within in
-              let below = run.below in
-              let inside = run.inside in
-              let within = there.within in
-              let fewer : first.len < range.len = omega (arith, ne) in
-              let child = (piece bio hand first.len key device.kind (sizes_at stack device) (members_at stack bio.bio.dev.0 device)).bio in
-              let dev : child.dev.0 ≡ to.dev.0 = ap tree_number to.is ∙ number_of_tree stack to.dev.0 in
-              let wide : size (tree stack child.dev.0) ≡ size (tree stack to.dev.0) = ap (λ n. size (tree stack n)) dev in
-              let known = run.known in
-              let same : needs child ≡ needed (tree stack to.dev.0) first.at first.len = ap (λ n. needed (tree stack n) first.at first.len) dev in
-              let same_parts : parts child ≡ fragments_of (tree stack to.dev.0) first.at first.len = ap (λ n. fragments_of (tree stack n) first.at first.len) dev in
-              record {
-                piece_there = record { device = omega arith; some = run.some; within = omega arith };
-                low = omega arith;
-                rest_there = record { device = there.device; some = omega arith; within = omega arith };
-                needs_part = run.more fewer ∙ ap (λ n. n + (1 + needs (split_rest bio first.len).bio)) (sym same);
-                parts_part = run.counts ∙ ap (λ n. n + parts (split_rest bio first.len).bio) (sym same_parts);
-              }
+      here : (device : Device) → slice_get stack.devices.items bio.bio.dev.0 ≡ Some device → shape_of device.kind ≡ Cuts
+          → IsTrue (is_cut (Split bio.bio.dev.0 device.kind (sizes_at stack device) (members_at stack bio.bio.dev.0 device)) bio.bio.range)
+          → IsCut bio hand key device.kind (sizes_at stack device) (members_at stack bio.bio.dev.0 device)
+      here device found e is =
+          let range = bio.bio.range in
+          let first = first_piece stack device range in
+          let to = goes stack good bio.bio.dev.0 device found e range there.some there.within in
+          let run = to.run in
+          let ne : first.len ≢ range.len = λ q. search (is, q, arith) in
+          let some = run.some in
+          let less = run.within in
+          let below = run.below in
+          let inside = run.inside in
+          let within = there.within in
+          let fewer : first.len < range.len = omega (arith, ne) in
+          let child = (piece bio hand first.len key device.kind (sizes_at stack device) (members_at stack bio.bio.dev.0 device)).bio in
+          let dev : child.dev.0 ≡ to.dev.0 = ap tree_number to.is ∙ number_of_tree stack to.dev.0 in
+          let wide : size (tree stack child.dev.0) ≡ size (tree stack to.dev.0) = ap (λ n. size (tree stack n)) dev in
+          let known = run.known in
+          let same : needs child ≡ needed (tree stack to.dev.0) first.at first.len = ap (λ n. needed (tree stack n) first.at first.len) dev in
+          let same_parts : parts child ≡ fragments_of (tree stack to.dev.0) first.at first.len = ap (λ n. fragments_of (tree stack n) first.at first.len) dev in
+          record {
+            piece_there = record { device = omega arith; some = run.some; within = omega arith };
+            low = omega arith;
+            rest_there = record { device = there.device; some = omega arith; within = omega arith };
+            needs_part = run.more fewer ∙ ap (λ n. n + (1 + needs (split_rest bio first.len).bio)) (sym same);
+            parts_part = run.counts ∙ ap (λ n. n + parts (split_rest bio first.len).bio) (sym same_parts);
+          }
 
   pub cuts : (bio hand : Item Pad) (key number : ℕ) (kind : Kind) (sizes : List ℕ) (members : ℕ → Tree) → IsThere setup bio.bio
       → tree_at setup bio.bio.dev ≡ Split number kind sizes members → IsTrue (is_cut (Split number kind sizes members) bio.bio.range) → IsCut bio hand key kind sizes members
@@ -303,30 +296,24 @@ module _ (stack : Stack) (good : IsStack stack) (places : ℕ → ℕ) where
 
   leg_of : (bio : Bio) (hand : Item Pad) (leg key : ℕ) → IsThere setup bio → LegOf bio hand leg key (tree stack bio.dev.0)
   unfolding LegOf
-  leg_of bio hand leg key there = let d = at_device bio.dev.0 there.device in by_shape d.0 d.1 (shape_of d.0.kind) refl
+  leg_of bio hand leg key there =
+      of_each_shape (LegOf bio hand leg key) bio.dev.0 there.device (λ sectors lt. absurd (omega (arith, lt))) (λ device found e lt. absurd (omega (arith, lt))) here
     where
-      none : (t other : Tree) → t ≡ other → legs_of other ≡ 0 → LegOf bio hand leg key t
-      none t other is zero_legs lt = absurd (let q : legs_of t ≡ 0 = ap legs_of is ∙ zero_legs in omega (arith, lt, q))
-
-      by_shape : (device : Device) → slice_get stack.devices.items bio.dev.0 ≡ Some device → (shape : Shape) → shape_of device.kind ≡ shape → LegOf bio hand leg key (tree stack bio.dev.0)
-      by_shape device found (Keeping_ sectors) e = none (tree stack bio.dev.0) _ (keeps_is stack good bio.dev.0 device found sectors e) refl
-      by_shape device found Cuts e = none (tree stack bio.dev.0) _ (cuts_is stack good bio.dev.0 device found e) refl
-      by_shape device found Copying_ e = subst (LegOf bio hand leg key) (sym (copies_is stack good bio.dev.0 device found e)) here
-        where
-          here : LegOf bio hand leg key (Mirrored bio.dev.0 (sizes_at stack device) (members_at stack bio.dev.0 device))
-          here lt =
-              let items = device.members.items in
-              let few : leg < length items = omega (arith, lt, length-map items (λ (m : DevId). size (tree stack m.0))) in
-              let m : DevId = get_or items leg (record { 0 = 0 }) in
-              let at : slice_get items leg ≡ Some m = slice_get-get_or items leg (record { 0 = 0 }) few in
-              let member : members_at stack bio.dev.0 device leg ≡ tree stack m.0 = member_is stack good bio.dev.0 device found leg m at in
-              let dev : tree_number (members_at stack bio.dev.0 device leg) ≡ m.0 = ap tree_number member ∙ number_of_tree stack m.0 in
-              let below : m.0 < bio.dev.0 = (good.each bio.dev.0 device found).below leg m at in
-              let wide = leg_size stack good bio.dev.0 device found e leg m at in
-              let same_size : size (tree stack (tree_number (members_at stack bio.dev.0 device leg))) ≡ size (tree stack m.0) = ap (λ n. size (tree stack n)) dev in
-              let within = there.within in
-              let known = there.device in
-              (record { device = omega (arith, dev, below, known); some = there.some; within = omega (arith, wide, same_size, within) }, omega (arith, dev, below), refl, refl)
+      here : (device : Device) → slice_get stack.devices.items bio.dev.0 ≡ Some device → shape_of device.kind ≡ Copying_
+          → LegOf bio hand leg key (Mirrored bio.dev.0 (sizes_at stack device) (members_at stack bio.dev.0 device))
+      here device found e lt =
+          let items = device.members.items in
+          let few : leg < length items = omega (arith, lt, length-map items (λ (m : DevId). size (tree stack m.0))) in
+          let m : DevId = get_or items leg (record { 0 = 0 }) in
+          let at : slice_get items leg ≡ Some m = slice_get-get_or items leg (record { 0 = 0 }) few in
+          let member : members_at stack bio.dev.0 device leg ≡ tree stack m.0 = member_is stack good bio.dev.0 device found leg m at in
+          let dev : tree_number (members_at stack bio.dev.0 device leg) ≡ m.0 = ap tree_number member ∙ number_of_tree stack m.0 in
+          let below : m.0 < bio.dev.0 = (good.each bio.dev.0 device found).below leg m at in
+          let wide = leg_size stack good bio.dev.0 device found e leg m at in
+          let same_size : size (tree stack (tree_number (members_at stack bio.dev.0 device leg))) ≡ size (tree stack m.0) = ap (λ n. size (tree stack n)) dev in
+          let within = there.within in
+          let known = there.device in
+          (record { device = omega (arith, dev, below, known); some = there.some; within = omega (arith, wide, same_size, within) }, omega (arith, dev, below), refl, refl)
 
   pub legs : (bio : Bio) (hand : Item Pad) (leg key : ℕ) → IsThere setup bio → leg < legs_of (tree_at setup bio.dev) → IsLegged bio hand leg key
   unfolding LegOf

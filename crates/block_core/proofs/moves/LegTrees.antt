@@ -1,16 +1,17 @@
 -- Each leg of a mirror in a stack goes to a device of the stack.
-use Rattle.std.proofs.Common.{◌≡◌, ◌<◌, ℕ, length, Some, inl, inr, refl, sym, ◌∙◌, ap, subst, arith, get_or}
+use Rattle.std.proofs.Common.{◌≡◌, ◌<◌, ℕ, length, Some, sym, ◌∙◌, ap, arith, get_or}
 use Rattle.std.specs.Prelude.{slice_get}
 use Rattle.std.proofs.lemmas.List.{length-map}
-use Rattle.std.proofs.lemmas.Option.{slice_get-get_or, slice_get_cases}
+use Rattle.std.proofs.lemmas.Option.{slice_get-get_or}
 use Rattle.stack_base.specs.declared.ids.DevId.{DevId}
 use Rattle.stack_base.specs.declared.stack.Device.{Device}
 use Rattle.stack_base.specs.declared.stack.Stack.{Stack}
 use Rattle.stack_base.specs.Stack.{IsStack}
-use Rattle.stack_base.specs.Tree.{Tree, Leaf, Split, Mirrored, Shape, Keeps as Keeping_, Cuts, Copies as Copying_, shape_of, size, tree}
-use Rattle.layout_model.proofs.ByShape.{cuts_is, copies_is, keeps_is, member_is}
+use Rattle.stack_base.specs.Tree.{Tree, Leaf, Split, Mirrored, Copies as Copying_, shape_of, size, tree}
+use Rattle.layout_model.proofs.ByShape.{member_is}
 use Rattle.run_machine.specs.Scene.{tree_number}
-use Rattle.block_core.proofs.moves.Geometry.{number_of_tree, members_at, sizes_at}
+use Rattle.run_machine.proofs.TreeNumbers.{number_of_tree}
+use Rattle.block_core.proofs.moves.Geometry.{members_at, of_each_shape, sizes_at}
 
 -- where a mirror has such a leg, what is below it there is the tree of the member's number
 abbrev pub GoesDown : Stack → Tree → ℕ → Type 0
@@ -19,21 +20,17 @@ GoesDown stack (Leaf number sectors) leg = Unit {0}
 GoesDown stack (Split number kind sizes members) leg = Unit {0}
 
 pub legs_go_down : (stack : Stack) → IsStack stack → (dev leg : ℕ) → dev < length stack.devices.items → GoesDown stack (tree stack dev) leg
-legs_go_down stack good dev leg known = elim ((slice_get_cases stack.devices.items dev).1) [
-  | inl x ↦ by_shape x.0 x.2 (shape_of x.0.kind) refl
-  | inr past ↦ absurd (let h = past.0 in omega arith)
-]
+legs_go_down stack good dev leg known = of_each_shape stack good no_places (λ t. GoesDown stack t leg) dev known (λ sectors. tt) (λ device found e. tt) here
   where
-    by_shape : (device : Device) → slice_get stack.devices.items dev ≡ Some device → (shape : Shape) → shape_of device.kind ≡ shape → GoesDown stack (tree stack dev) leg
-    by_shape device found (Keeping_ sectors) e = subst (λ t. GoesDown stack t leg) (sym (keeps_is stack good dev device found sectors e)) tt
-    by_shape device found Cuts e = subst (λ t. GoesDown stack t leg) (sym (cuts_is stack good dev device found e)) tt
-    by_shape device found Copying_ e = subst (λ t. GoesDown stack t leg) (sym (copies_is stack good dev device found e)) here
-      where
-        here : leg < length (sizes_at stack device) → tree stack (tree_number (members_at stack dev device leg)) ≡ members_at stack dev device leg
-        here lt =
-            let items = device.members.items in
-            let few : leg < length items = omega (arith, lt, length-map items (λ (m : DevId). size (tree stack m.0))) in
-            let m : DevId = get_or items leg (record { 0 = 0 }) in
-            let at : slice_get items leg ≡ Some m = slice_get-get_or items leg (record { 0 = 0 }) few in
-            let member : members_at stack dev device leg ≡ tree stack m.0 = member_is stack good dev device found leg m at in
-            ap (tree stack) (ap tree_number member ∙ number_of_tree stack m.0) ∙ sym member
+    no_places : ℕ → ℕ
+    no_places writer = 0
+
+    here : (device : Device) → slice_get stack.devices.items dev ≡ Some device → shape_of device.kind ≡ Copying_
+        → leg < length (sizes_at stack device) → tree stack (tree_number (members_at stack dev device leg)) ≡ members_at stack dev device leg
+    here device found e lt =
+        let items = device.members.items in
+        let few : leg < length items = omega (arith, lt, length-map items (λ (m : DevId). size (tree stack m.0))) in
+        let m : DevId = get_or items leg (record { 0 = 0 }) in
+        let at : slice_get items leg ≡ Some m = slice_get-get_or items leg (record { 0 = 0 }) few in
+        let member : members_at stack dev device leg ≡ tree stack m.0 = member_is stack good dev device found leg m at in
+        ap (tree stack) (ap tree_number member ∙ number_of_tree stack m.0) ∙ sym member

@@ -15,7 +15,7 @@ use Rattle.run_machine.specs.Scene.{Scene, tree_at}
 use Rattle.run_machine.specs.Lines.{Links, ToCut, Drives, Copies, first_length, mapped, legs_of, leg_at}
 use Rattle.run_machine.specs.Tasks.{TaskState, Todo, first_bio}
 use Rattle.run_machine.specs.Runs.{State}
-use Rattle.block_core.specs.Weights.{Weight, total}
+use Rattle.block_core.specs.Weights.{Weight, total, no_weight}
 use Rattle.block_core.proofs.moves.Moves.{Move, Can, after, lost, gained, limit_of, with_line, HasLine, Wants, with_want, taken_of, filled_of, vector_of, cut_lists, Tells, Hands, piece}
 use Rattle.block_core.proofs.moves.Moves as moves
 use Rattle.block_core.proofs.moves.Listed.{landed_same, IsBlind, first_weight, goes_weight}
@@ -33,15 +33,10 @@ pub record Follows (bad : Bio → ℕ) : Type 0 where
   pub begins : (writer : ℕ) (todo : Todo) (node : ℕ) → bad (first_bio writer todo node) ≡ bad (first_bio writer todo 0)
 
 abbrev pub misfits : (Bio → ℕ) → Weight
-misfits bad = record {
+misfits bad = record no_weight {
   todo = λ writer todos taken. sum_by (λ todo. bad (first_bio writer todo 0)) todos;
   bio = λ spot item. bad item.bio;
   copy = λ bio master leg. bad bio;
-  hand = λ bio. 0;
-  vector = λ vector. 0;
-  slip = λ slip. 0;
-  node = λ writer place node. 0;
-  closed = λ task writer closed. 0;
 }
 
 module _ (bad : Bio → ℕ) (f : Follows bad) where

@@ -14,7 +14,7 @@ use Rattle.run_machine.specs.Scene.{Setup, Scene, tree_at}
 use Rattle.run_machine.specs.Lines.{Want, Takes, Punts, Links, Ask, ToPush, ToCut, ToRecord, ToMaster, Doing, Rests, Drives, Copies, Breaks, Line}
 use Rattle.run_machine.specs.Tasks.{TaskState, Writer, Rescuer, Completer, Keeper, Todo, Gathered, NoBio, HasBio, HasBoth, Carried, Empty, Brings, Carries, Fails}
 use Rattle.run_machine.specs.Runs.{State}
-use Rattle.block_core.specs.Weights.{Weight, Spot, Lined, Rescued, Pending, Brought, total, sum_at, one, weigh_option, want_weight, ask_weight, doing_weight, line_weight, taken_weight, carried_weight, task_weight, book_weight, refs, under, legs_left}
+use Rattle.block_core.specs.Weights.{Weight, Spot, Lined, Rescued, Pending, Brought, total, sum_at, one, weigh_option, want_weight, ask_weight, doing_weight, line_weight, taken_weight, carried_weight, task_weight, book_weight, refs, under, legs_left, no_weight}
 use Rattle.block_core.specs.Rooms.{legs_need, room}
 use Rattle.block_core.proofs.moves.Moves.{HasLine, limit_of}
 use Rattle.block_core.proofs.moves.Sums.{same_or_not, one-same, one-other}
@@ -139,16 +139,7 @@ module _ (u v x y : Weight) (le : IsWithin u v x y) where
 
 -- closed nodes that completers carry
 abbrev pub carrying : Weight
-carrying = record {
-  todo = λ writer todos taken. 0;
-  bio = λ spot item. 0;
-  copy = λ bio master leg. 0;
-  hand = λ bio. 0;
-  vector = λ vector. 0;
-  slip = λ slip. 0;
-  node = λ writer place node. 0;
-  closed = λ task writer closed. 1;
-}
+carrying = record no_weight { closed = λ task writer closed. 1 }
 
 nothing_in : {X : Type 0} (xs : List X) → sum_by (λ x. 0) xs ≡ 0
 nothing_in [] = refl

@@ -20,7 +20,7 @@ use Rattle.run_machine.specs.Scene.{Scene}
 use Rattle.run_machine.specs.Tasks.{Todo, request, Keeps, Starts}
 use Rattle.run_machine.specs.Opened.{Scenario, scene, start, setup as setup_in, todos}
 use Rattle.run_machine.specs.Runs.{State, Steps, Happens, IsRun}
-use Rattle.block_core.specs.Weights.{total, one}
+use Rattle.block_core.specs.Weights.{total, one, no_weight}
 use Rattle.block_core.specs.Scenarios.{IsScenario, IsNaming}
 use Rattle.block_core.specs.Dones.{done_in, times_done}
 use Rattle.block_core.specs.Rounds.{round_of, is_of_round, tops, tops_left, all_worth, unfinished_of}
@@ -47,13 +47,8 @@ begins_worth w [] = refl
 begins_worth w (todo ∷ ts) = ap (λ n. one todo.number w + n) (begins_worth w ts)
 
 pub stage_is : (w : ℕ) → stage w ≡ unfinished_write w
-stage_is w = λ i. record {
+stage_is w = λ i. record no_weight {
   todo = λ writer todos taken. begins_worth w todos i;
-  bio = λ spot bio. 0;
-  copy = λ bio master leg. 0;
-  hand = λ bio. 0;
-  vector = λ vector. 0;
-  slip = λ slip. 0;
   node = λ writer place node. tops node.role * one node.write w;
   closed = λ task writer closed. tops_left closed.parent * one closed.write w;
 }

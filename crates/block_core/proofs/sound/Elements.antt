@@ -16,7 +16,7 @@ use Rattle.run_machine.specs.Scene.{Setup, Scene, tree_at}
 use Rattle.run_machine.specs.Lines.{Want, Takes, Punts, Links, ToPush, ToCut, ToRecord, ToMaster, Doing, Rests, Drives, Copies, Breaks, Line, rests, copies, first_length, landed, legs_of, leg_at}
 use Rattle.run_machine.specs.Tasks.{TaskState, Writer, Rescuer, Completer, Keeper, Todo, Gathered, NoBio, HasBio, HasBoth, Carried, Empty, Brings, Carries, Fails}
 use Rattle.run_machine.specs.Runs.{State}
-use Rattle.block_core.specs.Weights.{Weight, Spot, Lined, Rescued, Pending, total, sum_at, weigh_option, want_weight, doing_weight, line_weight, taken_weight, carried_weight, task_weight, book_weight, elements_of_pool, holding_elements, one}
+use Rattle.block_core.specs.Weights.{Weight, Spot, Lined, Rescued, Pending, total, sum_at, weigh_option, want_weight, doing_weight, line_weight, taken_weight, carried_weight, task_weight, book_weight, elements_of_pool, holding_elements, one, no_weight}
 use Rattle.block_core.specs.Charges.{there}
 use Rattle.block_core.specs.Rooms.{to_open, todo_need, legs_need}
 use Rattle.block_core.proofs.moves.Moves.{Move, Can, after, lost, gained, limit_of, HasLine, Tells, taken_of, filled_of, cut_lists, piece}
@@ -51,13 +51,10 @@ held_count held = there held.bio + there held.vector + there held.slip
 
 -- the elements that are out, and those that are still to be taken for what is begun or to begin; what a task has in hand is one of these
 abbrev pub worth : Setup → Weight
-worth setup = record {
+worth setup = record no_weight {
   todo = λ writer todos taken. writes_need setup todos taken;
   bio = λ spot item. 1 + to_open setup spot item.bio;
   copy = λ bio master leg. legs_need setup bio leg;
-  hand = λ bio. 0;
-  vector = λ vector. 0;
-  slip = λ slip. 0;
   node = λ writer place node. held_count node.held;
   closed = λ task writer closed. held_count closed.held;
 }

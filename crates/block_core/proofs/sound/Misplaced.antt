@@ -15,7 +15,7 @@ use Rattle.run_machine.specs.Scene.{Scene, tree_at}
 use Rattle.run_machine.specs.Lines.{Links, ToCut, ToMaster, Drives, Copies, first_length, legs_of, leg_at}
 use Rattle.run_machine.specs.Tasks.{Todo}
 use Rattle.run_machine.specs.Runs.{State}
-use Rattle.block_core.specs.Weights.{Weight, total, task_weight, carried_weight, under}
+use Rattle.block_core.specs.Weights.{Weight, total, task_weight, carried_weight, under, no_weight}
 use Rattle.block_core.specs.Touches.{is_master}
 use Rattle.block_core.proofs.status.Marks.{yes, mismatch}
 use Rattle.block_core.proofs.moves.Moves.{Move, Can, after, lost, gained, limit_of, HasLine, taken_of, filled_of, vector_of, cut_lists, Tells, piece}
@@ -43,13 +43,9 @@ wrong_above mark true None = 0
 wrong_above mark true (Some parent) = yes (mark parent)
 
 abbrev pub misplaced : (ℕ → ℕ → Bool) → (ℕ → Bool) → Weight
-misplaced mark was_master = record {
-  todo = λ writer todos taken. 0;
+misplaced mark was_master = record no_weight {
   bio = λ spot item. yes (mark item.bio.writer item.bio.node);
   copy = λ bio master leg. yes (not (mark bio.writer master));
-  hand = λ bio. 0;
-  vector = λ vector. 0;
-  slip = λ slip. 0;
   node = λ writer place node. mismatch node.role (mark writer place) + wrong_parent (mark writer) node.role;
   closed = λ task writer closed. wrong_above (mark writer) (was_master task) closed.parent;
 }

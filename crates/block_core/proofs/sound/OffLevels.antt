@@ -6,7 +6,7 @@ use Rattle.bio_books.specs.Books.{VectorItem, SlipItem, Holding, parent_of}
 use Rattle.bio_books.specs.Drops.{Closed}
 use Rattle.run_machine.specs.Scene.{Scene}
 use Rattle.run_machine.specs.Runs.{State}
-use Rattle.block_core.specs.Weights.{Weight, apart, total, weigh_option}
+use Rattle.block_core.specs.Weights.{Weight, apart, total, weigh_option, no_weight}
 
 -- a bio that names a node is of the pool of the node's level; the two pools of writes are one level, 64
 abbrev pub bio_off : (ℕ → ℕ → ℕ) → Item Pad → ℕ
@@ -43,13 +43,9 @@ closed_off level closed = held_off (held_level closed.held) closed.held + below_
 
 -- how far all is off these levels; a master is on the level of its mirror's records
 abbrev pub off_levels : (ℕ → ℕ → ℕ) → Weight
-off_levels level = record {
-  todo = λ writer todos taken. 0;
+off_levels level = record no_weight {
   bio = λ spot. bio_off level;
   copy = λ bio master leg. apart (level bio.writer master) (2 * bio.dev.0 + 1);
-  hand = λ bio. 0;
-  vector = λ vector. 0;
-  slip = λ slip. 0;
   node = λ writer place node. parent_off level writer place (parent_of node.role) + held_off (level writer place) node.held;
   closed = λ task writer closed. closed_off (level writer) closed;
 }

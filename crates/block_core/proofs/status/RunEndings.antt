@@ -1,11 +1,8 @@
 -- How the runs of bios may end, as they land, are cut and are copied.
-use Rattle.std.proofs.Common.{◌≡◌, ◌≢◌, ◌+◌, ◌-◌, ◌<◌, ◌≤◌, ◌&&◌, ◌||◌, ◌⊎◌, not, ℕ, zero, suc, Bool, true, false, IsTrue, List, [], ◌∷◌, length, Some, inl, inr, refl, sym, ◌∙◌, ap, subst, arith, get_or}
+use Rattle.std.proofs.Common.{◌≡◌, ◌≢◌, ◌+◌, ◌-◌, ◌<◌, ◌≤◌, ◌&&◌, ◌||◌, ◌⊎◌, not, ℕ, zero, suc, Bool, true, false, IsTrue, List, [], ◌∷◌, length, Some, inl, inr, refl, sym, ◌∙◌, ap, subst, arith}
 use Rattle.std.specs.Prelude.{slice_get, sum_by}
 use Rattle.std.specs.List.{range_with_len}
-use Rattle.std.proofs.lemmas.List.{length-map}
 use Rattle.std.proofs.lemmas.List.Sums.{sum_by-cons}
-use Rattle.std.proofs.lemmas.Option.{slice_get-get_or}
-use Rattle.stack_base.specs.declared.ids.DevId.{DevId}
 use Rattle.stack_base.specs.declared.ids.Range.{Range}
 use Rattle.stack_base.specs.declared.ids.Status.{Status}
 use Rattle.stack_base.specs.declared.ids.Status.TheVariants as status
@@ -16,13 +13,13 @@ use Rattle.stack_base.specs.Stack.{IsStack, HasShape}
 use Rattle.stack_base.specs.Fault.{status_eq}
 use Rattle.stack_base.specs.Cutting.{next, IsCut}
 use Rattle.stack_base.specs.Mapping.{slot, head}
-use Rattle.stack_base.specs.Tree.{Tree, Leaf, Split, Mirrored, Shape, Keeps as Keeping_, Cuts, Copies as Copying_, shape_of, size, tree}
+use Rattle.stack_base.specs.Tree.{Tree, Leaf, Split, Mirrored, Cuts, shape_of, tree}
 use Rattle.stack_base.proofs.KindCuts.{kind_cuts}
 use Rattle.layout_model.specs.declared.fragment.Fragment.{Fragment}
 use Rattle.layout_model.specs.May.{may_end, each_may_end, some_may_end}
 use Rattle.layout_model.specs.Plan.{Plan, Plans, Whole, Pieces, Legs, none, also, each, plan}
 use Rattle.layout_model.proofs.Over.{can_cut}
-use Rattle.layout_model.proofs.ByShape.{cuts_is, copies_is, keeps_is, member_is}
+use Rattle.layout_model.proofs.ByShape.{cuts_is}
 use Rattle.layout_model.proofs.Planned.{piece_plans, pieces_are, piece_plans_first, piece_plans_one, legs_are, whole_is}
 use Rattle.layout_model.proofs.MayLemmas.{ok_is_alone}
 use Rattle.bio_records.specs.declared.bio.Bio.{Bio}
@@ -35,7 +32,9 @@ use Rattle.run_machine.specs.Lines.{ToPush, ToMaster, first_length, landed, legs
 use Rattle.block_core.specs.Fragments.{offset_of, fragment_of}
 use Rattle.block_core.proofs.status.Marks.{yes, may, bio_may, leg_may}
 use Rattle.block_core.proofs.moves.Moves.{piece}
-use Rattle.block_core.proofs.moves.Geometry.{IsThere, IsWhole, is_cut, falls, goes, at_device, number_of_tree, members_at, sizes_at}
+use Rattle.run_machine.proofs.TreeNumbers.{number_of_tree}
+use Rattle.block_core.proofs.moves.Geometry.{IsThere, IsWhole, is_cut, falls, goes, members_at, of_each_shape, sizes_at}
+use Rattle.block_core.proofs.moves.LegTrees.{GoesDown, legs_go_down}
 use Rattle.block_core.proofs.sound.Orders.{AskFits}
 use Rattle.block_core.proofs.images.FragmentCounts.{IsCounted, place_on}
 
@@ -216,97 +215,71 @@ module _ (stack : Stack) (good : IsStack stack) (places : ℕ → ℕ) (ends : F
 
   cut_of : (bio hand : Item Pad) (key : ℕ) → IsThere setup bio.bio → IsCounted bio.bio → CutOf bio hand key (tree stack bio.bio.dev.0)
   unfolding CutOf
-  cut_of bio hand key is counted = let d = at_device stack good places bio.bio.dev.0 is.device in by_shape d.0 d.1 (shape_of d.0.kind) refl
+  cut_of bio hand key is counted = of_each_shape stack good places (CutOf bio hand key) bio.bio.dev.0 is.device (λ sectors. tt) here (λ device found e. tt)
     where
-      by_shape : (device : Device) → slice_get stack.devices.items bio.bio.dev.0 ≡ Some device → (shape : Shape) → shape_of device.kind ≡ shape → CutOf bio hand key (tree stack bio.bio.dev.0)
-      by_shape device found (Keeping_ sectors) e = subst (CutOf bio hand key) (sym (keeps_is stack good bio.bio.dev.0 device found sectors e)) tt
-      by_shape device found Copying_ e = subst (CutOf bio hand key) (sym (copies_is stack good bio.bio.dev.0 device found e)) tt
-      by_shape device found Cuts e = subst (CutOf bio hand key) (sym (cuts_is stack good bio.bio.dev.0 device found e)) (λ many. here many)
-        where
-          here : IsTrue (is_cut (Split bio.bio.dev.0 device.kind (sizes_at stack device) (members_at stack bio.bio.dev.0 device)) bio.bio.range)
-              → IsOfParts (bio_may setup ends bio.bio)
-              (bio_may setup ends (piece bio hand (first_length device.kind (sizes_at stack device) bio.bio.range) key device.kind (sizes_at stack device) (members_at stack bio.bio.dev.0 device)).bio)
-              (bio_may setup ends (split_rest bio (first_length device.kind (sizes_at stack device) bio.bio.range)).bio)
-          here many =
-              let range = bio.bio.range in
-              let number : ℕ = bio.bio.dev.0 in
-              let sizes = sizes_at stack device in
-              let members = members_at stack bio.bio.dev.0 device in
-              let n : ℕ = first_length device.kind sizes range in
-              let to = goes stack good number device found e range is.some is.within in
-              let run = to.run in
-              let within = run.within in
-              let some = is.some in
-              let ne : n ≢ range.len = λ q. search (many, q, arith) in
-              let fewer : n < range.len = omega (arith, ne, within) in
-              let m : Tree = members (slot device.kind sizes range.start).member in
-              let at : ℕ = (slot device.kind sizes range.start).at in
-              let dev : tree_number m ≡ to.dev.0 = ap tree_number to.is ∙ number_of_tree stack to.dev.0 in
-              let o : ℕ = offset_of bio.bio in
-              let child = (piece bio hand n key device.kind sizes members).bio in
-              let rest = (split_rest bio n).bio in
-              let place : offset_of rest ≡ o + n = place_on o n (omega (arith, counted, fewer)) in
-              let first : Plan = plan m bio.bio.write o at n in
-              let others : Plans = piece_plans device.kind sizes members bio.bio.write (o + n) (range.start + n) (range.len - n) in
-              let cuts = cuts_is stack good number device found e in
-              let whole_is : plan (tree stack number) bio.bio.write o range.start range.len ≡ Pieces number (also first others) =
-              ap (λ t. plan t bio.bio.write o range.start range.len) cuts
-              ∙ pieces_are number device.kind sizes members bio.bio.write o range.start range.len
-              ∙ ap (Pieces number) (piece_plans_first device.kind sizes members bio.bio.write o range.start range.len n (cut_at_ends number device found e) (omega (arith, some)) refl) in
-              let child_is : plan (tree stack (tree_number m)) bio.bio.write o at n ≡ first =
-              ap (λ k. plan (tree stack k) bio.bio.write o at n) dev ∙ ap (λ t. plan t bio.bio.write o at n) (sym to.is) in
-              let rest_is : plan (tree stack number) bio.bio.write (offset_of rest) (range.start + n) (range.len - n) ≡ Pieces number others =
-              ap (λ k. plan (tree stack number) bio.bio.write k (range.start + n) (range.len - n)) place
-              ∙ ap (λ t. plan t bio.bio.write (o + n) (range.start + n) (range.len - n)) cuts
-              ∙ pieces_are number device.kind sizes members bio.bio.write (o + n) (range.start + n) (range.len - n) in
-              subst (λ p. IsOfParts (may ends p) (bio_may setup ends child) (bio_may setup ends rest)) (sym whole_is)
-              (subst (λ p. IsOfParts (may ends (Pieces number (also first others))) (may ends p) (bio_may setup ends rest)) (sym child_is)
-              (subst (λ p. IsOfParts (may ends (Pieces number (also first others))) (may ends first) (may ends p)) (sym rest_is)
-              (more_pieces ends number first others)))
+      here : (device : Device) → slice_get stack.devices.items bio.bio.dev.0 ≡ Some device → shape_of device.kind ≡ Cuts
+          → IsTrue (is_cut (Split bio.bio.dev.0 device.kind (sizes_at stack device) (members_at stack bio.bio.dev.0 device)) bio.bio.range)
+          → IsOfParts (bio_may setup ends bio.bio)
+          (bio_may setup ends (piece bio hand (first_length device.kind (sizes_at stack device) bio.bio.range) key device.kind (sizes_at stack device) (members_at stack bio.bio.dev.0 device)).bio)
+          (bio_may setup ends (split_rest bio (first_length device.kind (sizes_at stack device) bio.bio.range)).bio)
+      here device found e many =
+          let range = bio.bio.range in
+          let number : ℕ = bio.bio.dev.0 in
+          let sizes = sizes_at stack device in
+          let members = members_at stack bio.bio.dev.0 device in
+          let n : ℕ = first_length device.kind sizes range in
+          let to = goes stack good number device found e range is.some is.within in
+          let run = to.run in
+          let within = run.within in
+          let some = is.some in
+          let ne : n ≢ range.len = λ q. search (many, q, arith) in
+          let fewer : n < range.len = omega (arith, ne, within) in
+          let m : Tree = members (slot device.kind sizes range.start).member in
+          let at : ℕ = (slot device.kind sizes range.start).at in
+          let dev : tree_number m ≡ to.dev.0 = ap tree_number to.is ∙ number_of_tree stack to.dev.0 in
+          let o : ℕ = offset_of bio.bio in
+          let child = (piece bio hand n key device.kind sizes members).bio in
+          let rest = (split_rest bio n).bio in
+          let place : offset_of rest ≡ o + n = place_on o n (omega (arith, counted, fewer)) in
+          let first : Plan = plan m bio.bio.write o at n in
+          let others : Plans = piece_plans device.kind sizes members bio.bio.write (o + n) (range.start + n) (range.len - n) in
+          let cuts = cuts_is stack good number device found e in
+          let whole_is : plan (tree stack number) bio.bio.write o range.start range.len ≡ Pieces number (also first others) =
+          ap (λ t. plan t bio.bio.write o range.start range.len) cuts
+          ∙ pieces_are number device.kind sizes members bio.bio.write o range.start range.len
+          ∙ ap (Pieces number) (piece_plans_first device.kind sizes members bio.bio.write o range.start range.len n (cut_at_ends number device found e) (omega (arith, some)) refl) in
+          let child_is : plan (tree stack (tree_number m)) bio.bio.write o at n ≡ first =
+          ap (λ k. plan (tree stack k) bio.bio.write o at n) dev ∙ ap (λ t. plan t bio.bio.write o at n) (sym to.is) in
+          let rest_is : plan (tree stack number) bio.bio.write (offset_of rest) (range.start + n) (range.len - n) ≡ Pieces number others =
+          ap (λ k. plan (tree stack number) bio.bio.write k (range.start + n) (range.len - n)) place
+          ∙ ap (λ t. plan t bio.bio.write (o + n) (range.start + n) (range.len - n)) cuts
+          ∙ pieces_are number device.kind sizes members bio.bio.write (o + n) (range.start + n) (range.len - n) in
+          subst (λ p. IsOfParts (may ends p) (bio_may setup ends child) (bio_may setup ends rest)) (sym whole_is)
+          (subst (λ p. IsOfParts (may ends (Pieces number (also first others))) (may ends p) (bio_may setup ends rest)) (sym child_is)
+          (subst (λ p. IsOfParts (may ends (Pieces number (also first others))) (may ends first) (may ends p)) (sym rest_is)
+          (more_pieces ends number first others)))
 
-  LegOf : Bio → Item Pad → ℕ → ℕ → Status → Tree → Type 0
-  LegOf bio hand leg key end t = leg < legs_of t → bio_may setup ends (leg_at bio hand leg key t).bio end ≡ leg_may ends t bio leg end
-
-  leg_of : (bio : Bio) (hand : Item Pad) (leg key : ℕ) (end : Status) → IsThere setup bio → LegOf bio hand leg key end (tree stack bio.dev.0)
-  unfolding LegOf
-  leg_of bio hand leg key end is = let d = at_device stack good places bio.dev.0 is.device in by_shape d.0 d.1 (shape_of d.0.kind) refl
+  leg_of : (bio : Bio) (hand : Item Pad) (leg key : ℕ) (end : Status) → IsThere setup bio → leg < legs_of (tree stack bio.dev.0)
+      → bio_may setup ends (leg_at bio hand leg key (tree stack bio.dev.0)).bio end ≡ leg_may ends (tree stack bio.dev.0) bio leg end
+  leg_of bio hand leg key end is lt = by_tree (tree stack bio.dev.0) (legs_go_down stack good bio.dev.0 leg is.device) lt
     where
-      none : (t other : Tree) → t ≡ other → legs_of other ≡ 0 → LegOf bio hand leg key end t
-      none t other same zero_legs lt = absurd (let q : legs_of t ≡ 0 = ap legs_of same ∙ zero_legs in omega (arith, lt, q))
-
-      by_shape : (device : Device) → slice_get stack.devices.items bio.dev.0 ≡ Some device → (shape : Shape) → shape_of device.kind ≡ shape → LegOf bio hand leg key end (tree stack bio.dev.0)
-      by_shape device found (Keeping_ sectors) e = none (tree stack bio.dev.0) _ (keeps_is stack good bio.dev.0 device found sectors e) refl
-      by_shape device found Cuts e = none (tree stack bio.dev.0) _ (cuts_is stack good bio.dev.0 device found e) refl
-      by_shape device found Copying_ e = subst (LegOf bio hand leg key end) (sym (copies_is stack good bio.dev.0 device found e)) here
-        where
-          here : LegOf bio hand leg key end (Mirrored bio.dev.0 (sizes_at stack device) (members_at stack bio.dev.0 device))
-          here lt =
-              let items = device.members.items in
-              let few : leg < length items = omega (arith, lt, length-map items (λ (m : DevId). size (tree stack m.0))) in
-              let m : DevId = get_or items leg (record { 0 = 0 }) in
-              let at : slice_get items leg ≡ Some m = slice_get-get_or items leg (record { 0 = 0 }) few in
-              let member : members_at stack bio.dev.0 device leg ≡ tree stack m.0 = member_is stack good bio.dev.0 device found leg m at in
-              let dev : tree_number (members_at stack bio.dev.0 device leg) ≡ m.0 = ap tree_number member ∙ number_of_tree stack m.0 in
-              let same : tree stack (tree_number (members_at stack bio.dev.0 device leg)) ≡ members_at stack bio.dev.0 device leg = ap (tree stack) dev ∙ sym member in
-              ap (λ t. run_can t bio (offset_of bio) bio.range.start bio.range.len end) same
+      by_tree : (t : Tree) → GoesDown stack t leg → leg < legs_of t → bio_may setup ends (leg_at bio hand leg key t).bio end ≡ leg_may ends t bio leg end
+      by_tree (Mirrored number sizes members) goes lt = ap (λ t. run_can t bio (offset_of bio) bio.range.start bio.range.len end) (goes lt)
+      by_tree (Leaf number sectors) goes lt = absurd (omega arith)
+      by_tree (Split number kind sizes members) goes lt = absurd (omega arith)
 
   DiskOf : Bio → Status → Tree → Type 0
   DiskOf bio end t = AskFits t bio.range bio.dev.0 ToPush → run_can t bio (offset_of bio) bio.range.start bio.range.len end ≡ yes (status_eq end (ends (fragment_of bio)))
 
   disk_of : (bio : Bio) (end : Status) → IsThere setup bio → DiskOf bio end (tree stack bio.dev.0)
   unfolding DiskOf
-  disk_of bio end is = let d = at_device stack good places bio.dev.0 is.device in by_shape d.0 d.1 (shape_of d.0.kind) refl
+  disk_of bio end is = of_each_shape stack good places (DiskOf bio end) bio.dev.0 is.device here (λ device found e fits. absurd fits) (λ device found e fits. absurd fits)
     where
-      by_shape : (device : Device) → slice_get stack.devices.items bio.dev.0 ≡ Some device → (shape : Shape) → shape_of device.kind ≡ shape → DiskOf bio end (tree stack bio.dev.0)
-      by_shape device found (Keeping_ sectors) e = subst (DiskOf bio end) (sym (keeps_is stack good bio.dev.0 device found sectors e)) here
-        where
-          here : DiskOf bio end (Leaf bio.dev.0 sectors)
-          here fits = ap (λ p. may ends p end) (whole_is bio.dev.0 sectors bio.write (offset_of bio) bio.range.start bio.range.len) ∙ whole_may ends (fragment_of bio) end
-      by_shape device found Cuts e = subst (DiskOf bio end) (sym (cuts_is stack good bio.dev.0 device found e)) (λ fits. absurd fits)
-      by_shape device found Copying_ e = subst (DiskOf bio end) (sym (copies_is stack good bio.dev.0 device found e)) (λ fits. absurd fits)
+      here : (sectors : ℕ) → DiskOf bio end (Leaf bio.dev.0 sectors)
+      here sectors fits = ap (λ p. may ends p end) (whole_is bio.dev.0 sectors bio.write (offset_of bio) bio.range.start bio.range.len) ∙ whole_may ends (fragment_of bio) end
 
   pub given : Given setup ends
-  unfolding LegOf CutOf DiskOf
+  unfolding CutOf DiskOf
   given = record {
     lands = λ bio end is. (falls stack good places (λ bio. bio_may setup ends bio end) (whole_run end) (bio.dev.0 + 1) bio (omega arith) is).same;
     cut = λ bio hand key number kind sizes members is counted at many.

@@ -1,5 +1,5 @@
 -- Over a valid stack: what a bio still needs when it lands, is cut, and is copied.
-use Rattle.std.proofs.Common.{◌≡◌, ◌+◌, ◌-◌, ◌<◌, ℕ, suc, IsTrue, List, length, Some, refl, sym, ◌∙◌, ap, subst, arith, get_or}
+use Rattle.std.proofs.Common.{◌≡◌, ◌+◌, ◌-◌, ◌<◌, ℕ, suc, IsTrue, List, length, Some, sym, ◌∙◌, ap, subst, arith, get_or}
 use Rattle.std.specs.Prelude.{slice_get, sum_by}
 use Rattle.std.proofs.lemmas.List.Sums.{sum_by-cons}
 use Rattle.stack_base.specs.declared.ids.DevId.{DevId}
@@ -16,15 +16,16 @@ use Rattle.std.proofs.lemmas.List.{length-map}
 use Rattle.stack_base.specs.declared.stack.Device.{Device}
 use Rattle.stack_base.specs.declared.stack.Stack.{Stack}
 use Rattle.stack_base.specs.Stack.{IsStack}
-use Rattle.stack_base.specs.Tree.{Shape, Keeps as Keeping_, Cuts, Copies as Copying_, shape_of, tree}
+use Rattle.stack_base.specs.Tree.{Copies as Copying_, shape_of, tree}
 use Rattle.layout_model.specs.Need.{needed}
-use Rattle.layout_model.proofs.ByShape.{cuts_is, copies_is, keeps_is, member_is}
+use Rattle.layout_model.proofs.ByShape.{member_is}
 use Rattle.run_machine.specs.Scene.{setup_of}
 use Rattle.block_core.proofs.moves.Moves.{piece}
 use Rattle.std.specs.List.{range_with_len}
 use Rattle.layout_model.proofs.Begun.{needed_legs}
 use Rattle.block_core.specs.Places.{bio_needs, unmade_legs_need}
-use Rattle.block_core.proofs.moves.Geometry.{IsThere, is_cut, at_device, lands_needs, cuts, sizes_at, members_at, number_of_tree}
+use Rattle.run_machine.proofs.TreeNumbers.{number_of_tree}
+use Rattle.block_core.proofs.moves.Geometry.{IsThere, is_cut, lands_needs, cuts, of_each_shape, sizes_at, members_at}
 
 pub record Worth (setup : Setup) : Type 0 where
   pub lands : (bio : Bio) → IsThere setup bio → bio_needs setup (landed (tree_at setup bio.dev) bio) ≡ bio_needs setup bio
@@ -60,33 +61,27 @@ module _ (stack : Stack) (good : IsStack stack) (places : ℕ → ℕ) where
 
   leg_of : (bio : Bio) (hand : Item Pad) (leg key : ℕ) → IsThere setup bio → LegNeeds bio hand leg key (tree stack bio.dev.0)
   unfolding LegNeeds
-  leg_of bio hand leg key there = let d = at_device stack good places bio.dev.0 there.device in by_shape d.0 d.1 (shape_of d.0.kind) refl
+  leg_of bio hand leg key there =
+      of_each_shape stack good places (LegNeeds bio hand leg key) bio.dev.0 there.device (λ sectors lt. absurd (omega (arith, lt))) (λ device found e lt. absurd (omega (arith, lt))) here
     where
-      none : (t other : Tree) → t ≡ other → legs_of other ≡ 0 → LegNeeds bio hand leg key t
-      none t other is zero_legs lt = absurd (let q : legs_of t ≡ 0 = ap legs_of is ∙ zero_legs in omega (arith, lt, q))
-
-      by_shape : (device : Device) → slice_get stack.devices.items bio.dev.0 ≡ Some device → (shape : Shape) → shape_of device.kind ≡ shape → LegNeeds bio hand leg key (tree stack bio.dev.0)
-      by_shape device found (Keeping_ sectors) e = none (tree stack bio.dev.0) _ (keeps_is stack good bio.dev.0 device found sectors e) refl
-      by_shape device found Cuts e = none (tree stack bio.dev.0) _ (cuts_is stack good bio.dev.0 device found e) refl
-      by_shape device found Copying_ e = subst (LegNeeds bio hand leg key) (sym (copies_is stack good bio.dev.0 device found e)) here
-        where
-          here : LegNeeds bio hand leg key (Mirrored bio.dev.0 (sizes_at stack device) (members_at stack bio.dev.0 device))
-          here lt =
-              let items = device.members.items in
-              let sizes = sizes_at stack device in
-              let members = members_at stack bio.dev.0 device in
-              let f : ℕ → ℕ = λ k. needed (members k) bio.range.start bio.range.len in
-              let few : leg < length items = omega (arith, lt, length-map items (λ (m : DevId). size (tree stack m.0))) in
-              let m : DevId = get_or items leg (record { 0 = 0 }) in
-              let at : slice_get items leg ≡ Some m = slice_get-get_or items leg (record { 0 = 0 }) few in
-              let member : members leg ≡ tree stack m.0 = member_is stack good bio.dev.0 device found leg m at in
-              let dev : tree_number (members leg) ≡ m.0 = ap tree_number member ∙ number_of_tree stack m.0 in
-              let own : needed (tree stack (tree_number (members leg))) bio.range.start bio.range.len ≡ f leg =
-              ap (λ n. needed (tree stack n) bio.range.start bio.range.len) dev ∙ ap (λ t. needed t bio.range.start bio.range.len) (sym member) in
-              let left : length sizes - leg ≡ suc (length sizes - (leg + 1)) = omega (arith, lt) in
-              let all : sum_by f (range_with_len leg (length sizes - leg)) ≡ f leg + sum_by f (range_with_len (leg + 1) (length sizes - (leg + 1))) =
-              ap (λ n. sum_by f (range_with_len leg n)) left ∙ sum_by-cons f leg (range_with_len (leg + 1) (length sizes - (leg + 1))) in
-              omega (arith, own, all, left)
+      here : (device : Device) → slice_get stack.devices.items bio.dev.0 ≡ Some device → shape_of device.kind ≡ Copying_
+          → LegNeeds bio hand leg key (Mirrored bio.dev.0 (sizes_at stack device) (members_at stack bio.dev.0 device))
+      here device found e lt =
+          let items = device.members.items in
+          let sizes = sizes_at stack device in
+          let members = members_at stack bio.dev.0 device in
+          let f : ℕ → ℕ = λ k. needed (members k) bio.range.start bio.range.len in
+          let few : leg < length items = omega (arith, lt, length-map items (λ (m : DevId). size (tree stack m.0))) in
+          let m : DevId = get_or items leg (record { 0 = 0 }) in
+          let at : slice_get items leg ≡ Some m = slice_get-get_or items leg (record { 0 = 0 }) few in
+          let member : members leg ≡ tree stack m.0 = member_is stack good bio.dev.0 device found leg m at in
+          let dev : tree_number (members leg) ≡ m.0 = ap tree_number member ∙ number_of_tree stack m.0 in
+          let own : needed (tree stack (tree_number (members leg))) bio.range.start bio.range.len ≡ f leg =
+          ap (λ n. needed (tree stack n) bio.range.start bio.range.len) dev ∙ ap (λ t. needed t bio.range.start bio.range.len) (sym member) in
+          let left : length sizes - leg ≡ suc (length sizes - (leg + 1)) = omega (arith, lt) in
+          let all : sum_by f (range_with_len leg (length sizes - leg)) ≡ f leg + sum_by f (range_with_len (leg + 1) (length sizes - (leg + 1))) =
+          ap (λ n. sum_by f (range_with_len leg n)) left ∙ sum_by-cons f leg (range_with_len (leg + 1) (length sizes - (leg + 1))) in
+          omega (arith, own, all, left)
 
   leg_needs : (bio : Bio) (hand : Item Pad) (leg key : ℕ) → IsThere setup bio → leg < legs_of (tree_at setup bio.dev)
       → unmade_legs_need (tree_at setup bio.dev) bio.range.start bio.range.len leg
