@@ -2,6 +2,7 @@
 ghost use Rattle.std.specs.Prelude.{◌≡◌, ◌+◌, ◌^◌, ◌<◌, ◌≤◌, [], ◌∷◌, ◌++◌, All, length, nat_lt, IfOk, OnOk};
 ghost use Rattle.stack_base.specs.Stack.{IsStack};
 ghost use Rattle.stack_base.specs.Tree.{size, tree};
+ghost use Rattle.decl_text.specs.Fit.{IsFitStack};
 ghost use Rattle.decl_text.specs.Stands.{stand_of};
 ghost use Rattle.decl_text.specs.declared.item.Item.TheVariants as item;
 ghost use Rattle.work_text.specs.Draft.{ChecksWrite, IsDraft, IsLeftOf, known_so_far};
@@ -117,6 +118,7 @@ impl Draft {
         bytes: &[u8],
     ) -> Result<(), LineFault>
         requires stack { IsStack stack.now }
+        requires fit { IsFitStack stack.now }
         requires draft { IsDraft stack.now self.old }
         requires stands { CanStand (known_so_far stack.now self.old) bytes.now }
         ensures draft { OnOk result (IsDraft stack.now self.new) }
@@ -132,6 +134,7 @@ impl Draft {
     // Adds what is told.
     fn add(&mut self, stack: &Stack, told: &Told<'_>) -> Result<(), LineFault>
         requires stack { IsStack stack.now }
+        requires fit { IsFitStack stack.now }
         requires draft { IsDraft stack.now self.old }
         requires sectors { HasSectors told.now }
         ensures draft { OnOk result (IsDraft stack.now self.new) }
@@ -207,6 +210,7 @@ impl Draft {
         tag: u64,
     ) -> Result<(), LineFault>
         requires stack { IsStack stack.now }
+        requires fit { IsFitStack stack.now }
         requires draft { IsDraft stack.now self.old }
         requires some { 1 ≤ range.len }
         ensures draft { OnOk result (IsDraft stack.now self.new) }
