@@ -1,29 +1,29 @@
-//! The twin of main.rt.txt with a disk of the same shape: the words up to the last sector that was written, a flag for each of these sectors, and room
+//! The twin of main.rt.txt with a disk of the same shape: words by pages (`pages.rs`), a flag for each sector up to the last one that was written, and room
 //! for all of them that is reserved at the opening.
 use std::time::Instant;
+
+mod pages;
+
+use pages::Pages;
 
 const SECTORS: usize = 262_144;
 const BIO: usize = 2_048;
 
 struct Disk {
-    front: Vec<u64>,
+    pages: Pages,
     flags: Vec<bool>,
 }
 
 impl Disk {
     fn open() -> Disk {
-        Disk { front: Vec::with_capacity(64 * SECTORS), flags: Vec::with_capacity(SECTORS) }
+        Disk { pages: Pages::open(SECTORS), flags: Vec::with_capacity(SECTORS) }
     }
 
     /// Writes a bio's sectors from `start` on.
     fn write(&mut self, start: usize) {
-        let (first, end) = (64 * start, 64 * (start + BIO));
-        if self.front.len() < end {
-            self.front.resize(end, 0);
-            self.flags.resize(end / 64, false);
-        }
-        for (i, word) in self.front[first..end].iter_mut().enumerate() {
-            *word = (start as u64).wrapping_add(i as u64);
+        self.pages.write(start, BIO, start as u64);
+        if self.flags.len() < start + BIO {
+            self.flags.resize(start + BIO, false);
         }
         self.flags[start..start + BIO].fill(true);
     }
@@ -33,7 +33,7 @@ impl Disk {
         let mut all = 0u64;
         for (place, written) in self.flags.iter().enumerate() {
             if *written {
-                all = self.front[64 * place..64 * place + 64].iter().fold(all, |all, word| all.wrapping_add(*word));
+                all = self.pages.sector(place).iter().fold(all, |all, word| all.wrapping_add(*word));
             }
         }
         all

@@ -1,39 +1,23 @@
-//! The twin of main.rt.txt: sector by sector by `memcmp`, over the words of two members, each of which has a word for a sector that is not there.
+//! The twin of main.rt.txt: sector by sector by `memcmp`, over the words of two members by pages (`../disks/pages.rs`), each of which has zeros for a
+//! sector whose page has no words.
 use std::hint::black_box;
 use std::time::Instant;
+
+#[path = "../disks/pages.rs"]
+mod pages;
+
+use pages::Pages;
 
 const SECTORS: usize = 65_536;
 const BIO: usize = 2_048;
 
-/// The words of a member up to the last sector that was written. All behind them are zeros.
 struct Disk {
     sectors: usize,
-    front: Vec<u64>,
-}
-
-impl Disk {
-    fn open() -> Disk {
-        Disk { sectors: SECTORS, front: Vec::with_capacity(64 * SECTORS) }
-    }
-
-    /// Writes words that count up from `word` to so many sectors.
-    fn write(&mut self, start: usize, len: usize, word: u64) {
-        let (first, end) = (64 * start, 64 * (start + len));
-        if self.front.len() < end {
-            self.front.resize(end, 0);
-        }
-        for (i, place) in self.front[first..end].iter_mut().enumerate() {
-            *place = word.wrapping_add(i as u64);
-        }
-    }
-
-    fn sector(&self, at: usize) -> &[u64] {
-        self.front.get(64 * at..64 * at + 64).unwrap_or(&[0; 64])
-    }
+    pages: Pages,
 }
 
 fn differ_at(one: &Disk, other: &Disk, place: usize) -> bool {
-    one.sector(place) != other.sector(place)
+    one.pages.sector(place) != other.pages.sector(place)
 }
 
 fn count(one: &Disk, other: &Disk) -> u64 {
@@ -60,13 +44,13 @@ fn stretches(one: &Disk, other: &Disk) -> u64 {
 }
 
 fn written(changed: bool) -> Disk {
-    let mut disk = Disk::open();
+    let mut disk = Disk { sectors: SECTORS, pages: Pages::open(SECTORS) };
     for k in 0..SECTORS / BIO {
-        disk.write(k * BIO, BIO, k as u64);
+        disk.pages.write(k * BIO, BIO, k as u64);
     }
     if changed {
         for k in 0..SECTORS / 2 {
-            disk.write(2 * k + 1, 1, (SECTORS * (k + 1)) as u64);
+            disk.pages.write(2 * k + 1, 1, (SECTORS * (k + 1)) as u64);
         }
     }
     disk
