@@ -1,8 +1,9 @@
 #!/usr/bin/env python3
-"""Runs of the program beside a twin in plain Rust (`runs/twin.rs`): seconds, and that both write the same. It is no test.
+"""Runs of the program beside two twins in plain Rust: seconds, and that all write the same. It is no test. The one moves boxes as the program does
+(`runs/twin.rs`), the harder one counts its elements and moves none (the same with `runs/counts.rs`).
 
-usage: bench/runs.py [PROGRAM]            times the runs below, the two programs in turn
-       bench/runs.py [PROGRAM] --same N   compares what both write of N random texts, each with a trace
+usage: bench/runs.py [PROGRAM]            times the runs below, the programs in turn
+       bench/runs.py [PROGRAM] --same N   compares what all write of N random texts, each with a trace
 
 PROGRAM is crates/biostack/out/biostack if left out.
 """
@@ -92,13 +93,22 @@ def output(program, words, text):
     return ran.returncode, ran.stdout, ran.stderr
 
 
-def same(program, twin, count):
+def build_twins(folder):
+    """Builds the twin, and the harder one, and answers their paths."""
+    words = ["rustc", "--edition", "2021", "-C", "opt-level=3", "-C", "target-cpu=x86-64-v2", "-A", "warnings", os.path.join(HERE, "runs", "twin.rs")]
+    paths = [os.path.join(folder, name) for name in ("twin", "counts")]
+    for path, more in zip(paths, ([], ["--cfg", "counts"])):
+        subprocess.run([*words, *more, "-o", path], check=True)
+    return paths
+
+
+def same(program, twins, count):
     for seed in range(count):
         rand = random.Random(seed)
         text = random_text(rand)
         words = ["run", "--seed", str(rand.randrange(2**64)), "--trace"]
-        mine, other = output(program, words, text), output(twin, words, text)
-        if mine[:2] != other[:2]:
+        mine = output(program, words, text)
+        if any(output(twin, words, text)[:2] != mine[:2] for twin in twins):
             sys.exit(f"text {seed}: {' '.join(words)}\n{text}\nthe program: {mine[0]} {mine[2].decode()}")
     print(f"{count} texts, the same")
 
@@ -114,6 +124,7 @@ CASES = [
     ("150,000 writes over 31 linear devices", ["check"], run.chain(150000)),
     ("a layout of these", ["layout"], run.chain(150000)),
     ("4 MiB of byte 10", ["check"], "\n" * run.MOST_BYTES),
+    ("2,048 sectors at the far end", ["run"], "disk a 262144\nwrite 0 a 260096 2048 7\n"),
 ]
 
 
@@ -136,18 +147,18 @@ def main():
         del words[at:at + 2]
     program = words[0] if words else os.path.join(run.TOP, "crates", "biostack", "out", "biostack")
     with tempfile.TemporaryDirectory() as folder:
-        twin = os.path.join(folder, "twin")
-        subprocess.run(["rustc", "--edition", "2021", "-C", "opt-level=3", "-C", "target-cpu=x86-64-v2", "-A", "warnings", "-o", twin, os.path.join(HERE, "runs", "twin.rs")], check=True)
+        twin, counts = build_twins(folder)
         if count:
-            return same(program, twin, count)
-        print(f"{'run':38} {'Rattle, s':>10} {'Rust, s':>10} {'ratio':>6} {'events/s':>10}")
+            return same(program, [twin, counts], count)
+        print(f"{'run':38} {'Rattle, s':>10} {'Rust, s':>10} {'ratio':>6} {'counts, s':>10} {'ratio':>6} {'events/s':>10}")
+        programs = (program, twin, counts)
         for name, order, text in CASES:
-            mine, other = output(program, order, text), output(twin, order, text)
-            if mine[1] != other[1]:
-                sys.exit(f"{name}: the two do not write the same")
-            pairs = [(once(program, order, text), once(twin, order, text)) for _ in range(ROUNDS)]
-            ours, theirs = (min(pair[k] for pair in pairs) for k in (0, 1))
-            print(f"{name:38} {ours:10.4f} {theirs:10.4f} {ours / theirs:6.2f} {run.steps_of(mine[1].decode()) / ours:10.0f}")
+            mine, *others = (output(it, order, text)[1] for it in programs)
+            if any(other != mine for other in others):
+                sys.exit(f"{name}: the three do not write the same")
+            rounds = [[once(it, order, text) for it in programs] for _ in range(ROUNDS)]
+            ours, theirs, least = (min(times) for times in zip(*rounds))
+            print(f"{name:38} {ours:10.4f} {theirs:10.4f} {ours / theirs:6.2f} {least:10.4f} {ours / least:6.2f} {run.steps_of(mine.decode()) / ours:10.0f}")
 
 
 if __name__ == "__main__":

@@ -29,7 +29,7 @@ pub struct Shared {
     vecs: Mutex<Thing<Pool<Vector>>>,
     bios: Vec<Option<Mutex<Thing<Pool<Bio>>>>>,
     records: Vec<Option<Mutex<Thing<Pool<Slip>>>>>,
-    lists: Vec<Mutex<Thing<VecDeque<Box<Bio>>>>>,
+    lists: Vec<Mutex<Thing<VecDeque<El<Bio>>>>>,
     disks: Vec<Option<Mutex<Thing<Disk>>>>,
     books: Vec<Mutex<Thing<Book>>>,
     tally: Mutex<Thing<Tally>>,
@@ -48,17 +48,7 @@ fn event(met: bool) -> Came {
 }
 
 fn goes_on(devices: &[Device], dev: u32, line: &mut Line) {
-    let (mut lower, mut same) = (VecDeque::new(), VecDeque::new());
-    while let Some(bio) = line.list0.pop_front() {
-        if bio.dev == dev {
-            same.push_back(bio);
-        } else {
-            lower.push_back(bio);
-        }
-    }
-    lower.append(&mut same);
-    lower.append(&mut line.list1);
-    line.list1 = lower;
+    merge(dev, &mut line.list0, &mut line.list1);
     settle(devices, line);
 }
 
@@ -92,7 +82,7 @@ fn copies(devices: &[Device], bio: Bio, master: u32, leg: u32, line: &mut Line) 
 }
 
 /// What stays in the lists where the bios of a set are taken out.
-fn kept(dev: u32, list: &mut VecDeque<Box<Bio>>, into: &mut VecDeque<Box<Bio>>) {
+fn kept(dev: u32, list: &mut VecDeque<El<Bio>>, into: &mut VecDeque<El<Bio>>) {
     let mut kept = VecDeque::new();
     while let Some(bio) = list.pop_front() {
         if bio.set == dev {
@@ -160,7 +150,7 @@ impl Shared {
         reply
     }
 
-    fn take<T>(&self, pool: &Mutex<Thing<Pool<T>>>, waits: bool) -> Result<Box<T>, bool> {
+    fn take<T: 'static>(&self, pool: &Mutex<Thing<Pool<T>>>, waits: bool) -> Result<El<T>, bool> {
         self.call(pool, |pool| match pool.take() {
             Taken::Ordinary(el) | Taken::Spare(el) => (Ok(el), true),
             Taken::Missed(used) => (Err(used || !waits), used || !waits),
@@ -255,7 +245,7 @@ impl Shared {
     }
 
     /// The first pending bio of a disk. As the oldest is taken, one call is enough.
-    fn complete(&self, disk: u32) -> Option<(Box<Bio>, Status)> {
+    fn complete(&self, disk: u32) -> Option<(El<Bio>, Status)> {
         let bads = &self.devices[disk as usize].bads;
         self.call(self.disks[disk as usize].as_ref().unwrap(), |at| {
             let Some(bio) = at.pending.pop_front() else {
@@ -280,7 +270,7 @@ impl Shared {
         })
     }
 
-    fn give<T>(&self, pool: &Mutex<Thing<Pool<T>>>, el: Box<T>) {
+    fn give<T: 'static>(&self, pool: &Mutex<Thing<Pool<T>>>, el: El<T>) {
         self.call(pool, |pool| (pool.give(el), true));
     }
 
@@ -297,7 +287,7 @@ impl Shared {
             }
             Carried::Carries(writer, mut closed) => {
                 if let Some(mut vector) = closed.held.vector.take() {
-                    vector.segments.clear();
+                    vector.clear();
                     self.give(&self.vecs, vector);
                 } else if let Some(bio) = closed.held.bio.take() {
                     let pool = if bio.set == FS { &self.fs } else { self.set(bio.set) };
@@ -341,7 +331,7 @@ impl Shared {
         Came::Event
     }
 
-    fn write(&self, number: u32, todo: &mut VecDeque<Todo>, bio: &mut Option<Box<Bio>>, vector: &mut Option<Box<Vector>>, line: &mut Line) -> Came {
+    fn write(&self, number: u32, todo: &mut VecDeque<Todo>, bio: &mut Option<El<Bio>>, vector: &mut Option<El<Vector>>, line: &mut Line) -> Came {
         if !matches!(line.doing, Doing::Rests) {
             return event(self.line_step(line));
         }
@@ -384,11 +374,8 @@ impl Shared {
         for k in 0..segments {
             let segment = (first.tag.wrapping_add(512 * k), (first.count - 8 * k).min(8) as u16);
             match list.as_mut() {
-                Some(list) => list.segments.push(segment),
-                None => {
-                    el.short[k as usize] = segment;
-                    el.segments += 1;
-                }
+                Some(list) => list.push(segment),
+                None => el.push(segment),
             }
         }
         el.node = self.book(number, |book| book.write(first.number, list));

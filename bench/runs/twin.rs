@@ -1,11 +1,22 @@
 //! A twin of the program in plain Rust, with nothing proved: it reads an accepted text and runs it and writes its report, by the same rules and with
-//! boxes, lists and books of the same shape, or writes what `check` and `layout` do. Texts that would be refused are not looked for.
+//! boxes, lists and books of the same shape, or writes what `check` and `layout` do. Texts that would be refused are not looked for. With `--cfg counts`
+//! it is the harder twin, whose pools count their elements and which moves no boxes (`counts.rs`).
+#![allow(unexpected_cfgs)]
 use std::collections::VecDeque;
 use std::env;
 use std::io::{self, BufWriter, Read, Write as _};
 use std::time::Instant;
 
+#[cfg(not(counts))]
+mod boxes;
+#[cfg(counts)]
+mod counts;
 pub mod shared;
+
+#[cfg(not(counts))]
+use self::boxes::{Bio, El, Pool, Slip, Taken, Vector, merge};
+#[cfg(counts)]
+use self::counts::{Bio, El, Pool, Slip, Taken, Vector, merge};
 
 #[derive(Clone, Copy, PartialEq, Eq)]
 pub enum Status {
@@ -50,131 +61,6 @@ pub struct Device {
 
 pub const FS: u32 = u32::MAX;
 
-struct Bio {
-    write: u32,
-    writer: u32,
-    node: u32,
-    dev: u32,
-    start: u64,
-    len: u64,
-    word: u64,
-    set: u32,
-    leg: u32,
-    short: [(u64, u16); 4],
-    segments: u8,
-}
-
-impl Bio {
-    fn clear() -> Bio {
-        Bio {
-            write: 0,
-            writer: 0,
-            node: 0,
-            dev: 0,
-            start: 0,
-            len: 0,
-            word: 0,
-            set: FS,
-            leg: 0,
-            short: [(0, 0); 4],
-            segments: 0,
-        }
-    }
-}
-
-struct Vector {
-    segments: Vec<(u64, u16)>,
-}
-
-struct Slip {
-    dev: u32,
-    legs: u32,
-}
-
-struct Pool<T> {
-    spares: Vec<Box<T>>,
-    aside: Vec<Box<T>>,
-    min: usize,
-    out: u64,
-    live: u64,
-    pos: usize,
-    ordinary: u64,
-    spare: u64,
-    entries: Vec<bool>,
-    tail: bool,
-    make: fn() -> T,
-}
-
-enum Taken<T> {
-    Ordinary(Box<T>),
-    Spare(Box<T>),
-    Missed(bool),
-}
-
-impl<T> Pool<T> {
-    fn new(min: u32, entries: Vec<bool>, tail: bool, make: fn() -> T) -> Pool<T> {
-        let min = min as usize;
-        Pool {
-            spares: (0..min).map(|_| Box::new(make())).collect(),
-            aside: Vec::new(),
-            min,
-            out: 0,
-            live: 0,
-            pos: 0,
-            ordinary: 0,
-            spare: 0,
-            entries,
-            tail,
-            make,
-        }
-    }
-    fn take(&mut self) -> Taken<T> {
-        let used = self.pos < self.entries.len();
-        let allowed = if used {
-            self.entries[self.pos]
-        } else {
-            self.tail
-        };
-        if used {
-            self.pos += 1;
-        }
-        if allowed {
-            self.out += 1;
-            self.live += 1;
-            self.ordinary += 1;
-            return Taken::Ordinary(Box::new((self.make)()));
-        }
-        match self.spares.pop() {
-            Some(el) => {
-                self.out += 1;
-                self.spare += 1;
-                Taken::Spare(el)
-            }
-            None => Taken::Missed(used),
-        }
-    }
-    fn give(&mut self, mut el: Box<T>) {
-        self.out -= 1;
-        *el = (self.make)();
-        if self.spares.len() < self.min {
-            self.spares.push(el);
-        } else {
-            self.live -= 1;
-        }
-    }
-    fn resize(&mut self, min: usize) {
-        while self.spares.len() > min {
-            let el = self.spares.pop().unwrap();
-            self.aside.push(el);
-        }
-        while self.spares.len() < min {
-            let el = self.aside.pop().unwrap_or_else(|| Box::new((self.make)()));
-            self.spares.push(el);
-        }
-        self.min = min;
-    }
-}
-
 #[derive(Clone, Copy)]
 pub struct Todo {
     pub number: u32,
@@ -187,9 +73,9 @@ pub struct Todo {
 
 #[derive(Default)]
 struct Held {
-    vector: Option<Box<Vector>>,
-    bio: Option<Box<Bio>>,
-    slip: Option<Box<Slip>>,
+    vector: Option<El<Vector>>,
+    bio: Option<El<Bio>>,
+    slip: Option<El<Slip>>,
 }
 
 struct Node {
@@ -234,7 +120,7 @@ impl Book {
     fn node(&mut self, at: u32) -> &mut Node {
         self.places[at as usize].as_mut().unwrap()
     }
-    fn write(&mut self, write: u32, vector: Option<Box<Vector>>) -> u32 {
+    fn write(&mut self, write: u32, vector: Option<El<Vector>>) -> u32 {
         self.open(Node {
             master: false,
             count: 1,
@@ -261,7 +147,7 @@ impl Book {
             held: Held::default(),
         })
     }
-    fn master(&mut self, parent: u32, part: Box<Bio>, mut slip: Box<Slip>, legs: u32) -> u32 {
+    fn master(&mut self, parent: u32, part: El<Bio>, mut slip: El<Slip>, legs: u32) -> u32 {
         slip.dev = part.dev;
         let above = self.node(parent);
         above.held.bio = Some(part);
@@ -291,7 +177,7 @@ impl Book {
             held: Held::default(),
         })
     }
-    fn drop_one(&mut self, at: u32, status: Status, part: Option<Box<Bio>>) -> End {
+    fn drop_one(&mut self, at: u32, status: Status, part: Option<El<Bio>>) -> End {
         let node = self.node(at);
         if part.is_some() {
             node.held.bio = part;
@@ -326,28 +212,28 @@ impl Book {
 struct Disk {
     image: Vec<u64>,
     written: Vec<bool>,
-    pending: VecDeque<Box<Bio>>,
+    pending: VecDeque<El<Bio>>,
 }
 
 enum Want {
     Takes(bool),
     Punts,
-    Links(Box<Bio>),
+    Links(El<Bio>),
 }
 
 enum Doing {
     Rests,
-    Push(Box<Bio>),
-    Cut(Box<Bio>, Want),
-    Record(Box<Bio>),
-    Master(Box<Bio>, Box<Slip>),
+    Push(El<Bio>),
+    Cut(El<Bio>, Want),
+    Record(El<Bio>),
+    Master(El<Bio>, El<Slip>),
     Copies(Bio, u32, u32, Want),
 }
 
 struct Line {
     doing: Doing,
-    list0: VecDeque<Box<Bio>>,
-    list1: VecDeque<Box<Bio>>,
+    list0: VecDeque<El<Bio>>,
+    list1: VecDeque<El<Bio>>,
 }
 
 impl Line {
@@ -362,7 +248,7 @@ impl Line {
 
 enum Carried {
     Empty,
-    Brings(Box<Bio>, Status),
+    Brings(El<Bio>, Status),
     Carries(u32, Closed),
 }
 
@@ -375,8 +261,8 @@ enum Task {
     Writer {
         number: u32,
         todo: VecDeque<Todo>,
-        bio: Option<Box<Bio>>,
-        vector: Option<Box<Vector>>,
+        bio: Option<El<Bio>>,
+        vector: Option<El<Vector>>,
         line: Line,
     },
     Rescuer {
@@ -398,7 +284,7 @@ struct Objects {
     vecs: Pool<Vector>,
     bios: Vec<Option<Pool<Bio>>>,
     records: Vec<Option<Pool<Slip>>>,
-    lists: Vec<VecDeque<Box<Bio>>>,
+    lists: Vec<VecDeque<El<Bio>>>,
     disks: Vec<Option<Disk>>,
     books: Vec<Book>,
     round: usize,
@@ -629,18 +515,7 @@ impl Objects {
     }
 
     fn goes_on(&self, dev: u32, line: &mut Line) {
-        let mut lower = VecDeque::new();
-        let mut same = VecDeque::new();
-        while let Some(bio) = line.list0.pop_front() {
-            if bio.dev == dev {
-                same.push_back(bio);
-            } else {
-                lower.push_back(bio);
-            }
-        }
-        lower.append(&mut same);
-        lower.append(&mut line.list1);
-        line.list1 = lower;
+        merge(dev, &mut line.list0, &mut line.list1);
         self.settle(line);
     }
 
@@ -666,7 +541,7 @@ impl Objects {
     }
 
     /// A bio of a device's set. Answers what was had, or whether there was an event.
-    fn take(&mut self, who: &str, dev: u32, waits: bool) -> Result<Box<Bio>, bool> {
+    fn take(&mut self, who: &str, dev: u32, waits: bool) -> Result<El<Bio>, bool> {
         let verb = if waits { "take" } else { "try" };
         match self.bios[dev as usize].as_mut().unwrap().take() {
             Taken::Ordinary(bio) => {
@@ -857,7 +732,7 @@ impl Objects {
         line.doing = Doing::Copies(bio, master, leg, Want::Takes(waits));
     }
 
-    fn give_bio(&mut self, who: &str, bio: Box<Bio>) {
+    fn give_bio(&mut self, who: &str, bio: El<Bio>) {
         let set = bio.set;
         if set == FS {
             told!(self, "event {who} give fs.bios");
@@ -871,7 +746,7 @@ impl Objects {
         }
     }
 
-    fn complete(&mut self, who: &str, disk: u32, pcg: &mut Pcg) -> Option<(Box<Bio>, Status)> {
+    fn complete(&mut self, who: &str, disk: u32, pcg: &mut Pcg) -> Option<(El<Bio>, Status)> {
         let pending = self.disks[disk as usize].as_ref().unwrap().pending.len();
         if pending == 0 {
             return None;
@@ -983,8 +858,7 @@ impl Objects {
                     word: first.tag,
                     set: FS,
                     leg: 0,
-                    short: [(0, 0); 4],
-                    segments: 0,
+                    ..Bio::clear()
                 };
                 for k in 0..segments {
                     let segment = (
@@ -992,11 +866,8 @@ impl Objects {
                         (first.count - 8 * k).min(8) as u16,
                     );
                     match list.as_mut() {
-                        Some(list) => list.segments.push(segment),
-                        None => {
-                            el.short[k as usize] = segment;
-                            el.segments += 1;
-                        }
+                        Some(list) => list.push(segment),
+                        None => el.push(segment),
                     }
                 }
                 let node = self.books[*number as usize].write(first.number, list);
@@ -1046,7 +917,7 @@ impl Objects {
                     }
                     Carried::Carries(writer, mut closed) => {
                         if let Some(mut vector) = closed.held.vector.take() {
-                            vector.segments.clear();
+                            vector.clear();
                             told!(self, "event {who} give fs.vecs");
                             self.vecs.give(vector);
                             *carried = Carried::Carries(writer, closed);
@@ -1115,7 +986,7 @@ impl Objects {
         }
     }
 
-    fn give_slip(&mut self, who: &str, slip: Box<Slip>) {
+    fn give_slip(&mut self, who: &str, slip: El<Slip>) {
         let dev = slip.dev as usize;
         if self.trace.is_some() {
             let n = self.devices[dev].name.clone();
@@ -1130,7 +1001,7 @@ impl Objects {
         writer: u32,
         node: u32,
         status: Status,
-        part: Option<Box<Bio>>,
+        part: Option<El<Bio>>,
     ) -> Carried {
         let end = self.books[writer as usize].drop_one(node, status, part);
         let (word, carried) = match end {
@@ -1465,9 +1336,7 @@ fn open(t: &Text, places: &[u64; 8], trace: bool) -> (Objects, Vec<Task>) {
             t.fs_vecs,
             va,
             vb,
-            (|| Vector {
-                segments: Vec::with_capacity(256),
-            }) as fn() -> Vector,
+            Vector::new,
         ),
         bios,
         records,
