@@ -39,6 +39,16 @@ abbrev pub is_busy : Carried → Bool
 is_busy Empty = false
 is_busy carried = true
 
+-- whether a bio is carried that its disk is done with
+abbrev pub is_bringing : Carried → Bool
+is_bringing (Brings bio status) = true
+is_bringing carried = false
+
+-- whether a closed node is carried
+abbrev pub is_carrying : Carried → Bool
+is_carrying (Carries writer closed) = true
+is_carrying carried = false
+
 -- a bio that is carried is in no list
 abbrev pub IsLoadAlone : Load → Type 0
 IsLoadAlone load.Empty = Unit {0}
@@ -46,28 +56,16 @@ IsLoadAlone (load.Brings bio status) = IsAlone bio
 IsLoadAlone (load.Carries writer node) = IsAlonePart node.held.bio
 IsLoadAlone (load.Fails breach held) = Unit {0}
 
--- a closed node with this element beside what else it holds
-abbrev pub with_vector : Element Vector → ClosedNode → Closed
-with_vector vector rest =
-    let closed = closed_node_of rest in
-    record closed { held = record closed.held { vector = Some (vec_item vector) } }
-
-abbrev pub with_bio_held : Element (BioBody Pad) → ClosedNode → Closed
-with_bio_held bio rest =
-    let closed = closed_node_of rest in
-    record closed { held = record closed.held { bio = Some (item_of bio) } }
-
-abbrev pub with_slip : Element Slip → ClosedNode → Closed
-with_slip slip rest =
-    let closed = closed_node_of rest in
-    record closed { held = record closed.held { slip = Some (slip_item slip) } }
-
 -- what is left of a closed node of this write whose elements were all given back is carried
 abbrev pub given_back : ℕ → Option ℕ → ℕ → Status → Carried
 given_back writer parent write status = Carries writer (record { held = nothing_held; parent = parent; write = write; status = status })
 
--- all that it held was given back
-pub record HoldsNothing (node : ClosedNode) : Type 0 where
-  pub vector : node.held.vector ≡ None
-  pub bio : node.held.bio ≡ None
-  pub slip : node.held.slip ≡ None
+-- what is held of a closed node that is carried
+abbrev pub held_of : Carried → Holding
+held_of (Carries writer closed) = closed.held
+held_of carried = nothing_held
+
+-- a closed node is carried that holds nothing any more
+abbrev pub IsEmptyNode : Carried → Type 0
+IsEmptyNode (Carries writer closed) = closed.held ≡ nothing_held
+IsEmptyNode carried = ⊥

@@ -10,7 +10,7 @@ ghost use Rattle.task_steps.specs.Routed.{routing_setup};
 ghost use Rattle.task_steps.specs.Stage.{Owes};
 ghost use Rattle.task_steps.specs.Homes.{IsTaskOf};
 ghost use Rattle.task_steps.specs.Turns.{completes, Chosen, Turns, step_of};
-ghost use Rattle.task_steps.specs.CarriedViews.{carried_of, put_back, is_busy, IsLoadAlone};
+ghost use Rattle.task_steps.specs.CarriedViews.{carried_of, held_of, put_back, is_bringing, is_busy, is_carrying, IsLoadAlone};
 ghost use Rattle.task_steps.specs.TaskSteps.{CompleterDoes, TaskReady};
 
 mod closed;
@@ -86,6 +86,19 @@ fn put_back(rest: Back, back: Unmade) -> Back
             ..rest
         },
         Unmade::Nothing | Unmade::List(_) | Unmade::Ask(_) => rest,
+    }
+}
+
+impl Load {
+    // What is held of a closed node, if one is carried.
+    pub(crate) fn held(self) -> Back
+        requires carries { is_carrying (carried_of self) ≡ true }
+        ensures { holding_of result ≡ held_of (carried_of self) }
+    {
+        match self {
+            Load::Carries { node, .. } => node.held,
+            Load::Empty | Load::Brings { .. } | Load::Fails { .. } => unreachable!(),
+        }
     }
 }
 
@@ -178,20 +191,39 @@ impl Carried {
         }
     }
 
-    // A step of a completer that carried this.
-    fn go_on<O: Objects>(&mut self, objects: &mut O, disk: DevId, load: Load) -> Step
-        requires empty { self.old ≡ Empty }
-        requires alone { IsLoadAlone load }
-        requires busy { is_busy (carried_of load) ≡ true }
-        requires ready { TaskReady O.Objects objects.old (Completes disk (carried_of load)) }
-        ensures does { CompleterDoes O.Objects disk (carried_of load) objects.old (self.new, result) objects.new }
+    // What it carries, which it does no more.
+    pub(crate) fn take(&mut self) -> Load
+        ensures empty { self.new ≡ Empty }
+        ensures load { (carried_of result ≡ self.old) × IsLoadAlone result }
+    {
+        mem::replace(&mut self.load, Load::Empty)
+    }
+
+    // Tells the node of the bio that it carries of its end.
+    fn bring<O: Objects>(&mut self, objects: &mut O, disk: DevId) -> Step
+        requires brings { is_bringing self.old ≡ true }
+        requires ready { TaskReady O.Objects objects.old (Completes disk self.old) }
+        ensures does { CompleterDoes O.Objects disk self.old objects.old (self.new, result) objects.new }
         ensures completes_none { completes result ≡ false }
     {
-        match load {
-            Load::Empty => unreachable!(),
+        match self.take() {
             Load::Brings { bio, status } => self.drop_part(objects, disk, bio, status),
-            Load::Carries { writer, node } => self.finish(objects, disk, writer, node),
-            Load::Fails { breach, held } => self.fail(breach, held),
+            Load::Empty | Load::Carries { .. } | Load::Fails { .. } => unreachable!(),
+        }
+    }
+
+    // A step of a completer that carries something, or has broken off.
+    fn go_on<O: Objects>(&mut self, objects: &mut O, disk: DevId) -> Step
+        requires busy { is_busy self.old ≡ true }
+        requires ready { TaskReady O.Objects objects.old (Completes disk self.old) }
+        ensures does { CompleterDoes O.Objects disk self.old objects.old (self.new, result) objects.new }
+        ensures completes_none { completes result ≡ false }
+    {
+        match self.load {
+            Load::Empty => unreachable!(),
+            Load::Brings { .. } => self.bring(objects, disk),
+            Load::Carries { .. } => self.finish(objects, disk),
+            Load::Fails { breach, .. } => Step::Broken(breach),
         }
     }
 
@@ -212,7 +244,6 @@ impl Carried {
         if !self.is_busy() {
             return self.complete(objects, chooser, disk);
         }
-        let load = mem::replace(&mut self.load, Load::Empty);
-        self.go_on(objects, disk, load)
+        self.go_on(objects, disk)
     }
 }

@@ -1,22 +1,25 @@
 //! What a completer does with a node that has closed.
-ghost use Rattle.std.specs.Prelude.{◌≡◌, None, Some};
-ghost use Rattle.bio_books.specs.Books.{nothing_held};
-ghost use Rattle.bio_books.specs.Views.{closed_node_of, IsAlonePart};
-ghost use Rattle.run_machine.specs.Tasks.{Carries, Completer as Completes, Empty};
+ghost use Rattle.std.specs.Prelude.{◌≡◌, true, false, None, Some, MatchResult};
+ghost use Rattle.run_machine.specs.declared.event.Breach.TheVariants as Breach';
+ghost use Rattle.run_machine.specs.declared.event.TaskId.TheVariants as TaskId';
+ghost use Rattle.run_machine.specs.declared.event.What.TheVariants as What';
+ghost use Rattle.task_steps.specs.declared.step.Step.TheVariants as Step';
+ghost use Rattle.run_machine.specs.Kept.{holding_kept};
+ghost use Rattle.run_machine.specs.Tasks.{Carries, Completer as Completes, Empty, Fails};
 ghost use Rattle.task_steps.specs.Routed.{routing_setup};
 ghost use Rattle.task_steps.specs.Stage.{Owes};
 ghost use Rattle.task_steps.specs.Homes.{IsTaskOf};
-ghost use Rattle.task_steps.specs.Turns.{Turns};
+ghost use Rattle.task_steps.specs.Turns.{completes, Turns};
 ghost use Rattle.task_steps.specs.TaskSteps.{CompleterDoes, TaskReady};
-ghost use Rattle.task_steps.specs.CarriedViews.{given_back};
+ghost use Rattle.task_steps.specs.CarriedViews.{given_back, held_of, is_carrying, put_back, IsEmptyNode};
 
-use crate::completer::{Carried, nothing_held};
-use crate::objects::Objects;
+use crate::completer::gives::{gives, pool_of};
+use crate::completer::{Carried, Load, nothing_held};
+use crate::objects::{Objects, Unmade};
 use crate::step::Step;
 use bio_books::ClosedNode;
-use model_disks::Done;
 use run_machine::{Event, TaskId, What};
-use stack_base::{DevId, Status};
+use stack_base::{DevId, PoolId, Status};
 
 impl Carried {
     // Tells a write done, whose node has closed and holds nothing any more.
@@ -42,34 +45,73 @@ impl Carried {
         }
     }
 
-    // Goes on with a closed node: what it holds goes back first, then its parent is told, or its write is done.
-    pub(crate) fn finish<O: Objects>(
-        &mut self,
-        objects: &mut O,
-        disk: DevId,
-        writer: u32,
-        node: ClosedNode,
-    ) -> Step
-        requires empty { self.old ≡ Empty }
-        requires alone { IsAlonePart node.held.bio }
-        requires ready { TaskReady O.Objects objects.old (Completes disk (Carries writer (closed_node_of node))) }
-        ensures does { CompleterDoes O.Objects disk (Carries writer (closed_node_of node)) objects.old (self.new, result) objects.new }
+    // Goes on behind a closed node that holds nothing any more: its parent is told, or its write is done.
+    fn pass_on<O: Objects>(&mut self, objects: &mut O, disk: DevId) -> Step
+        requires empty { IsEmptyNode self.old }
+        requires ready { TaskReady O.Objects objects.old (Completes disk self.old) }
+        ensures does { CompleterDoes O.Objects disk self.old objects.old (self.new, result) objects.new }
     {
-        let mut rest = node;
-        if let Some(vector) = rest.held.vector.take() {
-            return self.give_vector(objects, disk, writer, vector, rest);
+        match self.take() {
+            Load::Carries { writer, node } => {
+                let ClosedNode {
+                    held,
+                    parent,
+                    write,
+                    status,
+                } = node;
+                drop(held);
+                match parent {
+                    Some(parent) => self.drop_parent(objects, disk, writer, parent, write, status),
+                    None => self.end_write(objects, disk, writer, write, status),
+                }
+            }
+            Load::Empty | Load::Brings { .. } | Load::Fails { .. } => unreachable!(),
         }
-        if let Some(bio) = rest.held.bio.take() {
-            return self.give_bio(objects, disk, writer, bio, rest);
+    }
+
+    // What came of giving back a part of the closed node that it carries, which is in it no more.
+    #[inline(always)] // where a call is always made, nothing is left of the other case
+    fn gave(&mut self, disk: DevId, pool: PoolId, given: Result<(), Unmade>) -> Step
+        requires carries { is_carrying self.old ≡ true }
+        ensures { MatchResult given
+            (λ done. (self.new ≡ self.old) × (result ≡ Step'.Stepped (record { task = TaskId'.Completer disk; what = What'.Give pool })))
+            (λ back. (self.new ≡ Fails Breach'.Spent (holding_kept (put_back (held_of self.old) back))) × (result ≡ Step'.Broken Breach'.Spent)) }
+    {
+        match given {
+            Ok(()) => gives(disk, pool),
+            Err(back) => {
+                let rest = self.take().held();
+                self.spend(rest, back)
+            }
         }
-        if let Some(slip) = rest.held.slip.take() {
-            return self.give_slip(objects, disk, writer, slip, rest);
-        }
-        let (parent, write, status) = (rest.parent, rest.write, rest.status);
-        drop(rest);
-        match parent {
-            Some(parent) => self.drop_parent(objects, disk, writer, parent, write, status),
-            None => self.end_write(objects, disk, writer, write, status),
+    }
+
+    // Goes on with a closed node, which stays where it is: what it holds goes back first, then its parent is told, or its write is done.
+    pub(crate) fn finish<O: Objects>(&mut self, objects: &mut O, disk: DevId) -> Step
+        requires carries { is_carrying self.old ≡ true }
+        requires ready { TaskReady O.Objects objects.old (Completes disk self.old) }
+        ensures does { CompleterDoes O.Objects disk self.old objects.old (self.new, result) objects.new }
+    {
+        match &mut self.load {
+            Load::Carries { node, .. } => {
+                if let Some(vector) = node.held.vector.take() {
+                    let pool = pool_of(vector.no());
+                    let given = objects.give_vec(vector);
+                    return self.gave(disk, pool, given);
+                }
+                if let Some(bio) = node.held.bio.take() {
+                    let pool = pool_of(bio.no());
+                    let given = objects.give_bio(bio);
+                    return self.gave(disk, pool, given);
+                }
+                if let Some(slip) = node.held.slip.take() {
+                    let pool = pool_of(slip.no());
+                    let given = objects.give_slip(slip);
+                    return self.gave(disk, pool, given);
+                }
+                self.pass_on(objects, disk)
+            }
+            Load::Empty | Load::Brings { .. } | Load::Fails { .. } => unreachable!(),
         }
     }
 }
