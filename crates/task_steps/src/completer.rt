@@ -231,6 +231,7 @@ impl Carried {
     /// chooser says which, and looks whether any write is unfinished where none waits. With a bio it tells the bio's node of the end. Of a
     /// closed node it gives back what that held, an element a step, and then tells the parent, or that the write is done. The chooser is asked
     /// in the first case alone.
+    #[inline(always)] // as `Task::step`
     pub fn step<O: Objects, C: Chooser>(
         &mut self,
         objects: &mut O,

@@ -78,6 +78,7 @@ impl Rescuer {
 
     /// Its next step: it asks one object once, for what its submission needs or for the next bio that waits for it, and goes on with the
     /// reply. Where none waits, it also looks at how many writes are unfinished.
+    #[inline(always)] // as `Task::step`
     pub fn step<O: Objects>(&mut self, objects: &mut O, routes: &Routes) -> Step
         requires routing { (O.stage objects.old).routing ≡ routes.now }
         requires ready { TaskReady O.Objects objects.old (rescuer_task self.old) }

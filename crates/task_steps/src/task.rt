@@ -90,6 +90,7 @@ impl Task {
     ///
     /// `Step::Stepped` tells the event that happened. With any other answer the task is as it was, but where it broke off: then it keeps what it
     /// was handed back, and answers the same from then on.
+    #[inline(always)] // a task that waits then writes no answer
     pub fn step<O: Objects, C: Chooser>(&mut self, objects: &mut O, chooser: &mut C) -> Step
         requires routing { self.old.routing ≡ (O.stage objects.old).routing }
         requires ready { TaskReady O.Objects objects.old self.old.state }

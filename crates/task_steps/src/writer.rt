@@ -156,6 +156,7 @@ impl Writer {
 
     /// Its next step: it asks one object once, for what its submission or its next write needs, and goes on with the reply. Before the
     /// first take of a write it looks at the present round, and waits where the write is of a later one.
+    #[inline(always)] // as `Task::step`
     pub fn step<O: Objects>(&mut self, objects: &mut O, routes: &Routes) -> Step
         requires routing { (O.stage objects.old).routing ≡ routes.now }
         requires ready { TaskReady O.Objects objects.old (writer_task self.old) }

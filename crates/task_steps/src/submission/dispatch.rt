@@ -40,6 +40,7 @@ fn asked(routes: &Routes, dev: DevId, lists: &TaskLists) -> DriverAsk
 }
 
 // The bio goes to its driver, while these wait.
+#[inline(always)] // as `Line::becomes`
 pub(crate) fn serve(routes: &Routes, mut bio: BioElement, at: &mut Doing, lists: &TaskLists)
     requires rests { at.old ≡ doing'.Rests }
     requires within { IsWithinDevice routes.now.stack (item_of bio).bio }
@@ -53,6 +54,7 @@ pub(crate) fn serve(routes: &Routes, mut bio: BioElement, at: &mut Doing, lists:
 }
 
 // The driver of a device has returned: the next bio goes to its driver, if one waits.
+#[inline(always)] // as `Line::becomes`
 pub(crate) fn go_on(routes: &Routes, at: &mut Doing, lists: &mut TaskLists, served: DevId)
     requires rests { at.old ≡ doing'.Rests }
     requires lists { ListsAreWithin routes.now.stack lists.old }

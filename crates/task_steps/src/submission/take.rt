@@ -63,6 +63,7 @@ impl Line {
     }
 
     // What is wanted behind an attempt.
+    #[inline(always)] // as `Line::becomes`
     fn wants(&mut self, next: Want)
         requires { IsWantAlone next }
         ensures { self.new ≡ record self.old { doing = wanting self.old.doing (want_of next) } }
