@@ -230,6 +230,7 @@ impl Objects for Plain {
         Ok(())
     }
 
+    #[inline(always)] // as `take_bio`
     fn pop(&mut self, dev: DevId) -> Result<Option<BioElement>, Unmade> {
         let at = place(&self.index.lists, dev.0);
         Ok(self.lists[at].1.pop())
@@ -241,6 +242,7 @@ impl Objects for Plain {
         Ok(())
     }
 
+    #[inline(always)] // as `take_bio`
     fn complete<C: Chooser>(
         &mut self,
         disk: DevId,
@@ -255,11 +257,13 @@ impl Objects for Plain {
         Ok(Some((index, self.disks[at].complete(index))))
     }
 
+    #[inline(always)] // as `take_bio`
     fn link(&mut self, writer: u32, ask: Ask) -> Result<Link, Unmade> {
         let at = place(&self.index.books, writer);
         Ok(link_in(&mut self.books[at].1, ask))
     }
 
+    #[inline(always)] // as `take_bio`
     fn drop_one(
         &mut self,
         writer: u32,
