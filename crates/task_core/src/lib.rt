@@ -9,6 +9,7 @@ mod plain;
 pub use ended::Ended;
 pub use opening::objects::{bads_of, is_disk, open_objects};
 pub use opening::pools::{copy_of, is_mirror, records_of, script_of};
+pub use opening::rounds::open_tally;
 pub use opening::{Opened, drop_tasks, open, open_tasks};
 pub use plain::Plain;
 pub use plain::calls::{dev_of, link_in, resize_home};
@@ -18,5 +19,5 @@ pub use run_machine::{Breach, End, Event, Got, How, TaskId, What};
 pub use task_steps::{
     Ask, Carried, Chooser, Cut, Doing, Driver, DriverAsk, Duty, Gathered, HandedBack, Keeper, Kept,
     Kind, Line, Load, Manner, Objects, Oldest, Rescuer, Routes, Step, Task, Todo, Todos, Unmade,
-    Want, Writer, first_bio, homes, needs_vector, pool_of, within,
+    Want, Writer, duty_at, first_bio, homes, needs_vector, pool_of, within,
 };

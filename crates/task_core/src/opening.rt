@@ -11,7 +11,7 @@ ghost use Rattle.run_machine.specs.Scenario.{scenario_of};
 
 pub(crate) mod objects;
 pub(crate) mod pools;
-mod rounds;
+pub(crate) mod rounds;
 mod tasks;
 mod writers;
 

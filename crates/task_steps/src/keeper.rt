@@ -93,8 +93,8 @@ fn start<O: Objects>(objects: &mut O, round: u32) -> (Option<Breach>, Step)
 }
 
 impl Duty {
-    // How many writes there are of the round that starts next and of those behind it.
-    fn later(self) -> u32
+    /// How many writes there are of the round that starts next and of those behind it.
+    pub fn later(self) -> u32
         ensures { result ≡ later_of (duty_of self) }
     {
         match self {
@@ -115,9 +115,9 @@ impl Duty {
     }
 }
 
-// The duty at a place, if there is one.
+/// The duty at a place, if there is one.
 #[tactic(auto, using(crate::proofs::KeeperLemmas::duty_there, crate::proofs::KeeperLemmas::duties_over))]
-fn duty_at(duties: &[Duty], next: usize) -> Option<Duty>
+pub fn duty_at(duties: &[Duty], next: usize) -> Option<Duty>
     ensures { IsDutyAt duties.now next result }
 {
     duties.get(next).copied()

@@ -18,7 +18,7 @@ mod writer;
 
 pub use completer::gives::pool_of;
 pub use completer::{Carried, Load};
-pub use keeper::{Duty, Keeper};
+pub use keeper::{Duty, Keeper, duty_at};
 pub use objects::{Ask, Chooser, Objects, Oldest, Unmade};
 pub use rescuer::Rescuer;
 pub use routes::driver::{Driver, Manner};

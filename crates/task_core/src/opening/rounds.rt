@@ -37,8 +37,11 @@ pub(crate) fn left_of(alloc: Global, rounds: &[u32]) -> Result<Vec<u32>, AllocEr
     Ok(left)
 }
 
-// The tally in which all of so many writes are unfinished.
-pub(crate) fn open_tally(alloc: Global, left: Vec<u32>, writes: usize) -> Result<Tally, AllocError>
+/// The tally in which all of so many writes are unfinished.
+///
+/// # Errors
+/// Where there is no memory.
+pub fn open_tally(alloc: Global, left: Vec<u32>, writes: usize) -> Result<Tally, AllocError>
     requires some { 0 < length left.items }
     requires few { length left.items ≤ 2 ^ 32 }
     requires unfinished { sum left.items < 2 ^ 32 }

@@ -63,9 +63,9 @@ impl Tally {
         let _ = self.left();
     }
 
-    /// A write of the present round is done, and ended so. The number of the present round falls by one, or stays at 0.
+    /// A write of the present round is done, and ended so. The number of the present round falls by one, or stays at 0. Where there is no such
+    /// write, no status is kept.
     pub fn done(&mut self, write: u32, status: Status)
-        requires { write < length self.old.statuses.items }
         ensures { tally_of self.new ≡ done_one write status (tally_of self.old) }
     {
         let round = self.round as usize;
@@ -74,7 +74,9 @@ impl Tally {
             self.left[round] = before - 1;
             self.all -= 1;
         }
-        self.statuses[write as usize] = status;
+        if let Some(known) = self.statuses.get_mut(write as usize) {
+            *known = status;
+        }
     }
 
     /// The next round becomes the present one. Where there is none, nothing changes.
