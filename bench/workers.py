@@ -73,7 +73,7 @@ def same(program, texts, trace):
 
 
 # It counts the threads that were started and those that were refused, in two words of the file COUNT, whose third one says that it was loaded. It has the stack
-# grow before, since the system ends a program whose stack cannot grow: sixteen workers take some 2 MB of the caller's.
+# grow before to what a run by sixteen workers takes of the caller's, since the system ends a program whose stack cannot grow.
 COUNTING = r"""
 #define _GNU_SOURCE
 #include <dlfcn.h>
@@ -83,7 +83,7 @@ COUNTING = r"""
 #include <stdlib.h>
 #include <sys/mman.h>
 
-#define STACK (3 << 20)
+#define STACK (512 << 10)
 
 static atomic_ulong *counts;
 static int (*real)(pthread_t *, const pthread_attr_t *, void *(*)(void *), void *);

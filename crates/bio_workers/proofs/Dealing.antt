@@ -1,5 +1,5 @@
 -- Hands that are dealt out of all tasks, and come back.
-use Rattle.std.proofs.Common.{◌≡◌, ◌+◌, List, [], ◌∷◌, ◌++◌, length, All, IsPermutation, arith, ap, sym, subst, ◌∙◌}
+use Rattle.std.proofs.Common.{◌≡◌, ◌+◌, List, [], ◌∷◌, ◌++◌, length, All, IfNone, IfSome, IsPermutation, None, Option, Some, arith, ap, sym, subst, ◌∙◌}
 use Rattle.std.proofs.lemmas.List.Sorted.{IsPermutation-trans, IsPermutation-append, IsPermutation-append_comm, IsPermutation-append_right, IsPermutation-refl, All-permutation, length_permutation}
 use Rattle.std.proofs.lemmas.List.{length-append, append_assoc}
 use Rattle.std.proofs.lemmas.List.Elements.{All-nil, All-cons, All-head, All-tail}
@@ -32,6 +32,18 @@ module _ {X : Type 0} where
 
   pub back_can : (P : X → Type 0) (all hand rest back out : List X) → IsPermutation all (hand ++ rest) → IsPermutation hand back → IsPermutation (back ++ rest) out → All P all → All P out
   back_can P all hand rest back out p q s a = All-permutation P all out (comes_back all hand rest back rest out p q (IsPermutation-refl rest) s) a
+
+  pub comes_in : (hand back rest out : List X) → IsPermutation hand back → IsPermutation (back ++ rest) out → IsPermutation (hand ++ rest) out
+  comes_in hand back rest out q s = IsPermutation-trans (hand ++ rest) (back ++ rest) out (IsPermutation-append hand back rest rest q (IsPermutation-refl rest)) s
+
+  -- what was started with, whether or not it was
+  abbrev pub started_with : {C : Type 0} → (C → List X) → Option C → List X
+  started_with of None = []
+  started_with of (Some c) = of c
+
+  pub dealt : {C : Type 0} (of : C → List X) (started : Option C) (all rest : List X) → IfSome started (λ c. IsPermutation all (of c ++ rest)) → IfNone started (IsPermutation all rest) → IsPermutation all (started_with of started ++ rest)
+  dealt of None all rest some none = none
+  dealt of (Some c) all rest some none = some
 
   moved_over : (xs ys : List X) (x : X) → IsPermutation ((xs ++ x ∷ []) ++ ys) (xs ++ (ys ++ x ∷ []))
   moved_over xs ys x = subst (λ l. IsPermutation l (xs ++ (ys ++ x ∷ []))) (sym (append_assoc xs (x ∷ []) ys)) (IsPermutation-append_right xs (x ∷ ys) (ys ++ x ∷ []) (IsPermutation-append_comm (x ∷ []) ys))
