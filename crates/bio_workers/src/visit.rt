@@ -11,7 +11,7 @@ use std::sync::Wait;
 const MOST_STEPS: u32 = 64;
 
 // Steps a task, and rings where that was an event.
-#[inline(always)] // as `Task::step`
+#[inline(always)] // a step that meets nothing then writes no answer
 fn step<T, R: Wait, W: Work<T>>(rt: &R, work: &W, bell: &Bell, task: &mut T) -> Progress
     requires { W.can work.now (W.key task.old) }
     ensures key { W.key task.new ≡ W.key task.old }
