@@ -4,3 +4,4 @@ pub mod Cores
 pub mod Needed
 pub mod Freed
 pub mod FirstFree
+pub mod Keepers

@@ -18,9 +18,7 @@ pub use objects::lists::{Lists, Rescue};
 pub use objects::node::{Closed, Holding, Node};
 pub use objects::part::{Data, Hand, Part, Slip, Vector};
 pub use objects::pool::Pool;
-pub use objects::tally::Tally;
 pub use state::Core;
 pub use steps::task::{
-    Ask, Carried, Completer, Copying, Doing, Duty, Gathered, Keeper, Line, Rescuer, Task, Want,
-    Writer,
+    Ask, Carried, Completer, Copying, Doing, Gathered, Keeper, Line, Rescuer, Task, Want, Writer,
 };

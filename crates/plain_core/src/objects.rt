@@ -4,8 +4,9 @@ ghost use Rattle.std.specs.List.{list_all};
 ghost use Rattle.stack_base.specs.PoolId.{pool_number};
 ghost use Rattle.bio_books.specs.Books.{node_at};
 ghost use Rattle.bio_books.specs.Links.{IsVacant};
+ghost use Rattle.task_core.specs.Plains.{tally_of};
 ghost use Rattle.plain_core.specs.objects.Questions.{IsDecisionOf, TellsSpare, TellsCount};
-ghost use Rattle.plain_core.specs.objects.Plain.{HasPlacesForStack, core_book_at, core_disk_at, is_home, core_pool_at, core_rescue_at};
+ghost use Rattle.plain_core.specs.objects.Plain.{HasPlacesForStack, core_book_at, core_disk_at, is_home, core_pool_at, core_rescue_at, core_objects};
 
 pub(crate) mod book;
 pub(crate) mod disk;
@@ -15,19 +16,17 @@ mod moves;
 pub(crate) mod node;
 pub(crate) mod part;
 pub(crate) mod pool;
-pub(crate) mod tally;
 pub(crate) mod told;
 
 use crate::objects::book::Book;
 use crate::objects::disk::Disk;
 use crate::objects::lists::Rescue;
 use crate::objects::pool::Pool;
-use crate::objects::tally::Tally;
 use mempool_core::Facts;
 use stack_base::{DevId, PoolId};
 use std::marker::Model;
 use std::snapshot::Snapshot;
-use task_core::Routes;
+use task_core::{Routes, Tally};
 
 /// The number of a pool.
 pub fn number_of(pool: PoolId) -> u64
@@ -56,6 +55,7 @@ pub struct Objects {
 }
 
 impl Model for Objects {
+    ghost use Rattle.task_core.specs.Plains.{tally_of};
     ghost use Rattle.plain_core.specs.objects.Plain.{CoreObjects, HasPlacesForStack};
 
     ghost Value = { CoreObjects };
@@ -66,7 +66,7 @@ impl Model for Objects {
       rescues = o.rescues.items;
       disks = o.disks.items;
       books = o.books.items;
-      tally = o.tally;
+      tally = tally_of o.tally;
     } };
 
     ghost invariant = { λ o. HasPlacesForStack o.stage.value.stack o.pools.items o.rescues.items o.disks.items };
@@ -83,14 +83,7 @@ impl Objects {
         tally: Tally,
     ) -> Objects
         requires { HasPlacesForStack routes.now.stack pools.items rescues.items disks.items }
-        ensures { result ≡ record {
-          stack = routes.now.stack;
-          pools = pools.items;
-          rescues = rescues.items;
-          disks = disks.items;
-          books = books.items;
-          tally = tally;
-        } }
+        ensures { result ≡ core_objects routes.now.stack pools.items rescues.items disks.items books.items (tally_of tally) }
     {
         Objects {
             stage: Snapshot::of(routes),
@@ -113,28 +106,28 @@ impl Objects {
     pub fn round(&self) -> u32
         ensures { result ≡ self.now.tally.round }
     {
-        self.tally.round()
+        self.tally.round
     }
 
     /// Whether exactly so many writes are unfinished, of all rounds together.
-    pub fn has_left(&self, count: u64) -> bool
+    pub fn has_left(&self, count: u32) -> bool
         ensures { result ≡ (sum self.now.tally.left == count) }
     {
-        self.tally.has_left(count)
+        self.tally.left() == count
     }
 
     /// How many writes are unfinished.
     pub fn unfinished(&self) -> u128
         ensures { result ≡ sum self.now.tally.left }
     {
-        self.tally.unfinished()
+        u128::from(self.tally.left())
     }
 
     /// Whether a round is behind the present one.
     pub fn has_next(&self) -> bool
         ensures { IsDecisionOf result (self.now.tally.round + 1 < length self.now.tally.left) }
     {
-        self.tally.has_next()
+        (self.tally.round as usize) + 1 < self.tally.left.len()
     }
 
     /// Whether a take of this pool can have a spare.

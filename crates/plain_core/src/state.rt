@@ -113,7 +113,7 @@ impl Core {
         let seen = tasks_seen(alloc, &opened);
         drop_tasks(opened);
         let (tasks, places) = seen?;
-        let objects = open_objects(alloc, stack, &routes, scripts, &left, work.writes.len())?;
+        let objects = open_objects(alloc, stack, &routes, scripts, left, work.writes.len())?;
         Ok(Core {
             routes,
             objects,

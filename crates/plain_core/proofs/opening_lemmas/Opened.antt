@@ -1,5 +1,5 @@
 -- What is opened of a text is the state in which its runs begin.
-use Rattle.std.proofs.Common.{◌≡◌, ◌+◌, ◌/◌, ◌%◌, ◌^◌, ◌<◌, ◌≤◌, ◌==◌, ◌⊎◌, inl, inr, ℕ, Bool, true, false, cond, List, [], ◌∷◌, length, map, find, replicate, refl, sym, ap, ◌∙◌, subst, arith, Option, None, Some}
+use Rattle.std.proofs.Common.{◌≡◌, ◌+◌, ◌/◌, ◌%◌, ◌<◌, ◌≤◌, ◌==◌, ◌⊎◌, inl, inr, ℕ, Bool, true, false, cond, List, [], ◌∷◌, length, map, find, replicate, refl, sym, ap, ◌∙◌, subst, arith, Option, None, Some}
 use Rattle.std.specs.Prelude.{All, slice_get, slice_index_or, filter}
 use Rattle.std.specs.List.{range_with_len}
 use Rattle.std.specs.Option.{option_map_or}
@@ -38,7 +38,6 @@ use Rattle.task_core.specs.opened.NewTasks.{in_round, left_in, rounds_in, AreSha
 use Rattle.task_core.proofs.opened.Behind.{sum_le}
 use Rattle.task_core.proofs.opened.Setups.{no_writer}
 use Rattle.task_core.proofs.opened.Sharing.{share_served}
-use Rattle.plain_core.proofs.opening_lemmas.Counted.{last_le}
 
 abbrev no_bios : List (Item Pad)
 no_bios = []
@@ -120,6 +119,10 @@ module _ (stack : Stack) (scripts : List (PoolId × Answers)) where
     within = λ dev. subst (AreWithin stack) (sym (ap (λ rs. slice_index_or rs dev []) are_rescues ∙ rescue_is dev)) (All-nil (IsItemWithin stack));
   }
 
+-- there are so many rounds
+pub round_count : (rounds left : List ℕ) → left ≡ left_in rounds → length left ≡ rounds_in rounds
+round_count rounds left is = ap length is ∙ length-map-range_with_len (in_round rounds) 0 (rounds_in rounds)
+
 rest_fits : (stack : Stack) → LineFits stack rests
 rest_fits stack = record { doing = tt; lists = (All-nil (IsItemWithin stack), All-nil (IsItemWithin stack)) }
 
@@ -142,14 +145,6 @@ module _ (stack : Stack) (scripts : List (PoolId × Answers)) (work : Work) (can
         paired = can.paired;
         few = omega (arith, allowed, below);
       }
-
-  -- and has few rounds
-  pub few_rounds : (left : List ℕ) → left ≡ left_in work.rounds.items → length left < 2 ^ 32
-  few_rounds left is =
-      let rounds = work.rounds.items in
-      let long = ap length is ∙ length-map-range_with_len (in_round rounds) 0 (rounds_in rounds) in
-      let last = last_le rounds 0 1024 (omega arith) can.rounds in
-      omega (arith, long, last)
 
   pool_is : (number : ℕ) → slice_index_or (new_pools stack scripts 66) number no_core_pool ≡ new_pool stack scripts number
   pool_is number = elim (within_or_past number 66) [

@@ -22,7 +22,8 @@ use Rattle.run_machine.specs.Tasks.{TaskState, Duty, Resizes, Starts, NoBio, Emp
 use Rattle.plain_core.specs.declared.steps.task.Task.{Task}
 use Rattle.plain_core.specs.Cores.{slot_of}
 use Rattle.plain_core.specs.opening.Opening.{AreTasksSeated, CanOpen, Seats, scenario_by}
-use Rattle.plain_core.specs.opening.Seen.{HasNotBegun, IsOfPool, Rises}
+use Rattle.plain_core.specs.opening.Seen.{HasNotBegun, Rises}
+use Rattle.plain_core.specs.steps.Duties.{IsOfPool}
 use Rattle.plain_core.specs.steps.Views.{task_of_plain}
 use Rattle.plain_core.proofs.opening_lemmas.Seated.{seated_on}
 use Rattle.task_core.proofs.opened.ScriptsBehind.{all_flat}

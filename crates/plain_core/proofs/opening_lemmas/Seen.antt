@@ -1,5 +1,5 @@
 -- Opened objects are those of their text.
-use Rattle.std.proofs.Common.{◌≡◌, ◌/◌, ◌%◌, ◌^◌, ◌<◌, ◌≤◌, ◌==◌, ◌&&◌, ◌||◌, ℕ, Bool, true, false, true≢false, cond, length, refl, sym, ap, ◌∙◌, subst, arith}
+use Rattle.std.proofs.Common.{◌≡◌, ◌/◌, ◌%◌, ◌≤◌, ◌==◌, ◌&&◌, ◌||◌, ℕ, Bool, true, false, true≢false, cond, refl, sym, ap, ◌∙◌, subst, arith}
 use Rattle.std.proofs.lemmas.Bool.Decides.{nat_tests}
 use Rattle.fail_script.specs.Script.{Answers, only_tail}
 use Rattle.stack_base.specs.declared.ids.PoolId.{PoolId}
@@ -22,7 +22,6 @@ use Rattle.task_steps.specs.Stage.{Stage, is_pool}
 use Rattle.task_core.proofs.opened.Behind.{no_set_keeps, no_slips_keep, scripts_alone}
 use Rattle.plain_core.specs.opening.Opening.{CanOpen, new_pool}
 use Rattle.plain_core.specs.objects.Plain.{opened_disk}
-use Rattle.plain_core.proofs.opening_lemmas.Opened as begun
 use Rattle.plain_core.proofs.opening_lemmas.Readable.{can_open}
 
 -- the pool of a number, by three questions
@@ -129,9 +128,6 @@ module _ (o : Opened) (is : IsOpened o) where
   -- the tally
   pub left_there : o.objects.tally.left.items ≡ (objects s).tally.left
   left_there = ap (λ (os : Objects). os.tally.left) is.objects
-
-  pub few_rounds : length (objects s).tally.left < 2 ^ 32
-  few_rounds = begun.few_rounds s.stack s.scripts o.work.value can (objects s).tally.left refl
 
   -- the stack
   pub stack_there : (own : Routing) → own ≡ stage.routing → own.stack ≡ s.stack

@@ -27,6 +27,11 @@ pub record CoreObjects : Type 0 where
   pub books : List BookState
   pub tally : TallyState
 
+-- the objects of a stack that are made of these
+abbrev pub core_objects : Stack → List PoolState → List (List (Item Pad)) → List (Option DiskState) → List BookState → TallyState → CoreObjects
+core_objects stack pools rescues disks books tally =
+    record { stack = stack; pools = pools; rescues = rescues; disks = disks; books = books; tally = tally }
+
 -- a pool that no stack has
 abbrev pub no_core_pool : PoolState
 no_core_pool = opened 0 (only_tail true)

@@ -50,9 +50,8 @@ pub record CanOpen (stack : Stack) (scripts : List (PoolId × Answers)) (work : 
   pub served : All (IsWrite stack) work.writes.items
   pub writers : All (λ (write : Write). write.task ≤ 7) work.writes.items
   pub allowed : all_elements stack work.writes.items ≤ most_elements
-  -- each write has a round, behind 1,024 `sync` lines at most
+  -- each write has a round
   pub paired : length work.rounds.items ≡ length work.writes.items
-  pub rounds : All (λ round. round ≤ 1024) work.rounds.items
 
 -- the core in which the runs of a scenario begin
 pub record IsOpenedCore (s : Scenario) (core : CoreState) : Type 0 where

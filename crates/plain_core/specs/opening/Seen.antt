@@ -1,15 +1,10 @@
 -- Tasks that have not begun, in the order of their slots.
 use Rattle.std.specs.Prelude.{◌≡◌, ◌+◌, ◌≤◌, ℕ, All, List, [], ◌∷◌}
-use Rattle.stack_base.specs.PoolId.{IsOfStack}
 use Rattle.run_machine.specs.Events.{id_of}
 use Rattle.run_machine.specs.Lines.{rests}
-use Rattle.run_machine.specs.Tasks.{TaskState, Duty, Resizes, Starts, NoBio, Empty, Keeps, Stops, Writer, Rescuer, Completer, Keeper}
+use Rattle.run_machine.specs.Tasks.{TaskState, NoBio, Empty, Keeps, Stops, Writer, Rescuer, Completer, Keeper}
 use Rattle.plain_core.specs.Cores.{slot_of}
-
--- a change of reserves names a pool that a stack can have
-abbrev pub IsOfPool : Duty → Type 0
-IsOfPool (Resizes pool min later) = IsOfStack pool
-IsOfPool (Starts round later) = Unit {0}
+use Rattle.plain_core.specs.steps.Duties.{IsOfPool}
 
 -- It has nothing at hand, no element and no submission, as each task that has not begun. Of the keeper, which never has an element, this says that
 -- it has not broken off, and that its changes of reserves name pools that a stack can have.

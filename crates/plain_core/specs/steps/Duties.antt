@@ -1,9 +1,15 @@
--- Duties of the keeper as plain data.
-use Rattle.std.specs.Prelude.{ℕ, Option, None, Some}
-use Rattle.stack_base.specs.declared.ids.PoolId.{PoolId}
+-- Duties that the keeper of a plain state has.
+use Rattle.std.specs.Prelude.{◌≡◌, List, ◌∷◌, drop}
+use Rattle.stack_base.specs.PoolId.{IsOfStack}
 use Rattle.run_machine.specs.Tasks.{Duty, Resizes, Starts}
+use Rattle.task_steps.specs.declared.keeper.Duty as real
+use Rattle.task_steps.specs.KeeperViews.{duty_of}
 
--- a pool gets a reserve of this number, or, with none, the round of this number starts
-abbrev pub duty_of_numbers : Option PoolId → ℕ → ℕ → Duty
-duty_of_numbers None round later = Starts round later
-duty_of_numbers (Some pool) min later = Resizes pool min later
+-- a change of reserves names a pool that a stack can have
+abbrev pub IsOfPool : Duty → Type 0
+IsOfPool (Resizes pool min later) = IsOfStack pool
+IsOfPool (Starts round later) = Unit {0}
+
+-- the first duty of all, which is such a one
+abbrev pub IsNextDuty : List Duty → real.Duty → Type 0
+IsNextDuty all next = IsOfPool (duty_of next) × (all ≡ duty_of next ∷ drop 1 all)

@@ -1,5 +1,5 @@
 -- What a step of a task makes of it and of the objects, and where there is none.
-use Rattle.std.specs.Prelude.{◌≡◌, ◌+◌, ℕ, List, [], ◌∷◌, drop, Result, Ok, Err}
+use Rattle.std.specs.Prelude.{◌≡◌, List, [], ◌∷◌, drop, Result, Ok, Err}
 use Rattle.bio_records.specs.declared.bio.Pad.{Pad}
 use Rattle.bio_records.specs.Items.{Item}
 use Rattle.run_machine.specs.declared.event.What.{What}
@@ -45,14 +45,10 @@ abbrev pub duty_reply : task.Duty → Reply
 duty_reply (task.Resizes pool min later) = OutIs 0
 duty_reply (task.Starts round later) = Did
 
--- this one is next of a list of which so many are done
-abbrev pub IsNextAt : {X : Type 0} → List X → ℕ → X → Type 0
-IsNextAt all done next = drop done all ≡ next ∷ drop (done + 1) all
-
 -- a writer that has begun its next write with this bio
 abbrev pub begun_with : Routing → Writer → Item Pad → TaskState
 begun_with r writer part =
-    task.Writer writer.number (drop (writer.begun + 1) writer.todo.items) task.NoBio (line.settled (routing_setup r) (part ∷ []))
+    task.Writer writer.number (drop 1 writer.todo) task.NoBio (line.settled (routing_setup r) (part ∷ []))
 
 -- a writer goes on, in any case or where its next write is so
 abbrev pub WriterMoves : Routing → CoreObjects → Writer → What → Result (Unit {0}) CoreFault → CoreObjects → Writer → Type 0
@@ -60,5 +56,4 @@ WriterMoves r old before what result new after = TaskMoves r old (writer_of befo
 
 abbrev pub WriterMovesFor : (task.Todo → Type 0) → CoreObjects → Writer → What → Result (Unit {0}) CoreFault → CoreObjects → Writer → Type 0
 WriterMovesFor IsSo old before what result new after =
-    (r : Routing) (next : task.Todo) (later : List task.Todo)
-    → drop before.begun before.todo.items ≡ next ∷ later → IsSo next → WriterMoves r old before what result new after
+    (r : Routing) (next : task.Todo) (later : List task.Todo) → before.todo ≡ next ∷ later → IsSo next → WriterMoves r old before what result new after

@@ -1,5 +1,5 @@
 -- Plain tasks as tasks of the machine.
-use Rattle.std.specs.Prelude.{drop}
+use Rattle.std.specs.Prelude.{List}
 use Rattle.run_machine.specs.Lines as line
 use Rattle.run_machine.specs.Tasks as task
 use Rattle.plain_core.specs.objects.Lists.{lists_of}
@@ -17,7 +17,6 @@ use Rattle.plain_core.specs.declared.steps.task.Carried.TheVariants as carried
 use Rattle.plain_core.specs.declared.steps.task.Writer.{Writer}
 use Rattle.plain_core.specs.declared.steps.task.Rescuer.{Rescuer}
 use Rattle.plain_core.specs.declared.steps.task.Completer.{Completer}
-use Rattle.plain_core.specs.declared.steps.task.Keeper.{Keeper}
 use Rattle.plain_core.specs.declared.steps.task.Task.{Task}
 use Rattle.plain_core.specs.declared.steps.task.Task.TheVariants as tasks
 
@@ -51,7 +50,7 @@ carried_of_plain (carried.Brings part status) = task.Brings part status
 carried_of_plain (carried.Carries writer closed) = task.Carries writer closed
 
 abbrev pub writer_of : Writer → task.TaskState
-writer_of w = task.Writer w.number (drop w.begun w.todo.items) (taken_of_plain w.taken) (line_of_plain w.line)
+writer_of w = task.Writer w.number w.todo (taken_of_plain w.taken) (line_of_plain w.line)
 
 abbrev pub rescuer_of : Rescuer → task.TaskState
 rescuer_of r = task.Rescuer r.dev (line_of_plain r.line)
@@ -59,8 +58,8 @@ rescuer_of r = task.Rescuer r.dev (line_of_plain r.line)
 abbrev pub completer_of : Completer → task.TaskState
 completer_of c = task.Completer c.disk (carried_of_plain c.carried)
 
-abbrev pub keeper_of : Keeper → task.TaskState
-keeper_of k = task.Keeper (task.Keeps (drop k.done k.duties.items))
+abbrev pub keeper_of : List task.Duty → task.TaskState
+keeper_of duties = task.Keeper (task.Keeps duties)
 
 abbrev pub task_of_plain : Task → task.TaskState
 task_of_plain (tasks.Writer w) = writer_of w

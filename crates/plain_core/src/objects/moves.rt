@@ -175,10 +175,10 @@ impl Objects {
     pub fn next_round(&mut self, round: u32, what: &What) -> Result<(), CoreFault>
         ensures { StartsRound self.old round what.now result self.new }
     {
-        if !told::starts(what, round) || !self.tally.has_next() {
+        if !told::starts(what, round) || !self.has_next() {
             return Err(CoreFault::NotEnabled);
         }
-        self.tally.start();
+        self.tally.next_round();
         Ok(())
     }
 }

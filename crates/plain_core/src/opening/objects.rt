@@ -1,9 +1,8 @@
 //! The objects of a text, as runs begin with them, kind by kind.
-ghost use Rattle.std.specs.Prelude.{◌≡◌, ◌<◌, ◌^◌, [], All, IfOk, length, replicate};
+ghost use Rattle.std.specs.Prelude.{◌≡◌, ◌<◌, ◌≤◌, ◌^◌, [], All, IfOk, length, replicate, sum};
 ghost use Rattle.stack_base.specs.PoolId.{IsOfStack};
 ghost use Rattle.stack_base.specs.Stack.{IsStack};
 ghost use Rattle.stack_base.specs.declared.ids.PoolId.{PoolId as Pools};
-ghost use Rattle.stack_base.specs.declared.ids.Status.TheVariants.{Ok as Well};
 ghost use Rattle.fail_script.specs.Script.{Answers};
 ghost use Rattle.run_machine.specs.Opened.{reserve_of};
 ghost use Rattle.plain_core.specs.opening.Opening.{new_books, new_disk, new_disks, new_pools, new_core_objects, new_tally};
@@ -13,11 +12,10 @@ use crate::objects::book::Book;
 use crate::objects::disk::Disk;
 use crate::objects::lists::Rescue;
 use crate::objects::pool::Pool;
-use crate::objects::tally::Tally;
 use fail_script::Script;
-use stack_base::{DevId, PoolId, Stack, Status};
+use stack_base::{DevId, PoolId, Stack};
 use std::alloc::{AllocError, Global};
-use task_core::{Routes, bads_of, is_disk, pool_of, records_of, script_of};
+use task_core::{Routes, bads_of, is_disk, open_tally, pool_of, records_of, script_of};
 
 // The reserve of a pool, of which a device that the stack does not have has none.
 fn reserve_of(stack: &Stack, pool: PoolId) -> u32
@@ -119,29 +117,6 @@ pub fn open_books(alloc: Global, routes: &Routes) -> Result<Vec<Book>, AllocErro
     Ok(books)
 }
 
-/// The same numbers, in 64 bits each.
-///
-/// # Errors
-/// Where there is no memory.
-pub fn widened(alloc: Global, numbers: &[u32]) -> Result<Vec<u64>, AllocError>
-    ensures { IfOk result (λ wide. wide.items ≡ numbers.now) }
-{
-    let mut wide = Vec::with_capacity(alloc, numbers.len())?;
-    'widening: for i in 0..numbers.len() {
-        wide.push(u64::from(numbers[i]))?;
-    }
-    Ok(wide)
-}
-
-// The statuses of so many writes, none of which is done.
-fn open_statuses(alloc: Global, count: usize) -> Result<Vec<Status>, AllocError>
-    ensures { IfOk result (λ statuses. statuses.items ≡ replicate count Well) }
-{
-    let mut statuses = Vec::new(alloc);
-    statuses.resize(count, Status::Ok)?;
-    Ok(statuses)
-}
-
 /// Opens the objects of a stack, where the books of writers have the places of its routes and so many writes are of each round.
 ///
 /// # Errors
@@ -151,19 +126,21 @@ pub fn open_objects(
     stack: &Stack,
     routes: &Routes,
     scripts: &[(PoolId, Script)],
-    left: &[u32],
+    left: Vec<u32>,
     writes: usize,
 ) -> Result<Objects, AllocError>
     requires same { routes.now.stack ≡ stack.now }
     requires stack { IsStack stack.now }
     requires scripts { All (λ (script : Pools × Answers). IsOfStack script.0) scripts.now }
-    requires rounds { length left.now < 2 ^ 32 }
-    ensures { IfOk result (λ objects. objects ≡ new_core_objects stack.now scripts.now routes.now.places (new_tally left.now writes)) }
+    requires some { 0 < length left.items }
+    requires few { length left.items ≤ 2 ^ 32 }
+    requires unfinished { sum left.items < 2 ^ 32 }
+    ensures { IfOk result (λ objects. objects ≡ new_core_objects stack.now scripts.now routes.now.places (new_tally left.items writes)) }
 {
     let pools = open_pools(alloc, stack, scripts)?;
     let rescues = open_rescues(alloc, stack.devices.len())?;
     let disks = open_disks(alloc, stack, routes)?;
     let books = open_books(alloc, routes)?;
-    let tally = Tally::new(widened(alloc, left)?, open_statuses(alloc, writes)?);
+    let tally = open_tally(alloc, left, writes)?;
     Ok(Objects::new(routes, pools, rescues, disks, books, tally))
 }

@@ -2,19 +2,18 @@
 ghost use Rattle.std.specs.Prelude.{◌≡◌, ◌<◌, IfOk, length};
 ghost use Rattle.task_core.specs.opened.OfOne.{scenario_in, IsOpened};
 ghost use Rattle.run_machine.specs.Opened.{objects as objects_at};
-ghost use Rattle.task_core.specs.Plains.{stage_of};
+ghost use Rattle.task_core.specs.Plains.{stage_of, tally_of};
 ghost use Rattle.task_steps.specs.Stage.{is_pool};
 ghost use Rattle.plain_core.specs.opening.Opening.{new_disk, new_disks, new_pool, new_pools, core_objects_of};
 
 use crate::objects::Objects;
 use crate::objects::disk::Disk;
 use crate::objects::pool::Pool;
-use crate::objects::tally::Tally;
-use crate::opening::objects::{open_books, open_rescues, widened};
+use crate::opening::objects::{open_books, open_rescues};
 use fail_script::Script;
 use stack_base::{DevId, PoolId};
 use std::alloc::{AllocError, Global};
-use task_core::{Opened, Routes, copy_of, is_disk, is_mirror, pool_of};
+use task_core::{Opened, Routes, Tally, copy_of, is_disk, is_mirror, pool_of};
 
 // Whether a pool is one of the stack that was opened.
 fn has_pool(opened: &Opened, routes: &Routes, pool: PoolId) -> bool
@@ -100,10 +99,11 @@ fn disks_seen(
 // The tally, in which every write is unfinished.
 fn tally_seen(alloc: Global, opened: &Opened) -> Result<Tally, AllocError>
     requires { IsOpened opened.now }
-    ensures { IfOk result (λ tally. tally ≡ (objects_at (scenario_in opened.now)).tally) }
+    ensures { IfOk result (λ tally. tally_of tally ≡ (objects_at (scenario_in opened.now)).tally) }
 {
     let tally = &opened.objects.tally;
-    let left = widened(alloc, &tally.left)?;
+    tally.known();
+    let left = Vec::from_slice(alloc, &tally.left)?;
     Ok(Tally::new(left, Vec::from_slice(alloc, &tally.statuses)?))
 }
 

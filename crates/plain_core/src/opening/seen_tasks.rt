@@ -1,49 +1,17 @@
 //! Opened tasks as plain data.
-ghost use Rattle.std.specs.Prelude.{◌≡◌, IfOk, All, map};
-ghost use Rattle.task_steps.specs.KeeperViews.{duty_of as keeps};
+ghost use Rattle.std.specs.Prelude.{◌≡◌, IfOk, All};
 ghost use Rattle.task_core.specs.opened.OfOne.{states};
 ghost use Rattle.run_machine.specs.Tasks.{Keeper as Keeping};
 ghost use Rattle.task_steps.specs.WriterViews.{writer_task};
-ghost use Rattle.plain_core.specs.opening.Seen.{HasNotBegun, IsOfPool, Rises};
+ghost use Rattle.plain_core.specs.opening.Seen.{HasNotBegun, Rises};
 ghost use Rattle.plain_core.specs.steps.Views.{keeper_of, task_of_plain, writer_of};
 ghost use Rattle.plain_core.specs.opening.Opening.{IsSeating};
 
 use crate::opening::seats::{open_slots, resting, seat};
-use crate::steps::task::{Carried, Completer, Duty, Gathered, Keeper, Rescuer, Task, Writer};
+use crate::steps::task::{Carried, Completer, Gathered, Keeper, Rescuer, Task, Writer};
 use std::alloc::{AllocError, Global};
 use task_core as opened;
-use task_core::Kind;
-
-// The same duty once more.
-fn duty_seen(duty: opened::Duty) -> Duty
-    requires { IsOfPool (keeps duty) }
-    ensures { result ≡ keeps duty }
-{
-    match duty {
-        opened::Duty::Resizes { pool, min, later } => Duty {
-            pool: Some(pool),
-            number: min,
-            later: u64::from(later),
-        },
-        opened::Duty::Starts { round, later } => Duty {
-            pool: None,
-            number: round,
-            later: u64::from(later),
-        },
-    }
-}
-
-// The same duties once more.
-fn duties_seen(alloc: Global, rest: &[opened::Duty]) -> Result<Vec<Duty>, AllocError>
-    requires { All IsOfPool (map keeps rest.now) }
-    ensures { IfOk result (λ duties. duties.items ≡ map keeps rest.now) }
-{
-    let mut duties = Vec::with_capacity(alloc, rest.len())?;
-    'seeing: for i in 0..rest.len() {
-        duties.push(duty_seen(rest[i]))?;
-    }
-    Ok(duties)
-}
+use task_core::{Kind, Todos};
 
 // A writer that has not begun.
 fn writer_seen(alloc: Global, writer: &opened::Writer) -> Result<Writer, AllocError>
@@ -52,8 +20,7 @@ fn writer_seen(alloc: Global, writer: &opened::Writer) -> Result<Writer, AllocEr
 {
     Ok(Writer {
         number: writer.number(),
-        todo: Vec::from_slice(alloc, writer.todo().rest())?,
-        begun: 0,
+        todo: Todos::new(Vec::from_slice(alloc, writer.todo().rest())?),
         taken: Gathered::NoBio,
         line: resting(alloc),
     })
@@ -64,10 +31,7 @@ fn keeper_seen(alloc: Global, keeper: &opened::Keeper) -> Result<Keeper, AllocEr
     requires { HasNotBegun (Keeping keeper.now) }
     ensures { IfOk result (λ seen. keeper_of seen ≡ Keeping keeper.now) }
 {
-    Ok(Keeper {
-        duties: duties_seen(alloc, keeper.duties())?,
-        done: 0,
-    })
+    Ok(Keeper::new(Vec::from_slice(alloc, keeper.duties())?))
 }
 
 // A task that has not begun.

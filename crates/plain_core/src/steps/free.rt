@@ -8,10 +8,8 @@ ghost use Rattle.plain_core.specs.steps.Views.{doing_of_plain, keeper_of, task_o
 ghost use Rattle.plain_core.specs.declared.steps.need.Need.TheVariants as need;
 
 use crate::objects::{Objects, number_of};
-use crate::steps::keeper::next_duty;
 use crate::steps::need::{Need, task_need};
 use crate::steps::task::{Gathered, Keeper, Task, Writer};
-use crate::steps::writer::next_todo;
 
 // Whether the writer's book has a vacant place, and the node at the place of a parent can wait for one more end.
 fn can_chain(objects: &Objects, writer: u32, parent: u32) -> bool
@@ -68,7 +66,7 @@ fn write_is_let(objects: &Objects, writer: &Writer) -> bool
     requires { doing_of_plain writer.now.line.doing ≡ AtRest }
     ensures { IsDecisionOf result (TaskIsLet objects.now (writer_of writer.now)) }
 {
-    let Some(next) = next_todo(&writer.todo, writer.begun) else {
+    let Some(next) = writer.todo.first() else {
         return true;
     };
     match &writer.taken {
@@ -89,7 +87,7 @@ fn writer_is_let(objects: &Objects, writer: &Writer) -> bool
 fn keeper_is_let(objects: &Objects, keeper: &Keeper) -> bool
     ensures { IsDecisionOf result (TaskIsLet objects.now (keeper_of keeper.now)) }
 {
-    match next_duty(&keeper.duties, keeper.done) {
+    match keeper.next() {
         None => true,
         Some(duty) => objects.has_left(duty.later()),
     }

@@ -1,31 +1,26 @@
 //! Steps of the keeper of the rounds.
-ghost use Rattle.std.specs.Prelude.{◌≡◌, ◌+◌, ◌<◌, [], drop, None, MatchOption};
 ghost use Rattle.plain_core.specs.steps.Views.{keeper_of};
 ghost use Rattle.run_machine.specs.Tasks.{duty_request};
+ghost use Rattle.task_steps.specs.KeeperViews.{duty_of};
 ghost use Rattle.task_steps.specs.Routed.{Routing};
-ghost use Rattle.plain_core.specs.steps.Moves.{TaskMoves, duty_reply, IsNextAt};
+ghost use Rattle.plain_core.specs.steps.Moves.{TaskMoves, duty_reply};
+ghost use Rattle.plain_core.specs.steps.Duties.{IsOfPool};
 ghost use Rattle.plain_core.specs.steps.Answers.{AnswersRequest};
 
 use crate::fault::CoreFault;
 use crate::objects::Objects;
 use crate::steps::asks;
-use crate::steps::task::{Duty, Keeper};
-use task_core::What;
-
-/// The next duty, if one is left.
-pub fn next_duty(duties: &[Duty], done: usize) -> Option<&Duty>
-    ensures { MatchOption result (drop done duties.now ≡ []) (λ next. IsNextAt duties.now done next.now) }
-{
-    duties.get(done)
-}
+use crate::steps::task::Keeper;
+use task_core::{Duty, What};
 
 // What the keeper does next.
-fn keep(objects: &mut Objects, duty: &Duty, what: &What) -> Result<(), CoreFault>
-    ensures { AnswersRequest objects.old (duty_request duty.now) what.now (λ done. duty_reply duty.now) result objects.new }
+fn keep(objects: &mut Objects, duty: Duty, what: &What) -> Result<(), CoreFault>
+    requires { IsOfPool (duty_of duty) }
+    ensures { AnswersRequest objects.old (duty_request (duty_of duty)) what.now (λ done. duty_reply (duty_of duty)) result objects.new }
 {
-    match duty.pool {
-        Some(pool) => asks::resize(objects, pool, duty.number, what),
-        None => asks::next_round(objects, duty.number, what),
+    match duty {
+        Duty::Resizes { pool, min, .. } => asks::resize(objects, pool, min, what),
+        Duty::Starts { round, .. } => asks::next_round(objects, round, what),
     }
 }
 
@@ -36,7 +31,7 @@ fn keep(objects: &mut Objects, duty: &Duty, what: &What) -> Result<(), CoreFault
 pub fn keeper_step(objects: &mut Objects, keeper: &mut Keeper, what: &What) -> Result<(), CoreFault>
     ensures { (r : Routing) → TaskMoves r objects.old (keeper_of keeper.old) what.now result objects.new (keeper_of keeper.new) }
 {
-    let Some(duty) = next_duty(&keeper.duties, keeper.done) else {
+    let Some(duty) = keeper.next() else {
         return Err(CoreFault::NotEnabled);
     };
     if !objects.has_left(duty.later()) {
@@ -45,7 +40,7 @@ pub fn keeper_step(objects: &mut Objects, keeper: &mut Keeper, what: &What) -> R
     match keep(objects, duty, what) {
         Err(fault) => Err(fault),
         Ok(()) => {
-            keeper.done += 1;
+            keeper.advance();
             Ok(())
         }
     }

@@ -11,13 +11,11 @@ ghost use Rattle.plain_core.specs.steps.Closing.{closed_asks};
 
 use crate::objects::node::Closed;
 use crate::objects::part::Part;
-use crate::steps::keeper::next_duty;
 use crate::steps::task::{
     Ask, Carried, Completer, Copying, Doing, Gathered, Keeper, Line, Rescuer, Task, Want, Writer,
 };
-use crate::steps::writer::next_todo;
 use stack_base::{DevId, PoolId};
-use task_core::needs_vector;
+use task_core::{Duty, needs_vector};
 
 /// What a request needs so that it can be answered, and told as an event that needs no ordinary memory.
 #[derive(Clone, Copy)]
@@ -118,7 +116,7 @@ fn write_need(writer: &Writer) -> Need
     requires { doing_of_plain writer.now.line.doing ≡ AtRest }
     ensures { IsNeedOfTask result (writer_of writer.now) }
 {
-    let Some(next) = next_todo(&writer.todo, writer.begun) else {
+    let Some(next) = writer.todo.first() else {
         return Need::Never;
     };
     match &writer.taken {
@@ -213,12 +211,10 @@ fn completer_need(completer: &Completer) -> Need
 fn keeper_need(keeper: &Keeper) -> Need
     ensures { IsNeedOfTask result (keeper_of keeper.now) }
 {
-    match next_duty(&keeper.duties, keeper.done) {
+    match keeper.next() {
         None => Need::Never,
-        Some(duty) => match duty.pool {
-            Some(pool) => Need::Home(pool),
-            None => Need::Round,
-        },
+        Some(Duty::Resizes { pool, .. }) => Need::Home(pool),
+        Some(Duty::Starts { .. }) => Need::Round,
     }
 }
 

@@ -1,18 +1,19 @@
 //! Tasks as plain data.
-ghost use Rattle.std.specs.Prelude.{◌≡◌, MatchBool};
+ghost use Rattle.std.specs.Prelude.{◌≡◌, ◌≢◌, [], All, drop, map, MatchBool, MatchOption};
 ghost use Rattle.run_machine.specs.Events.{id_of};
 ghost use Rattle.run_machine.specs.Lines.{Rests};
 ghost use Rattle.plain_core.specs.steps.Views.{doing_of_plain, taken_of_plain, task_of_plain};
 ghost use Rattle.plain_core.specs.steps.Submissions.{IsSubmitting};
-ghost use Rattle.run_machine.specs.Tasks.{later_of};
+ghost use Rattle.task_steps.specs.KeeperViews.{duty_of};
+ghost use Rattle.plain_core.specs.steps.Duties.{IsNextDuty, IsOfPool};
 
 use crate::objects::lists::Lists;
 use crate::objects::node::Closed;
 use crate::objects::part::{Hand, Part, Slip, Vector};
 use bio_records::Bio;
-use stack_base::{DevId, PoolId, Status};
+use stack_base::{DevId, Status};
 use std::marker::Model;
-use task_core::{TaskId, Todo};
+use task_core::{Duty, TaskId, Todos, duty_at};
 
 /// What a driver does for a bio of its device's set.
 #[derive(Drop)]
@@ -101,43 +102,11 @@ pub enum Carried {
     Carries(u32, Closed),
 }
 
-/// What the keeper does next: a pool gets another reserve, or, where none is named, a round starts. `number` is the reserve or the round,
-/// and `later` how many writes there are of that round and of those behind it.
-#[derive(Drop)]
-pub struct Duty {
-    pub pool: Option<PoolId>,
-    pub number: u32,
-    pub later: u64,
-}
-
-impl Model for Duty {
-    ghost use Rattle.std.specs.Prelude.{IfSome};
-    ghost use Rattle.run_machine.specs.Tasks.{Duty as Ahead};
-    ghost use Rattle.stack_base.specs.PoolId.{IsOfStack};
-    ghost use Rattle.plain_core.specs.steps.Duties.{duty_of_numbers};
-
-    ghost Value = { Ahead };
-
-    ghost view = { λ d. duty_of_numbers d.pool d.number d.later };
-
-    ghost invariant = { λ d. IfSome d.pool IsOfStack };
-}
-
-impl Duty {
-    /// How many writes are unfinished when it may be done.
-    pub fn later(&self) -> u64
-        ensures { result ≡ later_of self.now }
-    {
-        self.later
-    }
-}
-
-/// A writer: its writes, how many of them it has begun, what it has taken for the next one, and its submission.
+/// A writer: the writes that it has still to begin, what it has taken for the next one, and its submission.
 #[derive(Drop)]
 pub struct Writer {
     pub number: u32,
-    pub todo: Vec<Todo>,
-    pub begun: usize,
+    pub todo: Todos,
     pub taken: Gathered,
     pub line: Line,
 }
@@ -156,11 +125,50 @@ pub struct Completer {
     pub carried: Carried,
 }
 
-/// The keeper of the rounds: its duties, and how many of them are done.
+/// The keeper of the rounds, seen as the duties that it has still to do: each change of a reserve is of a pool that a stack can have.
 #[derive(Drop)]
 pub struct Keeper {
-    pub duties: Vec<Duty>,
-    pub done: usize,
+    duties: Vec<Duty>,
+    // How many of them are done.
+    done: usize,
+}
+
+impl Model for Keeper {
+    ghost use Rattle.std.specs.Prelude.{All, List};
+    ghost use Rattle.run_machine.specs.Tasks.{Duty as Ahead};
+    ghost use Rattle.task_steps.specs.KeeperViews.{duties_from};
+    ghost use Rattle.plain_core.specs.steps.Duties.{IsOfPool};
+
+    ghost Value = { List Ahead };
+
+    ghost view = { λ k. duties_from k.done k.duties.items };
+
+    ghost invariant = { λ k. All IsOfPool (duties_from k.done k.duties.items) };
+}
+
+impl Keeper {
+    /// A keeper that does this, in its order.
+    pub fn new(duties: Vec<Duty>) -> Keeper
+        requires { All IsOfPool (map duty_of duties.items) }
+        ensures { result ≡ map duty_of duties.items }
+    {
+        Keeper { duties, done: 0 }
+    }
+
+    /// The next duty, if one is left.
+    pub fn next(&self) -> Option<Duty>
+        ensures { MatchOption result (self.now ≡ []) (IsNextDuty self.now) }
+    {
+        duty_at(&self.duties, self.done)
+    }
+
+    /// The next duty is done.
+    pub fn advance(&mut self)
+        requires { self.old ≢ [] }
+        ensures { self.new ≡ drop 1 self.old }
+    {
+        self.done += 1;
+    }
 }
 
 /// A task.

@@ -1,12 +1,12 @@
 //! Steps of writers.
-ghost use Rattle.std.specs.Prelude.{◌≡◌, ◌+◌, ◌<◌, [], ◌∷◌, true, false, drop, length, None, MatchOption};
+ghost use Rattle.std.specs.Prelude.{◌≡◌, ◌≢◌, [], ◌∷◌, true, false, drop, None};
 ghost use Rattle.layout_model.specs.Writes.{IsWrite};
 ghost use Rattle.run_machine.specs.Lines.{settled, Rests as AtRest};
 ghost use Rattle.task_steps.specs.Routed.{routing_setup};
 ghost use Rattle.run_machine.specs.Tasks.{needs_vector, NoBio, HasBio, HasBoth};
 ghost use Rattle.task_steps.specs.Within.{IsWithinDevice, TaskFits};
 ghost use Rattle.plain_core.specs.steps.Views.{line_of_plain, doing_of_plain, taken_of_plain, writer_of};
-ghost use Rattle.plain_core.specs.steps.Moves.{IsNextAt, begun_with, WriterMoves, WriterMovesFor};
+ghost use Rattle.plain_core.specs.steps.Moves.{begun_with, WriterMoves, WriterMovesFor};
 ghost use Rattle.plain_core.specs.steps.Takes.{TakesVector};
 
 use crate::fault::CoreFault;
@@ -28,13 +28,6 @@ pub(crate) fn start(routes: &Routes, part: Part, line: &mut Line)
 {
     line.lists.clear();
     drive(routes, part, line);
-}
-
-/// The next write, if one is still to begin.
-pub fn next_todo(todo: &[Todo], begun: usize) -> Option<&Todo>
-    ensures { MatchOption result (drop begun todo.now ≡ []) (λ next. IsNextAt todo.now begun next.now) }
-{
-    todo.get(begun)
 }
 
 // An attempt at a vector.
@@ -62,15 +55,15 @@ fn data_of(write: &Write) -> Data
 // The top node of the next write is open: its bio is submitted, and it is begun.
 fn begin(routes: &Routes, writer: &mut Writer, part: Part)
     requires within { IsWithinDevice routes.now.stack part.bio }
-    requires next { writer.old.begun < length writer.old.todo.items }
+    requires next { writer.old.todo ≢ [] }
     ensures { writer_of writer.new ≡ begun_with routes.now writer.old part }
 {
     start(routes, part, &mut writer.line);
     writer.taken = Gathered::NoBio;
-    writer.begun += 1;
+    writer.todo.advance();
 }
 
-// A writer without a bio for its next write takes one, where the write's round has come.
+// A writer without a bio for its next write, which is of this round, takes one, where the round has come.
 fn take_step(
     objects: &mut Objects,
     writer: &mut Writer,
@@ -126,7 +119,7 @@ fn short_step(
 ) -> Result<(), CoreFault>
     requires rests { doing_of_plain writer.old.line.doing ≡ AtRest }
     requires taken { taken_of_plain writer.old.taken ≡ HasBio hand.now }
-    requires next { IsNextAt writer.old.todo.items writer.old.begun next.now }
+    requires next { writer.old.todo ≡ next.now ∷ drop 1 writer.old.todo }
     requires write { IsWrite routes.now.stack next.now.write }
     requires needs { needs_vector next.now.write ≡ false }
     ensures { WriterMoves routes.now objects.old writer.old what.now result objects.new writer.new }
@@ -153,7 +146,7 @@ fn long_step(
 ) -> Result<(), CoreFault>
     requires rests { doing_of_plain writer.old.line.doing ≡ AtRest }
     requires taken { taken_of_plain writer.old.taken ≡ HasBoth hand.now vector.now }
-    requires next { IsNextAt writer.old.todo.items writer.old.begun next.now }
+    requires next { writer.old.todo ≡ next.now ∷ drop 1 writer.old.todo }
     requires write { IsWrite routes.now.stack next.now.write }
     ensures { WriterMoves routes.now objects.old writer.old what.now result objects.new writer.new }
 {
@@ -179,10 +172,9 @@ fn write_step(
     requires fits { TaskFits routes.now.stack (writer_of writer.old) }
     ensures { WriterMoves routes.now objects.old writer.old what.now result objects.new writer.new }
 {
-    let Some(next) = next_todo(&writer.todo, writer.begun) else {
+    let Some(next) = writer.todo.first() else {
         return Err(CoreFault::NotEnabled);
     };
-    let next = *next;
     match writer.taken.again() {
         Gathered::NoBio => take_step(objects, writer, next.round, what),
         Gathered::HasBio(hand) => {

@@ -1,10 +1,11 @@
 use Rattle.std.proofs.Common.{◌≡◌, ◌∙◌, ap, length, map, arith}
 use Rattle.task_steps.specs.Routed.{Routing}
 use Rattle.task_core.proofs.opened.Setups.{places_are}
+use Rattle.task_core.proofs.opened.Sharing.{few_rounds}
 use Rattle.plain_core.specs.opening.Opening.{new_core_objects, new_tally}
 use Rattle.plain_core.specs.objects.Plain.{CoreObjects}
 use Rattle.plain_core.specs.steps.Views.{task_of_plain}
-use Rattle.plain_core.proofs.opening_lemmas.Opened.{few_rounds, is_core, opened_so, shared}
+use Rattle.plain_core.proofs.opening_lemmas.Opened.{is_core, round_count, opened_so, shared}
 use Rattle.plain_core.proofs.opening_lemmas.Risen.{shown_are, shown_first, shown_rises}
 use Rattle.plain_core.proofs.state.Core.plain.Goals as goal
 
@@ -24,9 +25,22 @@ tasks_seen-seen-requires-clause-rising c =
 pub open_objects-requires-clause-same : goal.open_objects-requires-clause-same
 open_objects-requires-clause-same c = ap (λ (r : Routing). r.stack) c.deref-2.ensures ∙ c.in_ok-routes.ensures.stack
 
-pub open_objects-requires-clause-rounds : goal.open_objects-requires-clause-rounds
-open_objects-requires-clause-rounds c =
-    few_rounds c.args.stack.now c.args.scripts.now c.args.work.now c.requires _ (c.deref-3.ensures.value ∙ c.in_ok-routes.ensures.left)
+pub open_objects-requires-clause-some : goal.open_objects-requires-clause-some
+open_objects-requires-clause-some c = let long = round_count c.args.work.now.rounds.items c.in_ok-routes.left.items c.in_ok-routes.ensures.left in omega (arith, long)
+
+pub open_objects-requires-clause-few : goal.open_objects-requires-clause-few
+open_objects-requires-clause-few c =
+    let long = round_count c.args.work.now.rounds.items c.in_ok-routes.left.items c.in_ok-routes.ensures.left in
+    let short = c.in_ok-routes.ensures.short in
+    omega (arith, long, short)
+
+pub open_objects-requires-clause-unfinished : goal.open_objects-requires-clause-unfinished
+open_objects-requires-clause-unfinished c =
+    let stack = c.args.stack.now in
+    let work = c.args.work.now in
+    let all = c.in_ok-routes.ensures.all in
+    let few = few_rounds stack work.rounds.items work.writes.items (shared stack c.args.scripts.now work c.requires) in
+    omega (arith, all, few)
 
 pub invariant_of-result : goal.invariant_of-result
 invariant_of-result c =
@@ -45,7 +59,7 @@ returns c =
     let routing = c.in_ok-routes.routes.value in
     let are = shown_are stack scripts work c.requires routing c.in_ok-routes.opened.items _ c.in_ok-routes.left.items c.in_ok-routes.ensures c.deref.ensures.value in
     let written : c.len.result ≡ length work.writes.items = omega (arith, c.len.ensures, work.writes.ok.0) in
-    let left = c.deref-3.ensures.value ∙ c.in_ok-routes.ensures.left in
+    let left = c.in_ok-routes.ensures.left in
     let kept = ap (λ (r : Routing). r.places) c.deref-2.ensures in
     let placed =
     places_are stack scripts work (shared stack scripts work c.requires) routing c.in_ok-routes.opened.items c.in_ok-routes.left.items c.in_ok-routes.ensures in
