@@ -3,8 +3,8 @@
 
 `rt ci` does it, in a copy of the crates that the program stands on, without tests and without the wrong bodies that the
 prover must refuse: so each crate is proved once, over what those below it state, and side by side with others. The copy
-is crates/biostack/out/work, and what rt said is crates/biostack/out/log. Only the program is taken out of it. A kit that
-keeps what it has proved proves only what changed since, and all above it.
+is a folder of its own, outside this repository, and gone at the end. Only the program is taken out of it, and what rt said
+is crates/biostack/out/log. A kit that keeps what it has proved proves only what changed since, and all above it.
 """
 import fcntl
 import os
@@ -14,6 +14,7 @@ import shutil
 import signal
 import subprocess
 import sys
+import tempfile
 import time
 
 TOP = os.path.dirname(os.path.realpath(__file__))
@@ -21,7 +22,7 @@ LAST = "biostack"
 # of the kit that this was proved with; another kit of the same logic will do
 LOGIC = "logic dac8208d650f15bf"
 OUT = f"{TOP}/crates/{LAST}/out"
-WORK, LOG = f"{OUT}/work", f"{OUT}/log"
+LOG = f"{OUT}/log"
 START, BEGAN = time.monotonic(), time.time()
 
 
@@ -53,22 +54,21 @@ def read_crates():
     return found
 
 
-def copy(crates):
+def copy(crates, to):
     """Copies what rt ci reads of these crates."""
-    shutil.rmtree(WORK, ignore_errors=True)
     for name in crates:
-        shutil.copytree(f"{TOP}/crates/{name}", f"{WORK}/crates/{name}", ignore=shutil.ignore_patterns("out", "must-fail"))
-    with open(f"{WORK}/crates.txt", "w", encoding="utf-8") as file:
+        shutil.copytree(f"{TOP}/crates/{name}", f"{to}/crates/{name}", ignore=shutil.ignore_patterns("out", "must-fail"))
+    with open(f"{to}/crates.txt", "w", encoding="utf-8") as file:
         file.writelines(f"{line}\n" for line in crates.values())
-    shutil.copyfile(f"{TOP}/HANDLES", f"{WORK}/HANDLES")
+    shutil.copyfile(f"{TOP}/HANDLES", f"{to}/HANDLES")
 
 
-def prove(crates):
+def prove(crates, work):
     """Has rt prove and build all, says how far it is, and returns its status."""
     done = 0
     with open(LOG, "w", encoding="utf-8") as log:
         how = {"stdin": subprocess.DEVNULL, "stdout": subprocess.PIPE, "stderr": subprocess.STDOUT}
-        ran = subprocess.Popen(["rt", "ci"], cwd=WORK, **how, encoding="utf-8", errors="replace")
+        ran = subprocess.Popen(["rt", "ci"], cwd=work, **how, encoding="utf-8", errors="replace")
         try:
             for line in ran.stdout:
                 log.write(line)
@@ -103,17 +103,20 @@ def main():
     say(f"proving and building {len(crates)} crates with {kit}; what it says is in crates/{LAST}/out/log")
     if not kit.endswith(LOGIC):
         say(f"this was proved with {LOGIC}, so some proof may fail here")
-    copy(crates)
-    status, made = prove(crates), f"{WORK}/crates/{LAST}/out/{LAST}"
-    if status or not os.access(made, os.X_OK):
-        with open(LOG, encoding="utf-8") as log:
-            sys.stderr.writelines(log.readlines()[-20:])
-        say(f"the program was not built: rt ended with status {status} after {minutes()}")
-        return 1
+    with tempfile.TemporaryDirectory(prefix="biostack-") as work:
+        copy(crates, work)
+        status, made = prove(crates, work), f"{work}/crates/{LAST}/out/{LAST}"
+        if status or not os.access(made, os.X_OK):
+            with open(LOG, encoding="utf-8") as log:
+                sys.stderr.writelines(log.readlines()[-20:])
+            say(f"the program was not built: rt ended with status {status} after {minutes()}")
+            return 1
+        # in one step, so that no run meets half of it
+        shutil.copyfile(made, f"{OUT}/{LAST}.new")
+    os.chmod(f"{OUT}/{LAST}.new", 0o755)
     # What is edited during the build is newer.
-    os.utime(made, (BEGAN, BEGAN))
-    os.replace(made, f"{OUT}/{LAST}")
-    shutil.rmtree(WORK, ignore_errors=True)
+    os.utime(f"{OUT}/{LAST}.new", (BEGAN, BEGAN))
+    os.replace(f"{OUT}/{LAST}.new", f"{OUT}/{LAST}")
     used = resource.getrusage(resource.RUSAGE_CHILDREN)
     say(f"built in {minutes()}, with {(used.ru_utime + used.ru_stime) / 60:.1f} processor minutes")
     os.close(held)
