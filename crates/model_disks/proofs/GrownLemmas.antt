@@ -34,6 +34,6 @@ grown_twice none all size xs fits =
     ∙ ap (λ others. xs ++ others)
     (replicate-append-replicate more (all - length xs - more) none ∙ ap (λ k. replicate k none) whole)
 
--- a list that was put in the place of one of the same length
+-- a list that was put_words in the place of one of the same length
 pub kept_whole : {X : Type 0} (old new : List X) (len : ℕ) → len ≡ length old → length new ≡ length old → take len (new ++ drop (length new) old) ≡ new
 kept_whole old new len is same = rw (drop_all (length new) old (omega (arith, same)), append-nil) (take_all len new (omega (arith, is, same)))

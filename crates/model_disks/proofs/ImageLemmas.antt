@@ -10,7 +10,7 @@ use Rattle.image_lanes.specs.Lanes.{sum_mod, sectors}
 use Rattle.model_disks.specs.Disks.{sum_of_words}
 use Rattle.model_disks.specs.Kept.{grown, marked}
 use Rattle.model_disks.specs.Moves.{written}
-use Rattle.model_disks.specs.Paged.{place_of, sector_in, sector_of, paged, ArePaged, AreFilled, AreSame, AreSettled, AreNoted, IsImage}
+use Rattle.model_disks.specs.Paged.{word_place, sector_in, sector_words, paged, ArePaged, AreFilled, AreSame, AreInOrder, FlagsAreRight, IsImage}
 use Rattle.model_disks.proofs.SectorLemmas.{length_sectors, concat_sectors, sector_at}
 use Rattle.model_disks.proofs.GrownLemmas.{length_grown, grown_twice}
 use Rattle.model_disks.proofs.FlagLemmas.{flags_of_zeros, flags_of_written, sum_of_unwritten}
@@ -19,7 +19,7 @@ use Rattle.model_disks.proofs.PageWriteLemmas.{length_paged, paged_at, is_paged,
 
 -- the flag of a sector
 pub noted_at : (count room flags_room : ℕ) (words slots owners : List ℕ) (flags : List Bool)
-    → IsImage count room flags_room words slots owners flags → AreNoted words slots flags
+    → IsImage count room flags_room words slots owners flags → FlagsAreRight words slots flags
 unfolding grown
 noted_at count room flags_room words slots owners flags image x lt =
     let here : x < count = omega (arith, lt, image.within) in
@@ -29,22 +29,22 @@ noted_at count room flags_room words slots owners flags image x lt =
     ∙ ap is_written (paged_at count words slots x here)
 
 -- the sum of one more sector
-sum_on : (words slots : List ℕ) (place : ℕ) → sum_by sum (paged (place + 1) words slots) ≡ sum_by sum (paged place words slots) + sum (sector_of words slots place)
+sum_on : (words slots : List ℕ) (place : ℕ) → sum_by sum (paged (place + 1) words slots) ≡ sum_by sum (paged place words slots) + sum (sector_words words slots place)
 unfolding paged
-sum_on words slots place = sum_by-map-range_with_len_more sum (sector_of words slots) 0 place place (omega arith)
+sum_on words slots place = sum_by-map-range_with_len_more sum (sector_words words slots) 0 place place (omega arith)
 
 pub sum_more : (words slots : List ℕ) (place : ℕ)
-    → sum_of_words (paged (place + 1) words slots) ≡ (sum_of_words (paged place words slots) + sum_mod (sector_of words slots place)) % 2 ^ 64
+    → sum_of_words (paged (place + 1) words slots) ≡ (sum_of_words (paged place words slots) + sum_mod (sector_words words slots place)) % 2 ^ 64
 sum_more words slots place = omega (arith, sum_on words slots place)
 
 -- which is nothing where it is not written
-pub sum_of_zeros : (words slots : List ℕ) (flags : List Bool) (place : ℕ) → AreNoted words slots flags → place < length flags
+pub sum_of_zeros : (words slots : List ℕ) (flags : List Bool) (place : ℕ) → FlagsAreRight words slots flags → place < length flags
     → get_or flags place false ≡ false → sum_of_words (paged (place + 1) words slots) ≡ sum_of_words (paged place words slots)
 sum_of_zeros words slots flags place noted lt unset =
-    omega (arith, sum_on words slots place, sum_of_unwritten (sector_of words slots place) (sym (noted place lt) ∙ unset))
+    omega (arith, sum_on words slots place, sum_of_unwritten (sector_words words slots place) (sym (noted place lt) ∙ unset))
 
 -- the sum of sectors of which those behind the first are not written
-sum_of_rest : (words slots : List ℕ) (n more : ℕ) → ((x : ℕ) → n ≤ x → x < n + more → is_written (sector_of words slots x) ≡ false)
+sum_of_rest : (words slots : List ℕ) (n more : ℕ) → ((x : ℕ) → n ≤ x → x < n + more → is_written (sector_words words slots x) ≡ false)
     → sum_by sum (paged (n + more) words slots) ≡ sum_by sum (paged n words slots)
 sum_of_rest words slots n zero none = ap (λ k. sum_by sum (paged k words slots)) (omega arith)
 sum_of_rest words slots n (suc more) none =
@@ -53,13 +53,13 @@ sum_of_rest words slots n (suc more) none =
     ∙ omega (
       arith,
       sum_on words slots (n + more),
-      sum_of_unwritten (sector_of words slots (n + more)) (none (n + more) (omega arith) (omega arith)),
+      sum_of_unwritten (sector_words words slots (n + more)) (none (n + more) (omega arith) (omega arith)),
       sum_of_rest words slots n more (λ x le lt. none x le (omega (arith, lt))),
     )
 
 module _ (count room flags_room : ℕ) (words slots owners : List ℕ) (flags : List Bool) (image : IsImage count room flags_room words slots owners flags) where
   -- behind the flags no sector is written
-  unwritten : (x : ℕ) → length flags ≤ x → x < count → is_written (sector_of words slots x) ≡ false
+  unwritten : (x : ℕ) → length flags ≤ x → x < count → is_written (sector_words words slots x) ≡ false
   unfolding grown
   unwritten x past lt =
       sym (ap is_written (paged_at count words slots x lt))
@@ -89,7 +89,7 @@ module _ (count room flags_room : ℕ) (words slots owners : List ℕ) (flags : 
 pub zeros_are : (count : ℕ) (words slots : List ℕ) → words ≡ [] → paged count words slots ≡ replicate count zero_sector
 zeros_are count words slots none =
     sym (is_paged count words slots (replicate count zero_sector) (length-replicate count zero_sector)
-    (λ x lt. get_or-replicate count x zero_sector [] lt ∙ sym (words_end words (place_of slots x) (omega (arith, ap length none)))))
+    (λ x lt. get_or-replicate count x zero_sector [] lt ∙ sym (words_end words (word_place slots x) (omega (arith, ap length none)))))
 
 pub zeros_kept : (count room flags_room : ℕ) (words slots owners : List ℕ) (flags : List Bool) → ArePaged room words slots owners → words ≡ [] → flags ≡ []
     → count ≤ 64 * length slots → count ≤ flags_room → IsImage count room flags_room words slots owners flags
@@ -191,7 +191,7 @@ after_settling shown count room flags_room new_room words slots owners new new_s
     )
 
 -- pages in their order are the words of the sectors, one sector behind the other
-pub settled_words : (count : ℕ) (words slots : List ℕ) → AreSettled slots (length slots) → count ≤ 64 * length slots
+pub settled_words : (count : ℕ) (words slots : List ℕ) → AreInOrder slots (length slots) → count ≤ 64 * length slots
     → length words ≡ 4096 * length slots → take (64 * count) words ≡ concat (paged count words slots)
 settled_words count words slots settled all full =
     let front = take (64 * count) words in
@@ -199,7 +199,7 @@ settled_words count words slots settled all full =
     concat_sectors count front long
     ∙ ap concat (is_paged count words slots (sectors count front) (length_sectors count front) (λ x lt.
     let parts : 64 * count ≡ 64 * x + (64 * count - 64 * x) = omega (arith, lt) in
-    let there : 64 * x ≡ place_of slots x = omega (arith, place_is slots x (x / 64) (settled (x / 64) (omega (arith, lt, all)))) in
+    let there : 64 * x ≡ word_place slots x = omega (arith, place_is slots x (x / 64) (settled (x / 64) (omega (arith, lt, all)))) in
     sector_at count front x lt
     ∙ ap (λ n. take 64 (drop (64 * x) (take n words))) parts
     ∙ ap (take 64) (drop-take (64 * x) (64 * count - 64 * x) words)
@@ -214,7 +214,7 @@ sector_known count room flags_room words slots owners flags shown at image is lt
     omega (arith, lt, ap length is, length_paged count words slots, image.all)
 
 pub sector_shown : (count : ℕ) (words slots : List ℕ) (shown : List (List ℕ)) (at : ℕ) → paged count words slots ≡ shown → at < length shown
-    → sector_of words slots at ≡ get_or shown at []
+    → sector_words words slots at ≡ get_or shown at []
 sector_shown count words slots shown at is lt =
     sym (paged_at count words slots at (omega (arith, lt, ap length is, length_paged count words slots)))
     ∙ ap (λ (sectors : List (List ℕ)). get_or sectors at []) is

@@ -7,53 +7,53 @@ use Rattle.std.proofs.lemmas.List.{length-set, get_or-set_same, get_or-set_other
 use Rattle.std.proofs.lemmas.List.FromFn.{length-range_with_len, get_or-range_with_len, length-map-range_with_len, get_or-map-range_with_len, fill_by_all}
 use Rattle.stack_base.specs.Words.{sector_from, zero_sector}
 use Rattle.model_disks.specs.Kept.{grown}
-use Rattle.model_disks.specs.Paged.{number_at, sector_in, place_of, turned, AreInverse, IsExchanged, AreSwapped, AreSettled, ArePaged, AreSame}
+use Rattle.model_disks.specs.Paged.{number_at, sector_in, word_place, swapped_slot, AreInverse, IsExchanged, AreSwapped, AreInOrder, ArePaged, AreSame}
 use Rattle.model_disks.proofs.GrownLemmas.{length_grown}
 use Rattle.model_disks.proofs.WrittenLemmas.{range_append}
 
 -- the first of two slots stands where the other was
-pub turned_other : (one other : ℕ) → turned one other other ≡ one
-unfolding turned
+pub turned_other : (one other : ℕ) → swapped_slot one other other ≡ one
+unfolding swapped_slot
 turned_other one other = rw (eq-eqb other other refl) refl
 
 -- the others stand where they were
-pub turned_none : (one other slot : ℕ) → (slot ≡ one → ⊥) → (slot ≡ other → ⊥) → turned one other slot ≡ slot
-unfolding turned
+pub turned_none : (one other slot : ℕ) → (slot ≡ one → ⊥) → (slot ≡ other → ⊥) → swapped_slot one other slot ≡ slot
+unfolding swapped_slot
 turned_none one other slot not_one not_other = rw (ne_eqb slot other not_other, ne_eqb slot one not_one) refl
 
 -- and the other where the first was
-pub turned_one : (one other : ℕ) → turned one other one ≡ other
-unfolding turned
+pub turned_one : (one other : ℕ) → swapped_slot one other one ≡ other
+unfolding swapped_slot
 turned_one one other = elim (cases_eq one other) [
   | inl same ↦ rw (eq-eqb one other same) same
   | inr apart ↦ rw (ne_eqb one other apart, eq-eqb one one refl) refl
 ]
 
 -- a slot is one of the two, or another
-pub turned_cases : (one other slot : ℕ) → ((slot ≡ one) × (turned one other slot ≡ other)) ⊎ (((slot ≡ other) × (turned one other slot ≡ one)) ⊎ (turned one other slot ≡ slot))
+pub turned_cases : (one other slot : ℕ) → ((slot ≡ one) × (swapped_slot one other slot ≡ other)) ⊎ (((slot ≡ other) × (swapped_slot one other slot ≡ one)) ⊎ (swapped_slot one other slot ≡ slot))
 turned_cases one other slot = elim (cases_eq slot one) [
-  | inl is ↦ inl (is, ap (turned one other) is ∙ turned_one one other)
+  | inl is ↦ inl (is, ap (swapped_slot one other) is ∙ turned_one one other)
   | inr not_one ↦ elim (cases_eq slot other) [
-    | inl is ↦ inr (inl (is, ap (turned one other) is ∙ turned_other one other))
+    | inl is ↦ inr (inl (is, ap (swapped_slot one other) is ∙ turned_other one other))
     | inr not_other ↦ inr (inr (turned_none one other slot not_one not_other))
   ]
 ]
 
 -- what has changed places twice stands where it was
-pub turned_twice : (one other slot : ℕ) → turned one other (turned one other slot) ≡ slot
+pub turned_twice : (one other slot : ℕ) → swapped_slot one other (swapped_slot one other slot) ≡ slot
 turned_twice one other slot = elim (turned_cases one other slot) [
-  | inl first ↦ ap (turned one other) first.1 ∙ turned_other one other ∙ sym first.0
+  | inl first ↦ ap (swapped_slot one other) first.1 ∙ turned_other one other ∙ sym first.0
   | inr rest ↦ elim rest [
-    | inl second ↦ ap (turned one other) second.1 ∙ turned_one one other ∙ sym second.0
-    | inr none ↦ ap (turned one other) none ∙ none
+    | inl second ↦ ap (swapped_slot one other) second.1 ∙ turned_one one other ∙ sym second.0
+    | inr none ↦ ap (swapped_slot one other) none ∙ none
   ]
 ]
 
 -- pages in two slots that take each other's
-pub exchanged : (slots owners : List ℕ) (one other page behind : ℕ) → AreInverse slots owners → one < length slots → other < length slots
+pub slots_exchanged : (slots owners : List ℕ) (one other page behind : ℕ) → AreInverse slots owners → one < length slots → other < length slots
     → page ≡ number_at owners one → behind ≡ number_at owners other
     → IsExchanged one other slots (slice_set (slice_set slots page other) behind one)
-exchanged slots owners one other page behind inverse in_one in_other has_one has_other =
+slots_exchanged slots owners one other page behind inverse in_one in_other has_one has_other =
     let first = slice_set slots page other in
     let both = slice_set first behind one in
     let page_in : page < length slots = omega (arith, has_one, inverse.owner one in_one) in
@@ -67,14 +67,14 @@ exchanged slots owners one other page behind inverse in_one in_other has_one has
         | inl is ↦
             ap (number_at both) is
             ∙ get_or-set_same first behind one 0 (omega (arith, behind_in, size))
-            ∙ sym (ap (λ k. turned one other (number_at slots k)) is ∙ ap (turned one other) slot_other ∙ turned_other one other)
+            ∙ sym (ap (λ k. swapped_slot one other (number_at slots k)) is ∙ ap (swapped_slot one other) slot_other ∙ turned_other one other)
         | inr not_behind ↦
             get_or-set_other first behind p one 0 not_behind
             ∙ elim (cases_eq p page) [
               | inl is ↦
                   ap (number_at first) is
                   ∙ get_or-set_same slots page other 0 page_in
-                  ∙ sym (ap (λ k. turned one other (number_at slots k)) is ∙ ap (turned one other) slot_one ∙ turned_one one other)
+                  ∙ sym (ap (λ k. swapped_slot one other (number_at slots k)) is ∙ ap (swapped_slot one other) slot_one ∙ turned_one one other)
               | inr not_page ↦
                   get_or-set_other slots page p other 0 not_page
                   ∙ sym (turned_none one other (number_at slots p)
@@ -86,19 +86,19 @@ exchanged slots owners one other page behind inverse in_one in_other has_one has
 
 -- one more page is settled
 pub settled_more : (slots new : List ℕ) (page slot : ℕ) → IsExchanged page slot slots new → number_at slots page ≡ slot → page < slot
-    → page < length slots → AreSettled slots page → AreSettled new (page + 1)
+    → page < length slots → AreInOrder slots page → AreInOrder new (page + 1)
 settled_more slots new page slot exchanged at less within settled p lt = elim (cases_eq p page) [
-  | inl is ↦ ap (number_at new) is ∙ exchanged.slot page within ∙ ap (turned page slot) at ∙ turned_other page slot ∙ sym is
+  | inl is ↦ ap (number_at new) is ∙ exchanged.slot page within ∙ ap (swapped_slot page slot) at ∙ turned_other page slot ∙ sym is
   | inr other ↦
       let before : p < page = omega (arith, lt, other) in
       exchanged.slot p (omega (arith, before, within))
-      ∙ ap (turned page slot) (settled p before)
+      ∙ ap (swapped_slot page slot) (settled p before)
       ∙ turned_none page slot p other (λ is. omega (arith, is, before, less))
 ]
 
 -- or it was already
-pub settled_here : (slots owners : List ℕ) (page : ℕ) → AreInverse slots owners → page < length slots → AreSettled slots page
-    → number_at slots page ≤ page → AreSettled slots (page + 1)
+pub settled_here : (slots owners : List ℕ) (page : ℕ) → AreInverse slots owners → page < length slots → AreInOrder slots page
+    → number_at slots page ≤ page → AreInOrder slots (page + 1)
 settled_here slots owners page inverse within settled low p lt = elim (cases_eq p page) [
   | inl is ↦ ap (number_at slots) is ∙ here ∙ sym is
   | inr other ↦ settled p (omega (arith, lt, other))
@@ -166,8 +166,8 @@ pub sector_grown : (size : ℕ) (words : List ℕ) (from : ℕ) → sector_in (g
 sector_grown size words from = same_words words (grown 0 size words) from from (λ i lt. word_grown size words (from + i))
 
 -- where a sector is
-pub place_is : (slots : List ℕ) (x slot : ℕ) → number_at slots (x / 64) ≡ slot → place_of slots x ≡ 4096 * slot + 64 * (x % 64)
-unfolding place_of
+pub place_is : (slots : List ℕ) (x slot : ℕ) → number_at slots (x / 64) ≡ slot → word_place slots x ≡ 4096 * slot + 64 * (x % 64)
+unfolding word_place
 place_is slots x slot is = ap (λ (s : ℕ). 4096 * s + 64 * (x % 64)) is
 
 -- what is the same as what was the same
@@ -183,7 +183,7 @@ same_still words slots = record { size = refl; sector = λ x lt. refl }
 
 -- words that grow by zeros
 pub same_grown : (size : ℕ) (words slots : List ℕ) → AreSame words slots (grown 0 size words) slots
-same_grown size words slots = record { size = refl; sector = λ x lt. sector_grown size words (place_of slots x) }
+same_grown size words slots = record { size = refl; sector = λ x lt. sector_grown size words (word_place slots x) }
 
 -- pages that changed slots with their words
 pub same_swapped : (words slots new new_slots : List ℕ) (one other : ℕ) → AreSwapped one other words new → IsExchanged one other slots new_slots
@@ -194,12 +194,12 @@ same_swapped words slots new new_slots one other swapped exchanged = record {
       let slot = number_at slots (x / 64) in
       let r = 64 * (x % 64) in
       let turns = exchanged.slot (x / 64) (omega (arith, lt)) in
-      ap (sector_in new) (place_is new_slots x (turned one other slot) turns)
-      ∙ same_words words new (4096 * slot + r) (4096 * turned one other slot + r) (λ i lt.
-      let on : 4096 * turned one other slot + r + i ≡ 4096 * turned one other slot + (r + i) = omega arith in
+      ap (sector_in new) (place_is new_slots x (swapped_slot one other slot) turns)
+      ∙ same_words words new (4096 * slot + r) (4096 * swapped_slot one other slot + r) (λ i lt.
+      let on : 4096 * swapped_slot one other slot + r + i ≡ 4096 * swapped_slot one other slot + (r + i) = omega arith in
       let back : 4096 * slot + (r + i) ≡ 4096 * slot + r + i = omega arith in
       ap (number_at new) on
-      ∙ swapped.word (turned one other slot) (r + i) (omega (arith, lt))
+      ∙ swapped.word (swapped_slot one other slot) (r + i) (omega (arith, lt))
       ∙ ap (λ (s : ℕ). number_at words (4096 * s + (r + i))) (turned_twice one other slot)
       ∙ ap (number_at words) back)
       ∙ ap (sector_in words) (sym (place_is slots x slot refl));
@@ -214,15 +214,15 @@ same_behind words slots new_slots used slot size end behind exchanged = record {
       let s = number_at slots (x / 64) in
       let r = 64 * (x % 64) in
       let turns = exchanged.slot (x / 64) (omega (arith, lt)) in
-      sector_grown size words (place_of new_slots x)
+      sector_grown size words (word_place new_slots x)
       ∙ elim (turned_cases slot used s) [
         | inl first ↦
-            words_end words (place_of new_slots x) (omega (arith, end, place_is new_slots x used (turns ∙ first.1)))
-            ∙ sym (words_end words (place_of slots x) (omega (arith, end, behind, place_is slots x slot first.0)))
+            words_end words (word_place new_slots x) (omega (arith, end, place_is new_slots x used (turns ∙ first.1)))
+            ∙ sym (words_end words (word_place slots x) (omega (arith, end, behind, place_is slots x slot first.0)))
         | inr rest ↦ elim rest [
           | inl second ↦
-              words_end words (place_of new_slots x) (omega (arith, end, behind, place_is new_slots x slot (turns ∙ second.1)))
-              ∙ sym (words_end words (place_of slots x) (omega (arith, end, place_is slots x used second.0)))
+              words_end words (word_place new_slots x) (omega (arith, end, behind, place_is new_slots x slot (turns ∙ second.1)))
+              ∙ sym (words_end words (word_place slots x) (omega (arith, end, place_is slots x used second.0)))
           | inr none ↦ ap (sector_in words) (place_is new_slots x s (turns ∙ none) ∙ sym (place_is slots x s refl))
         ]
       ];

@@ -9,16 +9,16 @@ use Rattle.bio_records.specs.declared.bio.Bio.{Bio}
 use Rattle.image_lanes.specs.Lanes.{counting}
 use Rattle.image_lanes.proofs.CountingLemmas.{length_counting, word_of_counting}
 use Rattle.model_disks.specs.Moves.{written}
-use Rattle.model_disks.specs.Paged.{number_at, sector_in, place_of, sector_of, paged, put, AreInverse, AreSame, AreFilled}
+use Rattle.model_disks.specs.Paged.{number_at, sector_in, word_place, sector_words, paged, put_words, AreInverse, AreSame, AreFilled}
 use Rattle.model_disks.proofs.MoveLemmas.{bios_write_their_sectors}
 use Rattle.model_disks.proofs.PageLemmas.{same_words, words_count, words_there, place_is}
 
--- words of a run that is put among others
+-- words of a run that is put_words among others
 module _ (from count first : ℕ) (words : List ℕ) (fits : from + count ≤ length words) where
   length_front : length (take from words) ≡ from
   length_front = length-take-le from words (omega (arith, fits))
 
-  pub length_put : length (put from count first words) ≡ length words
+  pub length_put : length (put_words from count first words) ≡ length words
   length_put = omega (
     arith,
     fits,
@@ -29,7 +29,7 @@ module _ (from count first : ℕ) (words : List ℕ) (fits : from + count ≤ le
     length-drop (from + count) words,
   )
 
-  pub word_put : (i : ℕ) → i < count → number_at (put from count first words) (from + i) ≡ (first + i) % 2 ^ 64
+  pub word_put : (i : ℕ) → i < count → number_at (put_words from count first words) (from + i) ≡ (first + i) % 2 ^ 64
   word_put i lt =
       let there : from + i - from ≡ i = omega arith in
       get_or-append_right (take from words) (counting first count ++ drop (from + count) words) from (from + i) 0 length_front (omega arith)
@@ -37,7 +37,7 @@ module _ (from count first : ℕ) (words : List ℕ) (fits : from + count ≤ le
       ∙ get_or_append_left (counting first count) (drop (from + count) words) 0 i (omega (arith, lt, length_counting first count))
       ∙ word_of_counting first count i 0 lt
 
-  pub word_kept : (k : ℕ) → (k < from) ⊎ (from + count ≤ k) → number_at (put from count first words) k ≡ number_at words k
+  pub word_kept : (k : ℕ) → (k < from) ⊎ (from + count ≤ k) → number_at (put_words from count first words) k ≡ number_at words k
   word_kept k (inl before) =
       get_or_append_left (take from words) (counting first count ++ drop (from + count) words) 0 k (omega (arith, before, length_front))
       ∙ get_or-take from words k 0 before
@@ -51,10 +51,10 @@ module _ (from count first : ℕ) (words : List ℕ) (fits : from + count ≤ le
 -- sectors that are written within a page
 pub filled_page : (slots owners words : List ℕ) (start len first slot : ℕ) → AreInverse slots owners → start < 64 * length slots
     → start % 64 + len ≤ 64 → number_at slots (start / 64) ≡ slot → 4096 * slot + 4096 ≤ length words
-    → AreFilled start len first words slots (put (4096 * slot + 64 * (start % 64)) (64 * len) first words) slots
+    → AreFilled start len first words slots (put_words (4096 * slot + 64 * (start % 64)) (64 * len) first words) slots
 filled_page slots owners words start len first slot inverse within short at kept =
     let from = 4096 * slot + 64 * (start % 64) in
-    let new = put from (64 * len) first words in
+    let new = put_words from (64 * len) first words in
     let fits : from + 64 * len ≤ length words = omega (arith, short, kept) in
     record {
       size = refl;
@@ -71,8 +71,8 @@ filled_page slots owners words start len first slot inverse within short at kept
       outside = λ x lt away.
           let s = number_at slots (x / 64) in
           let place = place_is slots x s refl in
-          same_words words new (place_of slots x) (place_of slots x) (λ i small.
-          word_kept from (64 * len) first words fits (place_of slots x + i) (elim (cases_eq (x / 64) (start / 64)) [
+          same_words words new (word_place slots x) (word_place slots x) (λ i small.
+          word_kept from (64 * len) first words fits (word_place slots x + i) (elim (cases_eq (x / 64) (start / 64)) [
             | inl same ↦
                 let here : s ≡ slot = ap (number_at slots) same ∙ at in
                 elim away [
@@ -123,7 +123,7 @@ filled_more start done len first words slots mid mid_slots new new_slots within 
     | inr behind ↦
         let there : start + j ≡ start + done + (j - done) = omega (arith, behind) in
         let on : first + (64 * done + 64 * (j - done)) ≡ first + 64 * j = omega (arith, behind) in
-        ap (sector_of new new_slots) there
+        ap (sector_words new new_slots) there
         ∙ more.inside (j - done) (omega (arith, lt, behind))
         ∙ sector_mod first (64 * done) (64 * (j - done))
         ∙ ap sector_from on
@@ -141,7 +141,7 @@ filled_more start done len first words slots mid mid_slots new new_slots within 
 
 -- a sector of the words of a page from one of its sectors on
 pub rest_sector : (slots words : List ℕ) (at slot len i : ℕ) → number_at slots (at / 64) ≡ slot → at % 64 + len ≤ 64 → 4096 * slot + 4096 ≤ length words → i < len
-    → take 64 (drop (64 * i) (take (64 * len) (drop (4096 * slot + 64 * (at % 64)) words))) ≡ sector_of words slots (at + i)
+    → take 64 (drop (64 * i) (take (64 * len) (drop (4096 * slot + 64 * (at % 64)) words))) ≡ sector_words words slots (at + i)
 rest_sector slots words at slot len i is short kept lt =
     let from = 4096 * slot + 64 * (at % 64) in
     let page : (at + i) / 64 ≡ at / 64 = omega (arith, lt, short) in
@@ -157,17 +157,17 @@ rest_sector slots words at slot len i is short kept lt =
 -- the sectors of an image
 pub length_paged : (count : ℕ) (words slots : List ℕ) → length (paged count words slots) ≡ count
 unfolding paged
-length_paged count words slots = length-map-range_with_len (sector_of words slots) 0 count
+length_paged count words slots = length-map-range_with_len (sector_words words slots) 0 count
 
-pub paged_at : (count : ℕ) (words slots : List ℕ) (x : ℕ) → x < count → get_or (paged count words slots) x [] ≡ sector_of words slots x
+pub paged_at : (count : ℕ) (words slots : List ℕ) (x : ℕ) → x < count → get_or (paged count words slots) x [] ≡ sector_words words slots x
 unfolding paged
-paged_at count words slots x lt = get_or-map-range_with_len (sector_of words slots) 0 count x x [] lt (omega arith)
+paged_at count words slots x lt = get_or-map-range_with_len (sector_words words slots) 0 count x x [] lt (omega arith)
 
 -- an image whose sectors are these
 pub is_paged : (count : ℕ) (words slots : List ℕ) (image : List (List ℕ)) → length image ≡ count
-    → ((x : ℕ) → x < count → get_or image x [] ≡ sector_of words slots x) → image ≡ paged count words slots
+    → ((x : ℕ) → x < count → get_or image x [] ≡ sector_words words slots x) → image ≡ paged count words slots
 unfolding paged
-is_paged count words slots image long each = fill_by_all (sector_of words slots) image count [] long each
+is_paged count words slots image long each = fill_by_all (sector_words words slots) image count [] long each
 
 -- pages that are the same show the same image
 pub same_image : (count : ℕ) (words slots new new_slots : List ℕ) → count ≤ 64 * length slots → AreSame words slots new new_slots
@@ -192,11 +192,11 @@ written_image bio count words slots new new_slots within ends filled =
             ap (λ k. get_or (written bio image) k []) there
             ∙ bios_write_their_sectors.inside bio image fits (x - bio.range.start) short
             ∙ sym (filled.inside (x - bio.range.start) short)
-            ∙ ap (sector_of new new_slots) (sym there)
+            ∙ ap (sector_words new new_slots) (sym there)
         | inr behind ↦ outside x lt (inr behind)
       ]
     ])) where
-      outside : (x : ℕ) → x < count → (x < bio.range.start) ⊎ (bio.range.start + bio.range.len ≤ x) → get_or (written bio (paged count words slots)) x [] ≡ sector_of new new_slots x
+      outside : (x : ℕ) → x < count → (x < bio.range.start) ⊎ (bio.range.start + bio.range.len ≤ x) → get_or (written bio (paged count words slots)) x [] ≡ sector_words new new_slots x
       outside x lt away =
           bios_write_their_sectors.outside bio (paged count words slots) (omega (arith, ends, length_paged count words slots)) x away
           ∙ paged_at count words slots x lt

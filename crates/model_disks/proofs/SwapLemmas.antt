@@ -2,7 +2,7 @@
 use Rattle.std.proofs.Common.{◌≡◌, ◌+◌, ◌-◌, ◌*◌, ◌<◌, ◌≤◌, ◌++◌, ℕ, List, length, take, drop, inl, inr, sym, ap, subst, ◌∙◌, arith, length-append, length-drop}
 use Rattle.std.proofs.lemmas.Bool.{cases_lt, cases_eq}
 use Rattle.std.proofs.lemmas.List.{get_or_append_left, get_or-append_right, get_or-take, get_or-drop, length-take-le}
-use Rattle.model_disks.specs.Paged.{number_at, turned, AreSwapped}
+use Rattle.model_disks.specs.Paged.{number_at, swapped_slot, AreSwapped}
 use Rattle.model_disks.proofs.PageLemmas.{turned_one, turned_other, turned_none}
 
 -- the list by its parts
@@ -122,12 +122,12 @@ module _ (words : List ℕ) (low high : ℕ) (order : low < high) (within : 4096
       | inl is ↦
           ap (λ (s : ℕ). number_at all (4096 * s + i)) is
           ∙ in_low i lt
-          ∙ sym (ap (λ (s : ℕ). number_at words (4096 * s + i)) (ap (turned low high) is ∙ turned_one low high))
+          ∙ sym (ap (λ (s : ℕ). number_at words (4096 * s + i)) (ap (swapped_slot low high) is ∙ turned_one low high))
       | inr not_low ↦ elim (cases_eq slot high) [
         | inl is ↦
             ap (λ (s : ℕ). number_at all (4096 * s + i)) is
             ∙ in_high i lt
-            ∙ sym (ap (λ (s : ℕ). number_at words (4096 * s + i)) (ap (turned low high) is ∙ turned_other low high))
+            ∙ sym (ap (λ (s : ℕ). number_at words (4096 * s + i)) (ap (swapped_slot low high) is ∙ turned_other low high))
         | inr not_high ↦
             other_slots slot i not_low not_high lt
             ∙ sym (ap (λ (s : ℕ). number_at words (4096 * s + i)) (turned_none low high slot not_low not_high))

@@ -15,20 +15,20 @@ unfoldable pub sector_in : List ℕ → ℕ → List ℕ
 sector_in words place = map (λ i. number_at words (place + i)) (range_with_len 0 64)
 
 -- where the words of a sector begin, in the slot of its page
-unfoldable pub place_of : List ℕ → ℕ → ℕ
-place_of slots x = 4096 * number_at slots (x / 64) + 64 * (x % 64)
+unfoldable pub word_place : List ℕ → ℕ → ℕ
+word_place slots x = 4096 * number_at slots (x / 64) + 64 * (x % 64)
 
 -- the words of a sector
-abbrev pub sector_of : List ℕ → List ℕ → ℕ → List ℕ
-sector_of words slots x = sector_in words (place_of slots x)
+abbrev pub sector_words : List ℕ → List ℕ → ℕ → List ℕ
+sector_words words slots x = sector_in words (word_place slots x)
 
 -- those of each of the first sectors
 unfoldable pub paged : ℕ → List ℕ → List ℕ → List (List ℕ)
-paged count words slots = map (sector_of words slots) (range_with_len 0 count)
+paged count words slots = map (sector_words words slots) (range_with_len 0 count)
 
 -- a run of words that count up, in the place of those that were there
-abbrev pub put : ℕ → ℕ → ℕ → List ℕ → List ℕ
-put from count first words = take from words ++ (counting first count ++ drop (from + count) words)
+abbrev pub put_words : ℕ → ℕ → ℕ → List ℕ → List ℕ
+put_words from count first words = take from words ++ (counting first count ++ drop (from + count) words)
 
 -- each page has a slot, and each slot a page: one list says where a page is, the other whose a slot is
 pub record AreInverse (slots owners : List ℕ) : Type 0 where
@@ -39,22 +39,22 @@ pub record AreInverse (slots owners : List ℕ) : Type 0 where
   pub forth : (slot : ℕ) → slot < length slots → number_at slots (number_at owners slot) ≡ slot
 
 -- a slot, where two of them have changed places
-unfoldable pub turned : ℕ → ℕ → ℕ → ℕ
-turned one other slot = if slot == other then one else (if slot == one then other else slot)
+unfoldable pub swapped_slot : ℕ → ℕ → ℕ → ℕ
+swapped_slot one other slot = if slot == other then one else (if slot == one then other else slot)
 
 -- the pages in two slots have changed places
 pub record IsExchanged (one other : ℕ) (slots new : List ℕ) : Type 0 where
   pub size : length new ≡ length slots
-  pub slot : (page : ℕ) → page < length slots → number_at new page ≡ turned one other (number_at slots page)
+  pub slot : (page : ℕ) → page < length slots → number_at new page ≡ swapped_slot one other (number_at slots page)
 
 -- the words in two slots have changed places
 pub record AreSwapped (one other : ℕ) (words new : List ℕ) : Type 0 where
   pub size : length new ≡ length words
-  pub word : (slot i : ℕ) → i < 4096 → number_at new (4096 * slot + i) ≡ number_at words (4096 * turned one other slot + i)
+  pub word : (slot i : ℕ) → i < 4096 → number_at new (4096 * slot + i) ≡ number_at words (4096 * swapped_slot one other slot + i)
 
 -- the first pages are each in the slot of its own number
-abbrev pub AreSettled : List ℕ → ℕ → Type 0
-AreSettled slots count = (page : ℕ) → page < count → number_at slots page ≡ page
+abbrev pub AreInOrder : List ℕ → ℕ → Type 0
+AreInOrder slots count = (page : ℕ) → page < count → number_at slots page ≡ page
 
 -- whole pages of words, of which each has one slot, with room for those of all slots
 pub record ArePaged (room : ℕ) (words slots owners : List ℕ) : Type 0 where
@@ -66,17 +66,17 @@ pub record ArePaged (room : ℕ) (words slots owners : List ℕ) : Type 0 where
 -- each sector has the words that it had
 pub record AreSame (words slots new new_slots : List ℕ) : Type 0 where
   pub size : length new_slots ≡ length slots
-  pub sector : (x : ℕ) → x < 64 * length slots → sector_of new new_slots x ≡ sector_of words slots x
+  pub sector : (x : ℕ) → x < 64 * length slots → sector_words new new_slots x ≡ sector_words words slots x
 
 -- so many sectors have words that count up, and the others those that they had
 pub record AreFilled (start len first : ℕ) (words slots new new_slots : List ℕ) : Type 0 where
   pub size : length new_slots ≡ length slots
-  pub inside : (j : ℕ) → j < len → sector_of new new_slots (start + j) ≡ sector_from (first + 64 * j)
-  pub outside : (x : ℕ) → x < 64 * length slots → (x < start) ⊎ (start + len ≤ x) → sector_of new new_slots x ≡ sector_of words slots x
+  pub inside : (j : ℕ) → j < len → sector_words new new_slots (start + j) ≡ sector_from (first + 64 * j)
+  pub outside : (x : ℕ) → x < 64 * length slots → (x < start) ⊎ (start + len ≤ x) → sector_words new new_slots x ≡ sector_words words slots x
 
 -- these of the pages as they are kept
-abbrev pub IsSound : Pages → Type 0
-IsSound pages = ArePaged (vec_capacity pages.words) pages.words.items pages.slots.items pages.owners.items
+abbrev pub ArePagesKept : Pages → Type 0
+ArePagesKept pages = ArePaged (vec_capacity pages.words) pages.words.items pages.slots.items pages.owners.items
 
 abbrev pub StaysSame : Pages → Pages → Type 0
 StaysSame old new = AreSame old.words.items old.slots.items new.words.items new.slots.items
@@ -85,14 +85,14 @@ abbrev pub IsFilled : ℕ → ℕ → ℕ → Pages → Pages → Type 0
 IsFilled start len first old new = AreFilled start len first old.words.items old.slots.items new.words.items new.slots.items
 
 abbrev pub sector_in_pages : Pages → ℕ → List ℕ
-sector_in_pages pages x = sector_of pages.words.items pages.slots.items x
+sector_in_pages pages x = sector_words pages.words.items pages.slots.items x
 
 abbrev pub in_pages : ℕ → Pages → List (List ℕ)
 in_pages count pages = paged count pages.words.items pages.slots.items
 
 -- the flag of each sector that has one says whether it is written
-abbrev pub AreNoted : List ℕ → List ℕ → List Bool → Type 0
-AreNoted words slots flags = (x : ℕ) → x < length flags → slice_index_or flags x false ≡ is_written (sector_of words slots x)
+abbrev pub FlagsAreRight : List ℕ → List ℕ → List Bool → Type 0
+FlagsAreRight words slots flags = (x : ℕ) → x < length flags → slice_index_or flags x false ≡ is_written (sector_words words slots x)
 
 -- the pages and the flags of an image of so many sectors: none is written of those that have no flag, and there is room for the flags of all
 pub record IsImage (count room flags_room : ℕ) (words slots owners : List ℕ) (flags : List Bool) : Type 0 where

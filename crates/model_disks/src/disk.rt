@@ -123,6 +123,7 @@ impl Disk {
             → take 64 (drop (64 * i) result.now) ≡ slice_index_or self.now.image (at + i) [] }
         ensures whole { length result.now % 64 ≡ 0 }
         ensures within { 64 * at + length result.now ≤ 64 * length self.now.image }
+        ensures zeros { length result.now ≡ 0 → slice_index_or self.now.image at [] ≡ zero_sector }
     {
         self.image.rest(at)
     }

@@ -1,4 +1,4 @@
-//! Of each sector of the front of a disk, whether it is written.
+//! Whether each sector of a disk is written, up to the last one that ever was.
 ghost use Rattle.std.specs.Prelude.{◌≡◌, ◌+◌, ◌^◌, ◌<◌, ◌≤◌, [], ◌∷◌, false, length, vec_capacity, MatchOption};
 ghost use Rattle.model_disks.specs.Kept.{grown, marked};
 ghost use Rattle.model_disks.specs.Runs.{IsApart, IsFirst, runs_from};

@@ -2,7 +2,7 @@
 ghost use Rattle.std.specs.Prelude.{◌≡◌, ◌*◌, ◌<◌, ◌≤◌, length, vec_capacity};
 ghost use Rattle.image_lanes.specs.Lanes.{sum_mod};
 ghost use Rattle.model_disks.specs.Disks.{sum_of_words};
-ghost use Rattle.model_disks.specs.Paged.{AreNoted, IsSound, in_pages, sector_in_pages};
+ghost use Rattle.model_disks.specs.Paged.{FlagsAreRight, ArePagesKept, in_pages, sector_in_pages};
 
 use crate::flags;
 use crate::pages::Pages;
@@ -14,8 +14,8 @@ use std::marker::Model;
 
 /// The sectors of a disk, one behind the other.
 ///
-/// Contracts see the list of the sectors, each of 64 words. Their words are kept by pages, and zeros are set only in pages that are written
-/// (`Pages`). Sums and runs go by a flag for each sector up to the last one that was ever written, and read no word of a sector that is not
+/// Contracts see the list of the sectors, each of 64 words. Their words are kept by pages, and zeros are set only in pages that are written,
+/// or where all words are asked for (`Pages`). Sums and runs go by a flag for each sector up to the last one that was ever written, and read no word of a sector that is not
 /// written.
 pub struct Image {
     // How many sectors there are.
@@ -52,7 +52,7 @@ impl Model for Image {
 
 // The sum of the words of one sector, modulo 2 ^ 64.
 fn sum_of_sector(pages: &Pages, at: u64) -> u64
-    requires paged { IsSound pages.now }
+    requires paged { ArePagesKept pages.now }
     requires here { at < 64 * length pages.now.slots.items }
     ensures { result ≡ sum_mod (sector_in_pages pages.now at) }
 {
@@ -61,9 +61,9 @@ fn sum_of_sector(pages: &Pages, at: u64) -> u64
 
 // The sum of the words of the sectors that have flags, modulo 2 ^ 64, which is that of those that are written.
 fn sum_of_written(pages: &Pages, flags: &[bool]) -> u64
-    requires paged { IsSound pages.now }
+    requires paged { ArePagesKept pages.now }
     requires within { length flags.now ≤ 64 * length pages.now.slots.items }
-    requires noted { AreNoted pages.now.words.items pages.now.slots.items flags.now }
+    requires noted { FlagsAreRight pages.now.words.items pages.now.slots.items flags.now }
     ensures { result ≡ sum_of_words (in_pages (length flags.now) pages.now) }
 {
     let mut all = 0u64;
@@ -123,6 +123,7 @@ impl Image {
         ensures sectors { (i : ℕ) → i < length result.now / 64 → take 64 (drop (64 * i) result.now) ≡ slice_index_or self.now (at + i) [] }
         ensures whole { length result.now % 64 ≡ 0 }
         ensures within { 64 * at + length result.now ≤ 64 * length self.now }
+        ensures zeros { length result.now ≡ 0 → slice_index_or self.now at [] ≡ zero_sector }
     {
         self.pages.rest(at, self.count - at)
     }

@@ -3,7 +3,7 @@ ghost use Rattle.std.specs.Prelude.{◌≡◌, ◌+◌, ◌*◌, ◌<◌, ◌≤
 ghost use Rattle.std.specs.List.{range_with_len};
 ghost use Rattle.stack_base.specs.Words.{zero_sector};
 ghost use Rattle.model_disks.specs.Kept.{grown};
-ghost use Rattle.model_disks.specs.Paged.{AreSwapped, put};
+ghost use Rattle.model_disks.specs.Paged.{AreSwapped, put_words};
 
 use bio_records::Bio;
 use image_lanes::fill;
@@ -50,9 +50,9 @@ fn swap(words: &mut [u64], low: usize, high: usize)
 }
 
 // Words that count up from the first one, in the place of those that were there.
-fn put(words: &mut [u64], from: usize, count: usize, first: u64)
+fn put_words(words: &mut [u64], from: usize, count: usize, first: u64)
     requires { from + count ≤ length words.old }
-    ensures { words.new ≡ put from count first words.old }
+    ensures { words.new ≡ put_words from count first words.old }
 {
     fill(&mut words[from..from + count], first);
 }
@@ -87,7 +87,7 @@ impl Pages {
     ghost use Rattle.std.specs.Prelude.{◌≡◌, ◌+◌, ◌*◌, ◌/◌, ◌%◌, ◌<◌, ◌≤◌, ℕ, [], length, take, drop, vec_capacity, IfOk};
     ghost use Rattle.std.specs.List.{concat};
     ghost use Rattle.stack_base.specs.Words.{zero_sector};
-    ghost use Rattle.model_disks.specs.Paged.{AreInverse, AreSettled, IsExchanged, IsFilled, IsSound, StaysSame, in_pages, number_at, sector_in_pages};
+    ghost use Rattle.model_disks.specs.Paged.{AreInverse, AreInOrder, IsExchanged, IsFilled, ArePagesKept, StaysSame, in_pages, number_at, sector_in_pages};
 
     // The pages in two slots change places.
     fn exchange(&mut self, one: usize, other: usize)
@@ -108,13 +108,13 @@ impl Pages {
 
     // The page comes into the slot of its own number. All slots have words, and the pages before it are settled.
     fn settle(&mut self, page: usize)
-        requires paged { IsSound self.old }
+        requires paged { ArePagesKept self.old }
         requires full { length self.old.words.items ≡ 4096 * length self.old.slots.items }
         requires page { page < length self.old.slots.items }
-        requires settled { AreSettled self.old.slots.items page }
-        ensures paged { IsSound self.new }
+        requires settled { AreInOrder self.old.slots.items page }
+        ensures paged { ArePagesKept self.new }
         ensures full { length self.new.words.items ≡ 4096 * length self.new.slots.items }
-        ensures settled { AreSettled self.new.slots.items (page + 1) }
+        ensures settled { AreInOrder self.new.slots.items (page + 1) }
         ensures same { StaysSame self.old self.new }
     {
         let slot = self.slots[page];
@@ -126,10 +126,10 @@ impl Pages {
 
     /// Brings the pages into their order, all of them with words.
     pub fn settle_all(&mut self)
-        requires paged { IsSound self.old }
-        ensures paged { IsSound self.new }
+        requires paged { ArePagesKept self.old }
+        ensures paged { ArePagesKept self.new }
         ensures full { length self.new.words.items ≡ 4096 * length self.new.slots.items }
-        ensures settled { AreSettled self.new.slots.items (length self.new.slots.items) }
+        ensures settled { AreInOrder self.new.slots.items (length self.new.slots.items) }
         ensures same { StaysSame self.old self.new }
     {
         let count = self.slots.len();
@@ -141,9 +141,9 @@ impl Pages {
 
     // The slot of a page, which has words from now on.
     fn kept_slot(&mut self, page: usize) -> usize
-        requires paged { IsSound self.old }
+        requires paged { ArePagesKept self.old }
         requires page { page < length self.old.slots.items }
-        ensures paged { IsSound self.new }
+        ensures paged { ArePagesKept self.new }
         ensures slot { result ≡ number_at self.new.slots.items page }
         ensures kept { 4096 * result + 4096 ≤ length self.new.words.items }
         ensures same { StaysSame self.old self.new }
@@ -160,22 +160,22 @@ impl Pages {
 
     // Writes the sectors of a range that ends within the page in which it begins.
     fn write_page(&mut self, range: Range, first: u64)
-        requires paged { IsSound self.old }
+        requires paged { ArePagesKept self.old }
         requires page { range.start % 64 + range.len ≤ 64 }
         requires within { range.start < 64 * length self.old.slots.items }
-        ensures paged { IsSound self.new }
+        ensures paged { ArePagesKept self.new }
         ensures filled { IsFilled range.start range.len first self.old self.new }
     {
         let slot = self.kept_slot((range.start / SECTORS) as usize);
         let from = WORDS * slot + 64 * (range.start % SECTORS) as usize;
-        put(&mut self.words, from, 64 * range.len as usize, first);
+        put_words(&mut self.words, from, 64 * range.len as usize, first);
     }
 
     /// Writes a bio's sectors, which are among those of the pages.
     pub fn write(&mut self, bio: Bio)
-        requires paged { IsSound self.old }
+        requires paged { ArePagesKept self.old }
         requires within { bio.range.start + bio.range.len ≤ 64 * length self.old.slots.items }
-        ensures paged { IsSound self.new }
+        ensures paged { ArePagesKept self.new }
         ensures filled { IsFilled bio.range.start bio.range.len bio.word self.old self.new }
     {
         let mut done = 0;
@@ -189,7 +189,7 @@ impl Pages {
 
     /// The words of the sectors from this one on up to the end of its page, so many sectors at most, or none where the page has no words.
     pub fn rest(&self, at: u64, most: u64) -> &[u64]
-        requires paged { IsSound self.now }
+        requires paged { ArePagesKept self.now }
         requires here { at < 64 * length self.now.slots.items }
         requires some { 1 ≤ most }
         ensures sectors { (i : ℕ) → i < length result.now / 64
@@ -213,7 +213,7 @@ impl Pages {
     ///
     /// Where there is no memory for it.
     pub fn zeros(alloc: Global, sectors: u64) -> Result<Pages, AllocError>
-        ensures paged { IfOk result IsSound }
+        ensures paged { IfOk result ArePagesKept }
         ensures all { IfOk result (λ pages. sectors ≤ 64 * length pages.slots.items) }
         ensures none { IfOk result (λ pages. pages.words.items ≡ []) }
     {
@@ -230,7 +230,7 @@ impl Pages {
 
     /// The words of one sector.
     pub fn sector(&self, at: u64) -> &[u64]
-        requires paged { IsSound self.now }
+        requires paged { ArePagesKept self.now }
         requires here { at < 64 * length self.now.slots.items }
         ensures { result.now ≡ sector_in_pages self.now at }
     {
@@ -244,7 +244,7 @@ impl Pages {
     /// The words of the first sectors, one sector behind the other, where the pages stand in their order.
     pub fn words(&self, count: u64) -> &[u64]
         requires full { length self.now.words.items ≡ 4096 * length self.now.slots.items }
-        requires settled { AreSettled self.now.slots.items (length self.now.slots.items) }
+        requires settled { AreInOrder self.now.slots.items (length self.now.slots.items) }
         requires all { count ≤ 64 * length self.now.slots.items }
         ensures { result.now ≡ concat (in_pages count self.now) }
     {

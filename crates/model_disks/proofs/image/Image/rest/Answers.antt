@@ -1,5 +1,5 @@
 -- The sectors are in the pages, up to the end of one.
-use Rattle.std.proofs.Common.{◌+◌, ◌∙◌, arith}
+use Rattle.std.proofs.Common.{◌+◌, ◌∙◌, sym, arith}
 use Rattle.model_disks.proofs.ImageLemmas.{count_shown, sector_known, sector_shown}
 use Rattle.model_disks.proofs.image.Image.rest.Goals as goal
 
@@ -31,3 +31,8 @@ returns-clause-within c =
     let i = c.self.inside in
     let many = count_shown i.count i.pages.words.items i.pages.slots.items c.args.self.now c.self.view_is in
     omega (arith, c.rest.ensures.short, c.requires, many)
+
+pub returns-clause-zeros : goal.returns-clause-zeros
+returns-clause-zeros c none =
+    let i = c.self.inside in
+    sym (sector_shown i.count i.pages.words.items i.pages.slots.items c.args.self.now c.args.at c.self.view_is c.requires) ∙ c.rest.ensures.zeros none

@@ -1,6 +1,6 @@
 -- Behind the flags no sector is written.
 use Rattle.std.proofs.Common.{length, sym, ap, subst, ◌∙◌, arith}
-use Rattle.model_disks.specs.Paged.{AreNoted}
+use Rattle.model_disks.specs.Paged.{FlagsAreRight}
 use Rattle.model_disks.proofs.ImageLemmas.{noted_at, sum_of_image}
 use Rattle.model_disks.proofs.image.Image.sum.Goals as goal
 
@@ -11,7 +11,7 @@ sum_of_written-requires-clause-within c =
 pub sum_of_written-requires-clause-noted : goal.sum_of_written-requires-clause-noted
 sum_of_written-requires-clause-noted c =
     let i = c.self.inside in
-    subst (AreNoted i.pages.words.items i.pages.slots.items) (sym c.deref.ensures.value)
+    subst (FlagsAreRight i.pages.words.items i.pages.slots.items) (sym c.deref.ensures.value)
     (noted_at i.count _ _ i.pages.words.items i.pages.slots.items _ i.flags.items c.self.invariant)
 
 pub returns : goal.returns

@@ -3,7 +3,7 @@ use Rattle.std.proofs.Common.{◌≡◌, ◌+◌, ◌*◌, ◌/◌, ◌≤◌, l
 use Rattle.std.specs.Prelude.{vec_capacity}
 use Rattle.std.proofs.lemmas.List.{get_or_read}
 use Rattle.model_disks.specs.Kept.{grown}
-use Rattle.model_disks.specs.Paged.{ArePaged, AreSame, turned}
+use Rattle.model_disks.specs.Paged.{ArePaged, AreSame, swapped_slot}
 use Rattle.model_disks.proofs.GrownLemmas.{length_grown}
 use Rattle.model_disks.proofs.PageLemmas.{paged_grown, same_behind, turned_one}
 use Rattle.model_disks.proofs.pages.Pages.kept_slot.Goals as goal
@@ -30,7 +30,7 @@ returns-clause-slot c =
     let used = c.len-used.result / 4096 in
     let slot = get_or_read slots c.args.page _ c.requires.page c.index-slot.ensures 0 in
     sym (c.exchange.ensures.slots.slot c.args.page c.requires.page
-    ∙ ap (turned c.index-slot.result.now used) (sym slot)
+    ∙ ap (swapped_slot c.index-slot.result.now used) (sym slot)
     ∙ turned_one c.index-slot.result.now used)
 
 pub returns-clause-kept : goal.returns-clause-kept

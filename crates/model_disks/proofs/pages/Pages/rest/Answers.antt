@@ -1,7 +1,7 @@
 -- A page that has no words is zeros.
 use Rattle.std.proofs.Common.{◌≡◌, ◌+◌, ◌-◌, ◌*◌, ◌/◌, ◌%◌, ◌<◌, take, drop, sym, ap, ◌∙◌, arith}
 use Rattle.std.proofs.lemmas.List.{get_or_read, length-take}
-use Rattle.model_disks.specs.Paged.{place_of}
+use Rattle.model_disks.specs.Paged.{word_place}
 use Rattle.model_disks.proofs.PageLemmas.{place_is, words_end}
 use Rattle.model_disks.proofs.PageWriteLemmas.{rest_sector}
 use Rattle.model_disks.proofs.pages.Pages.rest.Goals as goal
@@ -11,7 +11,7 @@ returns-then-slot-len-clause-zeros c none =
     let words = c.args.self.now.words.items in
     let slots = c.args.self.now.slots.items in
     let slot = get_or_read slots (c.args.at / 64) _ (omega (arith, c.requires.here)) c.index-slot.ensures 0 in
-    words_end words (place_of slots c.args.at)
+    words_end words (word_place slots c.args.at)
     (omega (
       arith,
       place_is slots c.args.at c.index-slot.result.now (sym slot),

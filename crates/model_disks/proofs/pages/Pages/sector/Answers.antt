@@ -2,7 +2,7 @@
 use Rattle.std.proofs.Common.{◌≡◌, ◌+◌, ◌/◌, ◌<◌, length, sym, ap, ◌∙◌, arith}
 use Rattle.std.proofs.lemmas.Bool.{eqb-true, eqb-false}
 use Rattle.std.proofs.lemmas.List.{take_all}
-use Rattle.model_disks.specs.Paged.{sector_of}
+use Rattle.model_disks.specs.Paged.{sector_words}
 use Rattle.model_disks.proofs.pages.Pages.sector.Goals as goal
 
 pub returns-then-is_empty : goal.returns-then-is_empty
@@ -17,4 +17,4 @@ returns c =
     let at : c.args.at + 0 ≡ c.args.at = omega arith in
     sym (take_all 64 words (omega (arith, rest.short)))
     ∙ rest.sectors 0 some
-    ∙ ap (sector_of c.args.self.now.words.items c.args.self.now.slots.items) at
+    ∙ ap (sector_words c.args.self.now.words.items c.args.self.now.slots.items) at
