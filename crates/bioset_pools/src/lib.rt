@@ -109,8 +109,8 @@ impl BioSet {
     }
 }
 
-/// Whether the first attempt at a bio of a set, within a submission, waits (`bio_alloc_bioset`): where the set has no rescuer, or none of the
-/// task's lists has a bio, which only this task could submit.
+/// Whether the first attempt at a bio of a set, within a submission, waits (`bio_alloc_bioset`): unless the set has a rescuer and one of the
+/// task's lists has a bio. Only this task could submit that one.
 pub fn waits_first<L: Waits>(rescuer: bool, lists: &L) -> bool
     ensures { result ≡ waits_first rescuer (L.waiting lists.now) }
 {

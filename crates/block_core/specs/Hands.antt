@@ -14,10 +14,10 @@ use Rattle.block_core.specs.Fragments.{fragment_of}
 use Rattle.block_core.specs.Levels.{HoldsOneLevel}
 
 -- a writer that has something in hand for its next write has it of the writers' pools, and submits nothing
-abbrev pub TakenIsRight : Gathered → Line → Type 0
-TakenIsRight NoBio line = Unit {0}
-TakenIsRight (HasBio bio) line = (bio.share.no ≡ pool_number FsBios) × (line ≡ rests)
-TakenIsRight (HasBoth bio vector) line = (bio.share.no ≡ pool_number FsBios) × (vector.share.no ≡ pool_number FsVecs) × (line ≡ rests)
+abbrev pub GatheredIsRight : Gathered → Line → Type 0
+GatheredIsRight NoBio line = Unit {0}
+GatheredIsRight (HasBio bio) line = (bio.share.no ≡ pool_number FsBios) × (line ≡ rests)
+GatheredIsRight (HasBoth bio vector) line = (bio.share.no ≡ pool_number FsBios) × (vector.share.no ≡ pool_number FsVecs) × (line ≡ rests)
 
 -- a driver with a bio in hand has it of its device's set
 abbrev pub WantIsRight : DevId → Want → Type 0
@@ -49,7 +49,7 @@ CarriedIsRight ends disk (Carries writer closed) = HoldsOneLevel closed.held
 CarriedIsRight ends disk (Fails breach kept) = ⊥
 
 abbrev pub HandIsRight : Setup → (Fragment → Status) → TaskState → Type 0
-HandIsRight setup ends (Writer number todo taken line) = TakenIsRight taken line × DoingIsRight setup line.doing
+HandIsRight setup ends (Writer number todo taken line) = GatheredIsRight taken line × DoingIsRight setup line.doing
 HandIsRight setup ends (Rescuer dev line) = DoingIsRight setup line.doing
 HandIsRight setup ends (Completer disk carried) = CarriedIsRight ends disk carried
 HandIsRight setup ends (Keeper keeping) = Unit {0}

@@ -40,17 +40,17 @@ abbrev pub first_worth : (ℕ → ℕ) → List Todo → ℕ
 first_worth worth [] = 0
 first_worth worth (todo ∷ todos) = worth todo.number
 
-abbrev pub taken_worth : (ℕ → ℕ) → List Todo → Gathered → ℕ
-taken_worth worth todos NoBio = 0
-taken_worth worth todos (HasBio bio) = first_worth worth todos
-taken_worth worth todos (HasBoth bio vector) = first_worth worth todos
+abbrev pub gathered_worth : (ℕ → ℕ) → List Todo → Gathered → ℕ
+gathered_worth worth todos NoBio = 0
+gathered_worth worth todos (HasBio bio) = first_worth worth todos
+gathered_worth worth todos (HasBoth bio vector) = first_worth worth todos
 
 -- the unfinished writes, and those of them of which something is begun: an element is taken for the write, or its top node was opened
 abbrev pub unfinished_of : (ℕ → ℕ) → Weight
 unfinished_of worth = by_stage (λ todos taken. all_worth worth todos) worth
 
 abbrev pub begun_of : (ℕ → ℕ) → Weight
-begun_of worth = by_stage (taken_worth worth) worth
+begun_of worth = by_stage (gathered_worth worth) worth
 
 pub record RoundsAreTallied (rounds : List ℕ) (scene : Scene) (state : State) : Type 0 where
   -- the tally has the number of unfinished writes of each round

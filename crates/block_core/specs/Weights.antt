@@ -82,10 +82,10 @@ abbrev pub line_weight : Weight → ℕ → Line → ℕ
 line_weight w limit line =
     doing_weight w limit line.doing + sum_by (w.bio (Lined limit)) line.lists.list0 + sum_by (w.bio (Lined limit)) line.lists.list1
 
-abbrev pub taken_weight : Weight → Gathered → ℕ
-taken_weight w NoBio = 0
-taken_weight w (HasBio bio) = w.hand bio
-taken_weight w (HasBoth bio vector) = w.hand bio + w.vector vector
+abbrev pub gathered_weight : Weight → Gathered → ℕ
+gathered_weight w NoBio = 0
+gathered_weight w (HasBio bio) = w.hand bio
+gathered_weight w (HasBoth bio vector) = w.hand bio + w.vector vector
 
 abbrev pub carried_weight : Weight → ℕ → Carried → ℕ
 carried_weight w task Empty = 0
@@ -95,7 +95,7 @@ carried_weight w task (Fails breach kept) = 0
 
 -- a writer submits at any device, of which there are at most 32, and the rescuer of a device's set below that device
 abbrev pub task_weight : Weight → ℕ → TaskState → ℕ
-task_weight w place (Writer number todo taken line) = w.todo number todo taken + taken_weight w taken + line_weight w 32 line
+task_weight w place (Writer number todo taken line) = w.todo number todo taken + gathered_weight w taken + line_weight w 32 line
 task_weight w place (Rescuer dev line) = line_weight w dev.0 line
 task_weight w place (Completer disk carried) = carried_weight w place carried
 task_weight w place (Keeper keeping) = 0

@@ -134,7 +134,7 @@ fn count_split(
 
 /// What the run needs at a mirror: a record, a bio for each member, and what the run needs at each of them.
 #[cycle(counts)]
-#[inline(never)]
+#[inline(never)] // as `count_split`
 fn count_legs(stack: &Stack, dev: DevId, start: u64, len: u64) -> Counts
     requires stack { IsStack stack.now }
     requires known { dev.0 < length stack.now.devices.items }

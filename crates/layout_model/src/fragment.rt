@@ -110,7 +110,7 @@ fn cut_pieces(
 
 // Appends the fragments of a run at a mirror: those of each member.
 #[cycle(cut)]
-#[inline(never)]
+#[inline(never)] // most runs meet no mirror
 fn copy_legs(
     stack: &Stack,
     device: &Device,

@@ -60,7 +60,7 @@ pub fn limit_piece(max: u64, chunk: u64, start: u64, len: u64) -> Piece
 
 /// The first piece at a device whose members stand one behind the other: it ends with its member (`linear_make_request`,
 /// `drivers/md/md-linear.c`).
-#[inline(always)]
+#[inline(always)] // as `first_piece`
 pub fn linear_piece(stack: &Stack, members: &[DevId], start: u64, len: u64) -> Piece
     requires stack { IsStack stack.now }
     requires known { All (λ m. m.0 < length stack.now.devices.items) members.now }
@@ -108,7 +108,7 @@ fn member_sizes(stack: &Stack, dev: DevId) -> ArrayVec<u64, 8>
 }
 
 /// The first piece of a run at a device that cuts. Only at linear and zoned devices does it go by the members' sizes.
-#[inline(always)]
+#[inline(always)] // as `first_piece`
 fn kind_piece(stack: &Stack, device: &Device, dev: DevId, start: u64, len: u64) -> Piece
     requires stack { IsStack stack.now }
     requires found { slice_get stack.now.devices.items dev.0 ≡ Some device.now }

@@ -29,7 +29,7 @@ use std::snapshot::Snapshot;
 use task_core::{Routes, Tally};
 
 /// The number of a pool.
-pub fn number_of(pool: PoolId) -> u64
+pub fn pool_place(pool: PoolId) -> u64
     ensures { result ≡ pool_number pool }
 {
     match pool {
@@ -134,7 +134,7 @@ impl Objects {
     pub fn has_spare(&self, pool: PoolId) -> bool
         ensures { TellsSpare result (core_pool_at self.now (pool_number pool)) }
     {
-        match self.pools.get(number_of(pool) as usize) {
+        match self.pools.get(pool_place(pool) as usize) {
             None => false,
             Some(pool) => pool.has_spare(),
         }

@@ -11,7 +11,7 @@ ghost use Rattle.plain_core.specs.steps.Free.{IsFirstFree};
 ghost use Rattle.plain_core.specs.Cores.{scene_of_core, state_of_core, task_at, AreFound, IsPlaceOfTask, HasNoTask, StepsAt, Applies};
 
 use crate::fault::CoreFault;
-use crate::objects::{Objects, number_of};
+use crate::objects::{Objects, pool_place};
 use crate::opening::objects::open_objects;
 use crate::opening::seats::slot_of;
 use crate::opening::seen_objects::objects_seen;
@@ -165,7 +165,7 @@ impl Core {
     pub fn facts(&self, pool: PoolId) -> Facts
         ensures { result ≡ ((state_of_core self.now).objects.pool (pool_number pool)).facts }
     {
-        self.objects.facts(number_of(pool))
+        self.objects.facts(pool_place(pool))
     }
 
     /// Whether the run has ended: every write is done, and every element is at home.

@@ -36,7 +36,7 @@ pub(crate) struct Caller<'a, R: Wait> {
 
 impl<'a, R: Wait> Caller<'a, R> {
     // Asks the pool of bios of this number.
-    #[inline(always)]
+    #[inline(always)] // its reply is made where it is used
     fn ask_bios(&mut self, number: u32, ask: PoolAsk<BioBody<Pad>>) -> PoolSaid<BioBody<Pad>>
         requires holds { DeskHolds self.old.locks.now self.old.seats.now }
         requires pool { IsTrue (is_bios (stage_at self.old.locks.now) number) }
@@ -62,7 +62,7 @@ impl<'a, R: Wait> Caller<'a, R> {
     }
 
     // Asks the pool of vectors.
-    #[inline(always)]
+    #[inline(always)] // as `ask_bios`
     fn ask_vecs(&mut self, ask: PoolAsk<Vector>) -> PoolSaid<Vector>
         requires holds { DeskHolds self.old.locks.now self.old.seats.now }
         requires named { object_of (pool_asked ask) ≡ OfPool 64 }
@@ -84,7 +84,7 @@ impl<'a, R: Wait> Caller<'a, R> {
     }
 
     // Asks the pool of records of this number.
-    #[inline(always)]
+    #[inline(always)] // as `ask_bios`
     fn ask_records(&mut self, number: u32, ask: PoolAsk<Slip>) -> PoolSaid<Slip>
         requires holds { DeskHolds self.old.locks.now self.old.seats.now }
         requires pool { IsTrue (is_slips (stage_at self.old.locks.now) number) }
@@ -110,7 +110,7 @@ impl<'a, R: Wait> Caller<'a, R> {
     }
 
     // Asks the list of a device's rescuer.
-    #[inline(always)]
+    #[inline(always)] // as `ask_bios`
     fn ask_list(&mut self, dev: DevId, ask: ListAsk) -> ListSaid
         requires holds { DeskHolds self.old.locks.now self.old.seats.now }
         requires rescuer { IsTrue (has_rescuer (stage_at self.old.locks.now) dev) }
@@ -137,7 +137,7 @@ impl<'a, R: Wait> Caller<'a, R> {
     }
 
     // Asks a disk.
-    #[inline(always)]
+    #[inline(always)] // as `ask_bios`
     fn ask_disk(&mut self, disk: DevId, ask: DiskAsk) -> DiskSaid
         requires holds { DeskHolds self.old.locks.now self.old.seats.now }
         requires disk { IsTrue (has_disk (stage_at self.old.locks.now) disk) }
@@ -164,7 +164,7 @@ impl<'a, R: Wait> Caller<'a, R> {
     }
 
     // Asks the book of a writer.
-    #[inline(always)]
+    #[inline(always)] // as `ask_bios`
     fn ask_book(&mut self, writer: u32, ask: BookAsk) -> BookSaid
         requires holds { DeskHolds self.old.locks.now self.old.seats.now }
         requires book { IsTrue (has_book (stage_at self.old.locks.now) writer) }
@@ -192,7 +192,7 @@ impl<'a, R: Wait> Caller<'a, R> {
     }
 
     // Asks the tally.
-    #[inline(always)]
+    #[inline(always)] // as `ask_bios`
     fn ask_tally(&mut self, ask: TallyAsk) -> TallySaid
         requires holds { DeskHolds self.old.locks.now self.old.seats.now }
         requires named { object_of (tally_asked ask) ≡ OfTally }

@@ -72,7 +72,7 @@ impl<'a> Devices<'a> {
     }
 
     /// The number of the device of this name.
-    pub(crate) fn number_of(&self, name: &Word<'_>) -> Option<usize>
+    pub(crate) fn place_of(&self, name: &Word<'_>) -> Option<usize>
         ensures number { result ≡ device_of self.now name.now }
         ensures small { IfSome result (λ number. number < 32) }
     {
@@ -93,7 +93,7 @@ impl<'a> Devices<'a> {
         ensures number { result ≡ number_in self.now name.now }
         ensures small { result < 32 }
     {
-        self.number_of(name).unwrap_or(0)
+        self.place_of(name).unwrap_or(0)
     }
 
     /// What the device of this number does.
@@ -108,7 +108,7 @@ impl<'a> Devices<'a> {
     pub(crate) fn lacks_one(&self, names: &[Word<'_>]) -> bool
         ensures { result ≡ list_any (λ name. is_none (device_of self.now name)) names.now }
     {
-        names.iter().any(|name| self.number_of(name).is_none())
+        names.iter().any(|name| self.place_of(name).is_none())
     }
 
     /// Whether one of these devices is a member already, or stands twice.
@@ -157,7 +157,7 @@ impl<'a> Devices<'a> {
         ensures { result ≡ is_disk_device (slice_get self.now number) }
     {
         match self.what_at(number) {
-            Some(what) => what::is_disk(what),
+            Some(what) => what::declares_disk(what),
             None => false,
         }
     }
@@ -207,7 +207,7 @@ impl<'a> Devices<'a> {
         requires { HasNumbers what }
         ensures { result ≡ device_reason self.now name.now what names.now reserve rescuer }
     {
-        if self.number_of(name).is_some() {
+        if self.place_of(name).is_some() {
             return Some(Reason::NameTaken);
         }
         if self.lacks_one(names) {
@@ -243,7 +243,7 @@ impl<'a> Devices<'a> {
         let mut taken = self.taken;
         mark(&mut taken, &placed.members);
         let sectors = what::own_sectors(placed.what);
-        let disks = u64::from(what::is_disk(placed.what));
+        let disks = u64::from(what::declares_disk(placed.what));
         self.placed.push(placed)?;
         self.sizes.push(capacity);
         self.taken = taken;

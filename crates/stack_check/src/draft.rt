@@ -150,7 +150,7 @@ impl<'a> Draft<'a> {
     fn add_bad(&mut self, disk: &Word<'_>, bad: Bad) -> Result<(), AddFault>
         ensures { Adds false self.old (Item.Bad disk.now bad.range bad.kind) self.new result }
     {
-        let Some(number) = self.devices.number_of(disk) else {
+        let Some(number) = self.devices.place_of(disk) else {
             return Err(AddFault::Wrong(Reason::NoSuchDevice));
         };
         if !self.devices.is_disk_at(number) {

@@ -58,7 +58,7 @@ pub(crate) fn lacks_rescuer(what: What, count: usize, rescuer: bool) -> bool
 }
 
 /// Whether it is a disk.
-pub(crate) fn is_disk(what: What) -> bool
+pub(crate) fn declares_disk(what: What) -> bool
     ensures { result ≡ declares_disk what }
 {
     matches!(what, What::Disk { .. })

@@ -230,7 +230,7 @@ impl Objects for Plain {
         Ok(())
     }
 
-    #[inline(always)] // as `take_bio`
+    #[inline(always)] // its reply is made where it is used
     fn pop(&mut self, dev: DevId) -> Result<Option<BioElement>, Unmade> {
         let at = place(&self.index.lists, dev.0);
         Ok(self.lists[at].1.pop())
@@ -242,7 +242,7 @@ impl Objects for Plain {
         Ok(())
     }
 
-    #[inline(always)] // as `take_bio`
+    #[inline(always)] // its reply is made where it is used
     fn complete<C: Chooser>(
         &mut self,
         disk: DevId,
@@ -257,13 +257,13 @@ impl Objects for Plain {
         Ok(Some((index, self.disks[at].complete(index))))
     }
 
-    #[inline(always)] // as `take_bio`
+    #[inline(always)] // its reply is made where it is used
     fn link(&mut self, writer: u32, ask: Ask) -> Result<Link, Unmade> {
         let at = place(&self.index.books, writer);
         Ok(link_in(&mut self.books[at].1, ask))
     }
 
-    #[inline(always)] // as `take_bio`
+    #[inline(always)] // its reply is made where it is used
     fn drop_one(
         &mut self,
         writer: u32,

@@ -19,7 +19,7 @@ use Rattle.run_machine.specs.Tasks.{Todo, Gathered, NoBio, HasBio, HasBoth, besi
 use Rattle.task_steps.specs.Routed.{routing_setup}
 use Rattle.task_steps.specs.Within.{IsItemWithin}
 use Rattle.task_steps.specs.Stage.{Stage, has_book, is_vecs, IsHome, IsBioHome, IsVecHome, IsSlipHome, TopFits, DropFits, RequestFits, Owes, has_rescuer, has_disk}
-use Rattle.task_steps.specs.Homes.{IsOwned, IsLineOf, TodoFits, TakenIsHome, CarriedFits, DutyFits, KeepingFits, IsTaskOf, TasksStayHome}
+use Rattle.task_steps.specs.Homes.{IsOwned, IsLineOf, TodoFits, GatheredIsHome, CarriedFits, DutyFits, KeepingFits, IsTaskOf, TasksStayHome}
 use Rattle.task_steps.proofs.LineHomes.{settled_home, line_asks, line_home}
 
 -- what a writer asks for outside of a submission
@@ -29,7 +29,7 @@ with_bio_asks stage writer true todo book fits = tt
 with_bio_asks stage writer false todo book fits = (book, (fits.number, tt))
 
 write_asks : (stage : Stage) (writer : ℕ) (todos : List Todo) (taken : Gathered) → IsTrue (has_book stage writer) → All (TodoFits stage) todos
-    → TakenIsHome stage taken → RequestFits stage (write_request writer todos taken)
+    → GatheredIsHome stage taken → RequestFits stage (write_request writer todos taken)
 write_asks stage writer [] taken book all home = tt
 write_asks stage writer (todo ∷ later) NoBio book all home = refl
 write_asks stage writer (todo ∷ later) (HasBio bio) book all home =
@@ -38,7 +38,7 @@ write_asks stage writer (todo ∷ later) (HasBoth bio vector) book all home =
     (book, ((All-head (TodoFits stage) todo later all).number, home.1))
 
 writer_asks : (stage : Stage) → IsStack stage.routing.stack → (writer : ℕ) (todos : List Todo) (taken : Gathered) (doing : Doing) (line : Line)
-    → IsTrue (has_book stage writer) → All (TodoFits stage) todos → TakenIsHome stage taken
+    → IsTrue (has_book stage writer) → All (TodoFits stage) todos → GatheredIsHome stage taken
     → RequestFits stage (line_request (routing_setup stage.routing) doing line.lists)
     → RequestFits stage (writer_request (routing_setup stage.routing) writer todos taken doing line)
 writer_asks stage good writer todos taken Rests line book all home asks = write_asks stage writer todos taken book all home
@@ -98,13 +98,13 @@ module _ (stage : Stage) (good : IsStack stage.routing.stack) where
       (All-cons (IsOwned stage) item [] owned (All-nil (IsOwned stage)))
 
   -- what is left of what was taken is at home
-  besides_home : (taken : Gathered) → TakenIsHome stage taken → TakenIsHome stage (besides taken)
+  besides_home : (taken : Gathered) → GatheredIsHome stage taken → GatheredIsHome stage (besides taken)
   besides_home NoBio home = tt
   besides_home (HasBio bio) home = home
   besides_home (HasBoth bio vector) home = home.0
 
   begins_home : (writer : ℕ) (later : List Todo) (bio : ℕ → Item Pad) (taken : Gathered) (todo : Todo) (line : Line) (answer : Linked)
-      → IsTrue (has_book stage writer) → All (TodoFits stage) (todo ∷ later) → TakenIsHome stage taken → IsLineOf stage line
+      → IsTrue (has_book stage writer) → All (TodoFits stage) (todo ∷ later) → GatheredIsHome stage taken → IsLineOf stage line
       → ((node : ℕ) → IsItemWithin stage.routing.stack (bio node) × IsOwned stage (bio node))
       → IsTaskOf stage (begins (routing_setup stage.routing) writer later bio taken todo line answer)
   begins_home writer later bio taken todo line (Made node) book all home is bios =
@@ -113,7 +113,7 @@ module _ (stage : Stage) (good : IsStack stage.routing.stack) where
   begins_home writer later bio taken todo line (Stray back) book all home is bios = (book, all, besides_home taken home, broken line _ _ is)
 
   write_home : (writer : ℕ) (todos : List Todo) (taken : Gathered) (line : Line) (reply : Reply) → IsTrue (has_book stage writer)
-      → All (TodoFits stage) todos → TakenIsHome stage taken → IsLineOf stage line → Owes stage (write_request writer todos taken) reply
+      → All (TodoFits stage) todos → GatheredIsHome stage taken → IsLineOf stage line → Owes stage (write_request writer todos taken) reply
       → IsTaskOf stage (write_answered (routing_setup stage.routing) writer todos taken line reply)
   write_home writer todos taken line Spent book all home is owes = (book, all, besides_home taken home, broken line breach.Spent _ is)
   write_home writer (todo ∷ later) NoBio line (HadBio got bio) book all home is owes = (book, all, owes.home, is)
@@ -134,7 +134,7 @@ module _ (stage : Stage) (good : IsStack stage.routing.stack) where
   write_home writer todos taken line _ book all home is owes = (book, all, home, is)
 
   writer_home : (writer : ℕ) (todos : List Todo) (taken : Gathered) (doing : Doing) (line : Line) (reply : Reply) → IsTrue (has_book stage writer)
-      → All (TodoFits stage) todos → TakenIsHome stage taken → IsLineOf stage line
+      → All (TodoFits stage) todos → GatheredIsHome stage taken → IsLineOf stage line
       → (Owes stage (line_request (routing_setup stage.routing) doing line.lists) reply
       → IsLineOf stage (line_answered (routing_setup stage.routing) doing line.lists reply))
       → Owes stage (writer_request (routing_setup stage.routing) writer todos taken doing line) reply

@@ -50,10 +50,10 @@ pub record TodoFits (stage : Stage) (todo : Todo) : Type 0 where
   pub number : todo.number < stage.writes
   pub few : todo.write.count ≤ 2048
 
-abbrev pub TakenIsHome : Stage → Gathered → Type 0
-TakenIsHome stage NoBio = Unit {0}
-TakenIsHome stage (HasBio bio) = IsHome stage is_bios bio.share
-TakenIsHome stage (HasBoth bio vector) = IsHome stage is_bios bio.share × IsHome stage is_vecs vector.share
+abbrev pub GatheredIsHome : Stage → Gathered → Type 0
+GatheredIsHome stage NoBio = Unit {0}
+GatheredIsHome stage (HasBio bio) = IsHome stage is_bios bio.share
+GatheredIsHome stage (HasBoth bio vector) = IsHome stage is_bios bio.share × IsHome stage is_vecs vector.share
 
 abbrev pub CarriedFits : Stage → Carried → Type 0
 CarriedFits stage Empty = Unit {0}
@@ -72,7 +72,7 @@ KeepingFits stage (Stops breach) = Unit {0}
 -- a task of the scenario that these objects are of
 abbrev pub IsTaskOf : Stage → TaskState → Type 0
 IsTaskOf stage (Writer number todo taken line) =
-    IsTrue (has_book stage number) × All (TodoFits stage) todo × TakenIsHome stage taken × IsLineOf stage line
+    IsTrue (has_book stage number) × All (TodoFits stage) todo × GatheredIsHome stage taken × IsLineOf stage line
 IsTaskOf stage (Rescuer dev line) = IsTrue (has_rescuer stage dev) × IsLineOf stage line
 IsTaskOf stage (Completer disk carried) = IsTrue (has_disk stage disk) × CarriedFits stage carried
 IsTaskOf stage (Keeper keeping) = KeepingFits stage keeping

@@ -9,7 +9,7 @@ use Rattle.run_machine.specs.declared.event.Breach.TheVariants as breach
 use Rattle.run_machine.specs.declared.event.TaskId.TheVariants as id
 use Rattle.task_steps.specs.declared.objects.Objects.{Ghosts}
 use Rattle.task_steps.specs.declared.step.Step.{Step}
-use Rattle.task_steps.specs.declared.writer.begin.Gathered.{Gathered as RealTaken}
+use Rattle.task_steps.specs.declared.writer.begin.Gathered.{Gathered as RealGathered}
 use Rattle.task_steps.specs.declared.writer.begin.Gathered.TheVariants as taken
 use Rattle.task_steps.specs.declared.writer.begin.Attempt.{Attempt}
 use Rattle.task_steps.specs.declared.writer.begin.Attempt.TheVariants as attempt
@@ -23,7 +23,7 @@ use Rattle.run_machine.specs.Tasks.{Todo, Gathered, NoBio, HasBio, HasBoth, Task
 use Rattle.task_steps.specs.Turns.{step_of}
 use Rattle.task_steps.specs.Routed.{Routing, routing_setup}
 use Rattle.task_steps.specs.Stage.{Owes, has_book}
-use Rattle.task_steps.specs.Homes.{TodoFits, TakenIsHome}
+use Rattle.task_steps.specs.Homes.{TodoFits, GatheredIsHome}
 use Rattle.task_steps.specs.Views.{vec_item}
 use Rattle.task_steps.specs.Answers.{CallDoes, finds}
 
@@ -38,15 +38,15 @@ abbrev pub writer_task : WriterState → TaskState
 writer_task w = Writer w.number w.todo w.taken w.line
 
 -- what it has taken
-abbrev pub taken_of : RealTaken → Gathered
-taken_of taken.NoBio = NoBio
-taken_of (taken.HasBio bio) = HasBio (item_of bio)
-taken_of (taken.HasBoth bio vector) = HasBoth (item_of bio) (vec_item vector)
+abbrev pub gathered_of : RealGathered → Gathered
+gathered_of taken.NoBio = NoBio
+gathered_of (taken.HasBio bio) = HasBio (item_of bio)
+gathered_of (taken.HasBoth bio vector) = HasBoth (item_of bio) (vec_item vector)
 
-abbrev pub IsTakenAlone : RealTaken → Type 0
-IsTakenAlone taken.NoBio = Unit {0}
-IsTakenAlone (taken.HasBio bio) = IsAlone bio
-IsTakenAlone (taken.HasBoth bio vector) = IsAlone bio
+abbrev pub IsGatheredAlone : RealGathered → Type 0
+IsGatheredAlone taken.NoBio = Unit {0}
+IsGatheredAlone (taken.HasBio bio) = IsAlone bio
+IsGatheredAlone (taken.HasBoth bio vector) = IsAlone bio
 
 -- what an attempt at the bio of a write makes of a writer
 abbrev pub tried : Attempt → ℕ → List Todo → Line → TaskState
@@ -62,7 +62,7 @@ IsAttemptAtBioAlone attempt.Spent = Unit {0}
 -- what a step makes of a writer that was to begin a write
 abbrev pub next_of : Next → ℕ → Todo → List Todo → Line → TaskState
 next_of next.Begins number todo later line = Writer number later NoBio line
-next_of (next.Waits taken) number todo later line = Writer number (todo ∷ later) (taken_of taken) line
+next_of (next.Waits taken) number todo later line = Writer number (todo ∷ later) (gathered_of taken) line
 
 -- the same of a writer whose first write this is
 abbrev pub writer_next : Next → WriterState → Todo → TaskState
@@ -70,7 +70,7 @@ writer_next next w todo = next_of next w.number todo (drop 1 w.todo) w.line
 
 abbrev pub IsNextAlone : Next → Type 0
 IsNextAlone next.Begins = Unit {0}
-IsNextAlone (next.Waits taken) = IsTakenAlone taken
+IsNextAlone (next.Waits taken) = IsGatheredAlone taken
 
 -- a writer outside of a submission has asked the objects for this, and goes on with their reply
 pub record WriteAnswers {S : Type 0} (serves : S → Request → Reply → S → Type 0) (owes : Request → Reply → Type 0) (setup : Setup) (number : ℕ)
@@ -98,11 +98,11 @@ pub record IsRefusedWrite {S : Type 0} (serves : S → Request → Reply → S �
   pub tells : step ≡ step_of setup (id.Writer number) (Link number opening) reply
 
 -- Objects that hold together, and a writer with a book there that is to begin this write of theirs, for which it has taken this.
-pub record WriteReady {S : Type 0} (words : Ghosts S) (objects : S) (number : ℕ) (todo : Todo) (taken : RealTaken) : Type 0 where
+pub record WriteReady {S : Type 0} (words : Ghosts S) (objects : S) (number : ℕ) (todo : Todo) (taken : RealGathered) : Type 0 where
   pub held : words.holds objects
   pub book : IsTrue (has_book (words.stage objects) number)
   pub fits : TodoFits (words.stage objects) todo
-  pub home : TakenIsHome (words.stage objects) (taken_of taken)
+  pub home : GatheredIsHome (words.stage objects) (gathered_of taken)
 
 -- the node of a write was opened, or was not
 abbrev pub WriteOpened : {S : Type 0} → Ghosts S → Routing → ℕ → Opening → Line → S → Line → S → Result ℕ Step → Type 0
@@ -125,23 +125,23 @@ TriesBio words number old done new =
     (tried done.0 number (todo ∷ later) line) new done.1) new
 
 -- one with a bio has tried to take the vector of its next write
-abbrev pub TriesVector : {S : Type 0} → Ghosts S → ℕ → Item Pad → Line → S → RealTaken × Step → Line → S → Type 0
+abbrev pub TriesVector : {S : Type 0} → Ghosts S → ℕ → Item Pad → Line → S → RealGathered × Step → Line → S → Type 0
 TriesVector words number bio line old done after new =
     CallDoes words old ((setup : Setup) (todo : Todo) (later : List Todo)
     → WriteAnswers words.serves (Owes (words.stage old)) setup number TakeVec (todo ∷ later) (HasBio bio) line old
-    (Writer number (todo ∷ later) (taken_of done.0) after) new done.1) new
+    (Writer number (todo ∷ later) (gathered_of done.0) after) new done.1) new
 
 -- the vector of a write for which this was taken, with its segments, if it has one
-abbrev pub write_vector : Todo → RealTaken → Option VectorItem
+abbrev pub write_vector : Todo → RealGathered → Option VectorItem
 write_vector todo taken.NoBio = None
 write_vector todo (taken.HasBio bio) = None
 write_vector todo (taken.HasBoth bio vector) = Some (filled_vector todo (vec_item vector))
 
 -- one that has taken this for its next write, and needs no more, has asked for the write's node
-abbrev pub LinksWrite : {S : Type 0} → Ghosts S → Routing → ℕ → Todo → RealTaken → Line → S → Next × Step → Line → S → Type 0
+abbrev pub LinksWrite : {S : Type 0} → Ghosts S → Routing → ℕ → Todo → RealGathered → Line → S → Next × Step → Line → S → Type 0
 LinksWrite words routing number todo taken line old done after new =
     CallDoes words old ((later : List Todo) → WriteAnswers words.serves (Owes (words.stage old)) (routing_setup routing) number
-    (Link number (Write todo.number (write_vector todo taken))) (todo ∷ later) (taken_of taken) line old (next_of done.0 number todo later after) new done.1) new
+    (Link number (Write todo.number (write_vector todo taken))) (todo ∷ later) (gathered_of taken) line old (next_of done.0 number todo later after) new done.1) new
 
 -- one has asked for what its next write needs, for which it has taken this
 abbrev pub WriteGoesOn : {S : Type 0} → Ghosts S → Routing → ℕ → Todo → Gathered → Line → S → Next × Step → Line → S → Type 0

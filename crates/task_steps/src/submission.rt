@@ -240,7 +240,7 @@ impl Line {
 
     /// The next step of a submission that has something to ask for, as this task: it asks one object once, and goes on with the reply
     /// (`submit_bio_noacct`, `block/blk-core.c`, as far as the next place where it takes, links or submits).
-    #[inline(never)] // one step of many: what it takes of registers and stack, each attempt of a task that waits would pay
+    #[inline(never)] // within its callers, each attempt of a task that waits would pay for its registers and its stack
     pub fn step<O: Objects>(&mut self, objects: &mut O, routes: &Routes, task: TaskId) -> Step
         requires holds { O.holds objects.old }
         requires routing { (O.stage objects.old).routing ≡ routes.now }

@@ -35,13 +35,13 @@ pub struct Writer {
 }
 
 impl Model for Writer {
-    ghost use Rattle.task_steps.specs.WriterViews.{WriterState, taken_of, IsTakenAlone};
+    ghost use Rattle.task_steps.specs.WriterViews.{WriterState, gathered_of, IsGatheredAlone};
 
     ghost Value = { WriterState };
 
-    ghost view = { λ w. record { number = w.number; todo = w.todo; taken = taken_of w.taken; line = w.line } };
+    ghost view = { λ w. record { number = w.number; todo = w.todo; taken = gathered_of w.taken; line = w.line } };
 
-    ghost invariant = { λ w. IsTakenAlone w.taken };
+    ghost invariant = { λ w. IsGatheredAlone w.taken };
 }
 
 impl Writer {

@@ -30,7 +30,7 @@ use Rattle.run_machine.specs.Lines.{Line}
 use Rattle.run_machine.specs.Tasks.{TaskState, Writer, Rescuer, Completer, Keeper, Todo, Gathered, NoBio, HasBio, HasBoth, Duty, Resizes, Starts, Empty, Brings, Carries, Fails}
 use Rattle.run_machine.specs.Opened.{Scenario, scene, start, todos, duties, keepers, setup as setup_in, writers}
 use Rattle.run_machine.specs.Runs.{State, IsRun}
-use Rattle.block_core.specs.Weights.{Weight, Rescued, Pending, total, one, weigh_option, task_weight, book_weight, taken_weight, elements_of_pool, holding_elements, refs, under}
+use Rattle.block_core.specs.Weights.{Weight, Rescued, Pending, total, one, weigh_option, task_weight, book_weight, gathered_weight, elements_of_pool, holding_elements, refs, under}
 use Rattle.block_core.specs.Charges.{there, task_duties, duties_left}
 use Rattle.block_core.specs.Exact.{is_miss, NoneMissed, all_nodes, all_below, starts_round, StepsWithoutMisses}
 use Rattle.block_core.specs.Fragments.{todo_fragments, HasNone, NothingComes}
@@ -247,12 +247,12 @@ module _ (scene : Scene) (s : State) (i : Kept scene s) (held : total scene odd 
       let worth_one : tops_left closed.parent * one r r ≡ 1 = ap (λ parent. tops_left parent * one r r) found ∙ omega (arith, one-same r) in
       omega (arith, worth_one, left r, task_part scene (unfinished_of (is_of_round rounds r)) s place (Completer disk (Carries writer closed)) lt is)
 
-  no_taken : (taken : Gathered) → ((p : ℕ) → taken_weight (elements_of_pool p) taken ≡ 0) → taken_weight in_hand taken ≡ 0
+  no_taken : (taken : Gathered) → ((p : ℕ) → gathered_weight (elements_of_pool p) taken ≡ 0) → gathered_weight in_hand taken ≡ 0
   no_taken NoBio none = refl
   no_taken (HasBio bio) none = absurd (omega (arith, none bio.share.no, one-same bio.share.no))
   no_taken (HasBoth bio vector) none = absurd (omega (arith, none bio.share.no, one-same bio.share.no))
 
-  taken_due : (taken : Gathered) → taken_weight (due scene.setup) taken ≡ 0
+  taken_due : (taken : Gathered) → gathered_weight (due scene.setup) taken ≡ 0
   taken_due NoBio = refl
   taken_due (HasBio bio) = refl
   taken_due (HasBoth bio vector) = refl

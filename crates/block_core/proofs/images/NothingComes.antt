@@ -12,7 +12,7 @@ use Rattle.run_machine.specs.Scene.{Scene, tree_at}
 use Rattle.run_machine.specs.Lines.{Takes, Punts as WantsPunt, Links, Doing, Rests, Drives, Copies, Breaks, Line, rests, legs_of}
 use Rattle.run_machine.specs.Tasks.{TaskState, Writer, Rescuer, Completer, Keeper, Gathered, NoBio, HasBio, HasBoth, Empty, Brings, Carries, Fails}
 use Rattle.run_machine.specs.Runs.{State}
-use Rattle.block_core.specs.Weights.{Weight, Pending, Rescued, Lined, total, one, weigh_option, doing_weight, task_weight, line_weight, taken_weight, book_weight, elements_of_pool, holding_elements, refs, legs_left, count_of}
+use Rattle.block_core.specs.Weights.{Weight, Pending, Rescued, Lined, total, one, weigh_option, doing_weight, task_weight, line_weight, gathered_weight, book_weight, elements_of_pool, holding_elements, refs, legs_left, count_of}
 use Rattle.block_core.specs.Fragments.{HasNone, NothingComes, HasBegun, AllIsHome, NothingComesWhereAllIsHome}
 use Rattle.block_core.proofs.moves.Sums.{one-same, within_book}
 use Rattle.block_core.proofs.sound.Places.{sum_at-ge}
@@ -54,7 +54,7 @@ line_named w k limit line none =
 task_named : (w k place : ℕ) (x : TaskState) → ((p : ℕ) → task_weight (elements_of_pool p) place x ≡ 0) → task_weight (named w k) place x ≡ 0
 task_named w k place (Writer number todos taken line) none = omega (arith, taken_named taken, line_named w k 32 line (λ p. omega (arith, none p)))
   where
-    taken_named : (taken : Gathered) → taken_weight (named w k) taken ≡ 0
+    taken_named : (taken : Gathered) → gathered_weight (named w k) taken ≡ 0
     taken_named NoBio = refl
     taken_named (HasBio bio) = refl
     taken_named (HasBoth bio vector) = refl

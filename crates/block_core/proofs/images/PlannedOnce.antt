@@ -16,7 +16,7 @@ use Rattle.run_machine.specs.Scene.{Scene}
 use Rattle.run_machine.specs.Tasks.{TaskState, Writer, Rescuer, Completer, Keeper, Gathered, NoBio, HasBio, HasBoth, Todo}
 use Rattle.run_machine.specs.Opened.{Scenario, scene, todos, setup as setup_in}
 use Rattle.run_machine.specs.Runs.{State}
-use Rattle.block_core.specs.Weights.{Weight, Pending, Rescued, one, total, sum_at, weigh_option, task_weight, taken_weight, book_weight}
+use Rattle.block_core.specs.Weights.{Weight, Pending, Rescued, one, total, sum_at, weigh_option, task_weight, gathered_weight, book_weight}
 use Rattle.block_core.specs.Scenarios.{IsScenario}
 use Rattle.block_core.specs.Fragments.{todo_fragments, to_come, planned, is_same, is_it, times, IsOfScenario, HasNone, NothingComes, NoneIsCompletedTwice, NoOtherIsCompleted, EachIsCompletedOnce}
 use Rattle.block_core.proofs.moves.Sums.{one-same, same_or_not}
@@ -176,7 +176,7 @@ module _ (scene : Scene) (state : State) (value : Fragment → ℕ) where
   abbrev w : Weight
   w = to_come scene.setup value
 
-  taken_none : (taken : Gathered) → taken_weight w taken ≡ 0
+  taken_none : (taken : Gathered) → gathered_weight w taken ≡ 0
   taken_none NoBio = refl
   taken_none (HasBio bio) = refl
   taken_none (HasBoth bio vector) = refl

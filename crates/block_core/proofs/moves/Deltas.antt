@@ -17,7 +17,7 @@ use Rattle.run_machine.specs.Tasks.{TaskState, Writer, Rescuer, Completer, Keepe
 use Rattle.run_machine.specs.Objects.{clear_bio, clear_vector, clear_slip}
 use Rattle.run_machine.specs.Runs.{State}
 use Rattle.block_core.specs.Weights.{Weight, Pending, Rescued, Lined, total, sum_at, weigh_option, task_weight, book_weight}
-use Rattle.block_core.proofs.moves.Moves.{Move, IsTaking, place_of, Can, after, lost, gained, limit_of, with_line, HasLine, Wants, with_want, taken_of, filled_of, vector_of, cut_lists, IsTake, Tells, Hands, piece, with_pool, with_book}
+use Rattle.block_core.proofs.moves.Moves.{Move, IsTaking, place_of, Can, after, lost, gained, limit_of, with_line, HasLine, Wants, with_want, gathered_of, filled_of, vector_of, cut_lists, IsTake, Tells, Hands, piece, with_pool, with_book}
 use Rattle.block_core.proofs.moves.Moves as moves
 use Rattle.block_core.proofs.moves.Sums.{sum_at-upd, within_book, book_upd}
 use Rattle.block_core.proofs.moves.Listed.{line_changes, want_changes, punted_weight}
@@ -115,7 +115,7 @@ delta scene w s (moves.Begins place writer todo later item vector key) c =
     let z : weigh_option (w.node writer key) (node_at (s.objects.book writer) key) ≡ 0 = ap (weigh_option (w.node writer key)) v.0 in
     omega (
       arith,
-      task_delta scene w s place (Writer writer (todo ∷ later) (taken_of item vector) rests) (Writer writer later NoBio (settled scene.setup (filled_of writer todo item vector key ∷ []))) c.0 c.1,
+      task_delta scene w s place (Writer writer (todo ∷ later) (gathered_of item vector) rests) (Writer writer later NoBio (settled scene.setup (filled_of writer todo item vector key ∷ []))) c.0 c.1,
       sum_at-upd (book_weight w) scene.books s.objects.book writer (with_node (s.objects.book writer) key (Some top)) c.2,
       book_upd w writer (s.objects.book writer) key (Some top) v.1,
     )

@@ -94,9 +94,9 @@ IsTake gives = ⊥
 IsTake (resizes min) = ⊥
 
 -- what a writer has in hand, by whether it has a vector
-abbrev pub taken_of : Item Pad → Option VectorItem → Gathered
-taken_of item None = HasBio item
-taken_of item (Some vector) = HasBoth item vector
+abbrev pub gathered_of : Item Pad → Option VectorItem → Gathered
+gathered_of item None = HasBio item
+gathered_of item (Some vector) = HasBoth item vector
 
 abbrev pub filled_of : ℕ → Todo → Item Pad → Option VectorItem → ℕ → Item Pad
 filled_of writer todo item None node = filled_short writer todo node item
@@ -180,7 +180,7 @@ Can scene s (Completed place disk index bio status new) =
     (place < scene.tasks) × (s.task place ≡ Completer disk Empty) × (disk.0 < scene.setup.count)
     × Completes (s.objects.disk disk.0) index bio status new
 Can scene s (Begins place writer todo later item vector key) =
-    (place < scene.tasks) × (s.task place ≡ Writer writer (todo ∷ later) (taken_of item vector) rests) × (writer < scene.books)
+    (place < scene.tasks) × (s.task place ≡ Writer writer (todo ∷ later) (gathered_of item vector) rests) × (writer < scene.books)
     × IsVacant (s.objects.book writer) key × IsBare todo vector
 Can scene s (Chained place x bio lists hand number kind sizes members key node) =
     (place < scene.tasks) × (s.task place ≡ x) × HasLine x (Drives bio (ToCut (Links hand))) lists
@@ -310,7 +310,7 @@ lost scene w s (Punts place x doing lists dev) = sum_by (w.bio (Lined (limit_of 
 lost scene w s (Pops place dev bio bios) = w.bio Rescued bio
 lost scene w s (Pushes place x bio lists) = line_weight w (limit_of x) (record { doing = Drives bio ToPush; lists = lists })
 lost scene w s (Completed place disk index bio status new) = w.bio Pending bio
-lost scene w s (Begins place writer todo later item vector key) = task_weight w place (Writer writer (todo ∷ later) (taken_of item vector) rests)
+lost scene w s (Begins place writer todo later item vector key) = task_weight w place (Writer writer (todo ∷ later) (gathered_of item vector) rests)
 lost scene w s (Chained place x bio lists hand number kind sizes members key node) =
     line_weight w (limit_of x) (record { doing = Drives bio (ToCut (Links hand)); lists = lists }) + w.node bio.bio.writer bio.bio.node node
 lost scene w s (Mastered place x bio lists slip key node) =

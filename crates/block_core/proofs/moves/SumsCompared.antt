@@ -12,7 +12,7 @@ use Rattle.run_machine.specs.Scene.{Scene, tree_at}
 use Rattle.run_machine.specs.Lines.{Want, Takes, Punts, Links, Ask, ToPush, ToCut, ToRecord, ToMaster, Doing, Rests, Drives, Copies, Breaks, Line, legs_of}
 use Rattle.run_machine.specs.Tasks.{Todo, Gathered, NoBio, HasBio, HasBoth, Carried, Empty, Brings, Carries, Fails, TaskState, Writer, Rescuer, Completer, Keeper}
 use Rattle.run_machine.specs.Runs.{State}
-use Rattle.block_core.specs.Weights.{Weight, Spot, Lined, Rescued, Pending, Brought, total, sum_at, weigh_option, want_weight, ask_weight, doing_weight, line_weight, taken_weight, carried_weight, task_weight, book_weight}
+use Rattle.block_core.specs.Weights.{Weight, Spot, Lined, Rescued, Pending, Brought, total, sum_at, weigh_option, want_weight, ask_weight, doing_weight, line_weight, gathered_weight, carried_weight, task_weight, book_weight}
 use Rattle.block_core.proofs.sound.Facts.{DoingFits, TaskFits, Kept}
 use Rattle.block_core.proofs.moves.Totals.{part_of}
 
@@ -84,7 +84,7 @@ module _ (scene : Scene) (s : State) (i : Kept scene s) (u v : Weight) (le : IsU
       by_doing (Copies bio master leg want) fits part = omega (arith, le.copy bio master leg fits (λ w. omega (arith, part w)), want_under want)
       by_doing (Breaks breach kept) fits part = omega arith
 
-  taken_under : (taken : Gathered) → taken_weight u taken ≤ taken_weight v taken
+  taken_under : (taken : Gathered) → gathered_weight u taken ≤ gathered_weight v taken
   taken_under NoBio = omega arith
   taken_under (HasBio bio) = le.hand bio
   taken_under (HasBoth bio vector) = omega (arith, le.hand bio, le.vector vector)

@@ -14,7 +14,7 @@ use Rattle.run_machine.specs.Scene.{Setup, Scene, tree_at}
 use Rattle.run_machine.specs.Lines.{Want, Takes, Punts, Links, Ask, ToPush, ToCut, ToRecord, ToMaster, Doing, Rests, Drives, Copies, Breaks, Line}
 use Rattle.run_machine.specs.Tasks.{TaskState, Writer, Rescuer, Completer, Keeper, Todo, Gathered, NoBio, HasBio, HasBoth, Carried, Empty, Brings, Carries, Fails}
 use Rattle.run_machine.specs.Runs.{State}
-use Rattle.block_core.specs.Weights.{Weight, Spot, Lined, Rescued, Pending, Brought, total, sum_at, one, weigh_option, want_weight, ask_weight, doing_weight, line_weight, taken_weight, carried_weight, task_weight, book_weight, refs, under, legs_left, no_weight}
+use Rattle.block_core.specs.Weights.{Weight, Spot, Lined, Rescued, Pending, Brought, total, sum_at, one, weigh_option, want_weight, ask_weight, doing_weight, line_weight, gathered_weight, carried_weight, task_weight, book_weight, refs, under, legs_left, no_weight}
 use Rattle.block_core.specs.Rooms.{legs_need, room}
 use Rattle.block_core.proofs.moves.Moves.{HasLine, limit_of}
 use Rattle.block_core.proofs.moves.Sums.{same_or_not, one-same, one-other}
@@ -97,7 +97,7 @@ module _ (u v x y : Weight) (le : IsWithin u v x y) where
         list_within (u.bio (Lined limit)) (v.bio (Lined limit)) (x.bio (Lined limit)) (y.bio (Lined limit)) line.lists.list1 (le.bio (Lined limit)),
       )
 
-  taken_within : (taken : Gathered) → taken_weight u taken ≤ taken_weight v taken + taken_weight x taken + taken_weight y taken
+  taken_within : (taken : Gathered) → gathered_weight u taken ≤ gathered_weight v taken + gathered_weight x taken + gathered_weight y taken
   taken_within NoBio = omega arith
   taken_within (HasBio bio) = le.hand bio
   taken_within (HasBoth bio vector) = omega (arith, le.hand bio, le.vector vector)
@@ -170,7 +170,7 @@ line_carries limit line = omega (arith, by_doing line.doing, nothing_in line.lis
 task_carries : (place : ℕ) (task : TaskState) → task_weight carrying place task ≤ 1
 task_carries place (Writer number todo taken line) = omega (arith, by_taken taken, line_carries 32 line)
   where
-    by_taken : (taken : Gathered) → taken_weight carrying taken ≡ 0
+    by_taken : (taken : Gathered) → gathered_weight carrying taken ≡ 0
     by_taken NoBio = refl
     by_taken (HasBio bio) = refl
     by_taken (HasBoth bio vector) = refl

@@ -16,7 +16,7 @@ use Rattle.run_machine.specs.Lines.{Want, Links, Copies, rests, settled, first_l
 use Rattle.run_machine.specs.Tasks.{TaskState, Writer, Rescuer, Completer, Keeper, Todo, Carried, Empty, Brings, Carries, Fails}
 use Rattle.run_machine.specs.Runs.{State}
 use Rattle.block_core.specs.Weights.{total, one, task_weight, line_weight, carried_weight, refs, names_node, under, count_of}
-use Rattle.block_core.proofs.moves.Moves.{Move, IsTaking, place_of, Can, after, lost, gained, limit_of, with_line, HasLine, Wants, with_want, taken_of, filled_of, vector_of, cut_lists, IsTake, Tells, Hands, piece, with_pool, with_book}
+use Rattle.block_core.proofs.moves.Moves.{Move, IsTaking, place_of, Can, after, lost, gained, limit_of, with_line, HasLine, Wants, with_want, gathered_of, filled_of, vector_of, cut_lists, IsTake, Tells, Hands, piece, with_pool, with_book}
 use Rattle.block_core.proofs.moves.Moves as moves
 use Rattle.block_core.proofs.moves.Listed.{IsBlind, goes_weight, first_weight, landed_same}
 use Rattle.block_core.proofs.moves.Deltas.{delta}
@@ -35,7 +35,7 @@ begun_names g w k is writer todo item (Some vector) key = let q = ap (λ h. sum_
 
 begun_refs : (setup : Setup) (w k writer : ℕ) (todo : Todo) (later : List Todo) (item : Item Pad) (vector : Option VectorItem) (key : ℕ)
     → line_weight (refs setup w k) 32 (settled setup (filled_of writer todo item vector key ∷ []))
-    ≡ task_weight (refs setup w k) 0 (Writer writer (todo ∷ later) (taken_of item vector) rests) + one writer w * one key k
+    ≡ task_weight (refs setup w k) 0 (Writer writer (todo ∷ later) (gathered_of item vector) rests) + one writer w * one key k
 begun_refs setup w k writer todo later item None key =
     omega (arith, first_weight (refs setup w k) (blind_refs setup w k) 32 setup (filled_of writer todo item None key ∷ []), begun_names (names_node w k) w k refl writer todo item None key)
 begun_refs setup w k writer todo later item (Some vector) key =

@@ -16,10 +16,10 @@ use Rattle.run_machine.specs.Scene.{Setup, Scene, tree_at}
 use Rattle.run_machine.specs.Lines.{Want, Takes, Punts, Links, ToPush, ToCut, ToRecord, ToMaster, Doing, Rests, Drives, Copies, Breaks, Line, rests, copies, first_length, landed, legs_of, leg_at}
 use Rattle.run_machine.specs.Tasks.{TaskState, Writer, Rescuer, Completer, Keeper, Todo, Gathered, NoBio, HasBio, HasBoth, Carried, Empty, Brings, Carries, Fails}
 use Rattle.run_machine.specs.Runs.{State}
-use Rattle.block_core.specs.Weights.{Weight, Spot, Lined, Rescued, Pending, total, sum_at, weigh_option, want_weight, doing_weight, line_weight, taken_weight, carried_weight, task_weight, book_weight, elements_of_pool, holding_elements, one, no_weight}
+use Rattle.block_core.specs.Weights.{Weight, Spot, Lined, Rescued, Pending, total, sum_at, weigh_option, want_weight, doing_weight, line_weight, gathered_weight, carried_weight, task_weight, book_weight, elements_of_pool, holding_elements, one, no_weight}
 use Rattle.block_core.specs.Charges.{there}
 use Rattle.block_core.specs.Rooms.{to_open, todo_need, legs_need}
-use Rattle.block_core.proofs.moves.Moves.{Move, Can, after, lost, gained, limit_of, HasLine, Tells, taken_of, filled_of, cut_lists, piece}
+use Rattle.block_core.proofs.moves.Moves.{Move, Can, after, lost, gained, limit_of, HasLine, Tells, gathered_of, filled_of, cut_lists, piece}
 use Rattle.block_core.proofs.moves.Moves as moves
 use Rattle.block_core.proofs.sound.Facts.{DoingFits, LineFits, TaskFits, Kept}
 use Rattle.block_core.proofs.moves.Geometry.{IsThere}
@@ -124,7 +124,7 @@ module _ (scene : Scene) (s : State) (g : Ground scene.setup) (n : Needs scene.s
       omega (arith, goes_there scene.setup (worth scene.setup) lands (limit_of x) bio.bio.dev lists (none_there scene.setup (limit_of x) lists d.0) (all_there scene.setup (limit_of x) lists.list1 d.1.1))
   fits (moves.Completed place disk index bio status new) c = omega arith
   fits (moves.Begins place writer todo later item vector key) c =
-      let t : TaskPlaced scene.setup (Writer writer (todo ∷ later) (taken_of item vector) rests) = subst (TaskPlaced scene.setup) c.1 (a.tasks place) in
+      let t : TaskPlaced scene.setup (Writer writer (todo ∷ later) (gathered_of item vector) rests) = subst (TaskPlaced scene.setup) c.1 (a.tasks place) in
       begins place writer todo later item vector key t.0.0
   fits (moves.Chained place x bio lists hand number kind sizes members key node) c =
       let k = first_length kind sizes bio.bio.range in
@@ -213,14 +213,14 @@ module _ (scene : Scene) (s : State) (g : Ground scene.setup) (n : Needs scene.s
       by_slip None = omega arith
       by_slip (Some slip) = few slip.share q
 
-  taken_out : (q : ℕ) (todos : List Todo) (taken : Gathered) → taken_weight (elements_of_pool q) taken ≤ writes_need scene.setup todos taken
+  taken_out : (q : ℕ) (todos : List Todo) (taken : Gathered) → gathered_weight (elements_of_pool q) taken ≤ writes_need scene.setup todos taken
   taken_out q todos NoBio = omega arith
   taken_out q [] (HasBio bio) = few bio.share q
   taken_out q (todo ∷ later) (HasBio bio) = omega (arith, few bio.share q)
   taken_out q [] (HasBoth bio vector) = omega (arith, few bio.share q, few vector.share q)
   taken_out q (todo ∷ later) (HasBoth bio vector) = omega (arith, few bio.share q, few vector.share q)
 
-  hand_free : (taken : Gathered) → taken_weight (worth scene.setup) taken ≡ 0
+  hand_free : (taken : Gathered) → gathered_weight (worth scene.setup) taken ≡ 0
   hand_free NoBio = refl
   hand_free (HasBio bio) = refl
   hand_free (HasBoth bio vector) = refl

@@ -15,7 +15,7 @@ use Rattle.run_machine.specs.Tasks.{Todo, Gathered, NoBio, HasBio, HasBoth, Carr
 use Rattle.run_machine.specs.Objects.{clear_bio, clear_vector}
 use Rattle.run_machine.specs.Runs.{State}
 use Rattle.block_core.specs.Weights.{Weight, total, doing_weight, line_weight, carried_weight}
-use Rattle.block_core.proofs.moves.Moves.{Move, IsTaking, place_of, Can, after, lost, gained, limit_of, with_line, HasLine, Wants, with_want, taken_of, filled_of, vector_of, cut_lists, IsTake, Tells, Hands, piece, with_pool, with_book}
+use Rattle.block_core.proofs.moves.Moves.{Move, IsTaking, place_of, Can, after, lost, gained, limit_of, with_line, HasLine, Wants, with_want, gathered_of, filled_of, vector_of, cut_lists, IsTake, Tells, Hands, piece, with_pool, with_book}
 use Rattle.block_core.proofs.moves.Moves as moves
 use Rattle.block_core.proofs.moves.Deltas.{delta}
 use Rattle.bio_books.specs.declared.node.Role.TheVariants as role
@@ -30,7 +30,7 @@ ended_worth worth m = 0
 abbrev pub to_come_before : (List Todo → Gathered → ℕ) → Move → ℕ
 to_come_before f (moves.TakesFirst place writer todo later move) = f (todo ∷ later) NoBio
 to_come_before f (moves.TakesVector place writer todo later item move) = f (todo ∷ later) (HasBio item)
-to_come_before f (moves.Begins place writer todo later item vector key) = f (todo ∷ later) (taken_of item vector)
+to_come_before f (moves.Begins place writer todo later item vector key) = f (todo ∷ later) (gathered_of item vector)
 to_come_before f m = 0
 
 abbrev pub to_come_after : Scene → (List Todo → Gathered → ℕ) → (ℕ → ℕ) → Move → ℕ

@@ -17,7 +17,7 @@ use Rattle.run_machine.specs.Lines.{Links, ToCut, ToMaster, Doing, Drives, Copie
 use Rattle.run_machine.specs.Tasks.{TaskState, Completer, Todo, Carried, Empty, Brings, Carries, Fails}
 use Rattle.run_machine.specs.Runs.{State}
 use Rattle.block_core.specs.Weights.{total, weigh_option, task_weight, carried_weight}
-use Rattle.block_core.proofs.moves.Moves.{Move, IsTaking, place_of, Can, after, lost, gained, limit_of, with_line, HasLine, Wants, with_want, taken_of, filled_of, vector_of, cut_lists, IsTake, Tells, Hands, piece, with_pool, with_book}
+use Rattle.block_core.proofs.moves.Moves.{Move, IsTaking, place_of, Can, after, lost, gained, limit_of, with_line, HasLine, Wants, with_want, gathered_of, filled_of, vector_of, cut_lists, IsTake, Tells, Hands, piece, with_pool, with_book}
 use Rattle.block_core.proofs.moves.Moves as moves
 use Rattle.block_core.proofs.sound.Facts.{TaskFits, Kept}
 use Rattle.block_core.proofs.sound.TaskLines.{line_fits}
@@ -112,13 +112,13 @@ closes_on level writer key node held up =
     by_parent (Some parent) = refl
 
 -- the vector of a write is on the level of its top
-vector_on : (level : ℕ → ℕ → ℕ) (writer key : ℕ) (todo : Todo) (item : Item Pad) (vector : Option VectorItem) → HandHome (taken_of item vector) → level writer key ≡ 64
+vector_on : (level : ℕ → ℕ → ℕ) (writer key : ℕ) (todo : Todo) (item : Item Pad) (vector : Option VectorItem) → HandHome (gathered_of item vector) → level writer key ≡ 64
     → weigh_option (λ (v : VectorItem). apart (level writer key) (min v.share.no 64)) (vector_of todo vector) ≡ 0
 vector_on level writer key todo item None home is = refl
 vector_on level writer key todo item (Some vector) home is = let own = home.1 in omega (arith, own, is)
 
 -- and so is its bio
-begun_on : (level : ℕ → ℕ → ℕ) (writer : ℕ) (todo : Todo) (item : Item Pad) (vector : Option VectorItem) (key : ℕ) → HandHome (taken_of item vector) → level writer key ≡ 64
+begun_on : (level : ℕ → ℕ → ℕ) (writer : ℕ) (todo : Todo) (item : Item Pad) (vector : Option VectorItem) (key : ℕ) → HandHome (gathered_of item vector) → level writer key ≡ 64
     → bio_off level (filled_of writer todo item vector key) ≡ 0
 begun_on level writer todo item None key home is = rw (is, home) (omega arith)
 begun_on level writer todo item (Some vector) key home is = rw (is, home.0) (omega arith)

@@ -18,7 +18,7 @@ use Rattle.run_machine.specs.Lines.{Want, Takes, Punts as WantsPunt, Links, Ask,
 use Rattle.run_machine.specs.Tasks.{TaskState, Writer, Rescuer, Completer, Keeper, Gathered, NoBio, HasBio, HasBoth, Empty, Brings, Carries, Fails}
 use Rattle.run_machine.specs.Runs.{State}
 use Rattle.block_core.specs.Orders.{IsAbove, AreAbove, GoUp, IsSetOf, IsOwnBelow, IsLegOf, DoingInOrder, DoingBelow, AreBelow, TaskInOrder, AreInListOrder}
-use Rattle.block_core.specs.Hands.{TakenIsRight, WantIsRight, AskIsRight, DoingIsRight, HandIsRight, HandsAreRight}
+use Rattle.block_core.specs.Hands.{GatheredIsRight, WantIsRight, AskIsRight, DoingIsRight, HandIsRight, HandsAreRight}
 use Rattle.block_core.proofs.sound.Facts.{HandFits, DoingFits, TaskFits, Kept}
 use Rattle.block_core.proofs.sound.Orders.{Each, Above, Ordered, IsPlaced, IsOwn, WantFits, AskFits, DoingPlaced, HandHome, TaskPlaced, Placed}
 use Rattle.block_core.proofs.sound.LegLists.{HasLegs, TaskHasLegs, Legged}
@@ -123,7 +123,7 @@ module _ (setup : Setup) where
   doing_right limit (Copies bio master leg want) lists fits d = (fits, want_right bio.dev want d.6)
   doing_right limit (Breaks breach kept) lists fits d = fits
 
-  taken_right : (taken : Gathered) (line : Line) → HandFits taken line → HandHome taken → TakenIsRight taken line
+  taken_right : (taken : Gathered) (line : Line) → HandFits taken line → HandHome taken → GatheredIsRight taken line
   taken_right NoBio line fits home = tt
   taken_right (HasBio item) line fits home = (home, fits)
   taken_right (HasBoth item vector) line fits home = (home.0, home.1, fits)

@@ -16,7 +16,7 @@ use Rattle.run_machine.specs.Lines.{Takes, Punts as WantsPunt, Links, ToPush, To
 use Rattle.run_machine.specs.Tasks.{TaskState, Writer, Rescuer, Completer, Keeper}
 use Rattle.run_machine.specs.Objects.{clear_bio, clear_slip}
 use Rattle.run_machine.specs.Runs.{State}
-use Rattle.block_core.proofs.moves.Moves.{Move, IsTaking, place_of, Can, after, lost, gained, limit_of, with_line, HasLine, Wants, with_want, taken_of, filled_of, vector_of, cut_lists, IsTake, Tells, Hands, piece, with_pool, with_book}
+use Rattle.block_core.proofs.moves.Moves.{Move, IsTaking, place_of, Can, after, lost, gained, limit_of, with_line, HasLine, Wants, with_want, gathered_of, filled_of, vector_of, cut_lists, IsTake, Tells, Hands, piece, with_pool, with_book}
 use Rattle.block_core.proofs.moves.Moves as moves
 use Rattle.block_core.proofs.moves.Sums.{upd-same, upd-other, same_or_not}
 use Rattle.block_core.proofs.sound.Facts.{TaskFits, DoingIsIn, IsIn, Fair, Kept}
@@ -84,10 +84,10 @@ module _ (scene : Scene) (s : State) (f : Fair scene) (g : Ground scene.setup) (
       let d = has place x (Drives bio ToPush) lists c.1 c.2 in on_line place x _ c.1 (pushed_placed scene.setup g (limit_of x) bio.bio.dev lists d.0 d.1.1 d.2.1)
   tasks (moves.Completed place disk index bio status new) c = goes place _ tt
   tasks (moves.Begins place writer todo later item vector key) c =
-      let t = at_task place (Writer writer (todo ∷ later) (taken_of item vector) rests) c.1 in
+      let t = at_task place (Writer writer (todo ∷ later) (gathered_of item vector) rests) c.1 in
       goes place _ (t.0.1, begun_placed scene.setup g writer todo item vector key t.0.0 (home vector t.2), tt)
     where
-      home : (vector : Option VectorItem) → HandHome (taken_of item vector) → item.share.no ≡ 65
+      home : (vector : Option VectorItem) → HandHome (gathered_of item vector) → item.share.no ≡ 65
       home None h = h
       home (Some v) h = h.0
   tasks (moves.Chained place x bio lists hand number kind sizes members key node) c =

@@ -14,8 +14,8 @@ use Rattle.run_machine.specs.Scene.{Setup, Scene, tree_at}
 use Rattle.run_machine.specs.Lines.{Want, Takes, Punts as WantsPunt, Links, ToPush, ToCut, ToRecord, ToMaster, Doing, Rests, Drives, Copies, Breaks, rests, settled, first_length, legs_of, leg_at}
 use Rattle.run_machine.specs.Tasks.{TaskState, Writer, Rescuer, Completer, Keeper, Todo, Gathered, NoBio, HasBio, HasBoth, Carried, Empty, Brings, Carries, Fails}
 use Rattle.run_machine.specs.Runs.{State}
-use Rattle.block_core.specs.Weights.{total, sum_at, one, weigh_option, want_weight, doing_weight, task_weight, line_weight, taken_weight, carried_weight, book_weight, refs, names_node, count_of}
-use Rattle.block_core.proofs.moves.Moves.{Move, IsTaking, place_of, Can, after, lost, gained, limit_of, with_line, HasLine, Wants, with_want, taken_of, filled_of, vector_of, cut_lists, IsTake, Tells, Hands, piece, with_pool, with_book}
+use Rattle.block_core.specs.Weights.{total, sum_at, one, weigh_option, want_weight, doing_weight, task_weight, line_weight, gathered_weight, carried_weight, book_weight, refs, names_node, count_of}
+use Rattle.block_core.proofs.moves.Moves.{Move, IsTaking, place_of, Can, after, lost, gained, limit_of, with_line, HasLine, Wants, with_want, gathered_of, filled_of, vector_of, cut_lists, IsTake, Tells, Hands, piece, with_pool, with_book}
 use Rattle.block_core.proofs.moves.Moves as moves
 use Rattle.block_core.proofs.moves.Sums.{one-same}
 use Rattle.block_core.proofs.moves.Listed.{IsBlind, goes_weight, first_weight, landed_same}
@@ -46,7 +46,7 @@ module _ (setup : Setup) (w k : ℕ) where
   doing_le limit (Copies bio master leg want) = omega (arith, want_le want)
   doing_le limit (Breaks breach kept) = omega arith
 
-  taken_le : (taken : Gathered) → taken_weight (named w k) taken ≤ taken_weight (refs setup w k) taken
+  taken_le : (taken : Gathered) → gathered_weight (named w k) taken ≤ gathered_weight (refs setup w k) taken
   taken_le NoBio = omega arith
   taken_le (HasBio item) = omega arith
   taken_le (HasBoth item vector) = omega arith
@@ -80,7 +80,7 @@ blind_named w k limit item t = landed_same (λ (bio : Bio). one bio.writer w * o
 
 begun_named : (setup : Setup) (w k writer : ℕ) (todo : Todo) (later : List Todo) (item : Item Pad) (vector : Option VectorItem) (key : ℕ)
     → line_weight (named w k) 32 (settled setup (filled_of writer todo item vector key ∷ []))
-    ≡ task_weight (named w k) 0 (Writer writer (todo ∷ later) (taken_of item vector) rests) + one writer w * one key k
+    ≡ task_weight (named w k) 0 (Writer writer (todo ∷ later) (gathered_of item vector) rests) + one writer w * one key k
 begun_named setup w k writer todo later item None key =
     omega (arith, first_weight (named w k) (blind_named w k) 32 setup (filled_of writer todo item None key ∷ []), begun_names (names_node w k) w k refl writer todo item None key)
 begun_named setup w k writer todo later item (Some vector) key =

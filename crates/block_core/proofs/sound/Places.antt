@@ -21,7 +21,7 @@ use Rattle.run_machine.specs.Lines.{Takes, Doing, Copies, rests, settled, goes_o
 use Rattle.run_machine.specs.Tasks.{TaskState, Writer, Rescuer, Completer, Keeper, Todo, Carried, Empty, Brings, Carries, Fails}
 use Rattle.run_machine.specs.Runs.{State}
 use Rattle.block_core.specs.Weights.{Weight, Lined, total, sum_at, one, doing_weight, task_weight, line_weight, carried_weight, elements_of_pool, holding_elements, names_node}
-use Rattle.block_core.proofs.moves.Moves.{limit_of, HasLine, taken_of, filled_of, vector_of, cut_lists, IsTake, Tells, Hands, piece}
+use Rattle.block_core.proofs.moves.Moves.{limit_of, HasLine, gathered_of, filled_of, vector_of, cut_lists, IsTake, Tells, Hands, piece}
 use Rattle.block_core.proofs.moves.Sums.{weight-upd, one-same, same_or_not}
 use Rattle.block_core.proofs.moves.Listed.{IsBlind, goes_weight, first_weight}
 use Rattle.block_core.specs.Roles.{named}
@@ -68,7 +68,7 @@ blind_elements q limit item t = refl
 
 pub begun_elements : (scene : Scene) (q writer : ℕ) (todo : Todo) (later : List Todo) (item : Item Pad) (vector : Option VectorItem) (key : ℕ)
     → line_weight (elements_of_pool q) 32 (settled scene.setup (filled_of writer todo item vector key ∷ [])) + (elements_of_pool q).node writer key (top_node todo.number (vector_of todo vector))
-    ≡ task_weight (elements_of_pool q) 0 (Writer writer (todo ∷ later) (taken_of item vector) rests)
+    ≡ task_weight (elements_of_pool q) 0 (Writer writer (todo ∷ later) (gathered_of item vector) rests)
 begun_elements scene q writer todo later item None key =
     omega (arith, first_weight (elements_of_pool q) (blind_elements q) 32 scene.setup (filled_of writer todo item None key ∷ []), sum_by-cons (λ (bio : Item Pad). one bio.share.no q) (filled_of writer todo item None key) [])
 begun_elements scene q writer todo later item (Some vector) key =

@@ -20,7 +20,7 @@ use Rattle.run_machine.specs.Lines.{Links, ToPush, ToCut, ToRecord, ToMaster, Do
 use Rattle.run_machine.specs.Tasks.{TaskState, Writer, Rescuer, Completer, Keeper, Keeps, Stops, Duty, Resizes, Starts, Todo, Gathered, NoBio, HasBio, HasBoth, Carried, Empty, Brings, Carries, Fails}
 use Rattle.run_machine.specs.Objects.{done_one}
 use Rattle.run_machine.specs.Runs.{State}
-use Rattle.block_core.proofs.moves.Moves.{Move, IsTaking, place_of, Can, after, lost, gained, limit_of, with_line, HasLine, Wants, with_want, taken_of, filled_of, vector_of, cut_lists, IsTake, Tells, Hands, piece, with_pool, with_book}
+use Rattle.block_core.proofs.moves.Moves.{Move, IsTaking, place_of, Can, after, lost, gained, limit_of, with_line, HasLine, Wants, with_want, gathered_of, filled_of, vector_of, cut_lists, IsTake, Tells, Hands, piece, with_pool, with_book}
 use Rattle.block_core.proofs.moves.Moves as moves
 use Rattle.block_core.proofs.moves.Sums.{upd-same, upd-other, same_or_not}
 use Rattle.block_core.proofs.sound.Facts.{Suits, TaskFits, Kept}
@@ -157,7 +157,7 @@ module _ (rounds : List ℕ) (ids : ℕ → TaskId) (keeper : ℕ) (scene : Scen
   tasks (moves.Pushes place x bio lists) c = on_line place x (Drives bio ToPush) lists _ c.1 c.2
   tasks (moves.Completed place disk index bio status new) c = let t = at place _ c.1 in goes place _ (t.0, tt)
   tasks (moves.Begins place writer todo later item vector key) c =
-      let t = at place (Writer writer (todo ∷ later) (taken_of item vector) rests) c.1 in goes place _ (t.0, (t.1.0.1, tt))
+      let t = at place (Writer writer (todo ∷ later) (gathered_of item vector) rests) c.1 in goes place _ (t.0, (t.1.0.1, tt))
   tasks (moves.Chained place x bio lists hand number kind sizes members key node) c = on_line place x (Drives bio (ToCut (Links hand))) lists _ c.1 c.2
   tasks (moves.Mastered place x bio lists slip key node) c = on_line place x (Drives bio (ToMaster slip)) lists _ c.1 c.2
   tasks (moves.Legged place x bio lists master leg hand key node) c = on_line place x (Copies bio master leg (Links hand)) lists _ c.1 c.2

@@ -12,7 +12,7 @@ use Rattle.run_machine.specs.Lines.{Line, rests}
 use Rattle.run_machine.specs.Tasks.{TaskState, Writer, Rescuer, Completer, Keeper, Keeping, Keeps, Stops, Duty, Resizes, Starts, Todo, Gathered, NoBio, Carries}
 use Rattle.run_machine.specs.Runs.{State}
 use Rattle.block_core.specs.Weights.{Weight, total, one, task_weight}
-use Rattle.block_core.proofs.moves.Moves.{Move, IsTaking, place_of, Can, after, lost, gained, limit_of, with_line, HasLine, Wants, with_want, taken_of, filled_of, vector_of, cut_lists, IsTake, Tells, Hands, piece, with_pool, with_book}
+use Rattle.block_core.proofs.moves.Moves.{Move, IsTaking, place_of, Can, after, lost, gained, limit_of, with_line, HasLine, Wants, with_want, gathered_of, filled_of, vector_of, cut_lists, IsTake, Tells, Hands, piece, with_pool, with_book}
 use Rattle.block_core.proofs.moves.Moves as moves
 use Rattle.block_core.proofs.moves.Sums.{upd-same, upd-other, one-same, one-other, same_or_not}
 use Rattle.block_core.proofs.sound.Orders.{Each}
@@ -20,7 +20,7 @@ use Rattle.block_core.proofs.sound.Places.{sum_at-ge}
 use Rattle.std.specs.Prelude.{nat_le}
 use Rattle.std.proofs.lemmas.Bool.Decides.{nat_tests}
 use Rattle.run_machine.specs.Objects.{TallyState}
-use Rattle.block_core.specs.Rounds.{round_of, is_of_round, tops_left, all_worth, taken_worth, unfinished_of, begun_of}
+use Rattle.block_core.specs.Rounds.{round_of, is_of_round, tops_left, all_worth, gathered_worth, unfinished_of, begun_of}
 use Rattle.block_core.proofs.sound.EventStages.{staged, ended_worth, to_come_before, to_come_after}
 use Rattle.block_core.proofs.sound.OrdersKept.{all_at}
 
@@ -178,7 +178,7 @@ module _ (rounds : List ℕ) (keeper : ℕ) (scene : Scene) (s : State) (i : Tal
   tasks (moves.Pushes place x bio lists) c = on_line place x _ c.1
   tasks (moves.Completed place disk index bio status new) c = goes place _ tt
   tasks (moves.Begins place writer todo later item vector key) c =
-      let t = at_task place (Writer writer (todo ∷ later) (taken_of item vector) rests) c.1 in goes place _ t.1
+      let t = at_task place (Writer writer (todo ∷ later) (gathered_of item vector) rests) c.1 in goes place _ t.1
   tasks (moves.Chained place x bio lists hand number kind sizes members key node) c = on_line place x _ c.1
   tasks (moves.Mastered place x bio lists slip key node) c = on_line place x _ c.1
   tasks (moves.Legged place x bio lists master leg hand key node) c = on_line place x _ c.1
@@ -193,7 +193,7 @@ module _ (rounds : List ℕ) (keeper : ℕ) (scene : Scene) (s : State) (i : Tal
   -- an event that leaves the tally as it is
   quiet : (m : Move) → Can scene s m → (after scene s m).objects.tally ≡ s.objects.tally → ((r : ℕ) → ended_worth (is_of_round rounds r) m ≡ 0)
       → ((r : ℕ) → to_come_before (λ todos taken. all_worth (is_of_round rounds r) todos) m ≡ to_come_after scene (λ todos taken. all_worth (is_of_round rounds r) todos) (is_of_round rounds r) m)
-      → ((r : ℕ) → s.objects.tally.round < r → to_come_before (taken_worth (is_of_round rounds r)) m ≡ to_come_after scene (taken_worth (is_of_round rounds r)) (is_of_round rounds r) m)
+      → ((r : ℕ) → s.objects.tally.round < r → to_come_before (gathered_worth (is_of_round rounds r)) m ≡ to_come_after scene (gathered_worth (is_of_round rounds r)) (is_of_round rounds r) m)
       → Tallied rounds keeper scene (after scene s m)
   quiet m c same none all begun = record {
     left = λ r. omega (
@@ -206,7 +206,7 @@ module _ (rounds : List ℕ) (keeper : ℕ) (scene : Scene) (s : State) (i : Tal
     );
     later = λ r lt.
         let before : s.objects.tally.round < r = subst (λ (tally : TallyState). tally.round < r) same lt in
-        omega (arith, i.later r before, staged (taken_worth (is_of_round rounds r)) (is_of_round rounds r) scene s m c, begun r before, none r);
+        omega (arith, i.later r before, staged (gathered_worth (is_of_round rounds r)) (is_of_round rounds r) scene s m c, begun r before, none r);
     tally = subst (TallyFits rounds) (sym same) i.tally;
     tasks = tasks m c;
   }
@@ -234,7 +234,7 @@ module _ (rounds : List ℕ) (keeper : ℕ) (scene : Scene) (s : State) (i : Tal
       let total_less : sum (set left now (get_or left now 0 - 1)) + 1 ≡ sum left = omega (arith, total_sum, some) in
       record {
         left = λ r. by_round r (same_or_not r now);
-        later = λ r before. omega (arith, i.later r before, staged (taken_worth (is_of_round rounds r)) (is_of_round rounds r) scene s m c);
+        later = λ r before. omega (arith, i.later r before, staged (gathered_worth (is_of_round rounds r)) (is_of_round rounds r) scene s m c);
         tally = record {
           past = λ r before. get_or-set_other left now r (get_or left now 0 - 1) 0 (λ e. omega (arith, e, before)) ∙ i.tally.past r before;
           whole = λ r before few.
@@ -280,7 +280,7 @@ module _ (rounds : List ℕ) (keeper : ℕ) (scene : Scene) (s : State) (i : Tal
       let next : slice_index_or left (now + 1) 0 ≡ of_round rounds (now + 1) = i.tally.whole (now + 1) (omega arith) lt in
       record {
         left = λ r. omega (arith, i.left r, staged (λ todos taken. all_worth (is_of_round rounds r) todos) (is_of_round rounds r) scene s m c);
-        later = λ r before. omega (arith, i.later r (omega (arith, before)), staged (taken_worth (is_of_round rounds r)) (is_of_round rounds r) scene s m c);
+        later = λ r before. omega (arith, i.later r (omega (arith, before)), staged (gathered_worth (is_of_round rounds r)) (is_of_round rounds r) scene s m c);
         tally = record {
           past = λ r before. by_round r (same_or_not r now) before done;
           whole = λ r before few. i.tally.whole r (omega (arith, before)) few;

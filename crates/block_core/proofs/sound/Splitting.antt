@@ -12,7 +12,7 @@ use Rattle.run_machine.specs.Scene.{Scene}
 use Rattle.run_machine.specs.Lines.{Want, Takes, Punts, Links, Ask, ToPush, ToCut, ToRecord, ToMaster, Doing, Rests, Drives, Copies, Breaks, Line}
 use Rattle.run_machine.specs.Tasks.{TaskState, Writer, Rescuer, Completer, Keeper, Todo, Gathered, NoBio, HasBio, HasBoth, Carried, Empty, Brings, Carries, Fails}
 use Rattle.run_machine.specs.Runs.{State}
-use Rattle.block_core.specs.Weights.{Weight, Spot, Lined, Rescued, Pending, Brought, total, sum_at, weigh_option, want_weight, ask_weight, doing_weight, line_weight, taken_weight, carried_weight, task_weight, book_weight}
+use Rattle.block_core.specs.Weights.{Weight, Spot, Lined, Rescued, Pending, Brought, total, sum_at, weigh_option, want_weight, ask_weight, doing_weight, line_weight, gathered_weight, carried_weight, task_weight, book_weight}
 use Rattle.block_core.proofs.moves.Sums.{same_or_not}
 
 pub record IsSumOf (u a b x y : Weight) : Type 0 where
@@ -66,7 +66,7 @@ module _ (u a b x y : Weight) (is : IsSumOf u a b x y) where
         list_sum (u.bio l) (a.bio l) (b.bio l) (x.bio l) (y.bio l) line.lists.list1 (is.bio l),
       )
 
-  taken_sum : (taken : Gathered) → taken_weight u taken ≡ taken_weight a taken + taken_weight b taken + taken_weight x taken + taken_weight y taken
+  taken_sum : (taken : Gathered) → gathered_weight u taken ≡ gathered_weight a taken + gathered_weight b taken + gathered_weight x taken + gathered_weight y taken
   taken_sum NoBio = refl
   taken_sum (HasBio bio) = is.hand bio
   taken_sum (HasBoth bio vector) = omega (arith, is.hand bio, is.vector vector)
@@ -158,7 +158,7 @@ module _ (u v : Weight) (same : IsSameButClosed u v) where
   line_but limit line =
       omega (arith, doing_but limit line.doing, ap (λ f. sum_by (f (Lined limit)) line.lists.list0) same.bio, ap (λ f. sum_by (f (Lined limit)) line.lists.list1) same.bio)
 
-  taken_but : (taken : Gathered) → taken_weight u taken ≡ taken_weight v taken
+  taken_but : (taken : Gathered) → gathered_weight u taken ≡ gathered_weight v taken
   taken_but NoBio = refl
   taken_but (HasBio bio) = ap (λ f. f bio) same.hand
   taken_but (HasBoth bio vector) = omega (arith, ap (λ f. f bio) same.hand, ap (λ f. f vector) same.vector)

@@ -14,7 +14,7 @@ use Rattle.run_machine.specs.Scene.{Scene}
 use Rattle.run_machine.specs.Lines.{Want, Takes, Punts, Links, Ask, ToPush, ToCut, ToRecord, ToMaster, Doing, Rests, Drives, Copies, Breaks, Line}
 use Rattle.run_machine.specs.Tasks.{Todo, Gathered, NoBio, HasBio, HasBoth, Carried, Empty, Brings, Carries, Fails, TaskState, Writer, Rescuer, Completer, Keeper}
 use Rattle.run_machine.specs.Runs.{State}
-use Rattle.block_core.specs.Weights.{Weight, Spot, Lined, Rescued, Pending, Brought, sum_at, weigh_option, doing_weight, line_weight, taken_weight, want_weight, ask_weight, task_weight, book_weight, total}
+use Rattle.block_core.specs.Weights.{Weight, Spot, Lined, Rescued, Pending, Brought, sum_at, weigh_option, doing_weight, line_weight, gathered_weight, want_weight, ask_weight, task_weight, book_weight, total}
 use Rattle.block_core.specs.AtWork.{DoingHolds, LineHolds, CarriedHolds, LineOf, IsBrought, IsInDisk, IsAtWork}
 use Rattle.block_core.proofs.moves.Totals.{part_of, task_part}
 use Rattle.block_core.proofs.stuck.NothingWaits.{zero_or, some_place}
@@ -154,7 +154,7 @@ module _ (scene : Scene) (s : State) (w : Weight) where
     no_ask ToRecord = refl
     no_ask (ToMaster slip) = o.slip slip
 
-    no_taken : (taken : Gathered) → taken_weight w taken ≡ 0
+    no_taken : (taken : Gathered) → gathered_weight w taken ≡ 0
     no_taken NoBio = refl
     no_taken (HasBio bio) = o.hand bio
     no_taken (HasBoth bio vector) = omega (arith, o.hand bio, o.vector vector)

@@ -12,7 +12,7 @@ use Rattle.run_machine.specs.Scene.{Setup, Scene}
 use Rattle.run_machine.specs.Lines.{Doing, Rests, Drives, Copies, Breaks, Line}
 use Rattle.run_machine.specs.Tasks.{TaskState, Writer, Rescuer, Completer, Keeper, Keeping, Keeps, Stops, Resizes, Starts, Todo, Gathered, NoBio, HasBio, HasBoth, Carried, Empty, Brings, Carries, Fails}
 use Rattle.run_machine.specs.Runs.{State}
-use Rattle.block_core.specs.Weights.{Weight, Pending, Rescued, sum_at, weigh_option, task_weight, taken_weight, book_weight}
+use Rattle.block_core.specs.Weights.{Weight, Pending, Rescued, sum_at, weigh_option, task_weight, gathered_weight, book_weight}
 use Rattle.block_core.proofs.moves.Moves.{with_pool}
 use Rattle.block_core.proofs.moves.Sums.{one-other, same_or_not}
 use Rattle.block_core.proofs.sound.Facts.{DoingFits, TaskFits, Fair}
@@ -151,7 +151,7 @@ module _ (scene : Scene) (s : State) (level : ℕ → ℕ → ℕ) (known : Know
     abbrev u : Weight
     u = unfinished_of (is_of_round rounds now)
 
-    taken_zero : (taken : Gathered) → taken_weight u taken ≡ 0
+    taken_zero : (taken : Gathered) → gathered_weight u taken ≡ 0
     taken_zero NoBio = refl
     taken_zero (HasBio item) = refl
     taken_zero (HasBoth item vector) = refl

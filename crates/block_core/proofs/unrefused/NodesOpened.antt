@@ -18,7 +18,7 @@ use Rattle.run_machine.specs.Runs.{State}
 use Rattle.block_core.specs.Touches.{Touch, Opens, Shuts, Passes}
 use Rattle.block_core.specs.Weights.{Weight, Lined, line_weight, one}
 use Rattle.block_core.specs.Rooms.{need_at, todo_need, legs_need, room, HasRoomInBooks}
-use Rattle.block_core.proofs.moves.Moves.{Move, Can, after, lost, gained, limit_of, HasLine, touch_by, taken_of, filled_of, cut_lists, piece, with_book}
+use Rattle.block_core.proofs.moves.Moves.{Move, Can, after, lost, gained, limit_of, HasLine, touch_by, gathered_of, filled_of, cut_lists, piece, with_book}
 use Rattle.block_core.proofs.moves.Moves as moves
 use Rattle.block_core.proofs.moves.Sums.{upd-same, upd-other, same_or_not}
 use Rattle.block_core.proofs.moves.Listed.{landed_same}
@@ -112,7 +112,7 @@ module _ (scene : Scene) (s : State) (g : Ground scene.setup) (n : Needs scene.s
       omega (arith, goes_there scene.setup (room_worth scene.setup w worth) (lands w worth) (limit_of x) bio.bio.dev lists (none_there scene.setup (limit_of x) lists d.0) (all_there scene.setup (limit_of x) lists.list1 d.1.1))
   spends w worth (moves.Completed place disk index bio status new) c = omega arith
   spends w worth (moves.Begins place writer todo later item vector key) c =
-      let t : TaskPlaced scene.setup (Writer writer (todo ∷ later) (taken_of item vector) rests) = subst (TaskPlaced scene.setup) c.1 (a.tasks place) in
+      let t : TaskPlaced scene.setup (Writer writer (todo ∷ later) (gathered_of item vector) rests) = subst (TaskPlaced scene.setup) c.1 (a.tasks place) in
       begins w worth place writer todo later item vector key t.0.0
   -- links of pieces
   spends w worth (moves.Chained place x bio lists hand number kind sizes members key node) c =

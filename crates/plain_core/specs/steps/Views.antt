@@ -39,10 +39,10 @@ doing_of_plain (doing.Copies copying want) = line.Copies copying.bio copying.mas
 abbrev pub line_of_plain : Line → line.Line
 line_of_plain l = record { doing = doing_of_plain l.doing; lists = lists_of l.lists }
 
-abbrev pub taken_of_plain : Gathered → task.Gathered
-taken_of_plain taken.NoBio = task.NoBio
-taken_of_plain (taken.HasBio part) = task.HasBio part
-taken_of_plain (taken.HasBoth part vector) = task.HasBoth part vector
+abbrev pub gathered_of_plain : Gathered → task.Gathered
+gathered_of_plain taken.NoBio = task.NoBio
+gathered_of_plain (taken.HasBio part) = task.HasBio part
+gathered_of_plain (taken.HasBoth part vector) = task.HasBoth part vector
 
 abbrev pub carried_of_plain : Carried → task.Carried
 carried_of_plain carried.Empty = task.Empty
@@ -50,7 +50,7 @@ carried_of_plain (carried.Brings part status) = task.Brings part status
 carried_of_plain (carried.Carries writer closed) = task.Carries writer closed
 
 abbrev pub writer_of : Writer → task.TaskState
-writer_of w = task.Writer w.number w.todo (taken_of_plain w.taken) (line_of_plain w.line)
+writer_of w = task.Writer w.number w.todo (gathered_of_plain w.taken) (line_of_plain w.line)
 
 abbrev pub rescuer_of : Rescuer → task.TaskState
 rescuer_of r = task.Rescuer r.dev (line_of_plain r.line)

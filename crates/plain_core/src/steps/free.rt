@@ -7,7 +7,7 @@ ghost use Rattle.plain_core.specs.steps.Free.{NeedIsMet, TaskIsFree, TaskIsLet};
 ghost use Rattle.plain_core.specs.steps.Views.{doing_of_plain, keeper_of, task_of_plain, writer_of};
 ghost use Rattle.plain_core.specs.declared.steps.need.Need.TheVariants as need;
 
-use crate::objects::{Objects, number_of};
+use crate::objects::{Objects, pool_place};
 use crate::steps::need::{Need, task_need};
 use crate::steps::task::{Gathered, Keeper, Task, Writer};
 
@@ -50,7 +50,7 @@ fn is_met(objects: &Objects, need: Need) -> bool
         Need::Never => false,
         Need::Spare { pool, waits } => objects.has_spare(pool) || !waits,
         Need::Out(number) => objects.out(u64::from(number)) > 0,
-        Need::Home(pool) => objects.out(number_of(pool)) == 0,
+        Need::Home(pool) => objects.out(pool_place(pool)) == 0,
         Need::Rescued(dev) => objects.has_rescued(dev),
         Need::Pending(disk) => objects.has_pending(disk),
         Need::Place(writer) => objects.has_place(writer),

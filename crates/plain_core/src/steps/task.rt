@@ -2,7 +2,7 @@
 ghost use Rattle.std.specs.Prelude.{◌≡◌, ◌≢◌, [], All, drop, map, MatchBool, MatchOption};
 ghost use Rattle.run_machine.specs.Events.{id_of};
 ghost use Rattle.run_machine.specs.Lines.{Rests};
-ghost use Rattle.plain_core.specs.steps.Views.{doing_of_plain, taken_of_plain, task_of_plain};
+ghost use Rattle.plain_core.specs.steps.Views.{doing_of_plain, gathered_of_plain, task_of_plain};
 ghost use Rattle.plain_core.specs.steps.Submissions.{IsSubmitting};
 ghost use Rattle.task_steps.specs.KeeperViews.{duty_of};
 ghost use Rattle.plain_core.specs.steps.Duties.{IsNextDuty, IsOfPool};
@@ -84,7 +84,7 @@ pub enum Gathered {
 impl Gathered {
     /// The same once more.
     pub fn again(&self) -> Gathered
-        ensures { taken_of_plain result ≡ taken_of_plain self.now }
+        ensures { gathered_of_plain result ≡ gathered_of_plain self.now }
     {
         match self {
             Gathered::NoBio => Gathered::NoBio,

@@ -5,7 +5,7 @@ ghost use Rattle.run_machine.specs.Lines.{settled, Rests as AtRest};
 ghost use Rattle.task_steps.specs.Routed.{routing_setup};
 ghost use Rattle.run_machine.specs.Tasks.{needs_vector, NoBio, HasBio, HasBoth};
 ghost use Rattle.task_steps.specs.Within.{IsWithinDevice, TaskFits};
-ghost use Rattle.plain_core.specs.steps.Views.{line_of_plain, doing_of_plain, taken_of_plain, writer_of};
+ghost use Rattle.plain_core.specs.steps.Views.{line_of_plain, doing_of_plain, gathered_of_plain, writer_of};
 ghost use Rattle.plain_core.specs.steps.Moves.{begun_with, WriterMoves, WriterMovesFor};
 ghost use Rattle.plain_core.specs.steps.Takes.{TakesVector};
 
@@ -71,7 +71,7 @@ fn take_step(
     what: &What,
 ) -> Result<(), CoreFault>
     requires rests { doing_of_plain writer.old.line.doing ≡ AtRest }
-    requires taken { taken_of_plain writer.old.taken ≡ NoBio }
+    requires taken { gathered_of_plain writer.old.taken ≡ NoBio }
     ensures { WriterMovesFor (λ next. next.round ≡ round) objects.old writer.old what.now result objects.new writer.new }
 {
     if objects.round() < round {
@@ -95,7 +95,7 @@ fn vector_step(
     what: &What,
 ) -> Result<(), CoreFault>
     requires rests { doing_of_plain writer.old.line.doing ≡ AtRest }
-    requires taken { taken_of_plain writer.old.taken ≡ HasBio hand.now }
+    requires taken { gathered_of_plain writer.old.taken ≡ HasBio hand.now }
     ensures { WriterMovesFor (λ next. needs_vector next.write ≡ true) objects.old writer.old what.now result objects.new writer.new }
 {
     match take_vector(objects, what) {
@@ -118,7 +118,7 @@ fn short_step(
     what: &What,
 ) -> Result<(), CoreFault>
     requires rests { doing_of_plain writer.old.line.doing ≡ AtRest }
-    requires taken { taken_of_plain writer.old.taken ≡ HasBio hand.now }
+    requires taken { gathered_of_plain writer.old.taken ≡ HasBio hand.now }
     requires next { writer.old.todo ≡ next.now ∷ drop 1 writer.old.todo }
     requires write { IsWrite routes.now.stack next.now.write }
     requires needs { needs_vector next.now.write ≡ false }
@@ -145,7 +145,7 @@ fn long_step(
     what: &What,
 ) -> Result<(), CoreFault>
     requires rests { doing_of_plain writer.old.line.doing ≡ AtRest }
-    requires taken { taken_of_plain writer.old.taken ≡ HasBoth hand.now vector.now }
+    requires taken { gathered_of_plain writer.old.taken ≡ HasBoth hand.now vector.now }
     requires next { writer.old.todo ≡ next.now ∷ drop 1 writer.old.todo }
     requires write { IsWrite routes.now.stack next.now.write }
     ensures { WriterMoves routes.now objects.old writer.old what.now result objects.new writer.new }

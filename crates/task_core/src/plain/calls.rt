@@ -21,7 +21,7 @@ pub fn dev_of(el: &BioElement) -> DevId
 }
 
 /// Opens a node in a book.
-#[inline(always)] // as `take_bio`
+#[inline(always)] // its reply is made where it is used
 pub fn link_in(book: &mut Book, ask: Ask) -> Link
     requires alone { IsAskAlone ask }
     requires legs { HasLegs (opening_of ask) }

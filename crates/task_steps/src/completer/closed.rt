@@ -70,7 +70,7 @@ impl Carried {
     }
 
     // What came of giving back a part of the closed node that it carries, which is in it no more.
-    #[inline(always)] // where a call is always made, nothing is left of the other case
+    #[inline(always)] // where no call can be refused, the other arm falls away
     fn gave(&mut self, disk: DevId, pool: PoolId, given: Result<(), Unmade>) -> Step
         requires carries { is_carrying self.old ≡ true }
         ensures { MatchResult given
@@ -86,7 +86,8 @@ impl Carried {
         }
     }
 
-    // Goes on with a closed node, which stays where it is: what it holds goes back first, then its parent is told, or its write is done.
+    // Goes on with a closed node, which stays where it is: what it holds goes back first, its vector, its bio (`bio_free`, `block/bio.c`) and its
+    // record (`free_r1bio`, `drivers/md/raid1.c`), then its parent is told, or its write is done.
     pub(crate) fn finish<O: Objects>(&mut self, objects: &mut O, disk: DevId) -> Step
         requires carries { is_carrying self.old ≡ true }
         requires ready { TaskReady O.Objects objects.old (Completes disk self.old) }

@@ -13,7 +13,7 @@ ghost use Rattle.run_machine.specs.Lines.{Line as LineState, Rests, Breaks};
 ghost use Rattle.run_machine.specs.Tasks.{Todo as TodoState, Writer as WriterTask, needs_vector, filled, filled_short, filled_vector, write_request};
 ghost use Rattle.task_steps.specs.Routed.{routing_setup};
 ghost use Rattle.task_steps.specs.declared.writer.begin.Gathered.TheVariants.{HasBio, HasBoth};
-ghost use Rattle.task_steps.specs.WriterViews.{taken_of, is_taken, IsTakenAlone, tried, IsAttemptAtBioAlone, next_of, IsNextAlone, WriteAnswers, OpensWrite, LinksWrite, TriesBio, TriesVector, WriteGoesOn, WriteReady};
+ghost use Rattle.task_steps.specs.WriterViews.{gathered_of, is_taken, IsGatheredAlone, tried, IsAttemptAtBioAlone, next_of, IsNextAlone, WriteAnswers, OpensWrite, LinksWrite, TriesBio, TriesVector, WriteGoesOn, WriteReady};
 ghost use Rattle.task_steps.specs.Answers.{Ready};
 
 use crate::calls::{had, missed};
@@ -89,7 +89,7 @@ fn take_vector<O: Objects>(
     requires alone { IsAlone bio }
     requires rests { line.old.doing ≡ Rests }
     ensures does { TriesVector O.Objects number (item_of bio) line.old objects.old result line.new objects.new }
-    ensures alone { IsTakenAlone result.0 }
+    ensures alone { IsGatheredAlone result.0 }
 {
     let task = TaskId::Writer(number);
     let pool = PoolId::FsVecs;
@@ -231,10 +231,10 @@ pub(crate) fn go_on<O: Objects>(
 ) -> (Next, Step)
     requires ready { WriteReady O.Objects objects.old number todo.now taken }
     requires routing { (O.stage objects.old).routing ≡ routes.now }
-    requires alone { IsTakenAlone taken }
-    requires some { is_taken (taken_of taken) ≡ true }
+    requires alone { IsGatheredAlone taken }
+    requires some { is_taken (gathered_of taken) ≡ true }
     requires rests { line.old.doing ≡ Rests }
-    ensures does { WriteGoesOn O.Objects routes.now number todo.now (taken_of taken) line.old objects.old result line.new objects.new }
+    ensures does { WriteGoesOn O.Objects routes.now number todo.now (gathered_of taken) line.old objects.old result line.new objects.new }
     ensures alone { IsNextAlone result.0 }
 {
     match taken {

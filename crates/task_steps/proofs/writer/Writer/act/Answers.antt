@@ -7,7 +7,7 @@ use Rattle.task_steps.specs.Routed.{routing_setup}
 use Rattle.task_steps.specs.Stage.{Owes}
 use Rattle.task_steps.specs.Homes.{TodoFits}
 use Rattle.task_steps.specs.Turns.{Asks}
-use Rattle.task_steps.specs.WriterViews.{WriterState, writer_task, taken_of, next_of, WriteAnswers}
+use Rattle.task_steps.specs.WriterViews.{WriterState, writer_task, gathered_of, next_of, WriteAnswers}
 use Rattle.task_steps.proofs.TurnLemmas.{taken_turns, write_asks}
 use Rattle.task_steps.proofs.writer.Writer.act.Goals as goal
 
@@ -27,12 +27,12 @@ returns g c =
     let rests = subst (λ (s : WriterState). s.line.doing ≡ Rests) (sym c.self.view_is) c.requires.rests in
     let first = subst (λ (s : WriterState). s.todo ≡ todo ∷ drop 1 s.todo) (sym c.self.view_is) c.requires.first in
     let answers =
-    subst (λ (taken : Gathered). WriteAnswers serves owes known w.number (write_request w.number (todo ∷ later) (taken_of taken)) (todo ∷ later) (taken_of taken) w.line old after new step)
+    subst (λ (taken : Gathered). WriteAnswers serves owes known w.number (write_request w.number (todo ∷ later) (gathered_of taken)) (todo ∷ later) (gathered_of taken) w.line old after new step)
     c.replace-taken.ensures.value (c.go_on-next.ensures.does.came later) in
     let asks =
     subst (λ (next : TaskState). Asks serves owes known (writer_task c.args.self.now) old next new step) (sym (c.put.ensures todo first))
     (subst (λ (s : WriterState). Asks serves owes known (writer_task s) old after new step) c.self.view_is
-    (write_asks serves owes known w.number w.todo (taken_of w.taken) w.line todo later old after new step rests first answers)) in
+    (write_asks serves owes known w.number w.todo (gathered_of w.taken) w.line todo later old after new step rests first answers)) in
     let now = c.args.self.now in
     record {
       does = record {
