@@ -1,5 +1,8 @@
 -- A disk as a thing.
 use Rattle.std.specs.Prelude.{◌≡◌, ◌≤◌, ◌-◌, ◌^◌, ℕ, length, min, Option, None, Some, IfErr, Result, Ok, Err}
+use Rattle.elem_ledger.specs.declared.element.Element.{Element}
+use Rattle.bio_records.specs.declared.bio.Pad.{Pad}
+use Rattle.bio_records.specs.declared.body.BioBody.{BioBody}
 use Rattle.bio_records.specs.Items.{item_of, IsAlone}
 use Rattle.model_disks.specs.Disks.{DiskState}
 use Rattle.model_disks.specs.Moves.{pushed, Completes}
@@ -16,7 +19,7 @@ use Rattle.object_things.specs.declared.disk.DiskAsk.{DiskAsk}
 use Rattle.object_things.specs.declared.disk.DiskAsk.TheVariants as ask
 use Rattle.object_things.specs.declared.disk.DiskSaid.{DiskSaid}
 use Rattle.object_things.specs.declared.disk.DiskSaid.TheVariants as said
-use Rattle.object_things.specs.Stamps.{Held, MarkState, mark_of, Told, ThingState, Answers, PassBy, FindsNone, OnlyLooks, stage_in, is_spent, StampState, thing_state}
+use Rattle.object_things.specs.Stamps.{Held, MarkState, mark_of, Told, ThingState, Answers, PassBy, FindsNone, OnlyLooks, stage_in, is_spent, StampState, or_unmade, thing_state}
 
 -- a look at a disk asks to complete, too: it is told how many bios wait, and nothing is completed
 abbrev pub disk_asked : DiskAsk → Request
@@ -24,10 +27,15 @@ disk_asked (ask.Push el) = Push (item_of el)
 disk_asked (ask.Look disk) = Complete disk
 disk_asked (ask.Complete disk index) = Complete disk
 
+-- what came of a push, as the objects say it: the bio comes back where there was no ticket
+abbrev pub push_or_unmade : Result (Unit {0}) (Element (BioBody Pad)) → Result (Unit {0}) Unmade
+push_or_unmade (Ok done) = Ok done
+push_or_unmade (Err el) = Err (unmade.Bio el)
+
 abbrev pub disk_replied : DiskSaid → Reply
-disk_replied (said.Pushed result) = did result
+disk_replied (said.Pushed result) = did (push_or_unmade result)
 disk_replied (said.Waiting count) = LeftOver count
-disk_replied (said.Completed result) = completed_reply result
+disk_replied (said.Completed result) = completed_reply (or_unmade result)
 
 abbrev pub disk_told : Replied DiskSaid → Told
 disk_told replied = record { reply = disk_replied replied.said; note = replied.note; drew = replied.drew; ticket = replied.ticket }
@@ -66,10 +74,12 @@ IsUpTo index (Ok (Some done)) = done.0 ≤ index
 IsUpTo index (Err back) = Unit {0}
 
 abbrev pub DiskSays : Stage → DiskAsk → DiskSaid → Type 0
-DiskSays stage (ask.Push el) (said.Pushed result) = IfErr result (λ back. back ≡ unmade.Bio el) × Owes stage (Push (item_of el)) (did result)
+DiskSays stage (ask.Push el) (said.Pushed result) =
+    IfErr (push_or_unmade result) (λ back. back ≡ unmade.Bio el) × Owes stage (Push (item_of el)) (did (push_or_unmade result))
 DiskSays stage (ask.Look disk) (said.Waiting count) = Unit {0}
 DiskSays stage (ask.Complete disk index) (said.Completed result) =
-    CompletedAlone result × IfErr result (λ back. back ≡ unmade.Nothing) × IsUpTo index result × Owes stage (Complete disk) (completed_reply result)
+    CompletedAlone (or_unmade result) × IfErr (or_unmade result) (λ back. back ≡ unmade.Nothing) × IsUpTo index (or_unmade result)
+    × Owes stage (Complete disk) (completed_reply (or_unmade result))
 DiskSays stage asked reply = ⊥
 
 pub record DiskOwes (mark : MarkState) (asking : Asking DiskAsk) (replied : Replied DiskSaid) : Type 0 where

@@ -1,6 +1,9 @@
 -- The list of a rescuer as a thing.
-use Rattle.std.specs.Prelude.{◌≡◌, ◌++◌, [], ◌∷◌, IfErr}
+use Rattle.std.specs.Prelude.{◌≡◌, ◌++◌, [], ◌∷◌, List, IfErr, Result, Ok, Err}
 use Rattle.bio_records.specs.Rescue.{Rescue}
+use Rattle.bio_records.specs.declared.bio.Pad.{Pad}
+use Rattle.bio_records.specs.Items.{Item}
+use Rattle.task_steps.specs.declared.objects.Unmade.{Unmade}
 use Rattle.task_steps.specs.declared.objects.Unmade.TheVariants as unmade
 use Rattle.run_machine.specs.Requests.{Request, Reply, Punt, Pop, Did, Popped, Nothing, Spent}
 use Rattle.run_machine.specs.Laws.{OfRescuer, object_of}
@@ -12,15 +15,20 @@ use Rattle.object_things.specs.declared.list.ListAsk.{ListAsk}
 use Rattle.object_things.specs.declared.list.ListAsk.TheVariants as ask
 use Rattle.object_things.specs.declared.list.ListSaid.{ListSaid}
 use Rattle.object_things.specs.declared.list.ListSaid.TheVariants as said
-use Rattle.object_things.specs.Stamps.{Held, MarkState, mark_of, Told, ThingState, Answers, PassBy, FindsNone, OnlyLooks, stage_in, is_spent, StampState, thing_state}
+use Rattle.object_things.specs.Stamps.{Held, MarkState, mark_of, Told, ThingState, Answers, PassBy, FindsNone, OnlyLooks, stage_in, is_spent, StampState, or_unmade, thing_state}
 
 abbrev pub list_asked : ListAsk → Request
 list_asked (ask.Punt dev moved) = Punt dev moved
 list_asked (ask.Pop dev) = Pop dev
 
+-- what came of a punt, as the objects say it: the bios come back where there was no ticket
+abbrev pub punt_or_unmade : Result (Unit {0}) (List (Item Pad)) → Result (Unit {0}) Unmade
+punt_or_unmade (Ok done) = Ok done
+punt_or_unmade (Err moved) = Err (unmade.List moved)
+
 abbrev pub list_replied : ListSaid → Reply
-list_replied (said.Punted result) = did result
-list_replied (said.Popped result) = popped_reply result
+list_replied (said.Punted result) = did (punt_or_unmade result)
+list_replied (said.Popped result) = popped_reply (or_unmade result)
 
 abbrev pub list_told : Replied ListSaid → Told
 list_told replied = record { reply = list_replied replied.said; note = replied.note; drew = replied.drew; ticket = replied.ticket }
@@ -47,8 +55,8 @@ abbrev pub ListFits : MarkState → Asking ListAsk → Type 0
 ListFits mark asking = (asking.pass.clock ≡ mark.common.clock) × (object_of (list_asked asking.ask) ≡ mark.name) × RequestFits (stage_in mark.common) (list_asked asking.ask)
 
 abbrev pub ListSays : ListAsk → ListSaid → Type 0
-ListSays (ask.Punt dev moved) (said.Punted result) = IfErr result (λ back. back ≡ unmade.List moved)
-ListSays (ask.Pop dev) (said.Popped result) = PoppedAlone result × IfErr result (λ back. back ≡ unmade.Nothing)
+ListSays (ask.Punt dev moved) (said.Punted result) = IfErr (punt_or_unmade result) (λ back. back ≡ unmade.List moved)
+ListSays (ask.Pop dev) (said.Popped result) = PoppedAlone (or_unmade result) × IfErr (or_unmade result) (λ back. back ≡ unmade.Nothing)
 ListSays asked reply = ⊥
 
 pub record ListOwes (mark : MarkState) (asking : Asking ListAsk) (replied : Replied ListSaid) : Type 0 where

@@ -27,7 +27,7 @@ use Rattle.object_things.specs.declared.pool.PoolAsk.{PoolAsk}
 use Rattle.object_things.specs.declared.pool.PoolAsk.TheVariants as ask
 use Rattle.object_things.specs.declared.pool.PoolSaid.{PoolSaid}
 use Rattle.object_things.specs.declared.pool.PoolSaid.TheVariants as said
-use Rattle.object_things.specs.Stamps.{Held, MarkState, mark_of, Told, ThingState, Answers, PassBy, FindsNone, stage_in, is_spent, StampState, thing_state}
+use Rattle.object_things.specs.Stamps.{Held, MarkState, mark_of, Told, ThingState, Answers, PassBy, FindsNone, stage_in, is_spent, StampState, or_unmade, thing_state}
 
 -- a pool of the stage: its elements are of the ledger that the stage has for its number, and its reserve may be as large
 pub record IsPoolOf (stage : Stage) (pool : LedgerPool) : Type 0 where
@@ -70,9 +70,9 @@ module _ {P : Type 0} where
   gave (Err back) = Spent
 
   abbrev pub pool_replied : PoolSaid P → Reply
-  pool_replied (said.Took pool result) = took pool result
+  pool_replied (said.Took pool result) = took pool (or_unmade result)
   pool_replied (said.Gave result) = gave result
-  pool_replied (said.Resized result) = resized_reply result
+  pool_replied (said.Resized result) = resized_reply (or_unmade result)
 
   abbrev pub pool_told : Replied (PoolSaid P) → Told
   pool_told replied = record { reply = pool_replied replied.said; note = replied.note; drew = replied.drew; ticket = replied.ticket }
@@ -166,9 +166,9 @@ module _ {P : Type 0} where
   TookFrom is_clear ledger (Err back) = back ≡ unmade.Nothing
 
   abbrev pub PoolSays : (P → Type 0) → LedgerId → PoolAsk P → PoolSaid P → Type 0
-  PoolSays is_clear ledger (ask.Take pool waits) (said.Took from result) = (from ≡ pool) × TookFrom is_clear ledger result
+  PoolSays is_clear ledger (ask.Take pool waits) (said.Took from result) = (from ≡ pool) × TookFrom is_clear ledger (or_unmade result)
   PoolSays is_clear ledger (ask.Give pool el) (said.Gave result) = IfErr result (λ back. back ≡ el)
-  PoolSays is_clear ledger (ask.Resize pool min) (said.Resized result) = IfErr result (λ back. back ≡ unmade.Nothing)
+  PoolSays is_clear ledger (ask.Resize pool min) (said.Resized result) = IfErr (or_unmade result) (λ back. back ≡ unmade.Nothing)
   PoolSays is_clear ledger asked reply = ⊥
 
   pub record PoolOwes (is_clear : P → Type 0) (mark : MarkState) (asking : Asking (PoolAsk P)) (replied : Replied (PoolSaid P)) : Type 0 where

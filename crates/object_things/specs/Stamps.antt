@@ -1,13 +1,16 @@
 -- What every thing has beside its object, and what its history says.
-use Rattle.std.specs.Prelude.{◌≡◌, ◌⊎◌, ◌<◌, ◌≤◌, max, not, ℕ, Bool, true, false, Option, None, Some}
+use Rattle.std.specs.Prelude.{◌≡◌, ◌⊎◌, ◌<◌, ◌≤◌, max, not, ℕ, Bool, true, false, Option, None, Some, Result, Ok, Err}
 use Rattle.atomic_table.specs.Seated.{TableId}
 use Rattle.tick_clock.specs.Tickets.{PassState, IsEnd, drawn_with}
 use Rattle.run_machine.specs.Requests.{Request, Reply, Spent}
 use Rattle.run_machine.specs.Objects.{TallyState}
 use Rattle.run_machine.specs.Laws.{Object}
 use Rattle.task_steps.specs.Stage.{Stage}
+use Rattle.task_steps.specs.declared.objects.Unmade.{Unmade}
+use Rattle.task_steps.specs.declared.objects.Unmade.TheVariants as unmade
 use Rattle.task_core.specs.declared.plain.Plain.{Plain}
 use Rattle.task_core.specs.Plains.{stage_of, tally_of}
+use Rattle.object_things.specs.declared.stamp.NoTicket.{NoTicket}
 use Rattle.object_things.specs.declared.stamp.Replied.{Replied}
 
 -- what is the same for all things that were shared together: the clock that they draw from, and the objects as they were opened
@@ -43,6 +46,11 @@ mark_of name held = record { common = held.stamp.common; name = name }
 -- the last ticket of the clock was drawn, or what the pass and the note had seen was as great
 abbrev pub IsOver : PassState → ℕ → PassState → Type 0
 IsOver pass note after = IsEnd after.known ⊎ IsEnd (max pass.seen note)
+
+-- what came of a call, as the objects say it: where there was no ticket, nothing is handed back
+abbrev pub or_unmade : {T : Type 0} → Result T NoTicket → Result T Unmade
+or_unmade (Ok got) = Ok got
+or_unmade (Err none) = Err unmade.Nothing
 
 abbrev pub is_spent : Reply → Bool
 is_spent Spent = true

@@ -13,7 +13,7 @@ use Rattle.object_things.specs.declared.tally.TallyAsk.{TallyAsk}
 use Rattle.object_things.specs.declared.tally.TallyAsk.TheVariants as ask
 use Rattle.object_things.specs.declared.tally.TallySaid.{TallySaid}
 use Rattle.object_things.specs.declared.tally.TallySaid.TheVariants as said
-use Rattle.object_things.specs.Stamps.{Held, MarkState, mark_of, Told, ThingState, Answers, PassBy, FindsNone, stage_in, OnlyLooks, is_spent, StampState, thing_state}
+use Rattle.object_things.specs.Stamps.{Held, MarkState, mark_of, Told, ThingState, Answers, PassBy, FindsNone, stage_in, OnlyLooks, is_spent, StampState, or_unmade, thing_state}
 
 -- the numbers of the rounds behind the present one are as they were opened
 pub record IsLater (opened tally : TallyState) : Type 0 where
@@ -28,7 +28,7 @@ tally_asked ask.Round = LookRound
 tally_asked ask.Left = LookLeft
 
 abbrev pub tally_replied : TallySaid → Reply
-tally_replied (said.Did result) = did result
+tally_replied (said.Did result) = did (or_unmade result)
 tally_replied (said.Round round) = Present round
 tally_replied (said.Left count) = LeftOver count
 
@@ -58,8 +58,8 @@ abbrev pub TallyFits : MarkState → Asking TallyAsk → Type 0
 TallyFits mark asking = (asking.pass.clock ≡ mark.common.clock) × (object_of (tally_asked asking.ask) ≡ mark.name) × RequestFits (stage_in mark.common) (tally_asked asking.ask)
 
 abbrev pub TallySays : TallyAsk → TallySaid → Type 0
-TallySays (ask.Done write status) (said.Did result) = IfErr result (λ back. back ≡ unmade.Nothing)
-TallySays ask.Next (said.Did result) = IfErr result (λ back. back ≡ unmade.Nothing)
+TallySays (ask.Done write status) (said.Did result) = IfErr (or_unmade result) (λ back. back ≡ unmade.Nothing)
+TallySays ask.Next (said.Did result) = IfErr (or_unmade result) (λ back. back ≡ unmade.Nothing)
 TallySays ask.Round (said.Round round) = Unit {0}
 TallySays ask.Left (said.Left count) = Unit {0}
 TallySays asked reply = ⊥

@@ -8,13 +8,12 @@ ghost use Rattle.object_things.specs.declared.disk.DiskAsk.TheVariants as ask;
 ghost use Rattle.object_things.specs.Stamps.{PassBy, is_spent, stage_in};
 ghost use Rattle.object_things.specs.Disks.{DiskReplies, DiskSays, disk_replied};
 
-use crate::stamp::{Asked, Asking, Mark, Replied, Stamp, Told};
+use crate::stamp::{Asked, Asking, Mark, NoTicket, Replied, Stamp, Told};
 use bio_records::BioElement;
 use model_disks::{Disk, Done};
 use seat_lock::Thing;
 use stack_base::DevId;
 use std::marker::Model;
-use task_steps::Unmade;
 use tick_clock::{Note, Pass};
 
 /// What is asked of a disk.
@@ -28,9 +27,9 @@ pub enum DiskAsk {
 /// What a disk says.
 #[derive(Drop)]
 pub enum DiskSaid {
-    Pushed(Result<(), Unmade>),
+    Pushed(Result<(), BioElement>),
     Waiting(u64),
-    Completed(Result<Option<(u64, Done)>, Unmade>),
+    Completed(Result<Option<(u64, Done)>, NoTicket>),
 }
 
 /// What the machine sees of a disk with its note. No value of it is ever made.
@@ -161,7 +160,7 @@ fn push(disk: &mut Disk, stamp: &mut Stamp, pass: Pass, el: BioElement) -> Repli
             disk.push(el);
             turn.reply(Some(ticket), DiskSaid::Pushed(Ok(())))
         }
-        None => turn.reply(None, DiskSaid::Pushed(Err(Unmade::Bio(el)))),
+        None => turn.reply(None, DiskSaid::Pushed(Err(el))),
     }
 }
 
@@ -188,7 +187,7 @@ fn complete(
     }
     let (turn, drawn) = stamp.turn(pass);
     let Some(ticket) = drawn else {
-        return turn.reply(None, DiskSaid::Completed(Err(Unmade::Nothing)));
+        return turn.reply(None, DiskSaid::Completed(Err(NoTicket)));
     };
     let at = index.min(pending - 1);
     let done = disk.complete(at);

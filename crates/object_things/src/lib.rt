@@ -13,5 +13,5 @@ pub use book::{BookAsk, BookSaid, BookThing};
 pub use disk::{DiskAsk, DiskSaid, DiskThing};
 pub use list::{ListAsk, ListSaid, ListThing};
 pub use pool::{PoolAsk, PoolSaid, PoolThing};
-pub use stamp::{Asking, Common, Replied, Stamp};
+pub use stamp::{Asking, Common, NoTicket, Replied, Stamp};
 pub use tally::{TallyAsk, TallySaid, TallyThing};

@@ -6,12 +6,11 @@ ghost use Rattle.object_things.specs.declared.list.ListAsk.TheVariants as ask;
 ghost use Rattle.object_things.specs.Stamps.{PassBy, is_spent, stage_in};
 ghost use Rattle.object_things.specs.Lists.{ListReplies, ListSays, list_replied};
 
-use crate::stamp::{Asked, Asking, Mark, Replied, Stamp, Told};
+use crate::stamp::{Asked, Asking, Mark, NoTicket, Replied, Stamp, Told};
 use bio_records::{BioElement, BioList, RescueList};
 use seat_lock::Thing;
 use stack_base::DevId;
 use std::marker::Model;
-use task_steps::Unmade;
 use tick_clock::{Note, Pass};
 
 /// What is asked of the list of a rescuer.
@@ -23,8 +22,8 @@ pub enum ListAsk {
 /// What it says.
 #[derive(Drop)]
 pub enum ListSaid {
-    Punted(Result<(), Unmade>),
-    Popped(Result<Option<BioElement>, Unmade>),
+    Punted(Result<(), BioList>),
+    Popped(Result<Option<BioElement>, NoTicket>),
 }
 
 /// What the machine sees of a list with its note. No value of it is ever made.
@@ -152,7 +151,7 @@ fn punt(
             list.add(moved);
             turn.reply(Some(ticket), ListSaid::Punted(Ok(())))
         }
-        None => turn.reply(None, ListSaid::Punted(Err(Unmade::List(moved)))),
+        None => turn.reply(None, ListSaid::Punted(Err(moved))),
     }
 }
 
@@ -173,7 +172,7 @@ fn pop(list: &mut RescueList, stamp: &mut Stamp, pass: Pass, dev: DevId) -> Repl
     }
     let (turn, drawn) = stamp.turn(pass);
     let Some(ticket) = drawn else {
-        return turn.reply(None, ListSaid::Popped(Err(Unmade::Nothing)));
+        return turn.reply(None, ListSaid::Popped(Err(NoTicket)));
     };
     let Some(el) = list.pop() else { unreachable!() };
     turn.reply(Some(ticket), ListSaid::Popped(Ok(Some(el))))

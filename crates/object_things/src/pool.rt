@@ -6,14 +6,13 @@ ghost use Rattle.object_things.specs.declared.pool.PoolSaid.TheVariants as said;
 ghost use Rattle.object_things.specs.Stamps.{PassBy, is_spent, stage_in};
 ghost use Rattle.object_things.specs.Pools.{GoesBack, IsPoolOf, PoolReplies, PoolSays, WaitsAt, TakenOf, is_look, take_request, give_of, pool_replied};
 
-use crate::stamp::{Asked, Asking, Mark, Replied, Stamp, Told};
+use crate::stamp::{Asked, Asking, Mark, NoTicket, Replied, Stamp, Told};
 use elem_ledger::{Element, Fresh};
 use mempool_core::{Pool, Taken};
 use seat_lock::Thing;
 use stack_base::PoolId;
 use std::marker::Model;
 use task_core::resize_home;
-use task_steps::Unmade;
 use tick_clock::{Note, Pass};
 
 /// What is asked of a pool, with its name.
@@ -28,10 +27,10 @@ pub enum PoolAsk<P> {
 pub enum PoolSaid<P> {
     Took {
         pool: PoolId,
-        result: Result<Taken<P>, Unmade>,
+        result: Result<Taken<P>, NoTicket>,
     },
     Gave(Result<(), Element<P>>),
-    Resized(Result<u64, Unmade>),
+    Resized(Result<u64, NoTicket>),
 }
 
 /// What the machine sees of a pool with its note. No value of it is ever made.
@@ -169,7 +168,7 @@ fn is_look<P: Fresh + Drop>(taken: &Taken<P>, waits: bool) -> bool
 }
 
 // What a take says.
-fn took<P: Fresh + Drop>(pool: PoolId, of: Result<Taken<P>, Unmade>) -> PoolSaid<P>
+fn took<P: Fresh + Drop>(pool: PoolId, of: Result<Taken<P>, NoTicket>) -> PoolSaid<P>
     ensures { result ≡ said.Took pool of }
 {
     PoolSaid::Took { pool, result: of }
@@ -201,7 +200,7 @@ fn take<P: Fresh + Drop>(
         Some(ticket) => turn.reply(Some(ticket), took(name, Ok(taken))),
         None => {
             undo(pool, taken);
-            turn.reply(None, took(name, Err(Unmade::Nothing)))
+            turn.reply(None, took(name, Err(NoTicket)))
         }
     }
 }
@@ -252,6 +251,6 @@ fn resize<P: Fresh + Drop>(
     let (turn, drawn) = stamp.turn(pass);
     match drawn {
         Some(ticket) => turn.reply(Some(ticket), PoolSaid::Resized(Ok(resize_home(pool, min)))),
-        None => turn.reply(None, PoolSaid::Resized(Err(Unmade::Nothing))),
+        None => turn.reply(None, PoolSaid::Resized(Err(NoTicket))),
     }
 }

@@ -89,6 +89,10 @@ pub struct Asking<Q> {
     pub ask: Q,
 }
 
+/// A call could get no ticket, and was handed nothing that comes back.
+#[derive(Clone, Copy)]
+pub struct NoTicket;
+
 /// What a call found of an object's note before it drew, and the pass behind that draw.
 pub(crate) struct Turn {
     pass: Pass,

@@ -8,12 +8,11 @@ ghost use Rattle.object_things.specs.declared.tally.TallyAsk.TheVariants as ask;
 ghost use Rattle.object_things.specs.Stamps.{PassBy, is_spent, stage_in, opened_tally};
 ghost use Rattle.object_things.specs.Tallies.{TallyReplies, TallySays, IsLater, tally_replied, tally_asked};
 
-use crate::stamp::{Asked, Asking, Mark, Replied, Stamp, Told};
+use crate::stamp::{Asked, Asking, Mark, NoTicket, Replied, Stamp, Told};
 use seat_lock::Thing;
 use stack_base::Status;
 use std::marker::Model;
 use task_core::Tally;
-use task_steps::Unmade;
 use tick_clock::{Note, Pass};
 
 /// What is asked of the tally.
@@ -27,7 +26,7 @@ pub enum TallyAsk {
 /// What the tally says.
 #[derive(Drop)]
 pub enum TallySaid {
-    Did(Result<(), Unmade>),
+    Did(Result<(), NoTicket>),
     Round(u32),
     Left(u32),
 }
@@ -168,7 +167,7 @@ fn done(
             tally.done(write, status);
             turn.reply(Some(ticket), TallySaid::Did(Ok(())))
         }
-        None => turn.reply(None, TallySaid::Did(Err(Unmade::Nothing))),
+        None => turn.reply(None, TallySaid::Did(Err(NoTicket))),
     }
 }
 
@@ -189,6 +188,6 @@ fn next(tally: &mut Tally, stamp: &mut Stamp, pass: Pass) -> Replied<TallySaid>
             tally.next_round();
             turn.reply(Some(ticket), TallySaid::Did(Ok(())))
         }
-        None => turn.reply(None, TallySaid::Did(Err(Unmade::Nothing))),
+        None => turn.reply(None, TallySaid::Did(Err(NoTicket))),
     }
 }

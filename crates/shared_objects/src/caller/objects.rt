@@ -9,6 +9,7 @@ ghost use Rattle.task_steps.specs.Views.{completed_reply, resized_reply};
 ghost use Rattle.object_things.specs.declared.disk.DiskAsk.TheVariants as asks;
 ghost use Rattle.object_things.specs.declared.disk.DiskSaid.TheVariants as says;
 ghost use Rattle.object_things.specs.Disks.{DiskSays};
+ghost use Rattle.object_things.specs.Stamps.{or_unmade};
 ghost use Rattle.shared_objects.specs.Desks.{HasCalled};
 ghost use Rattle.shared_objects.specs.Holding.{DeskHolds, desk_of, stage_at};
 
@@ -18,7 +19,8 @@ use bio_records::{BioBody, BioElement, BioList, Pad, Slip, SlipElement, VecEleme
 use mempool_core::Taken;
 use model_disks::Done;
 use object_things::{
-    BookAsk, BookSaid, DiskAsk, DiskSaid, ListAsk, ListSaid, PoolAsk, PoolSaid, TallyAsk, TallySaid,
+    BookAsk, BookSaid, DiskAsk, DiskSaid, ListAsk, ListSaid, NoTicket, PoolAsk, PoolSaid, TallyAsk,
+    TallySaid,
 };
 use stack_base::{DevId, PoolId, SetId, Status};
 use std::sync::Wait;
@@ -52,10 +54,10 @@ impl<'a, R: Wait> Caller<'a, R> {
     }
 
     // Completes the bio at this place of those that wait, or the last one where there are fewer by now.
-    fn complete_at(&mut self, disk: DevId, index: u64) -> Result<Option<(u64, Done)>, Unmade>
+    fn complete_at(&mut self, disk: DevId, index: u64) -> Result<Option<(u64, Done)>, NoTicket>
         requires holds { DeskHolds self.old.locks.now self.old.seats.now }
         requires fits { RequestFits (stage_at self.old.locks.now) (Complete disk) }
-        ensures calls { HasCalled (desk_of self.old.seats.now) (Complete disk) (completed_reply result) (desk_of self.new.seats.now) }
+        ensures calls { HasCalled (desk_of self.old.seats.now) (Complete disk) (completed_reply (or_unmade result)) (desk_of self.new.seats.now) }
         ensures says { DiskSays (stage_at self.old.locks.now) (asks.Complete disk index) (says.Completed result) }
         ensures kept { DeskHolds self.old.locks.now self.new.seats.now }
         ensures same { self.new.locks.now ≡ self.old.locks.now }
@@ -80,7 +82,8 @@ impl<'a, R: Wait> Caller<'a, R> {
     {
         let pool = pool_of(set);
         match self.ask_bios(pool.no(), PoolAsk::Resize { pool, min }) {
-            PoolSaid::Resized(result) => result,
+            PoolSaid::Resized(Ok(out)) => Ok(out),
+            PoolSaid::Resized(Err(NoTicket)) => Err(Unmade::Nothing),
             PoolSaid::Took { .. } | PoolSaid::Gave(_) => unreachable!(),
         }
     }
@@ -97,7 +100,8 @@ impl<'a, R: Wait> Caller<'a, R> {
     {
         let pool = PoolId::FsVecs;
         match self.ask_vecs(PoolAsk::Resize { pool, min }) {
-            PoolSaid::Resized(result) => result,
+            PoolSaid::Resized(Ok(out)) => Ok(out),
+            PoolSaid::Resized(Err(NoTicket)) => Err(Unmade::Nothing),
             PoolSaid::Took { .. } | PoolSaid::Gave(_) => unreachable!(),
         }
     }
@@ -115,7 +119,8 @@ impl<'a, R: Wait> Caller<'a, R> {
     {
         let pool = PoolId::Records(dev);
         match self.ask_records(pool.no(), PoolAsk::Resize { pool, min }) {
-            PoolSaid::Resized(result) => result,
+            PoolSaid::Resized(Ok(out)) => Ok(out),
+            PoolSaid::Resized(Err(NoTicket)) => Err(Unmade::Nothing),
             PoolSaid::Took { .. } | PoolSaid::Gave(_) => unreachable!(),
         }
     }
@@ -137,7 +142,14 @@ impl<'a, R: Wait> Objects for Caller<'a, R> {
     fn take_bio(&mut self, set: SetId, waits: bool) -> Result<Taken<BioBody<Pad>>, Unmade> {
         let pool = pool_of(set);
         match self.ask_bios(pool.no(), PoolAsk::Take { pool, waits }) {
-            PoolSaid::Took { pool: _, result } => result,
+            PoolSaid::Took {
+                pool: _,
+                result: Ok(taken),
+            } => Ok(taken),
+            PoolSaid::Took {
+                pool: _,
+                result: Err(NoTicket),
+            } => Err(Unmade::Nothing),
             PoolSaid::Gave(_) | PoolSaid::Resized(_) => unreachable!(),
         }
     }
@@ -146,7 +158,14 @@ impl<'a, R: Wait> Objects for Caller<'a, R> {
     fn take_vec(&mut self) -> Result<Taken<Vector>, Unmade> {
         let pool = PoolId::FsVecs;
         match self.ask_vecs(PoolAsk::Take { pool, waits: true }) {
-            PoolSaid::Took { pool: _, result } => result,
+            PoolSaid::Took {
+                pool: _,
+                result: Ok(taken),
+            } => Ok(taken),
+            PoolSaid::Took {
+                pool: _,
+                result: Err(NoTicket),
+            } => Err(Unmade::Nothing),
             PoolSaid::Gave(_) | PoolSaid::Resized(_) => unreachable!(),
         }
     }
@@ -155,7 +174,14 @@ impl<'a, R: Wait> Objects for Caller<'a, R> {
     fn take_slip(&mut self, dev: DevId) -> Result<Taken<Slip>, Unmade> {
         let pool = PoolId::Records(dev);
         match self.ask_records(pool.no(), PoolAsk::Take { pool, waits: true }) {
-            PoolSaid::Took { pool: _, result } => result,
+            PoolSaid::Took {
+                pool: _,
+                result: Ok(taken),
+            } => Ok(taken),
+            PoolSaid::Took {
+                pool: _,
+                result: Err(NoTicket),
+            } => Err(Unmade::Nothing),
             PoolSaid::Gave(_) | PoolSaid::Resized(_) => unreachable!(),
         }
     }
@@ -192,14 +218,16 @@ impl<'a, R: Wait> Objects for Caller<'a, R> {
 
     fn punt(&mut self, dev: DevId, moved: BioList) -> Result<(), Unmade> {
         match self.ask_list(dev, ListAsk::Punt { dev, moved }) {
-            ListSaid::Punted(result) => result,
+            ListSaid::Punted(Ok(())) => Ok(()),
+            ListSaid::Punted(Err(moved)) => Err(Unmade::List(moved)),
             ListSaid::Popped(_) => unreachable!(),
         }
     }
 
     fn pop(&mut self, dev: DevId) -> Result<Option<BioElement>, Unmade> {
         match self.ask_list(dev, ListAsk::Pop { dev }) {
-            ListSaid::Popped(result) => result,
+            ListSaid::Popped(Ok(el)) => Ok(el),
+            ListSaid::Popped(Err(NoTicket)) => Err(Unmade::Nothing),
             ListSaid::Punted(_) => unreachable!(),
         }
     }
@@ -207,7 +235,8 @@ impl<'a, R: Wait> Objects for Caller<'a, R> {
     fn push(&mut self, el: BioElement) -> Result<(), Unmade> {
         let disk = dev_of(&el);
         match self.ask_disk(disk, DiskAsk::Push { el }) {
-            DiskSaid::Pushed(result) => result,
+            DiskSaid::Pushed(Ok(())) => Ok(()),
+            DiskSaid::Pushed(Err(el)) => Err(Unmade::Bio(el)),
             DiskSaid::Waiting(_) | DiskSaid::Completed(_) => unreachable!(),
         }
     }
@@ -222,7 +251,10 @@ impl<'a, R: Wait> Objects for Caller<'a, R> {
             return Ok(None);
         }
         let index = chooser.choose(pending);
-        self.complete_at(disk, index)
+        match self.complete_at(disk, index) {
+            Ok(done) => Ok(done),
+            Err(NoTicket) => Err(Unmade::Nothing),
+        }
     }
 
     fn link(&mut self, writer: u32, ask: Ask) -> Result<Link, Unmade> {
@@ -253,7 +285,8 @@ impl<'a, R: Wait> Objects for Caller<'a, R> {
 
     fn done(&mut self, write: u32, status: Status) -> Result<(), Unmade> {
         match self.ask_tally(TallyAsk::Done { write, status }) {
-            TallySaid::Did(result) => result,
+            TallySaid::Did(Ok(())) => Ok(()),
+            TallySaid::Did(Err(NoTicket)) => Err(Unmade::Nothing),
             TallySaid::Round(_) | TallySaid::Left(_) => unreachable!(),
         }
     }
@@ -269,7 +302,8 @@ impl<'a, R: Wait> Objects for Caller<'a, R> {
 
     fn next_round(&mut self) -> Result<(), Unmade> {
         match self.ask_tally(TallyAsk::Next) {
-            TallySaid::Did(result) => result,
+            TallySaid::Did(Ok(())) => Ok(()),
+            TallySaid::Did(Err(NoTicket)) => Err(Unmade::Nothing),
             TallySaid::Round(_) | TallySaid::Left(_) => unreachable!(),
         }
     }
