@@ -19,7 +19,7 @@ use Rattle.run_machine.specs.Opened.{scene, start}
 use Rattle.run_machine.specs.Scenario.{scenario_of}
 use Rattle.block_core.specs.Runnable.{IsRunnable}
 use Rattle.block_core.proofs.claim.Claim.{accepted_texts_run_as_claimed}
-use Rattle.block_core.proofs.claim.Runnable.{accepted_texts_are_runnable, steps_are_few}
+use Rattle.block_core.proofs.claim.Runnable.{accepted_texts_are_runnable, steps_fit_in_24_bits}
 use Rattle.rand_pcg.specs.Lcg.{Lcg}
 use Rattle.serial_run.specs.Schedule.{FollowsSchedule}
 use Rattle.serial_run.specs.Serial.{IsSerialRun}
@@ -46,7 +46,7 @@ module _ (text : List ℕ) (accepted : Accepted) (work : Work) (says : TextSays 
   pub few_steps : steps_bound work.bound < 2 ^ 64
   few_steps =
       let by = accepted_texts_are_runnable accepted work read_behind in
-      omega (arith, by.1, steps_are_few (scenario_of accepted work) by.0)
+      omega (arith, by.1, steps_fit_in_24_bits (scenario_of accepted work) by.0)
 
   pub every_run : EveryRunOfTextIsAsClaimed accepted work
   every_run = λ ledger events state naming run.

@@ -21,7 +21,7 @@ pub mod Posts
 pub mod Wholes
 pub mod OfOneWrite
 pub mod Elements
-pub mod Few
+pub mod LargestCounts
 pub mod Splitting
 pub mod Lasting
 pub mod Misplaced

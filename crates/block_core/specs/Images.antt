@@ -71,8 +71,8 @@ RoundsComeInOrder = (s : Scenario) (ledger : ℕ → LedgerId) (events : List Ev
     → (run : IsRun (scene s ledger) (start s) events state) (disk at : ℕ) → ComeInRounds s disk at (completed (scene s ledger) (start s) events state run)
 
 -- and where no two writes of a round have a sector in common, one fragment a round at most writes a sector
-abbrev pub OneFragmentARound : Type 0
-OneFragmentARound = (s : Scenario) → IsScenario s → AreApartByRounds s.stack s.writes s.rounds → (disk at : ℕ) → OneARound s disk at
+abbrev pub OneFragmentASectorARound : Type 0
+OneFragmentASectorARound = (s : Scenario) → IsScenario s → AreApartByRounds s.stack s.writes s.rounds → (disk at : ℕ) → OneARound s disk at
 
 -- each disk has as many sectors as it was opened with, and each of them holds what is laid out there
 pub record HasLaidImages (s : Scenario) (state : State) : Type 0 where

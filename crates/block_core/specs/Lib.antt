@@ -19,7 +19,7 @@ pub mod PayerCounts
 pub mod Bounded
 pub mod Rooms
 pub mod Breaks
-pub mod Few
+pub mod LargestCounts
 pub mod Stuck
 pub mod Fragments
 pub mod Images

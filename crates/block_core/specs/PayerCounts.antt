@@ -109,7 +109,7 @@ most_times s paid.Starts = payers s LaterRound
 most_times s paid.Resizes = payers s ReserveChange
 
 -- how often a kind comes is what a run costs where each event of it costs one, and no other costs anything
-abbrev pub EachKindIsFew : Type 0
-EachKindIsFew = (s : Scenario) (ledger : ℕ → LedgerId) (events : List Event) (state : State) → IsScenario s → IsNaming ledger
+abbrev pub EachKindIsWithinItsPayers : Type 0
+EachKindIsWithinItsPayers = (s : Scenario) (ledger : ℕ → LedgerId) (events : List Event) (state : State) → IsScenario s → IsNaming ledger
     → (run : IsRun (scene s ledger) (start s) events state) → (kind : Paid)
     → costs (λ other. if is_kind kind other then 1 else 0) (scene s ledger) none_was (start s) events state run ≤ most_times s kind

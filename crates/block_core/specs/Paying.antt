@@ -78,8 +78,8 @@ all_costs price s =
 
 -- However the kinds of event are priced, the events of a run cost no more than all that pays for them, each once for each of its events. So of each kind
 -- no more events come than there are charges for it, and no two events need the same.
-abbrev pub EachHasItsCharge : Type 0
-EachHasItsCharge = (s : Scenario) (ledger : ℕ → LedgerId) (events : List Event) (state : State) → IsScenario s → IsNaming ledger
+abbrev pub CostsAreCharged : Type 0
+CostsAreCharged = (s : Scenario) (ledger : ℕ → LedgerId) (events : List Event) (state : State) → IsScenario s → IsNaming ledger
     → (run : IsRun (scene s ledger) (start s) events state) → (price : Paid → ℕ)
     → costs price (scene s ledger) none_was (start s) events state run ≤ all_costs price s
 

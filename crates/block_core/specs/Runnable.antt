@@ -30,8 +30,8 @@ pub record IsRunnable (s : Scenario) : Type 0 where
   pub few : waits s ≤ most_waits
 
 -- then no run has many events
-abbrev pub StepsAreFew : Type 0
-StepsAreFew = (s : Scenario) → IsRunnable s → most_steps s < 2 ^ 24
+abbrev pub StepsFitIn24Bits : Type 0
+StepsFitIn24Bits = (s : Scenario) → IsRunnable s → most_steps s < 2 ^ 24
 
 -- What a text means of which no line is refused can be run, and the steps of its bound are those of its scenario.
 abbrev pub AcceptedTextsAreRunnable : Type 0

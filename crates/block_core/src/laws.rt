@@ -7,16 +7,16 @@ ghost use Rattle.block_core.specs.Dones.{NoneIsLeftUndone, RoundsStartInTurn, Ta
 ghost use Rattle.block_core.specs.DoneWrites.{DoneIsCompleted, EndedStatusesAreGiven, StatusesAreGiven};
 ghost use Rattle.block_core.specs.Ending.{RunsEndWithTheirWrites, StartedRoundsAreThere};
 ghost use Rattle.block_core.specs.Exact.{StepsWithoutMisses};
-ghost use Rattle.block_core.specs.Few.{EndsAreFew, NoCounterIsFull, OutsAreFew};
+ghost use Rattle.block_core.specs.LargestCounts.{EndsAreWithinPlacesAndTasks, NoCounterIsFull, OutsAreWithinWhatWritesNeed};
 ghost use Rattle.block_core.specs.Fragments.{EachIsCompletedOnce, FragmentsAddUp, NoOtherIsCompleted, NoneIsCompletedTwice, NothingComesWhereAllIsHome, NothingComesWhereEnded};
-ghost use Rattle.block_core.specs.Images.{EndedRunsLeaveTheSame, ImagesAreLaidOut, ImagesAreOfCompleted, LaidIsOne, OneFragmentARound, RoundsComeInOrder};
+ghost use Rattle.block_core.specs.Images.{EndedRunsLeaveTheSame, ImagesAreLaidOut, ImagesAreOfCompleted, LaidIsOne, OneFragmentASectorARound, RoundsComeInOrder};
 ghost use Rattle.block_core.specs.Present.{WorkIsPresent};
 ghost use Rattle.block_core.specs.OfOneWrite.{AllAreOfOneWrite};
-ghost use Rattle.block_core.specs.PayerCounts.{EachKindIsFew, PayersAreCounted};
-ghost use Rattle.block_core.specs.Paying.{EachHasItsCharge, EventsUseUpCharges, NoMoreIsSpent};
+ghost use Rattle.block_core.specs.PayerCounts.{EachKindIsWithinItsPayers, PayersAreCounted};
+ghost use Rattle.block_core.specs.Paying.{CostsAreCharged, EventsUseUpCharges, NoMoreIsSpent};
 ghost use Rattle.block_core.specs.Replies.{RepliesAreEvents};
 ghost use Rattle.block_core.specs.Rooms.{BooksHaveRoom};
-ghost use Rattle.block_core.specs.Runnable.{AcceptedTextsAreRunnable, StepsAreFew};
+ghost use Rattle.block_core.specs.Runnable.{AcceptedTextsAreRunnable, StepsFitIn24Bits};
 ghost use Rattle.block_core.specs.Dones.{EachIsDoneOnce};
 ghost use Rattle.block_core.specs.Stuck.{NoStateIsStuck};
 ghost use Rattle.block_core.specs.Waits.{NoTaskWaitsForItself};
@@ -85,16 +85,16 @@ pub fn runs_are_bounded()
 /// vector, record, fragment, entry, round and change pays for: so no charge is used twice. Nor do the events behind any reached state cost more than
 /// the charges that are open there without those that are open behind them.
 pub fn events_have_charges()
-    ensures all { EachHasItsCharge }
+    ensures all { CostsAreCharged }
     ensures spent { NoMoreIsSpent }
     ensures later { EventsUseUpCharges }
 {}
 
 /// How many things pay for events the layout tells: of the elements that all writes need, their own bios, their vectors, the records of mirrors, and the
 /// bios of first pieces and of legs; and the fragments. So of each kind of event no run of any scenario has more than there are of what pays for it.
-pub fn each_kind_is_few()
+pub fn each_kind_is_within_its_payers()
     ensures counted { PayersAreCounted }
-    ensures kinds { EachKindIsFew }
+    ensures kinds { EachKindIsWithinItsPayers }
 {}
 
 /// Where no take of a run misses, the layout alone fixes how many events it has once it has ended: each element is taken and given back, each node
@@ -121,8 +121,8 @@ pub fn no_task_breaks()
 /// No pool of any run of any scenario has more elements out than all writes need, and no node waits for more ends than its book has places and
 /// there are tasks, and one. So in a scenario that is allowed no counter of 64 bits comes to its largest number.
 pub fn no_counter_is_full()
-    ensures outs { OutsAreFew }
-    ensures ends { EndsAreFew }
+    ensures outs { OutsAreWithinWhatWritesNeed }
+    ensures ends { EndsAreWithinPlacesAndTasks }
     ensures counters { NoCounterIsFull }
 {}
 
@@ -195,8 +195,8 @@ pub fn rounds_come_in_order()
 
 /// Where no two writes of a round have a sector in common, and each goes to a device that is no member, at most one fragment of a round writes a
 /// sector.
-pub fn one_fragment_a_round()
-    ensures { OneFragmentARound }
+pub fn one_fragment_a_sector_a_round()
+    ensures { OneFragmentASectorARound }
 {}
 
 /// So every run of a scenario with such writes that has ended leaves exactly the laid-out images: each disk has its sectors, and each of them holds
@@ -216,7 +216,7 @@ pub fn ended_runs_leave_the_same()
 /// rescuers, which the check of declarations says by itself. Its bound is 8 E + 2 G + Z of the scenario, and no such scenario has 2^24 steps.
 pub fn accepted_texts_are_runnable()
     ensures runnable { AcceptedTextsAreRunnable }
-    ensures few { StepsAreFew }
+    ensures few { StepsFitIn24Bits }
 {}
 
 /// So of every scenario that can be run, whose mirrors of two members or more have rescuers, in every interleaving: each pool adds up, each write

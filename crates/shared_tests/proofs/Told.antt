@@ -6,7 +6,7 @@ use Rattle.work_text.specs.declared.Work.{Work}
 use Rattle.run_machine.specs.ReadBehind.{IsReadBehind}
 use Rattle.run_machine.specs.Opened.{Scenario}
 use Rattle.run_machine.specs.Scenario.{scenario_of}
-use Rattle.block_core.proofs.claim.Runnable.{accepted_texts_are_runnable, steps_are_few}
+use Rattle.block_core.proofs.claim.Runnable.{accepted_texts_are_runnable, steps_fit_in_24_bits}
 use Rattle.task_core.specs.declared.opening.Opened.{Opened}
 use Rattle.task_core.specs.opened.OfOne.{scenario_in}
 use Rattle.report_text.specs.CheckText.{steps_bound}
@@ -21,7 +21,7 @@ use Rattle.run_merge.specs.declared.outcome.Outcome.{Outcome}
 pub few_steps : (accepted : Accepted) (work : Work) → IsReadBehind accepted work → steps_bound work.bound < 2 ^ 64
 few_steps accepted work read =
     let by = accepted_texts_are_runnable accepted work read in
-    omega (arith, by.1, steps_are_few (scenario_of accepted work) by.0)
+    omega (arith, by.1, steps_fit_in_24_bits (scenario_of accepted work) by.0)
 
 -- what was shared is of the text
 pub shared_of_it : {E : Type 0} (result : Result Shared E) (opened : Opened) (s : Scenario) → IfOk result (λ (shared : Shared). shared.told.value ≡ opened)

@@ -12,7 +12,7 @@ use Rattle.block_core.specs.Charges.{held_charge, close_charge, charge, charged,
 use Rattle.block_core.specs.Scenarios.{IsScenario, IsNaming}
 use Rattle.block_core.specs.Payers.{Paid, unit_price}
 use Rattle.block_core.specs.Touches.{touch_of, masters_after, were_masters, none_was}
-use Rattle.block_core.specs.Paying.{end_told, paid_as, costs, all_costs, EachHasItsCharge, EventsUseUpCharges, NoMoreIsSpent}
+use Rattle.block_core.specs.Paying.{end_told, paid_as, costs, all_costs, CostsAreCharged, EventsUseUpCharges, NoMoreIsSpent}
 use Rattle.block_core.specs.Bounded.{most_steps, OpenedRankIsBounded, OutsAreBounded, RunsAreBounded}
 use Rattle.block_core.proofs.moves.Moves.{Move, touch_by, after}
 use Rattle.block_core.proofs.moves.PaidKinds.{kind_of}
@@ -222,5 +222,5 @@ pub events_use_up_charges : EventsUseUpCharges
 events_use_up_charges s ledger before later old new good naming first run price =
     run_uses_up s ledger good naming before later old new first run price (were_masters (scene s ledger) (start s) before old first none_was)
 
-pub each_has_its_charge : EachHasItsCharge
-each_has_its_charge s ledger events state good naming run price = run_paid s ledger good naming events state run price
+pub costs_are_charged : CostsAreCharged
+costs_are_charged s ledger events state good naming run price = run_paid s ledger good naming events state run price

@@ -4,8 +4,8 @@ use Rattle.std.specs.Prelude.{sum_by}
 use Rattle.run_machine.specs.Opened.{Scenario}
 use Rattle.block_core.specs.Payers.{Payer, WriteBio, WriteVector, Record, PieceBio, Fragment, ScriptEntry, LaterRound, ReserveChange, Paid, cost}
 use Rattle.block_core.specs.Payers as paid
-use Rattle.block_core.specs.PayerCounts.{payers, every_payer, is_kind, most_times, EachKindIsFew}
-use Rattle.block_core.proofs.bound.Bounded.{each_has_its_charge}
+use Rattle.block_core.specs.PayerCounts.{payers, every_payer, is_kind, most_times, EachKindIsWithinItsPayers}
+use Rattle.block_core.proofs.bound.Bounded.{costs_are_charged}
 use Rattle.block_core.proofs.bound.PayerCounts.{costs_count}
 
 -- where the events of one kind cost one, each payer pays for one or for none
@@ -40,7 +40,7 @@ module _ (s : Scenario) where
   of_kind paid.Starts = omega arith
   of_kind paid.Resizes = omega arith
 
-pub each_kind_is_few : EachKindIsFew
-each_kind_is_few s ledger events state good naming run kind =
+pub each_kind_is_within_its_payers : EachKindIsWithinItsPayers
+each_kind_is_within_its_payers s ledger events state good naming run kind =
     let price : Paid → ℕ = λ other. cond (is_kind kind other) 1 0 in
-    omega (arith, each_has_its_charge s ledger events state good naming run price, costs_count price s, of_kind s kind)
+    omega (arith, costs_are_charged s ledger events state good naming run price, costs_count price s, of_kind s kind)

@@ -11,7 +11,7 @@ use Rattle.block_core.proofs.unrefused.Unbroken.{no_task_breaks}
 use Rattle.block_core.proofs.status.Statuses.{statuses_are_given, ended_statuses_are_given}
 use Rattle.block_core.proofs.images.ImagesLaid.{images_are_laid_out}
 use Rattle.block_core.proofs.stuck.NeverStuck.{no_allowed_state_is_stuck}
-use Rattle.block_core.proofs.claim.Runnable.{accepted_texts_are_runnable, steps_are_few}
+use Rattle.block_core.proofs.claim.Runnable.{accepted_texts_are_runnable, steps_fit_in_24_bits}
 use Rattle.block_core.proofs.sound.Wholes.{each_is_done_once}
 use Rattle.block_core.proofs.sound.Soundness.{every_run_is_sound}
 
@@ -19,7 +19,7 @@ pub every_run_is_as_claimed : EveryRunIsAsClaimed
 every_run_is_as_claimed s ledger events state runnable rescuers naming run =
     let good = runnable.scenario in
     let few = runs_are_bounded s ledger events state good naming run in
-    let most = steps_are_few s runnable in
+    let most = steps_fit_in_24_bits s runnable in
     let sound = every_run_is_sound s ledger events state good naming run in
     record {
       sound = sound;

@@ -24,7 +24,7 @@ use Rattle.work_text.specs.declared.Resize.{Resize}
 use Rattle.work_text.proofs.Fit.{work_is_fit}
 use Rattle.run_machine.specs.Opened.{Change}
 use Rattle.run_machine.specs.Scenario.{change_of}
-use Rattle.block_core.specs.Runnable.{AcceptedTextsAreRunnable, StepsAreFew}
+use Rattle.block_core.specs.Runnable.{AcceptedTextsAreRunnable, StepsFitIn24Bits}
 use Rattle.block_core.specs.Scenarios.{KeepsSome, AreInOrder}
 
 -- rounds that do not fall, pair by pair, are in order
@@ -107,8 +107,8 @@ parts_few stack good write is =
     let some = is.some in
     omega (arith, fragments_le_needed t write.start write.count (trees_are_sound stack write.dev.0 good known) (omega (arith, some)))
 
-pub steps_are_few : StepsAreFew
-steps_are_few s runnable =
+pub steps_fit_in_24_bits : StepsFitIn24Bits
+steps_fit_in_24_bits s runnable =
     let good = runnable.scenario in
     let allowed = runnable.allowed in
     let few = runnable.few in

@@ -6,7 +6,7 @@ use Rattle.layout_model.specs.Laid.{round_of}
 use Rattle.layout_model.proofs.OneWay.{one_way_a_round}
 use Rattle.run_machine.specs.Tasks.{Todo}
 use Rattle.run_machine.specs.Opened.{scene, start, todos, setup as setup_in}
-use Rattle.block_core.specs.Images.{OneFragmentARound, ImagesAreLaidOut}
+use Rattle.block_core.specs.Images.{OneFragmentASectorARound, ImagesAreLaidOut}
 use Rattle.block_core.proofs.sound.Facts.{Fair}
 use Rattle.block_core.proofs.moves.Devices.{ground}
 use Rattle.block_core.proofs.sound.Wholes.{start_whole}
@@ -17,8 +17,8 @@ use Rattle.block_core.proofs.images.RoundByRound.{rounds_come_in_order}
 use Rattle.block_core.proofs.images.EndedRuns.{nothing_comes_where_ended}
 
 -- two fragments of one round that write a sector are on two ways there, and there is one
-pub one_fragment_a_round : OneFragmentARound
-one_fragment_a_round s good apart disk at f g of_f of_g writes_f writes_g round =
+pub one_fragment_a_sector_a_round : OneFragmentASectorARound
+one_fragment_a_sector_a_round s good apart disk at f g of_f of_g writes_f writes_g round =
     let here = lands_itself s good disk at f of_f.0.number of_f.0.write (served s good of_f.0 of_f.1) of_f.2 writes_f in
     let there = lands_itself s good disk at g of_g.0.number of_g.0.write (served s good of_g.0 of_g.1) of_g.2 writes_g in
     let one = one_way_a_round s.stack s.writes s.rounds of_f.0.number of_g.0.number disk at of_f.0.write of_g.0.write good.stack good.writes apart (own of_f.0 of_f.1) (own of_g.0 of_g.1) rounds here.0.way there.0.way in
@@ -39,6 +39,6 @@ images_are_laid_out s ledger events state good apart naming run ended =
     record {
       sized = λ disk. (own disk).sized;
       laid = λ disk at lt.
-          laid_by_rounds s ledger events state good naming run none disk at lt (one_fragment_a_round s good apart disk at)
+          laid_by_rounds s ledger events state good naming run none disk at lt (one_fragment_a_sector_a_round s good apart disk at)
           (rounds_come_in_order s ledger events state good naming run disk at);
     }

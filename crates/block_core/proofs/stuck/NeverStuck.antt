@@ -1,6 +1,6 @@
 -- No state of a run of a scenario that is allowed is stuck, since no counter of it is ever full.
 use Rattle.block_core.specs.Stuck.{NoAllowedStateIsStuck, EachRunGoesOnOrHasEnded}
-use Rattle.block_core.proofs.sound.Few.{no_counter_is_full}
+use Rattle.block_core.proofs.sound.LargestCounts.{no_counter_is_full}
 use Rattle.block_core.proofs.sound.Wholes.{run_free_by, run_goes_by}
 
 pub no_allowed_state_is_stuck : NoAllowedStateIsStuck

@@ -15,7 +15,7 @@ use Rattle.block_core.specs.Scenarios.{IsNaming}
 use Rattle.block_core.proofs.bound.Bounded.{runs_are_bounded}
 use Rattle.block_core.proofs.stuck.RunsEnd.{runs_end_with_their_writes}
 use Rattle.block_core.proofs.stuck.NeverStuck.{each_run_goes_on_or_has_ended}
-use Rattle.block_core.proofs.claim.Runnable.{steps_are_few}
+use Rattle.block_core.proofs.claim.Runnable.{steps_fit_in_24_bits}
 use Rattle.block_core.proofs.unrefused.Unbroken.{no_task_breaks}
 use Rattle.run_merge.specs.Closing.{IsThrough, WasRefused, HasLast, IsClosed, MergeIsEndedRun, ClosedRunsEnd}
 use Rattle.run_merge.specs.Machines.{LeadsObject}
@@ -39,7 +39,7 @@ module _ (s : Scenario) (ledger : ℕ → LedgerId) (good : IsRunnable s) (rescu
   few_entries last shown =
       let run = merged last shown in
       let bounded = runs_are_bounded s ledger run.0 last good.scenario naming run.1 in
-      let few = steps_are_few s good in
+      let few = steps_fit_in_24_bits s good in
       omega (arith, bounded, few, merge_length s ledger (all_of hs) last run)
 
   -- a tally that showed no unfinished write has none later

@@ -15,7 +15,7 @@ use Rattle.task_core.specs.Plains.{stage_of}
 use Rattle.task_steps.specs.Routed.{routing_setup}
 use Rattle.block_core.specs.Runnable.{IsRunnable}
 use Rattle.block_core.proofs.bound.Bounded.{runs_are_bounded}
-use Rattle.block_core.proofs.claim.Runnable.{accepted_texts_are_runnable, steps_are_few}
+use Rattle.block_core.proofs.claim.Runnable.{accepted_texts_are_runnable, steps_fit_in_24_bits}
 use Rattle.object_things.specs.Histories.{Call, drawn_in}
 use Rattle.seat_lock.specs.History.{calls_by}
 use Rattle.shared_objects.specs.Calls.{calls_at, calls_to}
@@ -153,7 +153,7 @@ module _ (closed : Closed) (has : HasClosed closed) where
       let same = ap (λ histories. length (all_of histories)) (histories_are (names_in closed) (history_in closed) closes.1) in
       let long = merge_length (shared_scenario closed) (shared_ledger closed) (all_of (histories_in closed)) (state_in closed) merged.run in
       let bounded = runs_are_bounded (shared_scenario closed) (shared_ledger closed) merged.run.0 (state_in closed) runnable.scenario has.opened.one.holds.numbered merged.run.1 in
-      let few = steps_are_few (shared_scenario closed) runnable in
+      let few = steps_fit_in_24_bits (shared_scenario closed) runnable in
       let sums = sums_stop (λ (task : ClosedTask). task.events) (λ (task : Returned). length (events_in task.log)) (2 ^ 64 - 1) closed.tasks.items has.returned
       (abreast_weaker (IsReturned now) (λ (task : ClosedTask) (returned : Returned). task.events ≡ min (length (events_in returned.log)) (2 ^ 64 - 1)) closed.tasks.items has.returned
       (λ task returned is. is.events) has.tasks) (omega (arith, all, same, long, bounded, few)) in

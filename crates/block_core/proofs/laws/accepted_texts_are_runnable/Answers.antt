@@ -1,4 +1,4 @@
-use Rattle.block_core.proofs.claim.Runnable.{accepted_texts_are_runnable, steps_are_few}
+use Rattle.block_core.proofs.claim.Runnable.{accepted_texts_are_runnable, steps_fit_in_24_bits}
 use Rattle.block_core.proofs.laws.accepted_texts_are_runnable.Goals as goal
 
 -- src/laws.rt
@@ -6,4 +6,4 @@ pub returns-clause-runnable : goal.returns-clause-runnable
 returns-clause-runnable c = accepted_texts_are_runnable
 
 pub returns-clause-few : goal.returns-clause-few
-returns-clause-few c = steps_are_few
+returns-clause-few c = steps_fit_in_24_bits

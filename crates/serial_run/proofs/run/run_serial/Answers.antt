@@ -1,7 +1,7 @@
 use Rattle.std.proofs.Common.{◌-◌, ◌<◌, ◌≤◌, ◌+◌, sym, subst, arith}
 use Rattle.task_core.specs.opened.OfOne.{scenario_in}
 use Rattle.block_core.specs.Bounded.{most_steps}
-use Rattle.block_core.proofs.claim.Runnable.{steps_are_few}
+use Rattle.block_core.proofs.claim.Runnable.{steps_fit_in_24_bits}
 use Rattle.serial_run.proofs.UnderWay.{IsUnderWay, runnable, starts, well, free, few, turns, some_task, ends}
 use Rattle.serial_run.proofs.run.run_serial.Goals as goal
 
@@ -31,7 +31,7 @@ overflow_add-steps g c =
     (turns g.V.Events.happens c.args.opened c.requires.opened c.args.schedule.now c.args.events.now c.turns.objects
     c.turns.tasks c.turns.schedule c.turns.events c.turns.steps c.turns.invariant c.turn.new.objects c.turn.new.tasks c.turn.new.schedule c.turn.new.events
     c.turn.ensures.turned c.turn.ensures.one c.turn.ensures.same c.turn.auto.tasks) in
-    omega (arith, bound, steps_are_few (scenario_in c.args.opened) (runnable g.V.Events.happens c.args.opened c.requires.opened c.args.schedule.now c.args.events.now))
+    omega (arith, bound, steps_fit_in_24_bits (scenario_in c.args.opened) (runnable g.V.Events.happens c.args.opened c.requires.opened c.args.schedule.now c.args.events.now))
 
 pub turns-smaller : goal.turns-smaller
 turns-smaller g c =

@@ -1,4 +1,4 @@
--- How few elements are out, and how few ends nodes wait for: no counter of 64 bits is ever full.
+-- How many elements are out at most, and how many ends nodes wait for: no counter of 64 bits is ever full.
 use Rattle.std.specs.Prelude.{◌≡◌, ◌+◌, ◌-◌, ◌^◌, ◌<◌, ◌≤◌, ℕ, List, length, Some}
 use Rattle.elem_ledger.specs.Ledger.{LedgerId}
 use Rattle.layout_model.specs.Bound.{all_elements}
@@ -10,13 +10,13 @@ use Rattle.block_core.specs.Scenarios.{IsScenario, IsNaming}
 use Rattle.block_core.specs.Breaks.{ElementsAreAllowed}
 
 -- no pool of any run has more elements out than all writes need
-abbrev pub OutsAreFew : Type 0
-OutsAreFew = (s : Scenario) (ledger : ℕ → LedgerId) (events : List Event) (state : State) → IsScenario s → IsNaming ledger
+abbrev pub OutsAreWithinWhatWritesNeed : Type 0
+OutsAreWithinWhatWritesNeed = (s : Scenario) (ledger : ℕ → LedgerId) (events : List Event) (state : State) → IsScenario s → IsNaming ledger
     → IsRun (scene s ledger) (start s) events state → (number : ℕ) → (state.objects.pool number).facts.out ≤ all_elements s.stack s.writes
 
 -- no node waits for more ends than its own part's, one for each place of its book, and one for each task
-abbrev pub EndsAreFew : Type 0
-EndsAreFew = (s : Scenario) (ledger : ℕ → LedgerId) (events : List Event) (state : State) → IsScenario s → IsNaming ledger
+abbrev pub EndsAreWithinPlacesAndTasks : Type 0
+EndsAreWithinPlacesAndTasks = (s : Scenario) (ledger : ℕ → LedgerId) (events : List Event) (state : State) → IsScenario s → IsNaming ledger
     → IsRun (scene s ledger) (start s) events state → (writer place : ℕ) (node : Node) → node_at (state.objects.book writer) place ≡ Some node
     → node.count ≤ 1 + places_of s writer + length (tasks s)
 

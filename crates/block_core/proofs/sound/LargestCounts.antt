@@ -14,7 +14,7 @@ use Rattle.run_machine.specs.Runs.{State, IsRun}
 use Rattle.block_core.specs.Weights.{total, count_of}
 use Rattle.block_core.specs.Scenarios.{IsScenario, IsNaming}
 use Rattle.block_core.specs.Breaks.{ElementsAreAllowed}
-use Rattle.block_core.specs.Few.{OutsAreFew, EndsAreFew, CountersAreSmall, NoCounterIsFull}
+use Rattle.block_core.specs.LargestCounts.{OutsAreWithinWhatWritesNeed, EndsAreWithinPlacesAndTasks, CountersAreSmall, NoCounterIsFull}
 use Rattle.block_core.proofs.sound.Facts.{Fair}
 use Rattle.block_core.proofs.sound.Orders.{Ground}
 use Rattle.block_core.proofs.moves.Devices.{ground}
@@ -81,11 +81,11 @@ module _ (s : Scenario) (ledger : ℕ → LedgerId) (good : IsScenario s) (namin
     ends = λ writer place node at. omega (arith, ends writer place node at, small s ledger good allowed naming writer);
   }
 
-pub outs_are_few : OutsAreFew
-outs_are_few s ledger events state good naming run number = outs s ledger good naming events state run number
+pub outs_are_within_what_writes_need : OutsAreWithinWhatWritesNeed
+outs_are_within_what_writes_need s ledger events state good naming run number = outs s ledger good naming events state run number
 
-pub ends_are_few : EndsAreFew
-ends_are_few s ledger events state good naming run writer place node at = ends s ledger good naming events state run writer place node at
+pub ends_are_within_places_and_tasks : EndsAreWithinPlacesAndTasks
+ends_are_within_places_and_tasks s ledger events state good naming run writer place node at = ends s ledger good naming events state run writer place node at
 
 pub no_counter_is_full : NoCounterIsFull
 no_counter_is_full s ledger events state good allowed naming run = counters s ledger good naming events state run allowed
