@@ -1,7 +1,7 @@
 //! Locks and their seats.
 ghost use Rattle.std.specs.Prelude.{◌≡◌, ◌<◌, true, false, [], ◌∷◌, IfOk, IfErr};
 ghost use Rattle.seat_lock.specs.History.{IsLeft, Leads};
-ghost use Rattle.seat_lock.specs.Seats.{Calls, HasJoined, IsOf, IsWhole, first_seat, is_first, new_seat, own, split_more, split_of};
+ghost use Rattle.seat_lock.specs.Seats.{AreOf, Calls, HasJoined, IsOf, IsWhole, first_seat, is_first, new_seat, own, split_more, split_of};
 ghost use Rattle.seat_lock.specs.Turning.{EndsRun, FoundTurn, HasServed, HasThing, IsIdle, WaitsFor, after_call};
 ghost use Rattle.seat_lock.specs.declared.view.Rank.TheVariants.{First};
 
@@ -233,7 +233,7 @@ impl<T: Thing> SeatLock<T> {
     pub fn split(&self, seat: &mut Seat<T>) -> Seat<T>
         requires of { IsOf self.now seat.old }
         requires first { (is_first seat.old.known.rank ≡ true) × (split_of seat.old.known.rank < 65535) }
-        ensures of { IsOf self.now seat.new × IsOf self.now result }
+        ensures of { AreOf self.now seat.new result }
         ensures seats { (seat.new.known ≡ split_more seat.old.known) × (result.known ≡ new_seat seat.old.known) }
         ensures calls { own result.known ≡ [] }
     {
@@ -245,7 +245,7 @@ impl<T: Thing> SeatLock<T> {
 
     /// Joins a seat, which is not the first one, into another. The joined seat shows the calls of both.
     pub fn join(&self, seat: &mut Seat<T>, other: Seat<T>)
-        requires of { IsOf self.now seat.old × IsOf self.now other }
+        requires of { AreOf self.now seat.old other }
         requires other { is_first other.known.rank ≡ false }
         ensures of { IsOf self.now seat.new }
         ensures joined { HasJoined seat.old.known other.known seat.new.known }
