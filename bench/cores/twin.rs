@@ -432,7 +432,7 @@ fn land(devices: &[Device], bio: &mut Bio) {
 }
 
 impl Objects {
-    fn first_waits(&self, dev: u32, line: &Line) -> bool {
+    fn waits_first(&self, dev: u32, line: &Line) -> bool {
         !self.devices[dev as usize].rescuer || line.list0.is_empty() && line.list1.is_empty()
     }
 
@@ -441,7 +441,7 @@ impl Objects {
         match self.devices[part.bio.dev as usize].kind {
             Kind::Disk => Doing::Push(part),
             Kind::Mirror => Doing::Record(part),
-            _ => Doing::Cut(part, Want::Takes(self.first_waits(part.bio.dev, line))),
+            _ => Doing::Cut(part, Want::Takes(self.waits_first(part.bio.dev, line))),
         }
     }
 
@@ -500,7 +500,7 @@ impl Objects {
         if leg as usize == self.devices[bio.dev as usize].members.len() {
             return self.go_on(bio.dev, line);
         }
-        line.doing = Doing::Copies(bio, master, leg, Want::Takes(self.first_waits(bio.dev, line)));
+        line.doing = Doing::Copies(bio, master, leg, Want::Takes(self.waits_first(bio.dev, line)));
     }
 
     /// What an attempt at a bio for a driver leaves it to do.

@@ -52,7 +52,7 @@ fn goes_on(devices: &[Device], dev: u32, line: &mut Line) {
     settle(devices, line);
 }
 
-fn first_waits(devices: &[Device], dev: u32, line: &Line) -> bool {
+fn waits_first(devices: &[Device], dev: u32, line: &Line) -> bool {
     !devices[dev as usize].rescuer || line.list0.is_empty() && line.list1.is_empty()
 }
 
@@ -65,7 +65,7 @@ fn settle(devices: &[Device], line: &mut Line) {
                 Kind::Disk => Doing::Push(bio),
                 Kind::Mirror => Doing::Record(bio),
                 _ => {
-                    let waits = first_waits(devices, bio.dev, line);
+                    let waits = waits_first(devices, bio.dev, line);
                     Doing::Cut(bio, Want::Takes(waits))
                 }
             }
@@ -77,7 +77,7 @@ fn copies(devices: &[Device], bio: Bio, master: u32, leg: u32, line: &mut Line) 
     if leg as usize == devices[bio.dev as usize].members.len() {
         return goes_on(devices, bio.dev, line);
     }
-    let waits = first_waits(devices, bio.dev, line);
+    let waits = waits_first(devices, bio.dev, line);
     line.doing = Doing::Copies(bio, master, leg, Want::Takes(waits));
 }
 

@@ -492,7 +492,7 @@ fn land(devices: &[Device], bio: &mut Bio) {
 }
 
 impl Objects {
-    fn first_waits(&self, dev: u32, line: &Line) -> bool {
+    fn waits_first(&self, dev: u32, line: &Line) -> bool {
         !self.devices[dev as usize].rescuer || line.list0.is_empty() && line.list1.is_empty()
     }
 
@@ -506,7 +506,7 @@ impl Objects {
                     Kind::Disk => Doing::Push(bio),
                     Kind::Mirror => Doing::Record(bio),
                     _ => {
-                        let waits = self.first_waits(bio.dev, line);
+                        let waits = self.waits_first(bio.dev, line);
                         Doing::Cut(bio, Want::Takes(waits))
                     }
                 }
@@ -728,7 +728,7 @@ impl Objects {
             self.goes_on(bio.dev, line);
             return;
         }
-        let waits = self.first_waits(bio.dev, line);
+        let waits = self.waits_first(bio.dev, line);
         line.doing = Doing::Copies(bio, master, leg, Want::Takes(waits));
     }
 

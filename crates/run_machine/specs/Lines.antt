@@ -54,10 +54,6 @@ pub record Line : Type 0 where
 abbrev pub rests : Line
 rests = record { doing = Rests; lists = no_lists }
 
--- whether the first attempt at a bio of a device's set waits
-abbrev pub first_waits : Setup → DevId → TaskLists → Bool
-first_waits setup dev lists = waits_first (setup.rescuer dev.0) lists
-
 -- how long the first piece of a run is
 abbrev pub first_length : Kind → List ℕ → Range → ℕ
 first_length kind sizes range = min (next kind sizes range.start - range.start) range.len
@@ -80,7 +76,7 @@ landed (Split number kind sizes members) bio =
 abbrev pub asks_at : Setup → TaskLists → Item Pad → Tree → Doing
 asks_at setup lists item (Leaf number sectors) = Drives item ToPush
 asks_at setup lists item (Mirrored number sizes members) = Drives item ToRecord
-asks_at setup lists item (Split number kind sizes members) = Drives item (ToCut (Takes (first_waits setup item.bio.dev lists)))
+asks_at setup lists item (Split number kind sizes members) = Drives item (ToCut (Takes (waits_first (setup.rescuer item.bio.dev.0) lists)))
 
 abbrev pub driven : Setup → TaskLists → Item Pad → Doing
 driven setup lists item =
@@ -130,7 +126,7 @@ leg_at bio hand leg node (Split number kind sizes members) = hand
 abbrev pub copies : Setup → TaskLists → Bio → ℕ → ℕ → Line
 copies setup lists bio master leg =
     if leg == legs_of (tree_at setup bio.dev) then goes_on setup bio.dev lists
-    else record { doing = Copies bio master leg (Takes (first_waits setup bio.dev lists)); lists = lists }
+    else record { doing = Copies bio master leg (Takes (waits_first (setup.rescuer bio.dev.0) lists)); lists = lists }
 
 -- whether a bio is of a device's set
 abbrev pub is_of_set : ℕ → SetId → Bool

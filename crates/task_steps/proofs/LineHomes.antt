@@ -26,8 +26,8 @@ use Rattle.bio_books.specs.Links.{Linked, Made, NoRoom, Stray}
 use Rattle.run_machine.specs.Scene.{is_device, has_set, keeps_data, is_mirror}
 use Rattle.run_machine.specs.Requests.{Reply, HadBio, HadSlip, Missed, Did, LinkedTo, Spent}
 use Rattle.run_machine.specs.Kept.{Kept}
-use Rattle.bioset_pools.specs.Sets.{is_empty}
-use Rattle.run_machine.specs.Lines.{Takes, Punts, Links, ToPush, ToCut, ToRecord, ToMaster, Doing, Rests, Drives, Copies, Breaks, first_length, first_waits, mapped, landed, asks_at, driven, settled, goes_on, cut_at, legs_of, leg_at, copies, line_request, after_chain, after_master, after_leg, at_hand, punts_of, spent, line_answered}
+use Rattle.bioset_pools.specs.Sets.{is_empty, waits_first}
+use Rattle.run_machine.specs.Lines.{Takes, Punts, Links, ToPush, ToCut, ToRecord, ToMaster, Doing, Rests, Drives, Copies, Breaks, first_length, mapped, landed, asks_at, driven, settled, goes_on, cut_at, legs_of, leg_at, copies, line_request, after_chain, after_master, after_leg, at_hand, punts_of, spent, line_answered}
 use Rattle.task_steps.specs.Routed.{routing_setup, places_at, sent}
 use Rattle.task_steps.specs.Routed.{copies_bios as copies_shape}
 use Rattle.task_steps.specs.Within.{IsWithinDevice, IsItemWithin, ListsAreWithin, is_cut, DoingFits}
@@ -105,10 +105,10 @@ tries_with_rescuer true idle e = refl
 tries_with_rescuer false idle e = absurd (true≢false e)
 
 first_fits : (stage : Stage) (bio : Bio) (lists : TaskLists) → IsWithinDevice stage.routing.stack bio
-    → WantFits stage bio.dev (Takes (first_waits (routing_setup stage.routing) bio.dev lists))
-first_fits stage bio lists within = by_test (first_waits (routing_setup stage.routing) bio.dev lists) refl
+    → WantFits stage bio.dev (Takes (waits_first ((routing_setup stage.routing).rescuer bio.dev.0) lists))
+first_fits stage bio lists within = by_test (waits_first ((routing_setup stage.routing).rescuer bio.dev.0) lists) refl
   where
-    by_test : (b : Bool) → first_waits (routing_setup stage.routing) bio.dev lists ≡ b → WantFits stage bio.dev (Takes b)
+    by_test : (b : Bool) → waits_first ((routing_setup stage.routing).rescuer bio.dev.0) lists ≡ b → WantFits stage bio.dev (Takes b)
     by_test true e = tt
     by_test false e =
         both_true _ _ (device_is stage bio within)

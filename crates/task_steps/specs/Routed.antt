@@ -25,7 +25,8 @@ use Rattle.task_steps.specs.declared.routes.driver.Manner.{Manner}
 use Rattle.task_steps.specs.declared.routes.driver.Manner.TheVariants as manner
 use Rattle.task_steps.specs.declared.routes.Route.{Route}
 use Rattle.run_machine.specs.Scene.{Setup, setup_of}
-use Rattle.run_machine.specs.Lines.{Doing, Drives, ToPush, ToCut, ToRecord, Takes, first_waits, landed, asks_at, cut_at, leg_at, goes_on}
+use Rattle.bioset_pools.specs.Sets.{waits_first}
+use Rattle.run_machine.specs.Lines.{Doing, Drives, ToPush, ToCut, ToRecord, Takes, landed, asks_at, cut_at, leg_at, goes_on}
 use Rattle.task_steps.specs.Within.{IsWithinDevice, first_cut, is_handed_on}
 
 -- a stack, and how many places the book of each writer has
@@ -186,7 +187,7 @@ manner_of (Mirrored number sizes members) = manner.Copies
 
 abbrev pub asked_by : Manner → Setup → TaskLists → Item Pad → Doing
 asked_by manner.Keeps setup lists item = Drives item ToPush
-asked_by manner.Cuts setup lists item = Drives item (ToCut (Takes (first_waits setup item.bio.dev lists)))
+asked_by manner.Cuts setup lists item = Drives item (ToCut (Takes (waits_first (setup.rescuer item.bio.dev.0) lists)))
 asked_by manner.Copies setup lists item = Drives item ToRecord
 
 pub record IsManner (setup : Setup) (dev : DevId) (t : Tree) (manner : Manner) : Type 0 where

@@ -3,7 +3,8 @@ ghost use Rattle.std.specs.Prelude.{◌≡◌, ◌<◌, true, length, slice_get,
 ghost use Rattle.stack_base.specs.declared.stack.Device.{Device as Devices};
 ghost use Rattle.stack_base.specs.Stack.{IsStack};
 ghost use Rattle.run_machine.specs.Scene.{tree_at};
-ghost use Rattle.run_machine.specs.Lines.{first_waits, legs_of};
+ghost use Rattle.bioset_pools.specs.Sets.{waits_first};
+ghost use Rattle.run_machine.specs.Lines.{legs_of};
 ghost use Rattle.task_steps.specs.Within.{IsWithinDevice, is_cut};
 ghost use Rattle.task_steps.specs.Routed.{routing_setup, IsRoute, IsRouteOf, IsManner, IsFirstCut, HasNoFirst, IsBelow, Stays, IsLanded, IsCutAt, IsLegAt, Routing};
 
@@ -143,9 +144,9 @@ impl Routes {
     }
 
     /// Whether the first attempt at a bio of the device's set waits, where the task has these lists (`bio_alloc_bioset`, `block/bio.c`).
-    pub fn first_waits<L: Waits>(&self, dev: DevId, lists: &L) -> bool
+    pub fn waits_first<L: Waits>(&self, dev: DevId, lists: &L) -> bool
         requires { dev.0 < length self.now.stack.devices.items }
-        ensures { result ≡ first_waits (routing_setup self.now) dev (L.waiting lists.now) }
+        ensures { result ≡ waits_first ((routing_setup self.now).rescuer dev.0) (L.waiting lists.now) }
     {
         waits_first(self.rescuer(dev), lists)
     }

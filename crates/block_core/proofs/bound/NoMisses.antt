@@ -9,7 +9,7 @@ use Rattle.bio_records.specs.declared.bio.Pad.{Pad}
 use Rattle.bio_records.specs.declared.tasks.TaskLists.{TaskLists}
 use Rattle.bio_records.specs.Items.{Item}
 use Rattle.bio_lists.specs.Submission.{order, submitted}
-use Rattle.bioset_pools.specs.Sets.{bios_of}
+use Rattle.bioset_pools.specs.Sets.{bios_of, waits_first}
 use Rattle.stack_base.specs.PoolId.{pool_number}
 use Rattle.run_machine.specs.declared.event.Event.{Event}
 use Rattle.run_machine.specs.declared.event.Got.{Got}
@@ -21,7 +21,7 @@ use Rattle.run_machine.specs.Objects.{Objects, Serves, Has}
 use Rattle.run_machine.specs.Requests as requests
 use Rattle.run_machine.specs.Requests.{Request, Reply}
 use Rattle.run_machine.specs.Scene.{Setup, Scene, tree_at}
-use Rattle.run_machine.specs.Lines.{Want, Takes, Punts as WantsPunt, Links, ToPush, ToCut, ToRecord, ToMaster, Doing, Rests, Drives, Copies, Breaks, Line, settled, goes_on, copies, asks_at, first_waits, first_length, landed, legs_of, leg_at, line_request}
+use Rattle.run_machine.specs.Lines.{Want, Takes, Punts as WantsPunt, Links, ToPush, ToCut, ToRecord, ToMaster, Doing, Rests, Drives, Copies, Breaks, Line, settled, goes_on, copies, asks_at, first_length, landed, legs_of, leg_at, line_request}
 use Rattle.run_machine.specs.Tasks.{TaskState, Writer, Rescuer, Completer, Keeper, request}
 use Rattle.run_machine.specs.Runs.{State, Steps}
 use Rattle.block_core.specs.Exact.{is_miss}
@@ -83,7 +83,7 @@ settled_none setup (item ∷ waiting) =
 copies_none : (setup : Setup) (lists : TaskLists) (bio : Bio) (master leg : ℕ) → NoPunt (copies setup lists bio master leg).doing
 copies_none setup lists bio master leg = by_test (leg == legs_of (tree_at setup bio.dev))
   where
-    by_test : (v : Bool) → let line : Line = if v then goes_on setup bio.dev lists else record { doing = Copies bio master leg (Takes (first_waits setup bio.dev lists)); lists = lists } in
+    by_test : (v : Bool) → let line : Line = if v then goes_on setup bio.dev lists else record { doing = Copies bio master leg (Takes (waits_first (setup.rescuer bio.dev.0) lists)); lists = lists } in
         NoPunt line.doing
     by_test true = settled_none setup (order bio.dev lists)
     by_test false = tt

@@ -13,7 +13,8 @@ use Rattle.bio_records.specs.Sorting.{is_lower, is_same}
 use Rattle.bio_lists.specs.Submission.{order, submitted}
 use Rattle.bio_split.specs.Split.{split_rest}
 use Rattle.run_machine.specs.Scene.{Setup, tree_at}
-use Rattle.run_machine.specs.Lines.{Takes, Links, ToCut, Drives, Copies, settled, goes_on, copies, first_waits, first_length, landed, legs_of, leg_at}
+use Rattle.bioset_pools.specs.Sets.{waits_first}
+use Rattle.run_machine.specs.Lines.{Takes, Links, ToCut, Drives, Copies, settled, goes_on, copies, first_length, landed, legs_of, leg_at}
 use Rattle.block_core.specs.Weights.{Weight, Lined, line_weight}
 use Rattle.block_core.proofs.moves.Moves.{cut_lists, piece}
 use Rattle.block_core.proofs.moves.Listed.{asks_weight, order_weight}
@@ -58,7 +59,7 @@ module _ (setup : Setup) (w : Weight) (lands : IsLanding setup w) where
   copies_there limit lists bio master leg first second = by_test (leg == legs_of (tree_at setup bio.dev))
     where
       by_test : (b : Bool)
-          → line_weight w limit (if b then goes_on setup bio.dev lists else record { doing = Copies bio master leg (Takes (first_waits setup bio.dev lists)); lists = lists })
+          → line_weight w limit (if b then goes_on setup bio.dev lists else record { doing = Copies bio master leg (Takes (waits_first (setup.rescuer bio.dev.0) lists)); lists = lists })
           ≡ unless b (w.copy bio master leg) + sum_by (w.bio (Lined limit)) lists.list0 + sum_by (w.bio (Lined limit)) lists.list1
       by_test true = omega (arith, goes_there limit bio.dev lists first second)
       by_test false = omega arith

@@ -10,12 +10,12 @@ use Rattle.bio_records.specs.declared.bio.Pad.{Pad}
 use Rattle.bio_records.specs.declared.tasks.TaskLists.{TaskLists}
 use Rattle.bio_records.specs.Items.{Item}
 use Rattle.bio_lists.specs.Submission.{submitted, order}
-use Rattle.bioset_pools.specs.Sets.{bios_of}
+use Rattle.bioset_pools.specs.Sets.{bios_of, waits_first}
 use Rattle.bio_books.specs.Books.{Node, BookState, node_at, with_node, top_node, child_node, master_node, leg_node, keeping, raised, lowered, told}
 use Rattle.bio_books.specs.Links.{IsVacant}
 use Rattle.run_machine.specs.Maps.{upd}
 use Rattle.run_machine.specs.Scene.{Setup, Scene, tree_at}
-use Rattle.run_machine.specs.Lines.{Want, Takes, Punts as WantsPunt, Links, ToPush, ToCut, ToRecord, ToMaster, Doing, Rests, Drives, Copies, Breaks, Line, settled, goes_on, copies, asks_at, first_waits, first_length, landed, legs_of, leg_at, is_of, not_punted}
+use Rattle.run_machine.specs.Lines.{Want, Takes, Punts as WantsPunt, Links, ToPush, ToCut, ToRecord, ToMaster, Doing, Rests, Drives, Copies, Breaks, Line, settled, goes_on, copies, asks_at, first_length, landed, legs_of, leg_at, is_of, not_punted}
 use Rattle.run_machine.specs.Tasks.{TaskState, Writer, Rescuer, Completer, Keeper}
 use Rattle.run_machine.specs.Runs.{State}
 use Rattle.block_core.specs.Weights.{Lined, total, refs, names_node, count_of}
@@ -173,7 +173,7 @@ next_has : (s : State) (setup : Setup) (lists : TaskLists) (bio : Bio) (master l
     → (2 * bio.dev.0 + 1 < pool_number (bios_of bio.set)) → HasLegs s (copies setup lists bio master leg).doing (copies setup lists bio master leg).lists
 next_has s setup lists bio master leg legs up = by_test (leg == legs_of (tree_at setup bio.dev))
   where
-    by_test : (v : Bool) → let line : Line = if v then goes_on setup bio.dev lists else record { doing = Copies bio master leg (Takes (first_waits setup bio.dev lists)); lists = lists } in
+    by_test : (v : Bool) → let line : Line = if v then goes_on setup bio.dev lists else record { doing = Copies bio master leg (Takes (waits_first (setup.rescuer bio.dev.0) lists)); lists = lists } in
         HasLegs s line.doing line.lists
     by_test true = settled_none s setup (order bio.dev lists)
     by_test false = (legs, up)

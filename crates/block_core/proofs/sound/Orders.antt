@@ -14,10 +14,10 @@ use Rattle.bio_records.specs.declared.tasks.TaskLists.{TaskLists}
 use Rattle.bio_records.specs.Items.{Item}
 use Rattle.bio_records.specs.Sorting.{is_lower, is_same}
 use Rattle.bio_split.specs.Split.{split_rest}
-use Rattle.bioset_pools.specs.Sets.{bios_of}
+use Rattle.bioset_pools.specs.Sets.{bios_of, waits_first}
 use Rattle.bio_books.specs.Books.{VectorItem, keeping}
 use Rattle.run_machine.specs.Scene.{Setup, tree_at}
-use Rattle.run_machine.specs.Lines.{Want, Takes, Punts as WantsPunt, Links, Ask, ToPush, ToCut, ToRecord, ToMaster, Doing, Rests, Drives, Copies, Breaks, Line, settled, goes_on, copies, asks_at, first_waits, first_length, landed, legs_of, leg_at, is_of, not_punted}
+use Rattle.run_machine.specs.Lines.{Want, Takes, Punts as WantsPunt, Links, Ask, ToPush, ToCut, ToRecord, ToMaster, Doing, Rests, Drives, Copies, Breaks, Line, settled, goes_on, copies, asks_at, first_length, landed, legs_of, leg_at, is_of, not_punted}
 use Rattle.run_machine.specs.Tasks.{TaskState, Writer, Rescuer, Completer, Keeper, Todo, Gathered, NoBio, HasBio, HasBoth, first_bio}
 use Rattle.run_machine.specs.Runs.{State}
 use Rattle.block_core.proofs.moves.Moves.{Wants, with_want, filled_of, cut_lists, piece}
@@ -160,7 +160,7 @@ module _ (setup : Setup) (g : Ground setup) where
   asks_placed limit it lists (Leaf number sectors) same settles none placed ordered =
       (none, placed, ordered, subst (λ t. AskFits t it.bio.range it.bio.dev.0 ToPush) (sym same) tt)
   asks_placed limit it lists (Split number kind sizes members) same settles none placed ordered =
-      let ask : Ask = ToCut (Takes (first_waits setup it.bio.dev lists)) in
+      let ask : Ask = ToCut (Takes (waits_first (setup.rescuer it.bio.dev.0) lists)) in
       let here : AskFits (Split number kind sizes members) it.bio.range it.bio.dev.0 ask = (settles, tt) in
       (none, placed, ordered, subst (λ t. AskFits t it.bio.range it.bio.dev.0 ask) (sym same) here)
   asks_placed limit it lists (Mirrored number sizes members) same settles none placed ordered =
@@ -234,7 +234,7 @@ module _ (setup : Setup) (g : Ground setup) where
       → Each (IsPlaced setup limit) lists.list1 → Above bio.dev.0 lists.list1 → Ordered lists.list1 → LinePlaced setup limit (copies setup lists bio master leg)
   copies_placed limit lists bio master leg there low legs placed above ordered = by_test (leg == legs_of (tree_at setup bio.dev))
     where
-      by_test : (v : Bool) → LinePlaced setup limit (if v then goes_on setup bio.dev lists else record { doing = Copies bio master leg (Takes (first_waits setup bio.dev lists)); lists = lists })
+      by_test : (v : Bool) → LinePlaced setup limit (if v then goes_on setup bio.dev lists else record { doing = Copies bio master leg (Takes (waits_first (setup.rescuer bio.dev.0) lists)); lists = lists })
       by_test true = copied_placed limit bio.dev lists legs placed above ordered
       by_test false = (there, low, legs, placed, above, ordered, tt)
 

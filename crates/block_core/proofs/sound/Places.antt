@@ -17,7 +17,8 @@ use Rattle.bio_books.specs.declared.node.Role.TheVariants as role
 use Rattle.bio_books.specs.Books.{Node, VectorItem, Holding, node_at, top_node, keeping, told}
 use Rattle.run_machine.specs.Maps.{upd}
 use Rattle.run_machine.specs.Scene.{Setup, Scene, tree_at}
-use Rattle.run_machine.specs.Lines.{Takes, Doing, Copies, rests, settled, goes_on, copies, first_waits, legs_of}
+use Rattle.bioset_pools.specs.Sets.{waits_first}
+use Rattle.run_machine.specs.Lines.{Takes, Doing, Copies, rests, settled, goes_on, copies, legs_of}
 use Rattle.run_machine.specs.Tasks.{TaskState, Writer, Rescuer, Completer, Keeper, Todo, Carried, Empty, Brings, Carries, Fails}
 use Rattle.run_machine.specs.Runs.{State}
 use Rattle.block_core.specs.Weights.{Weight, Lined, total, sum_at, one, doing_weight, task_weight, line_weight, carried_weight, elements_of_pool, holding_elements, names_node}
@@ -97,7 +98,7 @@ pub copies_weight : (w : Weight) → IsBlind w → (limit : ℕ) (setup : Setup)
     ≡ unless (leg == legs_of (tree_at setup bio.dev)) (w.copy bio master leg) + sum_by (w.bio (Lined limit)) lists.list0 + sum_by (w.bio (Lined limit)) lists.list1
 copies_weight w blind limit setup lists bio master leg =
     elim (leg == legs_of (tree_at setup bio.dev))
-    as (λ v. line_weight w limit (if v then goes_on setup bio.dev lists else record { doing = Copies bio master leg (Takes (first_waits setup bio.dev lists)); lists = lists })
+    as (λ v. line_weight w limit (if v then goes_on setup bio.dev lists else record { doing = Copies bio master leg (Takes (waits_first (setup.rescuer bio.dev.0) lists)); lists = lists })
     ≡ unless v (w.copy bio master leg) + sum_by (w.bio (Lined limit)) lists.list0 + sum_by (w.bio (Lined limit)) lists.list1) [
       | true ↦ omega (arith, goes_weight w blind limit setup bio.dev lists)
       | false ↦ omega arith

@@ -10,7 +10,8 @@ use Rattle.bio_lists.specs.Submission.{order, submitted}
 use Rattle.bio_books.specs.Books.{keeping}
 use Rattle.run_machine.specs.Maps.{upd}
 use Rattle.run_machine.specs.Scene.{Setup, Scene, tree_at}
-use Rattle.run_machine.specs.Lines.{Want, Takes, Punts as WantsPunt, Links, ToPush, ToCut, ToRecord, ToMaster, Doing, Rests, Drives, Copies, Breaks, Line, rests, settled, goes_on, copies, asks_at, first_waits, first_length, landed, legs_of, leg_at, not_punted}
+use Rattle.bioset_pools.specs.Sets.{waits_first}
+use Rattle.run_machine.specs.Lines.{Want, Takes, Punts as WantsPunt, Links, ToPush, ToCut, ToRecord, ToMaster, Doing, Rests, Drives, Copies, Breaks, Line, rests, settled, goes_on, copies, asks_at, first_length, landed, legs_of, leg_at, not_punted}
 use Rattle.run_machine.specs.Tasks.{TaskState, Writer, Rescuer, Completer, Keeper, Gathered, NoBio, HasBio, HasBoth}
 use Rattle.run_machine.specs.Objects.{clear_slip}
 use Rattle.run_machine.specs.Runs.{State}
@@ -31,7 +32,7 @@ module _ (setup : Setup) where
   asks_fit : (lists : TaskLists) (item : Item Pad) (t : Tree) → tree_at setup item.bio.dev ≡ t → DoingFits setup (asks_at setup lists item t) lists
   asks_fit lists item (Leaf number sectors) is = subst (λ t. Suits t ToPush) (sym is) tt
   asks_fit lists item (Mirrored number sizes members) is = subst (λ t. Suits t ToRecord) (sym is) tt
-  asks_fit lists item (Split number kind sizes members) is = subst (λ t. Suits t (ToCut (Takes (first_waits setup item.bio.dev lists)))) (sym is) tt
+  asks_fit lists item (Split number kind sizes members) is = subst (λ t. Suits t (ToCut (Takes (waits_first (setup.rescuer item.bio.dev.0) lists)))) (sym is) tt
 
   pub settled_fits : (items : List (Item Pad)) → LineFits setup (settled setup items)
   settled_fits [] = refl
@@ -43,7 +44,7 @@ module _ (setup : Setup) where
   copies_fit lists bio master leg le = by_test (leg == legs_of (tree_at setup bio.dev)) refl
     where
       by_test : (v : Bool) → (leg == legs_of (tree_at setup bio.dev)) ≡ v
-          → LineFits setup (if v then goes_on setup bio.dev lists else record { doing = Copies bio master leg (Takes (first_waits setup bio.dev lists)); lists = lists })
+          → LineFits setup (if v then goes_on setup bio.dev lists else record { doing = Copies bio master leg (Takes (waits_first (setup.rescuer bio.dev.0) lists)); lists = lists })
       by_test true is = settled_fits (order bio.dev lists)
       by_test false is = let ne = eqb-false leg (legs_of (tree_at setup bio.dev)) is in omega (arith, ne, le)
 

@@ -11,11 +11,11 @@ use Rattle.bio_records.specs.declared.bio.Pad.{Pad}
 use Rattle.bio_records.specs.declared.tasks.TaskLists.{TaskLists}
 use Rattle.bio_records.specs.Items.{Item}
 use Rattle.bio_lists.specs.Submission.{order, submitted}
-use Rattle.bioset_pools.specs.Sets.{bios_of}
+use Rattle.bioset_pools.specs.Sets.{bios_of, waits_first}
 use Rattle.bio_books.specs.Books.{keeping}
 use Rattle.run_machine.specs.Maps.{upd}
 use Rattle.run_machine.specs.Scene.{Setup, Scene, tree_at}
-use Rattle.run_machine.specs.Lines.{Want, Takes, Punts as WantsPunt, Links, ToPush, ToCut, ToRecord, ToMaster, Doing, Rests, Drives, Copies, Breaks, Line, settled, goes_on, copies, asks_at, first_waits, first_length, landed, legs_of, leg_at, is_of, punted, not_punted}
+use Rattle.run_machine.specs.Lines.{Want, Takes, Punts as WantsPunt, Links, ToPush, ToCut, ToRecord, ToMaster, Doing, Rests, Drives, Copies, Breaks, Line, settled, goes_on, copies, asks_at, first_length, landed, legs_of, leg_at, is_of, punted, not_punted}
 use Rattle.run_machine.specs.Tasks.{TaskState, Writer, Rescuer, Completer, Keeper}
 use Rattle.run_machine.specs.Objects.{clear_bio}
 use Rattle.run_machine.specs.Runs.{State}
@@ -65,16 +65,16 @@ not_waiting : (rescuer none : Bool) → (not rescuer || none) ≡ false → resc
 not_waiting true none is = refl
 not_waiting false none is = absurd (true≢false is)
 
-waits_or_tries : (setup : Setup) (dev : DevId) (lists : TaskLists) → lists.list0 ≡ [] → WantWaits (setup.rescuer dev.0) (Takes (first_waits setup dev lists)) lists
-waits_or_tries setup dev lists none = by_test (first_waits setup dev lists) refl
+waits_or_tries : (setup : Setup) (dev : DevId) (lists : TaskLists) → lists.list0 ≡ [] → WantWaits (setup.rescuer dev.0) (Takes (waits_first (setup.rescuer dev.0) lists)) lists
+waits_or_tries setup dev lists none = by_test (waits_first (setup.rescuer dev.0) lists) refl
   where
-    by_test : (v : Bool) → first_waits setup dev lists ≡ v → WantWaits (setup.rescuer dev.0) (Takes v) lists
+    by_test : (v : Bool) → waits_first (setup.rescuer dev.0) lists ≡ v → WantWaits (setup.rescuer dev.0) (Takes v) lists
     by_test true is = none
     by_test false is = not_waiting (setup.rescuer dev.0) (is_empty lists.list0 && is_empty lists.list1) is
 
-tries : (setup : Setup) (dev : DevId) (lists : TaskLists) → setup.rescuer dev.0 ≡ true → is_empty lists.list0 ≡ false → WantWaits (setup.rescuer dev.0) (Takes (first_waits setup dev lists)) lists
+tries : (setup : Setup) (dev : DevId) (lists : TaskLists) → setup.rescuer dev.0 ≡ true → is_empty lists.list0 ≡ false → WantWaits (setup.rescuer dev.0) (Takes (waits_first (setup.rescuer dev.0) lists)) lists
 tries setup dev lists rescuer some =
-    let is : first_waits setup dev lists ≡ false = rw (rescuer, some) refl in
+    let is : waits_first (setup.rescuer dev.0) lists ≡ false = rw (rescuer, some) refl in
     subst (λ v. WantWaits (setup.rescuer dev.0) (Takes v) lists) (sym is) rescuer
 
 one_more : (items : List (Item Pad)) (item : Item Pad) → is_empty (items ++ item ∷ []) ≡ false
@@ -94,12 +94,12 @@ module _ (setup : Setup) (r : AreRescued setup) where
       by_tree it lists none (Split number kind sizes members) = waits_or_tries setup it.bio.dev lists none
 
   pub copies_wait : (lists : TaskLists) (bio : Bio) (master leg : ℕ)
-      → ((leg == legs_of (tree_at setup bio.dev)) ≡ false → WantWaits (setup.rescuer bio.dev.0) (Takes (first_waits setup bio.dev lists)) lists)
+      → ((leg == legs_of (tree_at setup bio.dev)) ≡ false → WantWaits (setup.rescuer bio.dev.0) (Takes (waits_first (setup.rescuer bio.dev.0) lists)) lists)
       → DoingWaits setup (copies setup lists bio master leg).doing (copies setup lists bio master leg).lists
   copies_wait lists bio master leg next = by_test (leg == legs_of (tree_at setup bio.dev)) refl
     where
       by_test : (v : Bool) → (leg == legs_of (tree_at setup bio.dev)) ≡ v
-          → let line : Line = (if v then goes_on setup bio.dev lists else record { doing = Copies bio master leg (Takes (first_waits setup bio.dev lists)); lists = lists }) in
+          → let line : Line = (if v then goes_on setup bio.dev lists else record { doing = Copies bio master leg (Takes (waits_first (setup.rescuer bio.dev.0) lists)); lists = lists }) in
           DoingWaits setup line.doing line.lists
       by_test true is = settled_waits (order bio.dev lists)
       by_test false is = next is

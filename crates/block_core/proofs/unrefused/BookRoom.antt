@@ -16,7 +16,8 @@ use Rattle.bio_split.specs.Split.{split_rest}
 use Rattle.bio_books.specs.Books.{Node, BookState, VectorItem, with_node}
 use Rattle.run_machine.specs.Maps.{upd}
 use Rattle.run_machine.specs.Scene.{Setup, Scene, tree_at}
-use Rattle.run_machine.specs.Lines.{Takes, Links, ToPush, ToCut, ToMaster, Doing, Drives, Copies, settled, goes_on, copies, first_waits, first_length, landed, legs_of, leg_at}
+use Rattle.bioset_pools.specs.Sets.{waits_first}
+use Rattle.run_machine.specs.Lines.{Takes, Links, ToPush, ToCut, ToMaster, Doing, Drives, Copies, settled, goes_on, copies, first_length, landed, legs_of, leg_at}
 use Rattle.run_machine.specs.Tasks.{TaskState, Todo, Carried, Empty, Brings, Carries, Fails, first_bio}
 use Rattle.run_machine.specs.Runs.{State}
 use Rattle.block_core.specs.Weights.{total, one, line_weight, carried_weight}
@@ -67,7 +68,7 @@ module _ (setup : Setup) (g : Worth setup) (w : ℕ) where
       ≤ one bio.writer w * unmade_legs_need (tree_at setup bio.dev) bio.range.start bio.range.len leg + sum_by lined lists.list0 + sum_by lined lists.list1
   copies_room limit lists bio master leg there0 there1 = by_test (leg == legs_of (tree_at setup bio.dev))
     where
-      by_test : (v : Bool) → line_weight (places setup w) limit (if v then goes_on setup bio.dev lists else record { doing = Copies bio master leg (Takes (first_waits setup bio.dev lists)); lists = lists })
+      by_test : (v : Bool) → line_weight (places setup w) limit (if v then goes_on setup bio.dev lists else record { doing = Copies bio master leg (Takes (waits_first (setup.rescuer bio.dev.0) lists)); lists = lists })
           ≤ one bio.writer w * unmade_legs_need (tree_at setup bio.dev) bio.range.start bio.range.len leg + sum_by lined lists.list0 + sum_by lined lists.list1
       by_test true = omega (arith, goes_room limit bio.dev lists there0 there1)
       by_test false = omega arith

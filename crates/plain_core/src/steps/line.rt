@@ -43,7 +43,7 @@ fn first_ask(routes: &Routes, dev: DevId, lists: &Lists) -> Ask
 {
     match routes.manner(dev) {
         Manner::Keeps => Ask::ToPush,
-        Manner::Cuts => Ask::ToCut(Want::Takes(routes.first_waits(dev, lists))),
+        Manner::Cuts => Ask::ToCut(Want::Takes(routes.waits_first(dev, lists))),
         Manner::Copies => Ask::ToRecord,
     }
 }

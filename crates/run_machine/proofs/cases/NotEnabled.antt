@@ -22,7 +22,8 @@ use Rattle.run_machine.specs.declared.event.End.TheVariants as left
 use Rattle.run_machine.specs.declared.event.What.TheVariants as what
 use Rattle.run_machine.specs.Maps.{upd}
 use Rattle.run_machine.specs.Scene.{Setup, Scene}
-use Rattle.run_machine.specs.Lines.{Takes, Punts, first_waits, after_miss, rests}
+use Rattle.bioset_pools.specs.Sets.{waits_first}
+use Rattle.run_machine.specs.Lines.{Takes, Punts, after_miss, rests}
 use Rattle.run_machine.specs.Tasks.{Todo, TaskState, Writer, HasBio, Keeper, Keeps, Starts}
 use Rattle.run_machine.specs.Objects.{TallyState}
 use Rattle.run_machine.specs.Opened.{at}
@@ -351,16 +352,16 @@ module _ (item : Item Pad) where
   abbrev dev : DevId
   dev = record { 0 = 0 }
 
-  without_bios : first_waits rescued dev no_lists ≡ true
+  without_bios : waits_first (rescued.rescuer dev.0) no_lists ≡ true
   without_bios = refl
 
-  with_list0 : first_waits rescued dev (record { list0 = item ∷ []; list1 = [] }) ≡ false
+  with_list0 : waits_first (rescued.rescuer dev.0) (record { list0 = item ∷ []; list1 = [] }) ≡ false
   with_list0 = refl
 
-  with_list1 : first_waits rescued dev (record { list0 = []; list1 = item ∷ [] }) ≡ false
+  with_list1 : waits_first (rescued.rescuer dev.0) (record { list0 = []; list1 = item ∷ [] }) ≡ false
   with_list1 = refl
 
-  without_rescuer : first_waits (record rescued { rescuer = λ dev. false }) dev (record { list0 = item ∷ []; list1 = item ∷ [] }) ≡ true
+  without_rescuer : waits_first ((record rescued { rescuer = λ dev. false }).rescuer dev.0) (record { list0 = item ∷ []; list1 = item ∷ [] }) ≡ true
   without_rescuer = refl
 
 -- behind a miss, an attempt that waits is made again, and one that does not is followed by a punt

@@ -33,7 +33,7 @@ fn asked(routes: &Routes, dev: DevId, lists: &TaskLists) -> DriverAsk
     match routes.manner(dev) {
         Manner::Keeps => DriverAsk::ToPush,
         Manner::Cuts => DriverAsk::ToCut(Want::Takes {
-            waits: routes.first_waits(dev, lists),
+            waits: routes.waits_first(dev, lists),
         }),
         Manner::Copies => DriverAsk::ToRecord,
     }

@@ -145,7 +145,7 @@ pub(crate) fn copy_on(
         go_on(routes, at, lists, bio.dev);
         return;
     }
-    let waits = routes.first_waits(bio.dev, lists);
+    let waits = routes.waits_first(bio.dev, lists);
     let want = Want::Takes { waits };
     put(
         at,

@@ -12,8 +12,8 @@ use Rattle.bio_records.specs.Items.{Item}
 use Rattle.bio_records.specs.Sorting.{is_lower, is_same}
 use Rattle.bio_lists.specs.Submission.{submitted, order}
 use Rattle.run_machine.specs.Scene.{Setup, tree_at}
-use Rattle.bioset_pools.specs.Sets.{is_empty}
-use Rattle.run_machine.specs.Lines.{Takes, ToCut, Drives, Copies, first_waits, first_length, mapped, landed, asks_at, driven, settled, goes_on, legs_of, copies, is_of, punted, not_punted}
+use Rattle.bioset_pools.specs.Sets.{is_empty, waits_first}
+use Rattle.run_machine.specs.Lines.{Takes, ToCut, Drives, Copies, first_length, mapped, landed, asks_at, driven, settled, goes_on, legs_of, copies, is_of, punted, not_punted}
 use Rattle.trace_replay.proofs.renaming.Renaming.{Places, share_to, bio_to, item_to, lists_to, doing_to, line_to}
 
 -- a filter that does not see what a map changes
@@ -62,7 +62,7 @@ module _ (to : Places) where
   empty_to [] = refl
   empty_to (item ∷ items) = refl
 
-  pub waits_to : (setup : Setup) (dev : DevId) (lists : TaskLists) → first_waits setup dev (lists_to to lists) ≡ first_waits setup dev lists
+  pub waits_to : (setup : Setup) (dev : DevId) (lists : TaskLists) → waits_first (setup.rescuer dev.0) (lists_to to lists) ≡ waits_first (setup.rescuer dev.0) lists
   waits_to setup dev lists =
       ap (λ e. not (setup.rescuer dev.0) || (e && is_empty (all lists.list1))) (empty_to lists.list0)
       ∙ ap (λ e. not (setup.rescuer dev.0) || (is_empty lists.list0 && e)) (empty_to lists.list1)
@@ -104,8 +104,8 @@ module _ (to : Places) where
 
   copies_by : (setup : Setup) (gone : ℕ) (lists : TaskLists) (bio : Bio) (master leg : ℕ) (test : Bool)
       → (if test then goes_on setup bio.dev (lists_to to lists)
-      else record { doing = Copies (record bio { node = gone }) (to bio.writer master) leg (Takes (first_waits setup bio.dev (lists_to to lists))); lists = lists_to to lists })
-      ≡ line_to to gone (if test then goes_on setup bio.dev lists else record { doing = Copies bio master leg (Takes (first_waits setup bio.dev lists)); lists = lists })
+      else record { doing = Copies (record bio { node = gone }) (to bio.writer master) leg (Takes (waits_first (setup.rescuer bio.dev.0) (lists_to to lists))); lists = lists_to to lists })
+      ≡ line_to to gone (if test then goes_on setup bio.dev lists else record { doing = Copies bio master leg (Takes (waits_first (setup.rescuer bio.dev.0) lists)); lists = lists })
   copies_by setup gone lists bio master leg true = goes_to setup gone bio.dev lists
   copies_by setup gone lists bio master leg false =
       ap (λ waits. record { doing = Copies (record bio { node = gone }) (to bio.writer master) leg (Takes waits); lists = lists_to to lists }) (waits_to setup bio.dev lists)

@@ -49,7 +49,7 @@ fn copy_on(routes: &Routes, copying: &mut Copying, want: &mut Want, lists: &List
     if copying.leg == legs {
         return Next::Returns(dev);
     }
-    *want = Want::Takes(routes.first_waits(dev, lists));
+    *want = Want::Takes(routes.waits_first(dev, lists));
     Next::Stays
 }
 
@@ -104,7 +104,7 @@ pub(crate) fn begin_copy(routes: &Routes, bio: Bio, master: u32, line: &mut Line
     if routes.legs(bio.dev) == 0 {
         return go_on(routes, bio.dev, line);
     }
-    let waits = routes.first_waits(bio.dev, &line.lists);
+    let waits = routes.waits_first(bio.dev, &line.lists);
     let copying = Copying {
         bio,
         master,
