@@ -10,7 +10,7 @@ use Rattle.stack_base.specs.declared.stack.Kind.TheVariants.{Disk, Linear, Strip
 use Rattle.stack_base.specs.declared.stack.Stack.{Stack}
 use Rattle.stack_base.specs.Stack.{IsStack}
 use Rattle.stack_base.specs.Tree.{shape_of, tree}
-use Rattle.layout_model.specs.Shown.{is_disk}
+use Rattle.layout_model.specs.Shown.{keeps_data}
 use Rattle.layout_model.proofs.ByShape.{copies_is, cuts_is}
 use Rattle.model_disks.specs.Disks.{DiskState}
 use Rattle.run_machine.specs.Objects.{Objects}
@@ -28,15 +28,15 @@ is_disk_kind (Mirror records) = false
 
 -- a device that keeps data itself is declared as a disk
 module _ (stack : Stack) (good : IsStack stack) (number : ℕ) (device : Device) (found : slice_get stack.devices.items number ≡ Some device) where
-  by_kind : (kind : Kind) → device.kind ≡ kind → is_disk (tree stack number) ≡ true → is_disk_kind kind ≡ true
+  by_kind : (kind : Kind) → device.kind ≡ kind → keeps_data (tree stack number) ≡ true → is_disk_kind kind ≡ true
   by_kind (Disk sectors bad) is keeps = refl
-  by_kind Linear is keeps = sym (ap is_disk (cuts_is stack good number device found (ap shape_of is))) ∙ keeps
-  by_kind (Stripe chunk) is keeps = sym (ap is_disk (cuts_is stack good number device found (ap shape_of is))) ∙ keeps
-  by_kind (Zoned chunk) is keeps = sym (ap is_disk (cuts_is stack good number device found (ap shape_of is))) ∙ keeps
-  by_kind (Limit longest chunk) is keeps = sym (ap is_disk (cuts_is stack good number device found (ap shape_of is))) ∙ keeps
-  by_kind (Mirror records) is keeps = sym (ap is_disk (copies_is stack good number device found (ap shape_of is))) ∙ keeps
+  by_kind Linear is keeps = sym (ap keeps_data (cuts_is stack good number device found (ap shape_of is))) ∙ keeps
+  by_kind (Stripe chunk) is keeps = sym (ap keeps_data (cuts_is stack good number device found (ap shape_of is))) ∙ keeps
+  by_kind (Zoned chunk) is keeps = sym (ap keeps_data (cuts_is stack good number device found (ap shape_of is))) ∙ keeps
+  by_kind (Limit longest chunk) is keeps = sym (ap keeps_data (cuts_is stack good number device found (ap shape_of is))) ∙ keeps
+  by_kind (Mirror records) is keeps = sym (ap keeps_data (copies_is stack good number device found (ap shape_of is))) ∙ keeps
 
-  pub declared_disk : is_disk (tree stack number) ≡ true → is_disk_kind device.kind ≡ true
+  pub declared_disk : keeps_data (tree stack number) ≡ true → is_disk_kind device.kind ≡ true
   declared_disk keeps = by_kind device.kind refl keeps
 
 module _ (objects : Objects) (named : (number : ℕ) → (objects.disk number).dev ≡ at number) where
@@ -82,7 +82,7 @@ module _ (objects : Objects) (named : (number : ℕ) → (objects.disk number).d
       ∙ found_from (start + 1) others i device found is number (omega (arith, at_place))
 
   pub left_disk : (stack : Stack) → IsStack stack → (number : ℕ) (device : Device) → slice_get stack.devices.items number ≡ Some device
-      → is_disk (tree stack number) ≡ true
+      → keeps_data (tree stack number) ≡ true
       → find (λ (disk : DiskState). disk.dev.0 == number) (map (λ (dev : DevId). objects.disk dev.0) (disks_of stack)) ≡ Some (objects.disk number)
   left_disk stack good number device found keeps =
       found_from 0 stack.devices.items number device found (declared_disk stack good number device found keeps) number (omega arith)

@@ -4,7 +4,7 @@ use Rattle.std.specs.Prelude.{Option, find, IsSomeAnd}
 use Rattle.stack_base.specs.Tree.{size, tree}
 use Rattle.layout_model.proofs.Stacks.{element}
 use Rattle.layout_model.specs.Laid.{IsLaid}
-use Rattle.layout_model.specs.Shown.{is_disk}
+use Rattle.layout_model.specs.Shown.{keeps_data}
 use Rattle.decl_text.specs.declared.accepted.Accepted.{Accepted}
 use Rattle.work_text.specs.declared.Work.{Work}
 use Rattle.model_disks.specs.Disks.{DiskState}
@@ -33,7 +33,7 @@ module _ (text : List ℕ) (accepted : Accepted) (work : Work) (says : TextSays 
   laid_images = (every_run text accepted work says has.ledger events has.state has.naming has.run).0.images has.ends
 
   -- each disk is there
-  disk_is : (disk : ℕ) → disk < length accepted.stack.devices.items → is_disk (tree accepted.stack disk) ≡ true
+  disk_is : (disk : ℕ) → disk < length accepted.stack.devices.items → keeps_data (tree accepted.stack disk) ≡ true
       → find (λ (d : DiskState). d.dev.0 == disk) ended.disks.items ≡ Some (has.state.objects.disk disk)
   disk_is disk known keeps =
       let device = element accepted.stack.devices.items disk known in

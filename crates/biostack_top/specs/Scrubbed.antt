@@ -3,7 +3,7 @@ use Rattle.std.specs.Prelude.{◌≡◌, ◌≢◌, ◌<◌, ℕ, true, List, le
 use Rattle.std.specs.Bool.{Decides}
 use Rattle.stack_base.specs.Tree.{size, tree}
 use Rattle.layout_model.specs.Laid.{IsLaid}
-use Rattle.layout_model.specs.Shown.{is_disk, shown}
+use Rattle.layout_model.specs.Shown.{keeps_data, shown}
 use Rattle.layout_model.specs.Way.{Place}
 use Rattle.model_disks.specs.Runs.{flag}
 use Rattle.run_machine.specs.Opened.{Scenario}
@@ -12,7 +12,7 @@ use Rattle.mirror_scrub.specs.Seen.{Images, mirror_member, legs, unlikes}
 
 -- each sector of each disk holds what is laid out there
 abbrev pub AreLaidImages : Scenario → Images → Type 0
-AreLaidImages s images = (disk at : ℕ) → disk < length s.stack.devices.items → is_disk (tree s.stack disk) ≡ true → at < size (tree s.stack disk)
+AreLaidImages s images = (disk at : ℕ) → disk < length s.stack.devices.items → keeps_data (tree s.stack disk) ≡ true → at < size (tree s.stack disk)
     → IsLaid s.stack s.writes s.rounds disk at (images disk at)
 
 -- what is laid out at a place

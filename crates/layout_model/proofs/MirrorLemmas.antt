@@ -13,7 +13,7 @@ use Rattle.stack_base.specs.Stack.{IsStack}
 use Rattle.stack_base.proofs.Smallest.{smallest_le}
 use Rattle.layout_model.specs.Way.{Fits, place}
 use Rattle.layout_model.specs.Need.{needed, fragments_of}
-use Rattle.layout_model.specs.Shown.{is_disk, shown}
+use Rattle.layout_model.specs.Shown.{keeps_data, shown}
 use Rattle.layout_model.proofs.RangeSums.{sum_next}
 use Rattle.layout_model.proofs.Begun.{needed_disk, needed_legs, fragments_of_disk, fragments_of_legs}
 use Rattle.layout_model.proofs.ByShape.{copies_is, keeps_is, member_is}
@@ -139,8 +139,8 @@ module _ (stack : Stack) (good : IsStack stack) (number : ℕ) (device : Device)
   disk_shown s = ap (λ t. shown t s) (keeps_is stack good number device found sectors keeps)
 
   -- it is a disk
-  pub disk_is : is_disk (tree stack number) ≡ true
-  disk_is = ap is_disk (keeps_is stack good number device found sectors keeps)
+  pub disk_is : keeps_data (tree stack number) ≡ true
+  disk_is = ap keeps_data (keeps_is stack good number device found sectors keeps)
 
   -- its size is its number of sectors
   pub disk_size : size (tree stack number) ≡ sectors

@@ -15,11 +15,11 @@ shown (Leaf number sectors) s = record { disk = number; at = s }
 shown (Split number kind sizes members) s = shown (members (slot kind sizes s).member) (slot kind sizes s).at
 shown (Mirrored number sizes members) s = shown (members 0) s
 
--- whether a device keeps data itself
-abbrev pub is_disk : Tree → Bool
-is_disk (Leaf number sectors) = true
-is_disk (Split number kind sizes members) = false
-is_disk (Mirrored number sizes members) = false
+-- whether a device keeps data itself, as a disk does
+abbrev pub keeps_data : Tree → Bool
+keeps_data (Leaf number sectors) = true
+keeps_data (Split number kind sizes members) = false
+keeps_data (Mirrored number sizes members) = false
 
 -- devices that show their first member, sector by sector
 abbrev pub ShowsFirst : Kind → Type 0
@@ -45,6 +45,6 @@ pub record IsStretch (stack : Stack) (dev start len : ℕ) (to : FirstRun) : Typ
   pub within : to.len ≤ len
   -- they are sectors of a disk
   pub known : to.dev.0 < length stack.devices.items
-  pub disk : is_disk (tree stack to.dev.0) ≡ true
+  pub disk : keeps_data (tree stack to.dev.0) ≡ true
   pub inside : to.at + to.len ≤ size (tree stack to.dev.0)
   pub shows : (i : ℕ) → i < to.len → shown (tree stack dev) (start + i) ≡ record { disk = to.dev.0; at = to.at + i }

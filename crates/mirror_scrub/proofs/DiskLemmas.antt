@@ -11,7 +11,7 @@ use Rattle.stack_base.specs.Stack.{HasShape, IsStack}
 use Rattle.stack_base.specs.Tree.{Shape, Keeps, Cuts, Copies, shape_of, size, tree}
 use Rattle.stack_base.proofs.Inside.{IsInside, kind_inside}
 use Rattle.stack_base.proofs.Unfolded.{size-tree}
-use Rattle.layout_model.specs.Shown.{is_disk, shown}
+use Rattle.layout_model.specs.Shown.{keeps_data, shown}
 use Rattle.layout_model.specs.Way.{Place}
 use Rattle.layout_model.proofs.ByShape.{cuts_is, member_is}
 use Rattle.layout_model.proofs.Chosen.{leg_known}
@@ -22,7 +22,7 @@ use Rattle.layout_model.proofs.Stacks.{element}
 -- a sector of a disk of the stack
 pub record IsOnDisk (stack : Stack) (place : Place) : Type 0 where
   pub known : place.disk < length stack.devices.items
-  pub disk : is_disk (tree stack place.disk) ≡ true
+  pub disk : keeps_data (tree stack place.disk) ≡ true
   pub within : place.at < size (tree stack place.disk)
 
 module _ (stack : Stack) (good : IsStack stack) where

@@ -6,7 +6,7 @@ use Rattle.std.proofs.lemmas.Bool.{cases_eq, cases_lt}
 use Rattle.std.proofs.lemmas.Bool.Decides.{nat_tests}
 use Rattle.std.proofs.lemmas.List.FromFn.{get_or-map-range_with_len, length-map-range_with_len}
 use Rattle.stack_base.specs.declared.ids.Range.{Range}
-use Rattle.model_disks.specs.Runs.{IsApart, IsFirst, flag, runs_from, starts_run}
+use Rattle.model_disks.specs.Runs.{EndsWithin, IsApart, IsFirst, IsNextRun, flag, runs_from, starts_run}
 use Rattle.model_disks.proofs.WrittenLemmas.{no_runs, next_run_is, run_has_sectors, unset_at}
 use Rattle.mirror_scrub.specs.declared.pair.Pair.{Pair}
 use Rattle.mirror_scrub.specs.declared.stretch.Stretch.{Stretch}
@@ -137,7 +137,7 @@ unset_behind flags from apart some set = by_flag (flag flags from) refl where
 -- The first run of flags, from a place that is not inside one.
 module _ (flags : List Bool) (from : ℕ) where
   pub runs_first : (run : Option Range) → from ≤ length flags → IsApart flags from → IsFirstRunOf flags from run
-      → MatchOption run (runs_from flags from ≡ []) (λ run. runs_from flags from ≡ run ∷ runs_from flags (run.start + run.len))
+      → IsNextRun flags from run
   runs_first None within apart first = no_runs flags from within (λ x le lt. first.others x le lt)
   runs_first (Some run) within apart first =
       let stop = run.start + run.len in
@@ -148,7 +148,7 @@ module _ (flags : List Bool) (from : ℕ) where
       ∙ ap (λ n. record { start = run.start; len = n } ∷ runs_from flags stop) len
 
   pub place_first : (run : Option Range) (size : ℕ) → length flags ≡ size → IsFirstRunOf flags from run
-      → MatchOption run (Unit {0}) (λ run. (from < run.start + run.len) × (run.start + run.len ≤ size))
+      → MatchOption run (Unit {0}) (EndsWithin from size)
   place_first None size long first = tt
   place_first (Some run) size long first =
       let some = run_has_sectors flags from run.start (run.start + run.len) first.start first.end first.inside in

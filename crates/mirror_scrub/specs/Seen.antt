@@ -1,5 +1,5 @@
 -- What devices show, and where the members of a mirror show other words than its first member.
-use Rattle.std.specs.Prelude.{◌≡◌, ◌==◌, ◌+◌, ◌-◌, ◌<◌, ◌≤◌, not, true, ℕ, Bool, List, [], ◌∷◌, map, length, find, slice_index_or, IsSomeAnd, MatchOption, Option}
+use Rattle.std.specs.Prelude.{◌≡◌, ◌==◌, ◌-◌, ◌<◌, not, true, ℕ, Bool, List, [], map, length, find, slice_index_or, IsSomeAnd, Option}
 use Rattle.std.specs.List.{range_with_len, count_by}
 use Rattle.std.specs.Option.{option_map_or}
 use Rattle.stack_base.specs.Mapping.{slot}
@@ -8,9 +8,9 @@ use Rattle.stack_base.specs.declared.ids.DevId.{DevId}
 use Rattle.stack_base.specs.declared.ids.Range.{Range}
 use Rattle.stack_base.specs.declared.stack.Stack.{Stack}
 use Rattle.image_lanes.specs.Lanes.{is_same}
-use Rattle.layout_model.specs.Shown.{is_disk}
+use Rattle.layout_model.specs.Shown.{keeps_data}
 use Rattle.model_disks.specs.Disks.{DiskState}
-use Rattle.model_disks.specs.Runs.{runs_from}
+use Rattle.model_disks.specs.Runs.{runs_from, IsNextRun}
 
 -- the words of each sector of disks, by the number of the disk
 abbrev pub Images : Type 0
@@ -68,19 +68,11 @@ unlike_count images mirror k = count_by (λ (unlike : Bool). unlike) (unlikes im
 abbrev pub stretches_from : Images → Tree → ℕ → ℕ → List Range
 stretches_from images mirror k from = runs_from (unlikes images mirror k) from
 
--- the run is the first of them, and the others start behind it
-abbrev pub IsFirstStretch : Images → Tree → ℕ → ℕ → Range → Type 0
-IsFirstStretch images mirror k from run = stretches_from images mirror k from ≡ run ∷ stretches_from images mirror k (run.start + run.len)
-
--- none, where no stretch starts at `from` or behind it, or else the first
+-- none, where no stretch starts at `from` or behind it, or else the first, with the others behind it
 abbrev pub IsNextStretch : Images → Tree → ℕ → ℕ → Option Range → Type 0
-IsNextStretch images mirror k from next = MatchOption next (stretches_from images mirror k from ≡ []) (IsFirstStretch images mirror k from)
-
--- the stretch ends behind `from`, within so many sectors
-abbrev pub EndsIn : ℕ → ℕ → Range → Type 0
-EndsIn from size stretch = (from < stretch.start + stretch.len) × (stretch.start + stretch.len ≤ size)
+IsNextStretch images mirror k from next = IsNextRun (unlikes images mirror k) from next
 
 -- for each disk of a stack there is one of these with its number, as large as it is there
 abbrev pub AreDisksOf : Stack → List DiskState → Type 0
-AreDisksOf stack disks = (number : ℕ) → number < length stack.devices.items → is_disk (tree stack number) ≡ true
+AreDisksOf stack disks = (number : ℕ) → number < length stack.devices.items → keeps_data (tree stack number) ≡ true
     → IsSomeAnd (find (λ (disk : DiskState). disk.dev.0 == number) disks) (λ disk. length disk.image ≡ size (tree stack number))

@@ -1,12 +1,12 @@
 -- Flags of a front, behind which none is set: the runs are those of the front.
-use Rattle.std.proofs.Common.{◌≡◌, ◌+◌, ◌-◌, ◌<◌, ◌≤◌, ◌^◌, ◌++◌, ℕ, zero, suc, Bool, true, false, List, [], ◌∷◌, Option, Some, None, map, filter, length, drop, replicate, refl, sym, ap, subst, ◌∙◌, arith, length-append}
+use Rattle.std.proofs.Common.{◌≡◌, ◌+◌, ◌-◌, ◌<◌, ◌≤◌, ◌++◌, ℕ, zero, suc, Bool, true, false, List, [], ◌∷◌, Option, Some, None, map, filter, length, drop, replicate, refl, sym, ap, subst, ◌∙◌, arith, length-append}
 use Rattle.std.specs.Prelude.{MatchOption}
 use Rattle.std.specs.List.{range_with_len, prefix_len}
 use Rattle.std.proofs.lemmas.List.{get_or_past, append-nil, drop-replicate, length-map}
 use Rattle.std.proofs.lemmas.List.Elements.{filter-append}
 use Rattle.stack_base.specs.declared.ids.Range.{Range}
 use Rattle.stack_base.specs.Words.{is_written}
-use Rattle.model_disks.specs.Runs.{flag, starts_run, run_at, runs_from, IsApart}
+use Rattle.model_disks.specs.Runs.{flag, starts_run, run_at, runs_from, IsApart, IsNextRun, EndsInWord}
 use Rattle.model_disks.proofs.WrittenLemmas.{range_append, filter_none, unset_starts_none}
 
 -- the flags of an image whose front has these
@@ -71,10 +71,7 @@ module _ (image : List (List ℕ)) (flags : List Bool) (more : ℕ) (is : map is
       subst (λ fs. IsApart fs from) (sym is) (λ set. starts_shown flags more from ∙ apart (sym (flag_shown flags more from) ∙ set))
 
   -- the first run of the front is that of the image
-  pub runs_in_image : (from : ℕ) (run : Option Range)
-      → MatchOption run (runs_from flags from ≡ []) (λ r. runs_from flags from ≡ r ∷ runs_from flags (r.start + r.len))
-      → MatchOption run (runs_from (map is_written image) from ≡ [])
-      (λ r. runs_from (map is_written image) from ≡ r ∷ runs_from (map is_written image) (r.start + r.len))
+  pub runs_in_image : (from : ℕ) (run : Option Range) → IsNextRun flags from run → IsNextRun (map is_written image) from run
   runs_in_image from run first =
       let same : runs_from flags ≡ runs_from (map is_written image) =
       λ k x. (sym (ap (λ fs. runs_from fs x) is ∙ runs_shown flags more x)) k in
@@ -82,13 +79,12 @@ module _ (image : List (List ℕ)) (flags : List Bool) (more : ℕ) (is : map is
 
   -- it ends within the image
   pub place_in_image : (from : ℕ) (run : Option Range)
-      → MatchOption run (Unit {0}) (λ r. (from < r.start + r.len) × (r.start + r.len ≤ length flags) × (r.start + r.len < 2 ^ 64))
-      → MatchOption run (Unit {0}) (λ r. (from < r.start + r.len) × (r.start + r.len ≤ length image) × (r.start + r.len < 2 ^ 64))
+      → MatchOption run (Unit {0}) (EndsInWord from (length flags)) → MatchOption run (Unit {0}) (EndsInWord from (length image))
   place_in_image from None place = tt
-  place_in_image from (Some run) (ahead, within, small) =
+  place_in_image from (Some run) ((ahead, within), small) =
       let fits : run.start + run.len ≤ length image =
       omega (arith, within, ap length is, length-append flags (replicate more false), length-map image is_written) in
-      (ahead, fits, small)
+      ((ahead, fits), small)
 
   -- and its end is inside no run
   pub end_in_image : (run : Option Range) → MatchOption run (Unit {0}) (λ r. IsApart flags (r.start + r.len))

@@ -1,5 +1,5 @@
 -- The written runs of an image: sectors that are not all zeros, as many as follow one another.
-use Rattle.std.specs.Prelude.{◌≡◌, ◌+◌, ◌-◌, ◌^◌, ◌&&◌, ◌||◌, ◌<◌, ◌≤◌, ◌==◌, not, Bool, true, false, List, ◌∷◌, map, filter, ℕ, length, drop, slice_index_or, All, Contains}
+use Rattle.std.specs.Prelude.{◌≡◌, ◌+◌, ◌-◌, ◌^◌, ◌&&◌, ◌||◌, ◌<◌, ◌≤◌, ◌==◌, not, Bool, true, false, List, [], ◌∷◌, map, filter, ℕ, length, drop, slice_index_or, All, Contains, MatchOption, Option}
 use Rattle.std.specs.List.{range_with_len, prefix_len, AllPairs}
 use Rattle.stack_base.specs.declared.ids.Range.{Range}
 use Rattle.stack_base.specs.Words.{is_written}
@@ -21,12 +21,20 @@ unfoldable pub runs_from : List Bool → ℕ → List Range
 runs_from flags from = map (run_at flags) (filter (starts_run flags) (range_with_len from (length flags - from)))
 
 -- the run is the first of those that start at `from` or behind it, and those behind its end are the others
-abbrev pub IsNextRun : List Bool → ℕ → Range → Type 0
-IsNextRun flags from run = runs_from flags from ≡ run ∷ runs_from flags (run.start + run.len)
+abbrev pub ComesFirst : List Bool → ℕ → Range → Type 0
+ComesFirst flags from run = runs_from flags from ≡ run ∷ runs_from flags (run.start + run.len)
 
--- the run ends behind `from`, within so many sectors, at a place that a word holds
+-- none, where no run starts at `from` or behind it, or else the first
+abbrev pub IsNextRun : List Bool → ℕ → Option Range → Type 0
+IsNextRun flags from next = MatchOption next (runs_from flags from ≡ []) (ComesFirst flags from)
+
+-- the run ends behind `from`, within so many sectors
 abbrev pub EndsWithin : ℕ → ℕ → Range → Type 0
-EndsWithin from size run = (from < run.start + run.len) × (run.start + run.len ≤ size) × (run.start + run.len < 2 ^ 64)
+EndsWithin from size run = (from < run.start + run.len) × (run.start + run.len ≤ size)
+
+-- and at a place that a word holds
+abbrev pub EndsInWord : ℕ → ℕ → Range → Type 0
+EndsInWord from size run = EndsWithin from size run × (run.start + run.len < 2 ^ 64)
 
 -- the place is not inside a run: if it is written, a run starts there
 abbrev pub IsApart : List Bool → ℕ → Type 0

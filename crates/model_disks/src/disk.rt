@@ -64,7 +64,7 @@ impl Disk {
     ghost use Rattle.bio_records.specs.Items.{item_of, plain_of, IsAlone};
     ghost use Rattle.model_disks.specs.Disks.{IsBadRange, sum_of_words};
     ghost use Rattle.model_disks.specs.Moves.{opened, pushed, Completes};
-    ghost use Rattle.model_disks.specs.Runs.{EndsWithin, IsApart, IsNextRun, runs_from};
+    ghost use Rattle.model_disks.specs.Runs.{EndsInWord, IsApart, IsNextRun};
     ghost use Rattle.model_disks.specs.contracts.disk.Disk.{the_row};
 
     /// A disk of so many sectors, all zeros, in which no bio waits. Each of its bad ranges has a sector, ends within the disk, and is of a
@@ -190,8 +190,8 @@ impl Disk {
     /// what is past the disk are not. From 0 on, and from the end of each run on, the calls list all written runs.
     pub fn next_run(&self, from: u64) -> Option<Range>
         requires apart { IsApart (map is_written self.now.image) from }
-        ensures runs { MatchOption result (runs_from (map is_written self.now.image) from ≡ []) (IsNextRun (map is_written self.now.image) from) }
-        ensures place { MatchOption result (Unit {0}) (EndsWithin from (length self.now.image)) }
+        ensures runs { IsNextRun (map is_written self.now.image) from result }
+        ensures place { MatchOption result (Unit {0}) (EndsInWord from (length self.now.image)) }
         ensures apart { MatchOption result (Unit {0}) (λ run. IsApart (map is_written self.now.image) (run.start + run.len)) }
     {
         self.image.next_run(from)

@@ -1,7 +1,7 @@
 //! Whether each sector of a disk is written, up to the last one that ever was.
-ghost use Rattle.std.specs.Prelude.{◌≡◌, ◌+◌, ◌^◌, ◌<◌, ◌≤◌, [], ◌∷◌, false, length, vec_capacity, MatchOption};
+ghost use Rattle.std.specs.Prelude.{◌≡◌, ◌+◌, ◌≤◌, false, length, vec_capacity, MatchOption};
 ghost use Rattle.model_disks.specs.Kept.{grown, marked};
-ghost use Rattle.model_disks.specs.Runs.{IsApart, IsFirst, runs_from};
+ghost use Rattle.model_disks.specs.Runs.{EndsInWord, IsApart, IsFirst, IsNextRun};
 
 use stack_base::Range;
 
@@ -55,10 +55,8 @@ fn first_place(flags: &[bool], from: usize, written: bool) -> usize
 /// The first run of written sectors that starts at or behind `from`, which is not inside a run.
 pub fn next_run(flags: &[bool], from: u64) -> Option<Range>
     requires { IsApart flags.now from }
-    ensures runs { MatchOption result (runs_from flags.now from ≡ [])
-        (λ run. runs_from flags.now from ≡ run ∷ runs_from flags.now (run.start + run.len)) }
-    ensures place { MatchOption result (Unit {0})
-        (λ run. (from < run.start + run.len) × (run.start + run.len ≤ length flags.now) × (run.start + run.len < 2 ^ 64)) }
+    ensures runs { IsNextRun flags.now from result }
+    ensures place { MatchOption result (Unit {0}) (EndsInWord from (length flags.now)) }
     ensures apart { MatchOption result (Unit {0}) (λ run. IsApart flags.now (run.start + run.len)) }
 {
     if from >= flags.len() as u64 {

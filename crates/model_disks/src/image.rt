@@ -83,7 +83,7 @@ impl Image {
     ghost use Rattle.stack_base.specs.Words.{is_written, zero_sector};
     ghost use Rattle.model_disks.specs.Disks.{sum_of_words};
     ghost use Rattle.model_disks.specs.Moves.{written};
-    ghost use Rattle.model_disks.specs.Runs.{EndsWithin, IsApart, IsNextRun, runs_from};
+    ghost use Rattle.model_disks.specs.Runs.{EndsInWord, IsApart, IsNextRun};
     ghost use Rattle.model_disks.specs.contracts.image.Image.{the_row};
 
     /// An image of so many sectors of zeros. It takes the room for all of them, and touches none of it.
@@ -157,8 +157,8 @@ impl Image {
     /// The first run of written sectors that starts at or behind `from`, which is not inside a run.
     pub fn next_run(&self, from: u64) -> Option<Range>
         requires { IsApart (map is_written self.now) from }
-        ensures runs { MatchOption result (runs_from (map is_written self.now) from ≡ []) (IsNextRun (map is_written self.now) from) }
-        ensures place { MatchOption result (Unit {0}) (EndsWithin from (length self.now)) }
+        ensures runs { IsNextRun (map is_written self.now) from result }
+        ensures place { MatchOption result (Unit {0}) (EndsInWord from (length self.now)) }
         ensures apart { MatchOption result (Unit {0}) (λ run. IsApart (map is_written self.now) (run.start + run.len)) }
     {
         flags::next_run(&self.flags, from)

@@ -5,6 +5,7 @@ use Rattle.stack_base.specs.declared.ids.DevId.{DevId}
 use Rattle.stack_base.specs.declared.stack.Device.{Device}
 use Rattle.stack_base.specs.declared.stack.Stack.{Stack}
 use Rattle.stack_base.specs.Tree.{Tree, Leaf, Split, Mirrored, tree}
+pub use Rattle.layout_model.specs.Shown.{keeps_data}
 
 -- what tasks know: how many devices there are, each of them with all that is below it, whether its set has a rescuer, and how many places
 -- the book of each writer has
@@ -32,12 +33,6 @@ tree_number (Leaf number sectors) = number
 tree_number (Split number kind sizes members) = number
 tree_number (Mirrored number sizes members) = number
 
--- whether a device keeps data itself, as a disk does
-abbrev pub keeps_data : Tree → Bool
-keeps_data (Leaf number sectors) = true
-keeps_data (Split number kind sizes members) = false
-keeps_data (Mirrored number sizes members) = false
-
 abbrev pub is_mirror : Tree → Bool
 is_mirror (Leaf number sectors) = false
 is_mirror (Split number kind sizes members) = false
@@ -46,6 +41,7 @@ is_mirror (Mirrored number sizes members) = true
 abbrev pub is_device : Setup → ℕ → Bool
 is_device setup dev = nat_lt dev setup.count
 
+-- a disk is a device that keeps data itself
 abbrev pub is_disk : Setup → ℕ → Bool
 is_disk setup dev = is_device setup dev && keeps_data (setup.tree dev)
 

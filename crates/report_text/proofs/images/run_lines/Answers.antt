@@ -13,7 +13,7 @@ pub runs-preserved : goal.runs-preserved
 runs-preserved g c =
     let flags = map is_written c.args.disk.now.image in
     let run = c.in-Some.run' in record {
-      within = c.in-Some.ensures.place.1;
+      within = c.in-Some.ensures.place.0.1;
       apart = c.in-Some.ensures.apart;
       so_far = λ end pen said. c.runs.invariant.so_far end pen
           (runs_on c.args.name.now run (runs_from flags c.runs.from) (runs_from flags (run.start + run.len)) c.in-Some.ensures.runs c.run_line.ensures said);
