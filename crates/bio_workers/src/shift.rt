@@ -1,5 +1,5 @@
 //! Workers at their tasks.
-ghost use Rattle.std.specs.Prelude.{◌≡◌, ◌≤◌, ◌<◌, ◌+◌, All, IsPermutation, length, map, take};
+ghost use Rattle.std.specs.Prelude.{◌≡◌, ◌≤◌, ◌<◌, ◌+◌, All, IsPermutation, map};
 ghost use Rattle.bio_workers.specs.Room.{TasksFitInMemory};
 ghost use Rattle.bio_workers.specs.declared.work.Progress.TheVariants.{Over};
 

@@ -1,5 +1,5 @@
 //! Small states: a write of one sector, an event out of turn, and a mirror without a rescuer.
-ghost use Rattle.std.specs.Prelude.{◌≡◌, ◌<◌, length};
+ghost use Rattle.std.specs.Prelude.{◌<◌, length};
 ghost use Rattle.stack_base.specs.Stack.{IsStack};
 
 use crate::mirrors::MIRROR;

@@ -1,5 +1,5 @@
 //! States as a test writes them, as texts, and events as lines.
-ghost use Rattle.std.specs.Prelude.{◌≡◌, ◌+◌, ◌<◌, ◌≤◌, ◌↔◌, ◌^◌, All, IsTrue, length};
+ghost use Rattle.std.specs.Prelude.{◌+◌, ◌<◌, ◌≤◌, ◌↔◌, All, IsTrue};
 ghost use Rattle.fail_script.specs.Script.{Answers};
 ghost use Rattle.stack_base.specs.Stack.{IsStack};
 ghost use Rattle.stack_base.specs.PoolId.{IsOfStack};

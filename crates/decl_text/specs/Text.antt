@@ -1,5 +1,5 @@
 -- The lines of a text, their words, and what a word may be.
-use Rattle.std.specs.Prelude.{◌≡◌, ◌^◌, ◌==◌, ◌&&◌, ◌||◌, if◌then◌else◌, nat_lt, nat_le, not, Bool, true, false, List, [], ◌∷◌, ℕ, filter, length, codes, Option, None, Some}
+use Rattle.std.specs.Prelude.{◌≡◌, ◌==◌, ◌&&◌, ◌||◌, nat_lt, nat_le, not, Bool, true, false, List, [], ◌∷◌, ℕ, filter, length, codes}
 use Rattle.std.specs.List.{slice_split, list_all, list_any, before_first, after_first}
 use Rattle.std.specs.Char.{is_ascii_alphabetic, is_ascii_alphanumeric}
 use Rattle.std.specs.Str.{bytes_eq}

@@ -1,5 +1,5 @@
 //! The declarations of a text.
-ghost use Rattle.std.specs.Prelude.{◌≡◌, ◌+◌, ◌-◌, ◌^◌, ◌<◌, ◌≤◌, ◌++◌, true, IfErr, IfOk, length};
+ghost use Rattle.std.specs.Prelude.{◌≡◌, ◌+◌, ◌-◌, ◌^◌, ◌<◌, ◌≤◌, true, IfErr, IfOk, length};
 ghost use Rattle.decl_text.specs.declared.reason.ReadFault.TheVariants.{Memory};
 ghost use Rattle.decl_text.specs.Steps.{Goes, IsSoFar, passed, read_of};
 ghost use Rattle.decl_text.specs.Read.{AreDeclarations};

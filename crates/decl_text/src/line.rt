@@ -1,9 +1,9 @@
 //! One line of a text: its words, and what it says.
 ghost use Rattle.std.specs.Prelude.{◌≡◌, ◌<◌, ◌∷◌, ◌++◌, [], false, filter, length, position, slice_get, IfOk, MatchOption, Some};
 ghost use Rattle.std.specs.List.{list_all};
-ghost use Rattle.decl_text.specs.Text.{IsCutAtBlank, between_blanks, is_blank, is_some_text, is_text, is_text_byte, words, words as words_in};
-ghost use Rattle.decl_text.specs.Forms.{form, is_malformed, is_misnumbered};
-ghost use Rattle.decl_text.specs.Items.{begins_work, is_comment, is_work, malformed, misnumbered, said};
+ghost use Rattle.decl_text.specs.Text.{IsCutAtBlank, between_blanks, is_blank, is_some_text, is_text, words, words as words_in};
+ghost use Rattle.decl_text.specs.Forms.{is_malformed, is_misnumbered};
+ghost use Rattle.decl_text.specs.Items.{begins_work, is_comment, malformed, misnumbered, said};
 ghost use Rattle.decl_text.specs.Lines.{CommandSays, Says, command_first};
 
 use crate::meaning::meaning;

@@ -1,10 +1,10 @@
 //! What the words of a line say, where their form is right: one function for each kind of line.
-ghost use Rattle.std.specs.Prelude.{◌≡◌, ◌∷◌, ◌++◌, [], false, true, not, filter, IfOk, Some, is_some, map};
+ghost use Rattle.std.specs.Prelude.{◌≡◌, ◌∷◌, ◌++◌, [], false, true, IfOk, Some, is_some};
 ghost use Rattle.std.specs.List.{list_any};
 ghost use Rattle.decl_text.specs.Text.{is_option, number_of};
 ghost use Rattle.decl_text.specs.Words.{has_number};
-ghost use Rattle.decl_text.specs.Forms.{any_number, fails, form, is_malformed, is_misnumbered, number_from, value_of};
-ghost use Rattle.decl_text.specs.Items.{device, kind_of_bad, meaning, members, number, number_or, value_in, yes_or};
+ghost use Rattle.decl_text.specs.Forms.{any_number, fails, form, is_malformed, is_misnumbered, value_of};
+ghost use Rattle.decl_text.specs.Items.{device, kind_of_bad, meaning, members, number_or, value_in, yes_or};
 ghost use Rattle.decl_text.specs.declared.command.Command.TheVariants as command;
 ghost use Rattle.decl_text.specs.declared.form.Key.TheVariants as key;
 

@@ -1,6 +1,5 @@
 //! The lines of a text.
 ghost use Rattle.std.specs.Prelude.{◌≡◌, ◌+◌, ◌<◌, ◌≤◌, ◌∷◌, ◌==◌, ℕ, length, drop, take, MatchOption, position};
-ghost use Rattle.std.specs.List.{position_or_len, slice_split};
 ghost use Rattle.decl_text.specs.Text.{lines};
 ghost use Rattle.decl_text.specs.Places.{IsNextLine, IsNextOfFront, StaysAtEnd};
 

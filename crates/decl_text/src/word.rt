@@ -1,11 +1,10 @@
 //! Words of a line.
-ghost use Rattle.std.specs.Prelude.{◌≡◌, ◌^◌, ◌<◌, ◌≤◌, ◌==◌, ◌++◌, true, false, true, is_some, MatchOption, Some, IfOk, length, codes, map, position, Contains};
-ghost use Rattle.std.specs.List.{list_all, list_any, position_or_len};
+ghost use Rattle.std.specs.Prelude.{◌≡◌, ◌<◌, ◌≤◌, ◌==◌, ◌++◌, true, false, true, is_some, MatchOption, Some, IfOk, length, map, position};
+ghost use Rattle.std.specs.List.{list_all};
 ghost use Rattle.std.specs.Char.{is_ascii_digit};
 ghost use Rattle.std.specs.Str.{bytes_eq};
 ghost use Rattle.std.specs.Str.Parse.{digits_value};
-ghost use Rattle.std.specs.Option.{option_map};
-ghost use Rattle.decl_text.specs.Text.{IsOption, begins_with_letter, is_entry, is_name, is_name_byte, is_number, is_option, is_pattern, number_of};
+ghost use Rattle.decl_text.specs.Text.{IsOption, begins_with_letter, is_entry, is_name, is_name_byte, is_option, is_pattern, number_of};
 ghost use Rattle.decl_text.specs.Forms.{value_of};
 ghost use Rattle.decl_text.specs.Items.{entries, number};
 

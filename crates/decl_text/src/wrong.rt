@@ -1,5 +1,5 @@
 //! Which words of a line are wrong.
-ghost use Rattle.std.specs.Prelude.{◌≡◌, ◌&&◌, ◌||◌, not, length, zip, count_by, is_some, Option};
+ghost use Rattle.std.specs.Prelude.{◌≡◌, ◌&&◌, ◌||◌, not, zip, is_some};
 ghost use Rattle.std.specs.List.{list_any};
 ghost use Rattle.std.specs.Str.{bytes_eq};
 ghost use Rattle.decl_text.specs.Words.{has_number, is_word, key_word};

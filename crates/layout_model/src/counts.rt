@@ -1,5 +1,5 @@
 //! What a write needs, as counts. No memory is taken.
-ghost use Rattle.std.specs.Prelude.{◌≡◌, ℕ, ◌+◌, ◌<◌, ◌≤◌, length, slice_get};
+ghost use Rattle.std.specs.Prelude.{◌≡◌, ◌+◌, ◌<◌, ◌≤◌, length, slice_get};
 ghost use Rattle.stack_base.specs.Stack.{IsStack};
 ghost use Rattle.stack_base.specs.Tree.{Copies, Cuts, shape_of, size, tree};
 ghost use Rattle.layout_model.specs.Need.{fragments_of, needed};

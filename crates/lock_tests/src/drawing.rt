@@ -1,6 +1,5 @@
 //! Two threads that draw tickets from one clock.
-ghost use Rattle.std.specs.Prelude.{◌≡◌, true, false, IfOk};
-ghost use Rattle.tick_clock.specs.Tickets.{first_pass, is_first_pass};
+ghost use Rattle.std.specs.Prelude.{◌≡◌, IfOk};
 ghost use Rattle.lock_tests.specs.Drawing.{PassHasDrawn, Differ};
 
 use std::alloc::{AllocError, Global};

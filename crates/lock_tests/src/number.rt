@@ -1,8 +1,7 @@
 //! A number behind a lock, as an example of a thing with a machine.
 ghost use Rattle.std.specs.Prelude.{◌≡◌, ◌+◌, ◌^◌, ◌%◌, IfOk};
-ghost use Rattle.seat_lock.specs.Seats.{IsOf, first_seat, own};
+ghost use Rattle.seat_lock.specs.Seats.{IsOf, first_seat};
 ghost use Rattle.lock_tests.specs.Adding.{SeatHasAsked};
-ghost use Rattle.seat_lock.specs.declared.view.Rank.TheVariants.{First, Other};
 
 use seat_lock::{Seat, SeatLock, Thing};
 use std::alloc::Global;

@@ -1,5 +1,5 @@
 //! Where the members of mirrors differ from the first.
-ghost use Rattle.std.specs.Prelude.{◌≡◌, ◌==◌, ◌+◌, ◌<◌, ◌≤◌, ◌^◌, [], length, MatchOption};
+ghost use Rattle.std.specs.Prelude.{◌≡◌, ◌==◌, ◌+◌, ◌<◌, ◌≤◌, length, MatchOption};
 ghost use Rattle.stack_base.specs.Stack.{IsStack};
 ghost use Rattle.stack_base.specs.Tree.{size as size_of, tree};
 ghost use Rattle.model_disks.specs.Runs.{EndsWithin, IsApart};

@@ -1,5 +1,5 @@
 //! Two devices of a stack, side by side.
-ghost use Rattle.std.specs.Prelude.{◌≡◌, ◌==◌, ◌+◌, ◌<◌, ◌≤◌, Bool, false, length, find, Some, IsSomeAnd};
+ghost use Rattle.std.specs.Prelude.{◌≡◌, ◌==◌, ◌+◌, ◌<◌, ◌≤◌, Bool, false, find, Some, IsSomeAnd};
 ghost use Rattle.std.specs.List.{count_by};
 ghost use Rattle.model_disks.specs.Disks.{DiskState};
 ghost use Rattle.model_disks.specs.Runs.{IsApart, IsFirst};

@@ -1,6 +1,5 @@
 //! A state of the machine of a run as a running value.
-ghost use Rattle.std.specs.Prelude.{◌≡◌, ◌<◌, map, length, slice_get, MatchBool, MatchOption, IfOk};
-ghost use Rattle.task_steps.specs.Routed.{routing_setup};
+ghost use Rattle.std.specs.Prelude.{◌≡◌, ◌<◌, map, length, MatchBool, MatchOption, IfOk};
 ghost use Rattle.task_steps.specs.Within.{TaskFits};
 ghost use Rattle.task_core.specs.opened.OfOne.{IsOpened, scenario_in};
 ghost use Rattle.plain_core.specs.steps.Views.{task_of_plain};

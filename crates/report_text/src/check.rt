@@ -1,5 +1,5 @@
 //! Writes what a stack is, and what its writes need together.
-ghost use Rattle.std.specs.Prelude.{◌≡◌, ◌+◌, ◌*◌, ◌^◌, ◌<◌};
+ghost use Rattle.std.specs.Prelude.{◌≡◌, ◌^◌, ◌<◌};
 ghost use Rattle.stack_base.specs.Stack.{IsStack};
 ghost use Rattle.outside_io.specs.Saying.{Says, Writes};
 ghost use Rattle.report_text.specs.CheckText.{kind_name, device_line, device_lines, steps_bound, need_line, check_text};

@@ -1,5 +1,5 @@
 -- What is left of objects that were shared, as histories of entries and as a state of runs.
-use Rattle.std.specs.Prelude.{◌≡◌, ◌-◌, ◌≤◌, ℕ, List, All, map, slice_index_or}
+use Rattle.std.specs.Prelude.{◌≡◌, ◌-◌, ◌≤◌, List, All, map, slice_index_or}
 use Rattle.std.specs.Option.{is_some}
 use Rattle.tick_clock.specs.Tickets.{PassState}
 use Rattle.run_machine.specs.Laws.{Object, OfPool, OfRescuer, OfDisk, OfBook, OfTally, OfNone}

@@ -1,5 +1,5 @@
 //! Joins lists by tickets.
-ghost use Rattle.std.specs.Prelude.{◌≡◌, All, IfOk};
+ghost use Rattle.std.specs.Prelude.{All, IfOk};
 ghost use Rattle.std.specs.List.Sorted.{IsNonDecreasingBy};
 ghost use Rattle.run_merge.specs.Joining.{IsJoined, all_in};
 

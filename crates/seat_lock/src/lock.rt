@@ -1,6 +1,6 @@
 //! Locks and their seats.
 ghost use Rattle.std.specs.Prelude.{◌≡◌, ◌<◌, true, false, [], ◌∷◌, IfOk, IfErr};
-ghost use Rattle.seat_lock.specs.History.{IsLeft, Leads};
+ghost use Rattle.seat_lock.specs.History.{IsLeft};
 ghost use Rattle.seat_lock.specs.Seats.{AreOf, Calls, HasJoined, IsOf, IsWhole, first_seat, is_first, new_seat, own, split_more, split_of};
 ghost use Rattle.seat_lock.specs.Turning.{EndsRun, FoundTurn, HasServed, HasThing, IsIdle, WaitsFor, after_call};
 ghost use Rattle.seat_lock.specs.declared.view.Rank.TheVariants.{First};

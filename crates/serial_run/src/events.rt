@@ -1,5 +1,4 @@
 //! What the events of a run are handed to.
-ghost use Rattle.std.specs.Prelude.{◌≡◌};
 ghost use Rattle.run_machine.specs.declared.event.Event.{Event as Told};
 
 use task_core::Event;

@@ -1,6 +1,5 @@
 //! What a run leaves.
 ghost use Rattle.std.specs.Prelude.{◌≡◌, ◌+◌, ◌<◌, ◌≤◌, ◌++◌, [], ◌∷◌, IsTrue, length, vec_capacity};
-ghost use Rattle.stack_base.specs.PoolId.{pool_number};
 ghost use Rattle.task_core.specs.Leaving.{IsReservedForRun, IsLeft};
 ghost use Rattle.task_core.specs.opened.OfOne.{AreOfOne};
 ghost use Rattle.task_core.specs.Plains.{objects_of, stage_of, Holds};

@@ -1,5 +1,5 @@
 //! Runs by workers, made anew ten thousand times: whoever has to wait is woken.
-ghost use Rattle.std.specs.Prelude.{◌≡◌, ◌≤◌, IfOk, None};
+ghost use Rattle.std.specs.Prelude.{◌≤◌, IfOk, None};
 ghost use Rattle.stack_base.specs.Stack.{HasRescuers};
 ghost use Rattle.run_machine.specs.ReadBehind.{IsReadBehind};
 ghost use Rattle.report_text.specs.Views.{IsEndedOfStack};

@@ -1,6 +1,5 @@
 //! The devices of a stack, of those that lines declare.
-ghost use Rattle.std.specs.Prelude.{◌≡◌, ℕ, ◌<◌, ◌≤◌, [], All, IfOk, IsTrue, Some, false, length, map, slice_get};
-ghost use Rattle.stack_base.specs.declared.stack.Device.{Device as Built};
+ghost use Rattle.std.specs.Prelude.{◌≡◌, ◌<◌, ◌≤◌, [], IfOk, IsTrue, false, map};
 ghost use Rattle.decl_text.specs.Text.{is_name};
 ghost use Rattle.decl_text.specs.Known.{declares_disk};
 ghost use Rattle.decl_text.specs.Accepting.{bad_of, shown, what_of};

@@ -1,5 +1,5 @@
 //! The scripts of all pools, by falling number.
-ghost use Rattle.std.specs.Prelude.{◌≡◌, ◌≢◌, ℕ, ◌<◌, ◌≤◌, ◌++◌, All, IfOk, find, length, map, position};
+ghost use Rattle.std.specs.Prelude.{◌≡◌, ◌≢◌, ◌<◌, ◌≤◌, ◌++◌, All, IfOk, find, length, map, position};
 ghost use Rattle.stack_base.specs.PoolId.{pool_number};
 ghost use Rattle.stack_base.specs.declared.ids.PoolId.{PoolId as Pool};
 ghost use Rattle.decl_text.specs.Checks.{is_of_pool};

@@ -1,5 +1,5 @@
 //! What a declared device does: how many members it takes, its reserves and its size.
-ghost use Rattle.std.specs.Prelude.{◌≡◌, ◌<◌, ◌≤◌, ◌^◌, ◌&&◌, nat_le, not, IsTrue, length, sum};
+ghost use Rattle.std.specs.Prelude.{◌≡◌, ◌<◌, ◌^◌, ◌&&◌, nat_le, not, IsTrue, length, sum};
 ghost use Rattle.decl_text.specs.Known.{declares_disk, declares_mirror, sectors_of};
 ghost use Rattle.decl_text.specs.Checks.{has_count};
 ghost use Rattle.stack_check.specs.Rows.{has_zero, is_large};

@@ -6,7 +6,6 @@ use Rattle.stack_base.specs.PoolId.{pool_number}
 use Rattle.stack_base.specs.declared.ids.PoolId.TheVariants.{FsVecs, Records}
 use Rattle.mempool_core.specs.Move.{PoolState, misses, takes_spare, CanMove}
 use Rattle.bioset_pools.specs.Sets.{bios_of}
-use Rattle.bio_books.specs.Drops.{Closed}
 use Rattle.bio_books.specs.Drops as end
 use Rattle.bio_books.specs.Links.{Made, NoRoom, Stray}
 use Rattle.run_machine.specs.declared.event.Got.TheVariants.{Ordinary, Spare}

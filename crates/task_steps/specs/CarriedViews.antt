@@ -1,15 +1,9 @@
 -- What a completer carries, without its boxes.
-use Rattle.std.specs.Prelude.{◌≡◌, ℕ, Bool, true, false, Option, None, Some}
+use Rattle.std.specs.Prelude.{◌≡◌, ℕ, Bool, true, false, Option, Some}
 use Rattle.stack_base.specs.declared.ids.Status.{Status}
-use Rattle.elem_ledger.specs.declared.element.Element.{Element}
-use Rattle.bio_records.specs.declared.bio.Pad.{Pad}
 use Rattle.bio_records.specs.declared.bio.Slip.{Slip}
-use Rattle.bio_records.specs.declared.segment.Vector.{Vector}
-use Rattle.bio_records.specs.declared.body.BioBody.{BioBody}
 use Rattle.bio_records.specs.Items.{item_of, IsAlone}
-use Rattle.bio_books.specs.declared.node.ClosedNode.{ClosedNode}
 use Rattle.bio_books.specs.Books.{Holding, nothing_held}
-use Rattle.bio_books.specs.Drops.{Closed}
 use Rattle.bio_books.specs.Views.{closed_node_of, holding_of, slip_item, IsAlonePart}
 use Rattle.task_steps.specs.declared.completer.Load.{Load}
 use Rattle.task_steps.specs.declared.completer.Load.TheVariants as load

@@ -1,13 +1,11 @@
 //! Calls of the objects that steps of several kinds make.
-ghost use Rattle.std.specs.Prelude.{◌≡◌, MatchResult};
+ghost use Rattle.std.specs.Prelude.{◌≡◌};
 ghost use Rattle.stack_base.specs.declared.ids.SetId.TheVariants.{Of};
 ghost use Rattle.task_steps.specs.declared.step.Step.TheVariants.{Blocked};
 ghost use Rattle.run_machine.specs.Requests.{TakeBio, Punt, Link as LinkOf};
 ghost use Rattle.run_machine.specs.Lines.{punted, after_miss};
 ghost use Rattle.run_machine.specs.Events.{take_of, miss_of};
-ghost use Rattle.task_steps.specs.Stage.{RequestFits, Owes};
 ghost use Rattle.task_steps.specs.Views.{opening_of, IsAskAlone};
-ghost use Rattle.task_steps.specs.Routed.{routing_setup};
 ghost use Rattle.task_steps.specs.Turns.{named_node, step_by, idle_step};
 ghost use Rattle.task_steps.specs.LineViews.{want_of, IsWantAlone, IsAttemptAlone};
 ghost use Rattle.task_steps.specs.Answers.{AttemptDoes, PuntDoes, OpeningDoes, Ready};

@@ -6,10 +6,7 @@ ghost use Rattle.run_machine.specs.declared.event.Breach.TheVariants as Breach';
 ghost use Rattle.task_steps.specs.declared.step.Step.TheVariants as Step';
 ghost use Rattle.run_machine.specs.Kept.{holding_kept};
 ghost use Rattle.run_machine.specs.Tasks.{Brings, Carries, Completer as Completes, Empty, Fails};
-ghost use Rattle.task_steps.specs.Routed.{routing_setup};
-ghost use Rattle.task_steps.specs.Stage.{Owes};
-ghost use Rattle.task_steps.specs.Homes.{IsTaskOf};
-ghost use Rattle.task_steps.specs.Turns.{completes, Chosen, Turns, step_of};
+ghost use Rattle.task_steps.specs.Turns.{completes, Chosen};
 ghost use Rattle.task_steps.specs.CarriedViews.{carried_of, held_of, put_back, is_bringing, is_busy, is_carrying, IsLoadAlone};
 ghost use Rattle.task_steps.specs.TaskSteps.{CompleterDoes, TaskReady};
 

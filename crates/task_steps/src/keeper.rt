@@ -5,12 +5,9 @@ ghost use Rattle.run_machine.specs.declared.event.TaskId.TheVariants as TaskId';
 ghost use Rattle.task_steps.specs.declared.step.Step.TheVariants as Step';
 ghost use Rattle.run_machine.specs.Requests.{Resize};
 ghost use Rattle.run_machine.specs.Tasks.{Duty as DutyState, Keeper as Keeping', Keeps, Resizes, Starts, later_of};
-ghost use Rattle.task_steps.specs.Routed.{routing_setup};
-ghost use Rattle.task_steps.specs.Stage.{RequestFits, Owes};
-ghost use Rattle.task_steps.specs.Homes.{DutyFits, IsTaskOf};
-ghost use Rattle.task_steps.specs.Turns.{Asks, Turns};
+ghost use Rattle.task_steps.specs.Homes.{DutyFits};
 ghost use Rattle.task_steps.specs.KeeperViews.{duty_of, keeping_of, IsDutyAt};
-ghost use Rattle.task_steps.specs.TaskSteps.{KeeperAsks, TaskAsks, TaskDoes, TaskTurns, TaskReady};
+ghost use Rattle.task_steps.specs.TaskSteps.{KeeperAsks, TaskDoes, TaskReady};
 ghost use Rattle.task_steps.specs.Answers.{Ready};
 
 use crate::objects::{Objects, Unmade};

@@ -1,5 +1,5 @@
 //! What a task asks of the objects.
-ghost use Rattle.std.specs.Prelude.{◌≡◌, ◌≤◌, ◌<◌, ℕ, IfErr, Option, Some, None};
+ghost use Rattle.std.specs.Prelude.{◌≡◌, ◌≤◌, ◌<◌, ℕ, IfErr, Option};
 ghost use Rattle.bio_records.specs.Items.{item_of, IsAlone};
 ghost use Rattle.bio_records.specs.Clear.{IsClearBody};
 ghost use Rattle.bio_books.specs.Views.{bio_of, slip_item, IsAlonePart};

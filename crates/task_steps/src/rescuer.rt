@@ -1,11 +1,7 @@
 //! Rescuers: each submits the bios of a device's set that were punted (`bio_alloc_rescue`, `block/bio.c`).
-ghost use Rattle.std.specs.Prelude.{◌≡◌, true};
+ghost use Rattle.std.specs.Prelude.{◌≡◌};
 ghost use Rattle.run_machine.specs.Requests.{Pop};
 ghost use Rattle.run_machine.specs.Lines.{Rests, rests};
-ghost use Rattle.task_steps.specs.Routed.{routing_setup};
-ghost use Rattle.task_steps.specs.Stage.{RequestFits, Owes};
-ghost use Rattle.task_steps.specs.Homes.{IsTaskOf};
-ghost use Rattle.task_steps.specs.Turns.{Turns};
 ghost use Rattle.task_steps.specs.RescuerViews.{rescuer_task};
 ghost use Rattle.task_steps.specs.TaskSteps.{TaskDoes, TaskReady};
 ghost use Rattle.task_steps.specs.Answers.{Ready};

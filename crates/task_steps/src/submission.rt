@@ -4,14 +4,13 @@ ghost use Rattle.bio_records.specs.Items.{item_of, IsAlone};
 ghost use Rattle.run_machine.specs.Lines.{Rests, Drives, Breaks as Breaks', ToCut, settled, rests};
 ghost use Rattle.task_steps.specs.Within.{IsWithinDevice};
 ghost use Rattle.task_steps.specs.Routed.{routing_setup};
-ghost use Rattle.task_steps.specs.Stage.{Owes};
 ghost use Rattle.task_steps.specs.Homes.{IsLineOf};
 ghost use Rattle.task_steps.specs.Turns.{doing_breach};
 ghost use Rattle.task_steps.specs.LineViews.{unmade_kept, kept_of, doing_of, submission_of, IsDoingAlone, is_asking};
 ghost use Rattle.task_steps.specs.declared.submission.Doing.TheVariants as doing';
 ghost use Rattle.run_machine.specs.Kept.{bio_kept};
 ghost use Rattle.bio_books.specs.Views.{bio_of};
-ghost use Rattle.task_steps.specs.Answers.{AnswersSubmission, LineDoes};
+ghost use Rattle.task_steps.specs.Answers.{LineDoes};
 
 pub(crate) mod cut;
 pub(crate) mod dispatch;

@@ -5,10 +5,7 @@ ghost use Rattle.run_machine.specs.Requests.{TakeBio, LookRound};
 ghost use Rattle.run_machine.specs.Lines.{Rests, rests};
 ghost use Rattle.run_machine.specs.Tasks.{Todo as TodoState, NoBio};
 ghost use Rattle.run_machine.specs.Scene.{Setup};
-ghost use Rattle.task_steps.specs.Routed.{routing_setup};
-ghost use Rattle.task_steps.specs.Stage.{Owes};
-ghost use Rattle.task_steps.specs.Turns.{Asks, Turns};
-ghost use Rattle.task_steps.specs.WriterViews.{writer_task, next_of, tried, IsNextAlone, IsAttemptAtBioAlone, is_taken, writer_next};
+ghost use Rattle.task_steps.specs.WriterViews.{writer_task, tried, IsNextAlone, IsAttemptAtBioAlone, is_taken, writer_next};
 ghost use Rattle.task_steps.specs.TaskSteps.{TaskAsks, TaskDoes, TaskReady, TaskTurns};
 ghost use Rattle.task_steps.specs.Answers.{Ready};
 

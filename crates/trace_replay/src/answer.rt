@@ -1,5 +1,5 @@
 //! Writes what a replay came to.
-ghost use Rattle.std.specs.Prelude.{◌≡◌, ◌++◌, All, length, map};
+ghost use Rattle.std.specs.Prelude.{◌≡◌, All, map};
 ghost use Rattle.std.specs.List.{flat_map};
 ghost use Rattle.outside_io.specs.Saying.{Says, Writes};
 ghost use Rattle.report_text.specs.Pools.{HasDeviceOfPool, told_pools};

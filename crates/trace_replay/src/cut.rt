@@ -1,5 +1,5 @@
 //! Where the scenario of a text ends, behind which the lines of events stand.
-ghost use Rattle.std.specs.Prelude.{◌≡◌, ◌^◌, ◌<◌, length};
+ghost use Rattle.std.specs.Prelude.{◌^◌, ◌<◌, length};
 ghost use Rattle.trace_replay.specs.Parts.{AreTextParts, IsFirstEventAt};
 
 use crate::told::is_told;

@@ -1,5 +1,5 @@
 //! Replays a given run.
-ghost use Rattle.std.specs.Prelude.{◌≡◌, ◌+◌, ◌-◌, ◌^◌, ◌<◌, ◌≤◌, [], ◌∷◌, length, map, IfOk};
+ghost use Rattle.std.specs.Prelude.{◌≡◌, ◌+◌, ◌-◌, ◌^◌, ◌<◌, [], ◌∷◌, length, map, IfOk};
 ghost use Rattle.trace_text.specs.Names.{DevicesAreNamed};
 ghost use Rattle.plain_core.specs.Cores.{scene_of_core, state_of_core};
 ghost use Rattle.report_text.specs.Pools.{told_pools};

@@ -1,6 +1,5 @@
 //! Reads events.
-ghost use Rattle.std.specs.Prelude.{◌≡◌, ◌≤◌, ◌==◌, codes, length};
-ghost use Rattle.std.specs.List.{slice_split};
+ghost use Rattle.std.specs.Prelude.{◌≡◌, ◌≤◌, length};
 ghost use Rattle.trace_text.specs.Laws.{IsEventRead};
 ghost use Rattle.trace_text.specs.Names.{DevicesAreNamed};
 ghost use Rattle.trace_text.specs.Reading.{Reads, device_of, disk_of, end_of_word, event_of, field, got_of_word, how_of_word, long_of, fixed_word, pool_of, short_of, status_of_word, task_of_word, verb_of_word, what_of, take_behind, try_behind, give_behind, punt_behind, pop_behind, push_behind, complete_behind, link_behind, drop_behind, done_behind, resize_behind, round_behind};

@@ -5,7 +5,7 @@ use Rattle.std.proofs.lemmas.Bool.{le-leb}
 use Rattle.std.proofs.lemmas.Bool.Decides.{nat_tests}
 use Rattle.std.proofs.Math.Dec.{leb}
 use Rattle.rand_pcg.specs.Lcg.{Lcg}
-use Rattle.work_text.specs.Generated.{Run, behind, behind_all, chunk_in, counts, declarations, generated, generator, limit_words, line_of, longest_in, memory_words, mirror_size, runs, stripe_words, text_of, write_words, writes, writes_from}
+use Rattle.work_text.specs.Generated.{behind, behind_all, chunk_in, counts, declarations, generated, generator, limit_words, line_of, longest_in, memory_words, mirror_size, runs, stripe_words, text_of, write_words, writes, writes_from}
 
 pub one_write : (text now whole : List ℕ) (sectors number start count left : ℕ) (words : Lcg) → start + count ≤ sectors
     → now ≡ text ++ line_of (write_words number (record { start = start; count = count }))

@@ -21,7 +21,7 @@ use Rattle.block_core.specs.Weights.{Weight, Spot, Lined, Rescued, Pending, Brou
 use Rattle.block_core.specs.Charges.{there}
 use Rattle.block_core.specs.Fragments.{todo_fragments, legs_come, leg_fragments}
 use Rattle.block_core.specs.Places.{bio_needs, unmade_legs_need}
-use Rattle.block_core.proofs.moves.Moves.{Move, IsBare, place_of, Can, after, lost, gained, limit_of, with_line, HasLine, Wants, with_want, gathered_of, filled_of, vector_of, cut_lists, Tells, Hands, piece}
+use Rattle.block_core.proofs.moves.Moves.{Move, IsBare, Tells}
 use Rattle.block_core.proofs.moves.Moves as moves
 use Rattle.block_core.proofs.sound.Facts.{own_part, own_of, away}
 use Rattle.block_core.proofs.moves.Listed.{IsBlind}

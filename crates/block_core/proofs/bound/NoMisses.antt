@@ -25,7 +25,7 @@ use Rattle.run_machine.specs.Lines.{Want, Takes, Punts as WantsPunt, Links, ToPu
 use Rattle.run_machine.specs.Tasks.{TaskState, Writer, Rescuer, Completer, Keeper, request}
 use Rattle.run_machine.specs.Runs.{State, Steps}
 use Rattle.block_core.specs.Exact.{is_miss}
-use Rattle.block_core.proofs.moves.Moves.{Move, IsTaking, place_of, Can, after, limit_of, with_line, HasLine, Wants, with_want, filled_of, cut_lists}
+use Rattle.block_core.proofs.moves.Moves.{Move, IsTaking, place_of, Can, after, with_line, HasLine, Wants, with_want, filled_of, cut_lists}
 use Rattle.block_core.proofs.moves.Moves as moves
 use Rattle.block_core.proofs.bound.Dues.{IsHad}
 use Rattle.block_core.proofs.sound.TaskLines.{all-upd, wants_busy}

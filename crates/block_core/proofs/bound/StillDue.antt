@@ -20,7 +20,7 @@ use Rattle.block_core.specs.Weights.{Weight, Lined, total}
 use Rattle.block_core.specs.Charges.{there, task_duties}
 use Rattle.block_core.specs.Fragments.{leg_fragments}
 use Rattle.block_core.specs.Places.{bio_needs, unmade_legs_need}
-use Rattle.block_core.proofs.moves.Moves.{Move, IsBare, place_of, Can, after, lost, gained, limit_of, with_line, HasLine, Wants, with_want, gathered_of, filled_of, vector_of, cut_lists, Tells, Hands, piece}
+use Rattle.block_core.proofs.moves.Moves.{Move, Can, after, limit_of, HasLine, with_want, filled_of, cut_lists}
 use Rattle.block_core.proofs.moves.Moves as moves
 use Rattle.block_core.proofs.moves.Deltas.{delta}
 use Rattle.block_core.proofs.sound.Facts.{TaskFits, Fair, Kept}

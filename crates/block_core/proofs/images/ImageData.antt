@@ -37,7 +37,7 @@ use Rattle.block_core.specs.Fragments.{offset_of, fragment_of, completed_by, com
 use Rattle.block_core.specs.Images.{tag_of, lies_at, put, held_after, ImagesAreOfCompleted}
 use Rattle.block_core.proofs.moves.Sums.{upd-same, upd-other, same_or_not}
 use Rattle.block_core.proofs.sound.Places.{sum_at-ge}
-use Rattle.block_core.proofs.moves.Moves.{Move, Can, after, HasLine, limit_of}
+use Rattle.block_core.proofs.moves.Moves.{Move, Can, after, limit_of}
 use Rattle.block_core.proofs.moves.Moves as moves
 use Rattle.block_core.proofs.moves.Geometry.{IsThere}
 use Rattle.block_core.proofs.sound.Orders.{DoingPlaced, TaskPlaced, Placed, Ground}

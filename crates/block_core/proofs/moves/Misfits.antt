@@ -16,7 +16,7 @@ use Rattle.run_machine.specs.Lines.{Links, ToCut, Drives, Copies, first_length, 
 use Rattle.run_machine.specs.Tasks.{TaskState, Todo, first_bio}
 use Rattle.run_machine.specs.Runs.{State}
 use Rattle.block_core.specs.Weights.{Weight, total, no_weight}
-use Rattle.block_core.proofs.moves.Moves.{Move, Can, after, lost, gained, limit_of, with_line, HasLine, Wants, with_want, gathered_of, filled_of, vector_of, cut_lists, Tells, Hands, piece}
+use Rattle.block_core.proofs.moves.Moves.{Move, Can, after, limit_of, HasLine, filled_of, cut_lists, piece}
 use Rattle.block_core.proofs.moves.Moves as moves
 use Rattle.block_core.proofs.moves.Listed.{landed_same, IsBlind, first_weight, goes_weight}
 use Rattle.block_core.proofs.sound.Places.{cut_weight, copies_weight, line_part, unless_less}

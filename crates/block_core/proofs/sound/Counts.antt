@@ -16,7 +16,7 @@ use Rattle.run_machine.specs.Lines.{Want, Links, Copies, rests, settled, first_l
 use Rattle.run_machine.specs.Tasks.{TaskState, Writer, Rescuer, Completer, Keeper, Todo, Carried, Empty, Brings, Carries, Fails}
 use Rattle.run_machine.specs.Runs.{State}
 use Rattle.block_core.specs.Weights.{total, one, task_weight, line_weight, carried_weight, refs, names_node, under, count_of}
-use Rattle.block_core.proofs.moves.Moves.{Move, IsTaking, place_of, Can, after, lost, gained, limit_of, with_line, HasLine, Wants, with_want, gathered_of, filled_of, vector_of, cut_lists, IsTake, Tells, Hands, piece, with_pool, with_book}
+use Rattle.block_core.proofs.moves.Moves.{Move, Can, after, lost, gained, limit_of, HasLine, gathered_of, filled_of, vector_of, cut_lists, Tells}
 use Rattle.block_core.proofs.moves.Moves as moves
 use Rattle.block_core.proofs.moves.Listed.{IsBlind, goes_weight, first_weight, landed_same}
 use Rattle.block_core.proofs.moves.Deltas.{delta}

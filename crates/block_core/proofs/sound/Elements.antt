@@ -19,7 +19,7 @@ use Rattle.run_machine.specs.Runs.{State}
 use Rattle.block_core.specs.Weights.{Weight, Spot, Lined, Rescued, Pending, total, sum_at, weigh_option, want_weight, doing_weight, line_weight, gathered_weight, carried_weight, task_weight, book_weight, elements_of_pool, holding_elements, one, no_weight}
 use Rattle.block_core.specs.Charges.{there}
 use Rattle.block_core.specs.Rooms.{to_open, todo_need, legs_need}
-use Rattle.block_core.proofs.moves.Moves.{Move, Can, after, lost, gained, limit_of, HasLine, Tells, gathered_of, filled_of, cut_lists, piece}
+use Rattle.block_core.proofs.moves.Moves.{Move, Can, after, lost, gained, limit_of, HasLine, Tells, gathered_of, filled_of, cut_lists}
 use Rattle.block_core.proofs.moves.Moves as moves
 use Rattle.block_core.proofs.sound.Facts.{DoingFits, LineFits, TaskFits, Kept}
 use Rattle.block_core.proofs.moves.Geometry.{IsThere}

@@ -15,7 +15,7 @@ use Rattle.run_machine.specs.Tasks.{Todo, Gathered, NoBio, HasBio, HasBoth, Carr
 use Rattle.run_machine.specs.Objects.{clear_bio, clear_vector}
 use Rattle.run_machine.specs.Runs.{State}
 use Rattle.block_core.specs.Weights.{Weight, total, doing_weight, line_weight, carried_weight}
-use Rattle.block_core.proofs.moves.Moves.{Move, IsTaking, place_of, Can, after, lost, gained, limit_of, with_line, HasLine, Wants, with_want, gathered_of, filled_of, vector_of, cut_lists, IsTake, Tells, Hands, piece, with_pool, with_book}
+use Rattle.block_core.proofs.moves.Moves.{Move, Can, after, limit_of, gathered_of, filled_of, cut_lists, Tells}
 use Rattle.block_core.proofs.moves.Moves as moves
 use Rattle.block_core.proofs.moves.Deltas.{delta}
 use Rattle.bio_books.specs.declared.node.Role.TheVariants as role

@@ -20,7 +20,7 @@ use Rattle.run_machine.specs.Tasks.{TaskState, Writer, Rescuer, Completer, Keepe
 use Rattle.run_machine.specs.Runs.{State}
 use Rattle.block_core.specs.Weights.{Lined, total, refs, names_node, count_of}
 use Rattle.block_core.specs.Orders.{IsLegOf}
-use Rattle.block_core.proofs.moves.Moves.{Move, place_of, Can, after, limit_of, with_line, HasLine, Wants, with_want, gathered_of, filled_of, vector_of, cut_lists, Tells, piece}
+use Rattle.block_core.proofs.moves.Moves.{Move, place_of, Can, after, limit_of, with_line, HasLine, Wants, with_want, filled_of, vector_of, cut_lists}
 use Rattle.block_core.proofs.moves.Moves as moves
 use Rattle.block_core.proofs.moves.Sums.{upd-same, upd-other, same_or_not, within_book}
 use Rattle.block_core.proofs.sound.Facts.{TaskFits, Kept}

@@ -18,7 +18,7 @@ use Rattle.run_machine.specs.Runs.{State}
 use Rattle.block_core.specs.Weights.{Weight, total, task_weight, carried_weight, under, no_weight}
 use Rattle.block_core.specs.Touches.{is_master}
 use Rattle.block_core.proofs.status.Marks.{yes, mismatch}
-use Rattle.block_core.proofs.moves.Moves.{Move, Can, after, lost, gained, limit_of, HasLine, gathered_of, filled_of, vector_of, cut_lists, Tells, piece}
+use Rattle.block_core.proofs.moves.Moves.{Move, Can, after, lost, gained, limit_of, filled_of, cut_lists}
 use Rattle.block_core.proofs.moves.Moves as moves
 use Rattle.block_core.proofs.moves.Sums.{upd-same, upd-other}
 use Rattle.block_core.proofs.sound.Facts.{TaskFits, Kept}

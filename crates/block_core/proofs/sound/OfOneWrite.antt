@@ -22,7 +22,7 @@ use Rattle.block_core.specs.Weights.{total, task_weight, carried_weight, under}
 use Rattle.block_core.specs.Weights.{apart}
 use Rattle.block_core.specs.Scenarios.{IsScenario}
 use Rattle.block_core.specs.OfOneWrite.{bio_strays, parent_strays, strays, AreOfOneWrite, AllAreOfOneWrite}
-use Rattle.block_core.proofs.moves.Moves.{Move, Can, after, lost, gained, limit_of, HasLine, gathered_of, filled_of, vector_of, cut_lists, Tells, piece}
+use Rattle.block_core.proofs.moves.Moves.{Move, Can, after, lost, gained, limit_of, HasLine, filled_of, cut_lists, Tells}
 use Rattle.block_core.proofs.moves.Moves as moves
 use Rattle.block_core.proofs.sound.Facts.{TaskFits, Fair, Kept}
 use Rattle.block_core.proofs.sound.TaskLines.{line_fits}

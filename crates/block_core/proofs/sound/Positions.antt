@@ -9,7 +9,7 @@ use Rattle.stack_base.specs.PoolId.{pool_number}
 use Rattle.run_machine.specs.Maps.{upd}
 use Rattle.run_machine.specs.Scene.{Scene}
 use Rattle.run_machine.specs.Runs.{State}
-use Rattle.block_core.proofs.moves.Moves.{Move, Can, after}
+use Rattle.block_core.proofs.moves.Moves.{Move, after}
 use Rattle.block_core.proofs.moves.Moves as moves
 use Rattle.block_core.proofs.sound.TaskLines.{all-upd}
 

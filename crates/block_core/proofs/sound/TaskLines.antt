@@ -15,7 +15,7 @@ use Rattle.run_machine.specs.Lines.{Want, Takes, Punts as WantsPunt, Links, ToPu
 use Rattle.run_machine.specs.Tasks.{TaskState, Writer, Rescuer, Completer, Keeper, Gathered, NoBio, HasBio, HasBoth}
 use Rattle.run_machine.specs.Objects.{clear_slip}
 use Rattle.run_machine.specs.Runs.{State}
-use Rattle.block_core.proofs.moves.Moves.{Move, IsTaking, place_of, Can, after, lost, gained, limit_of, with_line, HasLine, Wants, with_want, gathered_of, filled_of, vector_of, cut_lists, IsTake, Tells, Hands, piece, with_pool, with_book}
+use Rattle.block_core.proofs.moves.Moves.{Move, Can, after, with_line, HasLine, Wants, with_want, filled_of, cut_lists}
 use Rattle.block_core.proofs.moves.Moves as moves
 use Rattle.block_core.proofs.moves.Sums.{upd-same, upd-other, same_or_not}
 use Rattle.block_core.proofs.sound.Facts.{Suits, DoingFits, LineFits, HandFits, TaskFits, Fair, Kept}

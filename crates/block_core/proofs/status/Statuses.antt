@@ -30,7 +30,7 @@ use Rattle.run_machine.specs.Lines.{Doing, Line}
 use Rattle.run_machine.specs.Tasks.{TaskState, Writer, Rescuer, Completer, Keeper, Todo, Empty, Brings, Carries, request, closed_request}
 use Rattle.run_machine.specs.Opened.{Scenario, scene, start, todos, setup as setup_in}
 use Rattle.run_machine.specs.Requests as requests
-use Rattle.run_machine.specs.Requests.{Request, Reply}
+use Rattle.run_machine.specs.Requests.{Reply}
 use Rattle.run_machine.specs.Runs.{State, IsRun, Happens, HasEnded}
 use Rattle.block_core.specs.Weights.{total, one}
 use Rattle.block_core.specs.Rounds.{round_of, is_of_round, tops, tops_left, all_worth, unfinished_of}

@@ -19,7 +19,7 @@ use Rattle.run_machine.specs.Lines.{Want, Takes, Punts as WantsPunt, Links, ToPu
 use Rattle.run_machine.specs.Tasks.{TaskState, Writer, Rescuer, Completer, Keeper}
 use Rattle.run_machine.specs.Objects.{clear_bio}
 use Rattle.run_machine.specs.Runs.{State}
-use Rattle.block_core.proofs.moves.Moves.{Move, IsTaking, place_of, Can, after, lost, gained, limit_of, with_line, HasLine, Wants, with_want, gathered_of, filled_of, vector_of, cut_lists, IsTake, Tells, Hands, piece, with_pool, with_book}
+use Rattle.block_core.proofs.moves.Moves.{Move, Can, after, limit_of, with_line, HasLine, Wants, with_want, filled_of, cut_lists}
 use Rattle.block_core.proofs.moves.Moves as moves
 use Rattle.block_core.proofs.sound.Facts.{TaskFits, Kept}
 use Rattle.block_core.proofs.moves.Geometry.{IsThere}

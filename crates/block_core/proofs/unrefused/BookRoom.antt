@@ -21,7 +21,7 @@ use Rattle.run_machine.specs.Lines.{Takes, Links, ToPush, ToCut, ToMaster, Doing
 use Rattle.run_machine.specs.Tasks.{TaskState, Todo, Carried, Empty, Brings, Carries, Fails, first_bio}
 use Rattle.run_machine.specs.Runs.{State}
 use Rattle.block_core.specs.Weights.{total, one, line_weight, carried_weight}
-use Rattle.block_core.proofs.moves.Moves.{Move, IsTaking, place_of, Can, after, lost, gained, limit_of, with_line, HasLine, Wants, with_want, gathered_of, filled_of, vector_of, cut_lists, IsTake, Tells, Hands, piece, with_pool, with_book}
+use Rattle.block_core.proofs.moves.Moves.{Move, Can, after, limit_of, HasLine, filled_of, cut_lists, Tells, piece}
 use Rattle.block_core.proofs.moves.Moves as moves
 use Rattle.block_core.proofs.moves.Sums.{upd-same, upd-other, same_or_not}
 use Rattle.block_core.proofs.sound.Facts.{TaskFits, Kept}

@@ -18,7 +18,7 @@ use Rattle.run_machine.specs.Runs.{State}
 use Rattle.block_core.specs.Touches.{Touch, Opens, Shuts, Passes}
 use Rattle.block_core.specs.Weights.{Weight, Lined, line_weight, one}
 use Rattle.block_core.specs.Rooms.{need_at, todo_need, legs_need, room, HasRoomInBooks}
-use Rattle.block_core.proofs.moves.Moves.{Move, Can, after, lost, gained, limit_of, HasLine, touch_by, gathered_of, filled_of, cut_lists, piece, with_book}
+use Rattle.block_core.proofs.moves.Moves.{Move, Can, after, lost, gained, limit_of, HasLine, touch_by, gathered_of, filled_of, cut_lists}
 use Rattle.block_core.proofs.moves.Moves as moves
 use Rattle.block_core.proofs.moves.Sums.{upd-same, upd-other, same_or_not}
 use Rattle.block_core.proofs.moves.Listed.{landed_same}

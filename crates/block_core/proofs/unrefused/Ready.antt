@@ -13,7 +13,7 @@ use Rattle.bio_books.specs.declared.node.Role.{Role}
 use Rattle.bio_books.specs.declared.node.Role.TheVariants as role
 use Rattle.bio_books.specs.Books.{Node, BookState, VectorItem, SlipItem, node_at}
 use Rattle.bio_books.specs.Links.{IsVacant, IsFull, Linked, Made, NoRoom, Stray, ChainsAt, MastersAt, LegsAt}
-use Rattle.bio_books.specs.Drops.{Closed, Ended, DropsAt}
+use Rattle.bio_books.specs.Drops.{Ended, DropsAt}
 use Rattle.bio_books.specs.Drops as end
 use Rattle.run_machine.specs.Scene.{Setup, Scene, tree_at}
 use Rattle.run_machine.specs.Lines.{Takes, Punts, Links, ToPush, ToCut, ToRecord, ToMaster, Doing, Rests, Drives, Copies, Breaks, Line, line_request}

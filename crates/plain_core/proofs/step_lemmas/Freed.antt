@@ -18,7 +18,7 @@ use Rattle.bioset_pools.specs.Sets.{bios_of}
 use Rattle.model_disks.specs.Disks.{DiskState}
 use Rattle.model_disks.specs.Moves.{Completes, written}
 use Rattle.bio_books.specs.Books.{BookState, Node, node_at, parent_of, with_node, top_node, child_node, master_node, leg_node, keeping, raised, lowered, told}
-use Rattle.bio_books.specs.Drops.{Drops, DropsAt, DropsNode, closed_of}
+use Rattle.bio_books.specs.Drops.{Drops, DropsAt, closed_of}
 use Rattle.bio_books.specs.Drops as drop
 use Rattle.bio_books.specs.Links.{Linked, Made, NoRoom, Stray, ChainsAt, MastersAt, LegsAt}
 use Rattle.run_machine.specs.declared.event.Got.TheVariants as got

@@ -1,7 +1,7 @@
 //! Nodes as plain data: what each holds, how many ends it waits for, and how it ends.
 ghost use Rattle.std.specs.Prelude.{◌≡◌, ◌^◌, ◌-◌, ◌<◌, None, Some};
 ghost use Rattle.bio_books.specs.Books.{Node as Open, told, raised, keeping, top_node, master_node};
-ghost use Rattle.bio_books.specs.Drops.{Drops, closed_of};
+ghost use Rattle.bio_books.specs.Drops.{closed_of};
 
 use crate::objects::part::{Part, Slip, Vector};
 use bio_books::{Role, closing, kept_with, parent_of};

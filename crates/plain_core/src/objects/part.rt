@@ -1,5 +1,5 @@
 //! Elements without boxes and shares.
-ghost use Rattle.std.specs.Prelude.{◌≡◌, ◌<◌, ◌≤◌};
+ghost use Rattle.std.specs.Prelude.{◌≡◌, ◌<◌};
 ghost use Rattle.bio_records.specs.Segments.{segments_of};
 ghost use Rattle.run_machine.specs.Objects.{clear_bio, clear_vector, clear_slip};
 ghost use Rattle.plain_core.specs.objects.Ledgers.{ledger_of};

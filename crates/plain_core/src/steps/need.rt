@@ -2,7 +2,7 @@
 ghost use Rattle.std.specs.Prelude.{◌≡◌, None, Some};
 ghost use Rattle.run_machine.specs.Lines.{line_request, Rests as AtRest};
 ghost use Rattle.run_machine.specs.Scene.{Setup};
-ghost use Rattle.run_machine.specs.Tasks.{closed_request, request};
+ghost use Rattle.run_machine.specs.Tasks.{closed_request};
 ghost use Rattle.plain_core.specs.steps.Free.{need_of, IsNeedOfDoing, IsNeedOfTask};
 ghost use Rattle.plain_core.specs.objects.Lists.{lists_of};
 ghost use Rattle.plain_core.specs.steps.Submissions.{copies_for, cuts_for, drives_for};

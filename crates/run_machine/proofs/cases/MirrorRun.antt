@@ -14,7 +14,7 @@ use Rattle.decl_text.specs.Items.{meaning}
 use Rattle.decl_text.specs.Known.{pool_of as pool_at}
 use Rattle.decl_text.specs.Refusals.{refusal, first_found}
 use Rattle.layout_model.specs.Need.{needed, begun as begins}
-use Rattle.mempool_core.specs.Move.{opened, takes_spare, misses, gives}
+use Rattle.mempool_core.specs.Move.{takes_spare, misses, gives}
 use Rattle.bio_records.specs.declared.bio.Pad.{Pad}
 use Rattle.bio_records.specs.Items.{Item}
 use Rattle.model_disks.specs.Disks.{DiskState}
@@ -37,7 +37,7 @@ use Rattle.run_machine.specs.Requests.{HadBio, HadSlip, Missed as missed, Linked
 use Rattle.run_machine.specs.Lines.{rests, leg_at}
 use Rattle.run_machine.specs.Tasks.{TaskState, Writer, Rescuer, Completer, NoBio, Empty, filled_short}
 use Rattle.run_machine.specs.Objects.{clear_bio, clear_slip, done_one}
-use Rattle.run_machine.specs.Opened.{at, no_task}
+use Rattle.run_machine.specs.Opened.{no_task}
 use Rattle.run_machine.specs.Opened as texts
 use Rattle.run_machine.specs.Runs.{State, IsRun, HasEnded}
 pub use Rattle.run_machine.proofs.cases.OneMirror.{a, b, m, mirror, setup, write, todo, reserve, scripts, objects, stack, scenario, setup_is, objects_are}

@@ -6,7 +6,7 @@ use Rattle.std.proofs.lemmas.List.Elements.{All-weaker, filter-append}
 use Rattle.std.proofs.lemmas.Option.{IfSome_then, slice_get_cases, slice_get_within, get_or_from_slice_get}
 use Rattle.stack_base.specs.declared.ids.PoolId.TheVariants.{FsBios, FsVecs}
 use Rattle.run_machine.specs.Laws.{Object}
-use Rattle.run_machine.specs.Opened.{Scenario, no_task, scene, setup as setup_in, start}
+use Rattle.run_machine.specs.Opened.{no_task, setup as setup_in}
 use Rattle.run_machine.specs.Opened as opened
 use Rattle.run_machine.specs.Runs.{State}
 use Rattle.run_machine.specs.Scene.{Setup}

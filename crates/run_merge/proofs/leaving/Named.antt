@@ -8,7 +8,7 @@ use Rattle.std.proofs.lemmas.Option.{slice_get_cases}
 use Rattle.stack_base.specs.Stack.{IsStack}
 use Rattle.run_machine.specs.declared.event.Event.{Event}
 use Rattle.run_machine.specs.Named.{IsEventOf}
-use Rattle.run_machine.specs.Opened.{Scenario, scene, start, no_task}
+use Rattle.run_machine.specs.Opened.{scene, start, no_task}
 use Rattle.run_machine.specs.Opened as opened
 use Rattle.run_machine.specs.Runs.{State, Steps, IsRun}
 use Rattle.run_machine.specs.Scene.{Scene}

@@ -1,5 +1,5 @@
 -- Taken one after the other, the first heads of a tournament are its lists joined.
-use Rattle.std.proofs.Common.{◌≡◌, ◌≢◌, ◌⊎◌, ◌+◌, ◌-◌, ◌<◌, ◌≤◌, ◌++◌, ◌==◌, ℕ, zero, suc, Bool, true, false, List, [], ◌∷◌, None, Some, length, map, inl, inr, refl, sym, ◌∙◌, ap, subst, arith, drop, get_or}
+use Rattle.std.proofs.Common.{◌≡◌, ◌⊎◌, ◌+◌, ◌-◌, ◌<◌, ◌≤◌, ◌++◌, ◌==◌, ℕ, zero, suc, Bool, true, false, List, [], ◌∷◌, None, Some, length, map, inl, inr, refl, sym, ◌∙◌, ap, subst, arith, drop, get_or}
 use Rattle.std.specs.Prelude.{All, Contains, IsPermutation}
 use Rattle.std.specs.Global.{Vec}
 use Rattle.std.specs.List.Sorted.{IsNonDecreasingBy}
@@ -10,7 +10,7 @@ use Rattle.std.proofs.lemmas.List.Sorted.{Contains-permutation, IsPermutation-ap
 use Rattle.run_merge.specs.declared.heads.Head.{Head}
 use Rattle.run_merge.specs.Heads.{TakesHead, Stands, winner_of, head_at, node, rest, rows}
 use Rattle.run_merge.specs.Joining.{IsJoined, all_in}
-use Rattle.run_merge.proofs.tournament.Rest.{rest_same, rest_taken}
+use Rattle.run_merge.proofs.tournament.Rest.{rest_taken}
 use Rattle.run_merge.proofs.tournament.Winner.{IsFirst, first_is, nothing_left}
 
 -- from which place on each list is left

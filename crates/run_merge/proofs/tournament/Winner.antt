@@ -1,5 +1,5 @@
 -- The head at the root of a tournament is the first of all that is left.
-use Rattle.std.proofs.Common.{◌≡◌, ◌⊎◌, ◌+◌, ◌*◌, ◌<◌, ◌≤◌, if◌then◌else◌, ℕ, zero, suc, Bool, true, false, List, [], ◌∷◌, Option, None, Some, length, inl, inr, refl, sym, ◌∙◌, ap, subst, arith, get_or}
+use Rattle.std.proofs.Common.{◌≡◌, ◌⊎◌, ◌+◌, ◌*◌, ◌<◌, ◌≤◌, if◌then◌else◌, ℕ, zero, suc, Bool, true, false, List, [], Option, None, Some, length, inl, inr, refl, sym, ◌∙◌, ap, subst, arith, get_or}
 use Rattle.std.specs.Prelude.{Contains, nat_lt, slice_get}
 use Rattle.std.specs.List.Sorted.{IsNonDecreasingBy}
 use Rattle.std.specs.Option.{unwrap_or}
@@ -7,7 +7,7 @@ use Rattle.std.proofs.lemmas.Bool.{ltb-false, ltb-true}
 use Rattle.std.proofs.lemmas.Option.{none-some, slice_get_cases, slice_get-get_or, get_or_from_slice_get}
 use Rattle.run_merge.specs.declared.heads.Head.{Head}
 use Rattle.run_merge.specs.Heads.{Stands, ticketed_head, winner_of, head_at, is_before, no_head, node, rest, smaller, ticket_in, with_ticket}
-use Rattle.run_merge.proofs.tournament.Rest.{IsLeft, left_is, none_left}
+use Rattle.run_merge.proofs.tournament.Rest.{left_is, none_left}
 
 -- no ticket is behind any, and else the smaller one is not behind
 abbrev pub IsBehind : Option ℕ → Option ℕ → Type 0

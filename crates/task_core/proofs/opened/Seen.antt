@@ -1,5 +1,5 @@
 -- Steps over the objects of one thread are events of the machine, or nothing.
-use Rattle.std.proofs.Common.{◌≡◌, ◌⊎◌, ◌<◌, ◌==◌, if◌then◌else◌, ℕ, Bool, true, false, true≢false, List, [], ◌∷◌, Option, None, Some, inl, inr, refl, sym, ap, ◌∙◌, subst, arith}
+use Rattle.std.proofs.Common.{◌≡◌, ◌<◌, ◌==◌, if◌then◌else◌, ℕ, Bool, true, false, true≢false, List, [], ◌∷◌, Option, None, Some, inl, inr, refl, sym, ap, ◌∙◌, subst, arith}
 use Rattle.std.specs.Prelude.{IsTrue, sum}
 use Rattle.elem_ledger.specs.Ledger.{LedgerId}
 use Rattle.fail_script.specs.Script.{only_tail}
@@ -26,7 +26,7 @@ use Rattle.task_core.specs.Plains.{objects_of, stage_of, PlainServes, StaysLast}
 use Rattle.task_core.specs.PlainSteps.{state_of_objects, scene_of_objects, HasRound, IsStill, IsPassedOver, StepsAreEvents}
 use Rattle.task_steps.specs.Routed.{routing_setup}
 use Rattle.task_steps.specs.Stage.{Stage, Owes}
-use Rattle.task_steps.specs.Turns.{silent_step, step_by, step_of, resting_step, breach_of, idle_step, Asks, Turns, Rested, Waited, Asked, Saw}
+use Rattle.task_steps.specs.Turns.{silent_step, step_by, resting_step, breach_of, idle_step, Asks, Turns, Rested, Waited, Asked, Saw}
 use Rattle.run_machine.proofs.Idle.{IsFair, fair_task, task_stays}
 use Rattle.task_core.proofs.Quiet.{quiet, passed}
 use Rattle.task_core.proofs.opened.OwedLedgers.{of_ledgers}

@@ -1,15 +1,11 @@
 //! What a completer does with a node that has closed.
-ghost use Rattle.std.specs.Prelude.{◌≡◌, true, false, None, Some, MatchResult};
+ghost use Rattle.std.specs.Prelude.{◌≡◌, true, None, Some, MatchResult};
 ghost use Rattle.run_machine.specs.declared.event.Breach.TheVariants as Breach';
 ghost use Rattle.run_machine.specs.declared.event.TaskId.TheVariants as TaskId';
 ghost use Rattle.run_machine.specs.declared.event.What.TheVariants as What';
 ghost use Rattle.task_steps.specs.declared.step.Step.TheVariants as Step';
 ghost use Rattle.run_machine.specs.Kept.{holding_kept};
 ghost use Rattle.run_machine.specs.Tasks.{Carries, Completer as Completes, Empty, Fails};
-ghost use Rattle.task_steps.specs.Routed.{routing_setup};
-ghost use Rattle.task_steps.specs.Stage.{Owes};
-ghost use Rattle.task_steps.specs.Homes.{IsTaskOf};
-ghost use Rattle.task_steps.specs.Turns.{completes, Turns};
 ghost use Rattle.task_steps.specs.TaskSteps.{CompleterDoes, TaskReady};
 ghost use Rattle.task_steps.specs.CarriedViews.{given_back, held_of, is_carrying, put_back, IsEmptyNode};
 

@@ -1,21 +1,14 @@
 //! What a completer tells a node: that a part of it has ended (`bio_endio` and `bio_chain_endio`, `block/bio.c`).
 ghost use Rattle.std.specs.Prelude.{◌≡◌, Option, None, Some};
-ghost use Rattle.bio_records.specs.declared.bio.Pad.{Pad as Pad'};
-ghost use Rattle.bio_records.specs.Items.{Item, item_of, IsAlone};
+ghost use Rattle.bio_records.specs.Items.{item_of, IsAlone};
 ghost use Rattle.bio_books.specs.Books.{nothing_held};
 ghost use Rattle.bio_books.specs.Views.{bio_of, ended_of, IsDroppedAlone};
 ghost use Rattle.run_machine.specs.declared.event.Breach.TheVariants as Breach';
 ghost use Rattle.run_machine.specs.declared.event.TaskId.TheVariants as TaskId';
 ghost use Rattle.run_machine.specs.declared.event.What.TheVariants as What';
 ghost use Rattle.task_steps.specs.declared.step.Step.TheVariants as Step';
-ghost use Rattle.run_machine.specs.Scene.{Setup};
 ghost use Rattle.run_machine.specs.Kept.{bio_kept};
-ghost use Rattle.run_machine.specs.Requests.{Drop as DropOf, DroppedTo};
 ghost use Rattle.run_machine.specs.Tasks.{Brings, Completer as Completes, Empty, Fails, after_drop};
-ghost use Rattle.task_steps.specs.Routed.{routing_setup};
-ghost use Rattle.task_steps.specs.Stage.{Owes};
-ghost use Rattle.task_steps.specs.Homes.{IsTaskOf};
-ghost use Rattle.task_steps.specs.Turns.{Turns, step_of};
 ghost use Rattle.task_steps.specs.TaskSteps.{CompleterDoes, TaskReady, TellsDrop};
 ghost use Rattle.task_steps.specs.CarriedViews.{given_back};
 

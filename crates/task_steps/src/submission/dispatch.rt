@@ -1,15 +1,13 @@
 //! Which driver a bio goes to, and which part of a submission its next step is (`__submit_bio_noacct`, `block/blk-core.c`).
 ghost use Rattle.std.specs.Prelude.{◌≡◌, ◌<◌, length, true, None};
-ghost use Rattle.bio_records.specs.declared.bio.Pad.{Pad};
-ghost use Rattle.bio_records.specs.Items.{Item, item_of, IsAlone};
+ghost use Rattle.bio_records.specs.Items.{item_of, IsAlone};
 ghost use Rattle.run_machine.specs.Scene.{tree_at};
-ghost use Rattle.run_machine.specs.Lines.{Rests, Drives, asks_at, goes_on, line_request};
+ghost use Rattle.run_machine.specs.Lines.{Rests, Drives, goes_on};
 ghost use Rattle.task_steps.specs.declared.submission.Doing.TheVariants as doing';
 ghost use Rattle.task_steps.specs.Within.{IsWithinDevice, ListsAreWithin, is_cut, DoingFits, LineFits};
 ghost use Rattle.task_steps.specs.Routed.{routing_setup};
-ghost use Rattle.task_steps.specs.Stage.{RequestFits, Owes};
 ghost use Rattle.task_steps.specs.LineViews.{asking, cutting, copying, attempt_of, ask_of, doing_of, driven_line, submission_of, IsWantAlone, IsAskOfAlone, IsDoingAlone, is_asking};
-ghost use Rattle.task_steps.specs.Answers.{AnswersSubmission, AsksFirst, Does, LineReady};
+ghost use Rattle.task_steps.specs.Answers.{AsksFirst, Does, LineReady};
 
 use crate::objects::Objects;
 use crate::routes::Routes;

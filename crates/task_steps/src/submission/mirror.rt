@@ -2,7 +2,7 @@
 //! (`raid1_write_request`, `drivers/md/raid1.c`).
 ghost use Rattle.std.specs.Prelude.{◌≡◌, ◌<◌, ◌+◌, ◌-◌, true};
 ghost use Rattle.bio_records.specs.Items.{item_of, IsAlone};
-ghost use Rattle.run_machine.specs.Scene.{Setup, tree_at};
+ghost use Rattle.run_machine.specs.Scene.{tree_at};
 ghost use Rattle.run_machine.specs.Requests.{TakeSlip, Punt, Link as LinkOf, Master, Leg};
 ghost use Rattle.run_machine.specs.Lines.{punted, legs_of, leg_at, copies};
 ghost use Rattle.task_steps.specs.declared.submission.Doing.TheVariants as doing';
@@ -10,9 +10,8 @@ ghost use Rattle.task_steps.specs.declared.submission.DriverAsk.TheVariants.{ToR
 ghost use Rattle.task_steps.specs.declared.submission.Want.TheVariants.{Punts, Links};
 ghost use Rattle.task_steps.specs.Within.{IsWithinDevice, ListsAreWithin};
 ghost use Rattle.task_steps.specs.Routed.{routing_setup};
-ghost use Rattle.task_steps.specs.Stage.{RequestFits, Owes};
 ghost use Rattle.task_steps.specs.LineViews.{asking, copying, submission_of, IsDoingAlone};
-ghost use Rattle.task_steps.specs.Answers.{AnswersSubmission, Ready, Does, AlwaysDoes, LineReady};
+ghost use Rattle.task_steps.specs.Answers.{Ready, Does, AlwaysDoes, LineReady};
 
 use crate::calls::{had, missed, open_node, punt_all};
 use crate::objects::{Ask, Objects};

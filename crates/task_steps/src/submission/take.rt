@@ -2,15 +2,13 @@
 ghost use Rattle.std.specs.Prelude.{◌≡◌, ◌≢◌, true, Some, None};
 ghost use Rattle.stack_base.specs.declared.ids.SetId.TheVariants.{Of};
 ghost use Rattle.run_machine.specs.declared.event.Breach.TheVariants as breach;
-ghost use Rattle.run_machine.specs.Scene.{Setup};
 ghost use Rattle.run_machine.specs.Requests.{TakeBio};
 ghost use Rattle.run_machine.specs.Kept.{bio_kept};
 ghost use Rattle.run_machine.specs.Lines.{Breaks as Breaks', at_hand};
 ghost use Rattle.task_steps.specs.declared.objects.Unmade.TheVariants as unmade;
 ghost use Rattle.bio_books.specs.Views.{bio_of};
-ghost use Rattle.task_steps.specs.Stage.{RequestFits, Owes};
 ghost use Rattle.task_steps.specs.LineViews.{want_of, attempt_of, wanting, doing_of, is_asking, IsWantAlone};
-ghost use Rattle.task_steps.specs.Answers.{AnswersSubmission, LineDoes, Ready};
+ghost use Rattle.task_steps.specs.Answers.{LineDoes, Ready};
 ghost use Rattle.task_steps.specs.Routed.{Routing};
 
 use crate::calls::attempt;

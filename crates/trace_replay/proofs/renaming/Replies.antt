@@ -13,7 +13,7 @@ use Rattle.bio_records.specs.Items.{Item}
 use Rattle.bio_lists.specs.Submission.{submitted}
 use Rattle.bio_split.specs.Split.{split_front, split_rest}
 use Rattle.bio_books.specs.Books.{VectorItem, SlipItem}
-use Rattle.bio_books.specs.Drops.{Closed, Ended}
+use Rattle.bio_books.specs.Drops.{Ended}
 use Rattle.bio_books.specs.Drops as end
 use Rattle.bio_books.specs.Links.{Made, NoRoom, Stray}
 use Rattle.run_machine.specs.declared.event.What.{What}

@@ -1,5 +1,5 @@
 -- One digit more is ten times the number so far, and the digit.
-use Rattle.std.proofs.Common.{◌≡◌, ◌+◌, ◌*◌, ◌-◌, sym, ap, ◌∙◌, arith}
+use Rattle.std.proofs.Common.{◌-◌, arith}
 use Rattle.decl_text.proofs.ShortNumbers.{digit_range, front_small, number_more}
 use Rattle.decl_text.proofs.word.short_number.Goals as goal
 

@@ -1,4 +1,4 @@
-use Rattle.std.proofs.Common.{◌≡◌, ◌∙◌, [], drop, ap, false}
+use Rattle.std.proofs.Common.{◌∙◌, drop, ap, false}
 use Rattle.decl_text.specs.Text.{lines}
 use Rattle.decl_text.specs.Reading.{declarations}
 use Rattle.work_text.proofs.Wholes.{rest_decides}

@@ -1,4 +1,4 @@
-use Rattle.std.proofs.Common.{◌≡◌, ◌+◌, ◌<◌, ◌≤◌, ℕ, length}
+use Rattle.std.proofs.Common.{◌≡◌, ◌+◌, ◌<◌, ◌≤◌, ℕ}
 use Rattle.run_merge.specs.Heads.{AreInner, head_at, node, rows}
 use Rattle.run_merge.proofs.heads.open_heads.Given as goal
 

@@ -1,4 +1,4 @@
-use Rattle.std.proofs.Common.{◌≡◌, ◌∙◌, ℕ, arith, length, refl, subst}
+use Rattle.std.proofs.Common.{◌≡◌, arith, length, refl, subst}
 use Rattle.task_core.specs.Leaving.{IsReservedForRun}
 use Rattle.task_core.specs.opened.NewTasks.{reserves_in, tally_in}
 use Rattle.task_core.specs.opened.Openings.{AreOpened}

@@ -1,4 +1,4 @@
-use Rattle.std.proofs.Common.{◌≡◌, ◌<◌, ◌≤◌, ◌^◌, ◌++◌, ◌∙◌, ℕ, List, ap, length, subst, sym}
+use Rattle.std.proofs.Common.{◌<◌, ◌≤◌, ◌^◌, ◌++◌, ◌∙◌, ℕ, List, ap, length, subst, sym}
 use Rattle.std.specs.List.{range_with_len}
 use Rattle.task_core.specs.opened.NewTasks.{left_in, others_in, rounds_in, shown_tasks, with_routing, writers_of}
 use Rattle.task_core.specs.opened.OpenTasks.{AreTasksOf}

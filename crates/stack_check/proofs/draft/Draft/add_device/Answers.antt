@@ -12,7 +12,6 @@ use Rattle.stack_check.proofs.Chains.{device_chain}
 use Rattle.stack_check.proofs.DeviceLemmas.{names_known}
 use Rattle.stack_check.proofs.Passing.{device_passes, sound_push}
 use Rattle.stack_check.proofs.draft.Draft.add_device.Goals as goal
-use Rattle.stack_check.proofs.draft.Draft.add_device.Goals.{After-deref}
 
 pub returns-in-Some : goal.returns-in-Some
 returns-in-Some c =
