@@ -9,6 +9,7 @@ mod item;
 pub mod laws;
 mod line;
 mod meaning;
+mod options;
 mod reason;
 mod stand;
 mod text;

@@ -1,14 +1,15 @@
 //! What the words of a line say, where their form is right: one function for each kind of line.
-ghost use Rattle.std.specs.Prelude.{◌≡◌, ◌∷◌, ◌++◌, [], false, true, IfOk, Some, is_some};
+ghost use Rattle.std.specs.Prelude.{◌≡◌, ◌∷◌, ◌++◌, [], false, true, IfOk, Some};
 ghost use Rattle.std.specs.List.{list_any};
-ghost use Rattle.decl_text.specs.Text.{is_option, number_of};
+ghost use Rattle.decl_text.specs.Text.{is_option};
 ghost use Rattle.decl_text.specs.Words.{has_number};
 ghost use Rattle.decl_text.specs.Forms.{any_number, fails, form, is_malformed, is_misnumbered, value_of};
-ghost use Rattle.decl_text.specs.Items.{device, kind_of_bad, meaning, members, number_or, value_in, yes_or};
+ghost use Rattle.decl_text.specs.Items.{device, kind_of_bad, meaning, members};
 ghost use Rattle.decl_text.specs.declared.command.Command.TheVariants as command;
 ghost use Rattle.decl_text.specs.declared.form.Key.TheVariants as key;
 
 use crate::form::Key;
+use crate::options::{number_or, yes_or};
 use crate::{Command, Item, What, Word, Words};
 use fail_script::Script;
 use stack_base::{Range, Status};
@@ -277,38 +278,4 @@ fn members<'a>(alloc: Global, words: &[Word<'a>]) -> Result<Words<'a>, AllocErro
         keep_member(&mut all, word)?;
     }
     Ok(Words::of(all))
-}
-
-// The value of the first option of this key.
-fn value_in<'a>(words: &[Word<'a>], key: Key) -> Option<Word<'a>>
-    ensures { result ≡ value_in key words.now }
-{
-    for word in words {
-        let value = word.value_of(key);
-        if value.is_some() {
-            return value;
-        }
-    }
-    None
-}
-
-// The number of an option, or this one where there is none.
-fn number_or(words: &[Word<'_>], key: Key, default: u64) -> u64
-    requires { list_any (λ word. fails (λ value. is_some (number_of value)) (value_of key word)) words.now ≡ false }
-    ensures { result ≡ number_or default (value_in key words.now) }
-{
-    match value_in(words, key) {
-        None => default,
-        Some(value) => value.digits(),
-    }
-}
-
-// Whether an option says yes, or this where there is none.
-fn yes_or(words: &[Word<'_>], key: Key, default: bool) -> bool
-    ensures { result ≡ yes_or default (value_in key words.now) }
-{
-    match value_in(words, key) {
-        None => default,
-        Some(value) => value.is(b"yes"),
-    }
 }

@@ -5,6 +5,7 @@ ghost use Rattle.bioset_pools.specs.Sets.{bios_of};
 
 pub mod calls;
 pub mod index;
+mod pools;
 pub(crate) mod tally;
 
 use crate::plain::calls::{dev_of, link_in, resize_home};
@@ -14,8 +15,7 @@ use bio_books::{Book, Dropped, Link};
 use bio_records::{
     BioBody, BioElement, BioList, Pad, RescueList, Slip, SlipElement, VecElement, Vector,
 };
-use fail_script::Script;
-use mempool_core::{Facts, Pool, Taken};
+use mempool_core::{Pool, Taken};
 use model_disks::{Disk, Done};
 use stack_base::{DevId, PoolId, SetId, Status};
 use std::snapshot::Snapshot;
@@ -62,7 +62,7 @@ impl Plain {
     ghost use Rattle.stack_base.specs.declared.ids.PoolId.TheVariants.{FsVecs, Records};
     ghost use Rattle.task_core.specs.Plains.{objects_of, stage_of, Holds, PlainServes};
     ghost use Rattle.run_machine.specs.Requests.{Resize, OutIs};
-    ghost use Rattle.task_steps.specs.Stage.{has_disk, is_pool, RequestFits};
+    ghost use Rattle.task_steps.specs.Stage.{has_disk, RequestFits};
 
     /// Where each object stands among those of its kind.
     pub fn index(&self) -> ObjectIndex
@@ -101,74 +101,6 @@ impl Plain {
     {
         let at = place(&self.index.records, PoolId::Records(dev).no());
         resize_home(&mut self.records[at].1, min)
-    }
-
-    // The numbers of a set's pool of bios.
-    fn bios_facts(&self, set: SetId) -> Facts
-        requires holds { Holds self.now }
-        requires pool { IsTrue (is_pool (stage_of self.now) (bios_of set)) }
-        ensures { result ≡ ((objects_of self.now).pool (pool_number (bios_of set))).facts }
-    {
-        let at = place(&self.index.bios, bios_number(set));
-        self.bios[at].1.facts()
-    }
-
-    // The numbers of the pool of a mirror's records.
-    fn records_facts(&self, dev: DevId) -> Facts
-        requires holds { Holds self.now }
-        requires pool { IsTrue (is_pool (stage_of self.now) (Records dev)) }
-        ensures { result ≡ ((objects_of self.now).pool (pool_number (Records dev))).facts }
-    {
-        let at = place(&self.index.records, PoolId::Records(dev).no());
-        self.records[at].1.facts()
-    }
-
-    /// The numbers of a pool of the stack.
-    pub fn facts(&self, pool: PoolId) -> Facts
-        requires holds { Holds self.now }
-        requires pool { IsTrue (is_pool (stage_of self.now) pool) }
-        ensures { result ≡ ((objects_of self.now).pool (pool_number pool)).facts }
-    {
-        match pool {
-            PoolId::FsBios => self.bios_facts(SetId::Fs),
-            PoolId::FsVecs => self.vecs.facts(),
-            PoolId::Bios(dev) => self.bios_facts(SetId::Of(dev)),
-            PoolId::Records(dev) => self.records_facts(dev),
-        }
-    }
-
-    // The script of a set's pool of bios.
-    fn bios_script(&self, set: SetId) -> &Script
-        requires holds { Holds self.now }
-        requires pool { IsTrue (is_pool (stage_of self.now) (bios_of set)) }
-        ensures { result.now ≡ ((objects_of self.now).pool (pool_number (bios_of set))).script }
-    {
-        let at = place(&self.index.bios, bios_number(set));
-        self.bios[at].1.script()
-    }
-
-    // The script of the pool of a mirror's records.
-    fn records_script(&self, dev: DevId) -> &Script
-        requires holds { Holds self.now }
-        requires pool { IsTrue (is_pool (stage_of self.now) (Records dev)) }
-        ensures { result.now ≡ ((objects_of self.now).pool (pool_number (Records dev))).script }
-    {
-        let at = place(&self.index.records, PoolId::Records(dev).no());
-        self.records[at].1.script()
-    }
-
-    /// The script of a pool of the stack.
-    pub fn script(&self, pool: PoolId) -> &Script
-        requires holds { Holds self.now }
-        requires pool { IsTrue (is_pool (stage_of self.now) pool) }
-        ensures { result.now ≡ ((objects_of self.now).pool (pool_number pool)).script }
-    {
-        match pool {
-            PoolId::FsBios => self.bios_script(SetId::Fs),
-            PoolId::FsVecs => self.vecs.script(),
-            PoolId::Bios(dev) => self.bios_script(SetId::Of(dev)),
-            PoolId::Records(dev) => self.records_script(dev),
-        }
     }
 
     /// A disk of the stack.

@@ -2,7 +2,7 @@ use Rattle.std.proofs.Common.{ap, ◌∙◌, slice_index_or}
 use Rattle.task_core.proofs.own.PlainFacts.{records_script}
 use Rattle.task_core.proofs.plain.Plain.records_script.Goals as goal
 
--- src/plain.rt
+-- src/plain/pools.rt
 pub returns : goal.returns
 returns c =
     c.script.ensures

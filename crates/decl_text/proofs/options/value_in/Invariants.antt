@@ -1,6 +1,6 @@
 use Rattle.std.proofs.Common.{◌≡◌, drop}
 use Rattle.decl_text.specs.Items.{value_in}
-use Rattle.decl_text.proofs.meaning.value_in.Given as goal
+use Rattle.decl_text.proofs.options.value_in.Given as goal
 
 -- none so far: the value is that of what is left
 abbrev pub invariant-loop-word : goal.invariant-loop-word
