@@ -26,6 +26,8 @@ mod pool_calls;
 #[cfg(test)]
 mod pools;
 #[cfg(test)]
+mod punts;
+#[cfg(test)]
 mod segments;
 #[cfg(test)]
 mod sets;
