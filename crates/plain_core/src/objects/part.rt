@@ -20,7 +20,7 @@ pub struct Part {
     bio: Bio,
     pad: Pad,
     // Of the segments that it has itself.
-    data: Data,
+    content: Data,
     pool: u32,
 }
 
@@ -33,7 +33,7 @@ impl Model for Part {
 
     ghost Value = { Item Pad };
 
-    ghost view = { λ p. record { pad = p.pad; bio = p.bio; short = segments_of p.data.first p.data.count; share = ledger_of p.pool } };
+    ghost view = { λ p. record { pad = p.pad; bio = p.bio; short = segments_of p.content.first p.content.count; share = ledger_of p.pool } };
 
     ghost invariant = { λ p. p.pool < 66 };
 }
@@ -46,7 +46,7 @@ impl Part {
         Part {
             bio: self.bio,
             pad: self.pad,
-            data: self.data,
+            content: self.content,
             pool: self.pool,
         }
     }
@@ -80,7 +80,7 @@ impl Part {
         Part {
             bio,
             pad,
-            data: self.data,
+            content: self.content,
             pool: self.pool,
         }
     }
@@ -129,7 +129,7 @@ impl Hand {
         Part {
             bio,
             pad,
-            data: Data { first: 0, count: 0 },
+            content: Data { first: 0, count: 0 },
             pool: self.pool,
         }
     }
@@ -141,7 +141,7 @@ impl Hand {
         Part {
             bio,
             pad: Pad { leg: 0 },
-            data: run,
+            content: run,
             pool: self.pool,
         }
     }
@@ -150,7 +150,7 @@ impl Hand {
 /// A vector that is out of the pool of vectors.
 #[derive(Drop)]
 pub struct Vector {
-    data: Data,
+    content: Data,
     pool: u32,
 }
 
@@ -162,7 +162,7 @@ impl Model for Vector {
 
     ghost Value = { VectorItem };
 
-    ghost view = { λ v. record { segments = segments_of v.data.first v.data.count; share = ledger_of v.pool } };
+    ghost view = { λ v. record { segments = segments_of v.content.first v.content.count; share = ledger_of v.pool } };
 
     ghost invariant = { λ v. v.pool < 66 };
 }
@@ -174,7 +174,7 @@ impl Vector {
         ensures { result ≡ clear_vector (ledger_of pool) }
     {
         Vector {
-            data: Data { first: 0, count: 0 },
+            content: Data { first: 0, count: 0 },
             pool,
         }
     }
@@ -192,7 +192,7 @@ impl Vector {
         ensures { result ≡ record self.now { segments = segments_of run.first run.count } }
     {
         Vector {
-            data: run,
+            content: run,
             pool: self.pool,
         }
     }
@@ -201,7 +201,7 @@ impl Vector {
     pub fn again(&self) -> Vector
         ensures { result ≡ self.now }
     {
-        self.filled(self.data)
+        self.filled(self.content)
     }
 }
 
