@@ -1,5 +1,7 @@
 -- What a completer carries, without its boxes.
-use Rattle.std.specs.Prelude.{◌≡◌, ℕ, Bool, true, false, Option, Some}
+use Rattle.std.specs.Prelude.{◌≡◌, ℕ, Bool, true, false, Option, Some, Result, MatchResult}
+use Rattle.stack_base.specs.declared.ids.DevId.{DevId}
+use Rattle.stack_base.specs.declared.ids.PoolId.{PoolId}
 use Rattle.stack_base.specs.declared.ids.Status.{Status}
 use Rattle.bio_records.specs.declared.bio.Slip.{Slip}
 use Rattle.bio_records.specs.Items.{item_of, IsAlone}
@@ -7,9 +9,14 @@ use Rattle.bio_books.specs.Books.{Holding, nothing_held}
 use Rattle.bio_books.specs.Views.{closed_node_of, holding_of, slip_item, IsAlonePart}
 use Rattle.task_steps.specs.declared.completer.Load.{Load}
 use Rattle.task_steps.specs.declared.completer.Load.TheVariants as load
+use Rattle.run_machine.specs.declared.event.Breach.TheVariants.{Spent}
+use Rattle.run_machine.specs.declared.event.TaskId.TheVariants.{Completer}
+use Rattle.run_machine.specs.declared.event.What.TheVariants.{Give}
 use Rattle.run_machine.specs.Tasks.{Carried, Empty, Brings, Carries, Fails}
 use Rattle.run_machine.specs.Kept.{holding_kept}
 use Rattle.task_steps.specs.Views.{vec_item}
+use Rattle.task_steps.specs.declared.step.Step.{Step}
+use Rattle.task_steps.specs.declared.step.Step.TheVariants.{Stepped, Broken}
 use Rattle.task_steps.specs.declared.objects.Unmade.{Unmade}
 use Rattle.task_steps.specs.declared.objects.Unmade.TheVariants as unmade
 
@@ -63,3 +70,10 @@ held_of carried = nothing_held
 abbrev pub IsEmptyNode : Carried → Type 0
 IsEmptyNode (Carries writer closed) = closed.held ≡ nothing_held
 IsEmptyNode carried = ⊥
+
+-- What comes of giving back a part that a closed node held no more: the event is told, and what is left is carried on. Or the part came back, and
+-- the completer breaks off with it and what is left.
+abbrev pub GaveBack : DevId → PoolId → Result (Unit {0}) Unmade → Carried → Carried → Step → Type 0
+GaveBack disk pool given old new told = MatchResult given
+    (λ done. (new ≡ old) × (told ≡ Stepped (record { task = Completer disk; what = Give pool })))
+    (λ back. (new ≡ Fails Spent (holding_kept (put_back (held_of old) back))) × (told ≡ Broken Spent))

@@ -1,13 +1,8 @@
 //! What a completer does with a node that has closed.
-ghost use Rattle.std.specs.Prelude.{◌≡◌, true, None, Some, MatchResult};
-ghost use Rattle.run_machine.specs.declared.event.Breach.TheVariants as Breach';
-ghost use Rattle.run_machine.specs.declared.event.TaskId.TheVariants as TaskId';
-ghost use Rattle.run_machine.specs.declared.event.What.TheVariants as What';
-ghost use Rattle.task_steps.specs.declared.step.Step.TheVariants as Step';
-ghost use Rattle.run_machine.specs.Kept.{holding_kept};
-ghost use Rattle.run_machine.specs.Tasks.{Carries, Completer as Completes, Empty, Fails};
+ghost use Rattle.std.specs.Prelude.{◌≡◌, true, None, Some};
+ghost use Rattle.run_machine.specs.Tasks.{Completer as Completes, Empty};
 ghost use Rattle.task_steps.specs.TaskSteps.{CompleterDoes, TaskReady};
-ghost use Rattle.task_steps.specs.CarriedViews.{given_back, held_of, is_carrying, put_back, IsEmptyNode};
+ghost use Rattle.task_steps.specs.CarriedViews.{given_back, is_carrying, GaveBack, IsEmptyNode};
 
 use crate::completer::gives::{gives, pool_of};
 use crate::completer::{Carried, Load, nothing_held};
@@ -69,9 +64,7 @@ impl Carried {
     #[inline(always)] // where no call can be refused, the other arm falls away
     fn gave(&mut self, disk: DevId, pool: PoolId, given: Result<(), Unmade>) -> Step
         requires carries { is_carrying self.old ≡ true }
-        ensures { MatchResult given
-            (λ done. (self.new ≡ self.old) × (result ≡ Step'.Stepped (record { task = TaskId'.Completer disk; what = What'.Give pool })))
-            (λ back. (self.new ≡ Fails Breach'.Spent (holding_kept (put_back (held_of self.old) back))) × (result ≡ Step'.Broken Breach'.Spent)) }
+        ensures { GaveBack disk pool given self.old self.new result }
     {
         match given {
             Ok(()) => gives(disk, pool),
