@@ -9,6 +9,7 @@ ghost use Rattle.work_text.specs.Draft.{ChecksWrite, IsDraft, IsLeftOf, known_so
 ghost use Rattle.work_text.specs.Lines.{Adds, CanStand, HasSectors, ReadsLine, item_of};
 ghost use Rattle.work_text.specs.Work.{known_of};
 
+use crate::limits::{MOST_ELEMENTS, MOST_RESERVE, MOST_RESIZES, MOST_SECTORS, MOST_SYNCS};
 use crate::marks::{Marks, no_marks};
 use crate::names::{device_of, is_member};
 use crate::pools::pool_of;
@@ -18,20 +19,6 @@ use decl_text::{LineFault, Reason, Stand, Word};
 use layout_model::{Bounds, Needs, Write, need};
 use stack_base::{Range, Stack};
 use std::alloc::{AllocError, Global};
-
-/// A write may have so many sectors: 256 segments of eight.
-const MOST_SECTORS: u64 = 2048;
-
-/// No scenario may need more elements.
-const MOST_ELEMENTS: u64 = 1_048_576;
-
-/// A text may have so many `sync` lines, and so many `resize` lines.
-const MOST_SYNCS: u32 = 1024;
-
-const MOST_RESIZES: usize = 4096;
-
-/// A pool may keep so many elements.
-const MOST_RESERVE: u64 = 1024;
 
 /// The work of a text so far, and which sectors of the devices the writes of the present round have.
 #[derive(Drop)]

@@ -12,6 +12,7 @@ ghost use Rattle.work_text.specs.Work.{all_entries, last_round};
 mod draft;
 mod generator;
 pub mod laws;
+mod limits;
 mod marks;
 mod names;
 mod pools;
