@@ -1,5 +1,5 @@
 -- The disks that a run leaves are found by their numbers.
-use Rattle.std.proofs.Common.{◌≡◌, ◌==◌, ◌+◌, ◌<◌, ◌++◌, ℕ, zero, suc, Bool, true, false, List, [], ◌∷◌, map, Some, refl, sym, ap, ◌∙◌, subst, arith}
+use Rattle.std.proofs.Common.{◌≡◌, ◌==◌, ◌+◌, ◌<◌, ◌++◌, ℕ, zero, suc, true, false, List, [], ◌∷◌, map, Some, refl, sym, ap, ◌∙◌, subst, arith}
 use Rattle.std.specs.Prelude.{find, slice_get}
 use Rattle.std.proofs.lemmas.Bool.Decides.{nat_tests}
 use Rattle.std.proofs.lemmas.Option.{same_Some}
@@ -13,18 +13,10 @@ use Rattle.stack_base.specs.Tree.{shape_of, tree}
 use Rattle.layout_model.specs.Shown.{keeps_data}
 use Rattle.layout_model.proofs.ByShape.{copies_is, cuts_is}
 use Rattle.model_disks.specs.Disks.{DiskState}
+use Rattle.run_machine.specs.Named.{is_disk_kind}
 use Rattle.run_machine.specs.Objects.{Objects}
 use Rattle.run_machine.specs.Opened.{at}
 use Rattle.task_core.specs.Leaving.{disk_at, disks_from, disks_of}
-
--- whether a kind is a disk
-abbrev pub is_disk_kind : Kind → Bool
-is_disk_kind (Disk sectors bad) = true
-is_disk_kind Linear = false
-is_disk_kind (Stripe chunk) = false
-is_disk_kind (Zoned chunk) = false
-is_disk_kind (Limit longest chunk) = false
-is_disk_kind (Mirror records) = false
 
 -- a device that keeps data itself is declared as a disk
 module _ (stack : Stack) (good : IsStack stack) (number : ℕ) (device : Device) (found : slice_get stack.devices.items number ≡ Some device) where

@@ -13,12 +13,13 @@ use Rattle.stack_base.specs.declared.stack.Kind.{Kind}
 use Rattle.stack_base.specs.declared.stack.Kind.TheVariants.{Disk, Linear, Stripe, Zoned, Limit, Mirror}
 use Rattle.stack_base.specs.declared.stack.Device.{Device}
 use Rattle.stack_base.specs.declared.stack.Stack.{Stack}
-use Rattle.stack_base.specs.Tree.{Tree, Leaf, built, over, over_shape, tree, tree_below}
+use Rattle.stack_base.specs.Tree.{Tree, Leaf, built, over, tree, tree_below}
 use Rattle.layout_model.specs.May.{bads_of, kind_bads}
 use Rattle.decl_text.specs.Accepting.{Means, bad_of, bad_ranges, shown, what_of}
 use Rattle.decl_text.specs.Known.{Declared, Known, grown}
 use Rattle.decl_text.specs.declared.item.What.{What}
 use Rattle.decl_text.specs.declared.item.What.TheVariants as what
+use Rattle.decl_text.proofs.ShownTrees.{grown_over}
 use Rattle.run_machine.specs.Opened.{records_of, reserve_of}
 use Rattle.run_machine.specs.Scene.{rescuer_at}
 
@@ -31,15 +32,6 @@ of_declared f g none same (Some d) = same d
 rescuer_is : (found : Option Device) → rescuer_at found ≡ option_map_or (λ (d : Device). d.rescuer) found false
 rescuer_is None = refl
 rescuer_is (Some d) = refl
-
-grown_over : (number : ℕ) (kind : Kind) (members : List Tree) → over number kind members ≡ grown number (what_of kind) members
-unfolding over_shape
-grown_over number (Disk sectors bad) members = refl
-grown_over number Linear members = refl
-grown_over number (Stripe chunk) members = refl
-grown_over number (Zoned chunk) members = refl
-grown_over number (Limit longest chunk) members = refl
-grown_over number (Mirror records) members = refl
 
 built_is : (number : ℕ) (below : ℕ → Tree) (found : Option Device)
     → built number found below ≡ option_map_or (λ (d : Device). over number d.kind (map (λ (m : DevId). below m.0) d.members.items)) found (Leaf number 0)
@@ -106,7 +98,7 @@ module _ (known : Known) (one other : Stack) (one_scripts other_scripts : List (
   same_built number below =
       built_is number below (slice_get one.devices.items number)
       ∙ same_of (λ (d : Device). over number d.kind (map (λ (m : DevId). below m.0) d.members.items)) (λ (d : Declared). grown number d.what (map below d.members)) (Leaf number 0)
-      (λ d. grown_over number d.kind (map (λ (m : DevId). below m.0) d.members.items)
+      (λ d. sym (grown_over number d.kind (map (λ (m : DevId). below m.0) d.members.items))
       ∙ ap (grown number (what_of d.kind)) (sym (map-map below (λ (m : DevId). m.0) d.members.items))) number
       ∙ sym (built_is number below (slice_get other.devices.items number))
 

@@ -30,7 +30,7 @@ at_front (suc n) [] d ds e = cc
 at_front (suc n) (x ∷ xs) d ds e = at_front n xs d ds e
 
 -- a device is the same over its members, as it is declared
-grown_over : (number : ℕ) (kind : Kind) (members : List Tree) → grown number (what_of kind) members ≡ over number kind members
+pub grown_over : (number : ℕ) (kind : Kind) (members : List Tree) → grown number (what_of kind) members ≡ over number kind members
 unfolding over_shape
 grown_over number (Disk sectors bad) members = refl
 grown_over number Linear members = refl

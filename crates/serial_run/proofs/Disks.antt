@@ -15,21 +15,14 @@ use Rattle.stack_base.specs.Tree.{Tree, over, over_shape, tree}
 use Rattle.stack_base.proofs.Unfolded.{tree_is}
 use Rattle.task_core.specs.declared.plain.Plain.{Plain}
 use Rattle.task_core.specs.Leaving.{disk_at, disks_from, disks_of}
+use Rattle.run_machine.specs.Named.{is_disk_kind}
 use Rattle.run_machine.specs.Opened.{at}
 use Rattle.task_core.specs.Plains.{disk_number, no_disk, objects_of, stage_of, Holds}
 use Rattle.run_machine.specs.Scene.{keeps_data}
 use Rattle.task_steps.specs.Stage.{has_disk}
 use Rattle.task_core.specs.Tables.{is_entry_of, look_up}
 
--- whether a device is a disk
-abbrev pub is_disk_kind : Kind → Bool
-is_disk_kind (kind.Disk sectors bad) = true
-is_disk_kind kind.Linear = false
-is_disk_kind (kind.Stripe chunk) = false
-is_disk_kind (kind.Zoned chunk) = false
-is_disk_kind (kind.Limit longest chunk) = false
-is_disk_kind (kind.Mirror records) = false
-
+-- whether a device keeps data, by its kind
 pub by_kind : (n : ℕ) (k : Kind) (trees : List Tree) → keeps_data (over n k trees) ≡ is_disk_kind k
 unfolding over_shape
 by_kind n (kind.Disk sectors bad) trees = refl

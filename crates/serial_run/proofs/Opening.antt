@@ -24,7 +24,8 @@ use Rattle.task_steps.specs.TaskViews.{TaskOf}
 use Rattle.run_machine.specs.Tasks.{TaskState}
 use Rattle.block_core.specs.Scenarios.{IsScenario, EveryPoolKeepsSome, AreInOrder}
 use Rattle.block_core.proofs.start.PostsAtStart.{start_crew}
-use Rattle.serial_run.proofs.Disks.{is_disk_kind, by_kind}
+use Rattle.run_machine.specs.Named.{is_disk_kind}
+use Rattle.serial_run.proofs.Disks.{by_kind}
 
 module _ (o : Opened) (is : IsOpened o) where
   abbrev s : Scenario
