@@ -30,9 +30,6 @@ module _ {X : Type 0} where
   pub back_in_all : (all hand rest back : List X) → IsPermutation all (hand ++ rest) → IsPermutation hand back → length all ≡ length rest + length back
   back_in_all all hand rest back p q = let whole = in_all all hand rest p in let same = length_permutation hand back q in omega arith
 
-  pub back_can : (P : X → Type 0) (all hand rest back out : List X) → IsPermutation all (hand ++ rest) → IsPermutation hand back → IsPermutation (back ++ rest) out → All P all → All P out
-  back_can P all hand rest back out p q s a = All-permutation P all out (comes_back all hand rest back rest out p q (IsPermutation-refl rest) s) a
-
   pub comes_in : (hand back rest out : List X) → IsPermutation hand back → IsPermutation (back ++ rest) out → IsPermutation (hand ++ rest) out
   comes_in hand back rest out q s = IsPermutation-trans (hand ++ rest) (back ++ rest) out (IsPermutation-append hand back rest rest q (IsPermutation-refl rest)) s
 

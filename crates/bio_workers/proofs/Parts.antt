@@ -1,15 +1,12 @@
 -- Tasks that are parted one by one.
 use Rattle.std.proofs.Common.{◌≡◌, inl, inr, ◌+◌, List, [], ◌∷◌, ◌++◌, length, All, IsPermutation, arith, ap, sym, subst, ◌∙◌}
-use Rattle.std.proofs.lemmas.List.Sorted.{IsPermutation-trans, IsPermutation-refl, IsPermutation-append_right, IsPermutation-sym, All-permutation}
+use Rattle.std.proofs.lemmas.List.Sorted.{IsPermutation-trans, IsPermutation-append_right, IsPermutation-sym, All-permutation}
 use Rattle.std.proofs.lemmas.List.{append_assoc, append-nil}
-use Rattle.std.proofs.lemmas.List.Elements.{All-nil, All-push}
+use Rattle.std.proofs.lemmas.List.Elements.{All-push}
 use Rattle.bio_workers.proofs.Dealing.{moved, one_less}
 use Rattle.bio_workers.specs.Parting.{IsParting, PutBy}
 
 module _ {T : Type 0} (P : T → Type 0) where
-  pub begins : (all : List T) → IsParting P all [] [] all
-  begins all = record { whole = IsPermutation-refl all; own_are = All-nil P; others_are = All-nil (λ t. P t → ⊥) }
-
   -- the others are put back to those left
   pub all_back : (all own others left back : List T) → IsParting P all own others left → IsPermutation (others ++ left) back → IsPermutation all (own ++ back)
   all_back all own others left back so_far same =

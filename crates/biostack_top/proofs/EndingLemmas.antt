@@ -9,7 +9,7 @@ use Rattle.work_text.proofs.GeneratedTexts.{never_refused}
 use Rattle.bio_workers.specs.Gates.{Showing}
 use Rattle.biostack_top.specs.declared.ending.Ending.{Ending}
 use Rattle.biostack_top.specs.declared.ending.Ending.TheVariants.{Usage, ReadFault, Memory, Refused, WriteFault, Done, NotAllWell}
-use Rattle.biostack_top.specs.Ending.{HadRefusedText, MayFollowRun, MayLack, OrderEndsBy, SharedEndsBy, WorkersEndBy, exit_of, refusal_for}
+use Rattle.biostack_top.specs.Ending.{HadRefusedText, OrderEndsBy, SharedEndsBy, WorkersEndBy, exit_of, refusal_for}
 use Rattle.biostack_top.specs.Input.{HasNoInput, IsInput, limit, made_by}
 use Rattle.biostack_top.specs.Streams.{CallStreams, StreamStays, Stream}
 
@@ -83,22 +83,3 @@ module _ {S K : Type 0} (trace : Bool) (shown : Option Showing) (c : CallStreams
   stops_with_workers WriteFault ends = ends.2.1
   stops_with_workers Done ends = (c.out.new, ends.2.0, Keeps-refl (c.out.bytes c.out.new))
   stops_with_workers NotAllWell ends = (c.out.new, ends.2.0, Keeps-refl (c.out.bytes c.out.new))
-
-  -- nothing was shown
-  none_shown : {P : Type 0} → is_some shown ≡ true → shown ≡ None → P
-  none_shown is none = absurd (true≢false (sym is ∙ ap is_some none))
-
-  lacks_trace : (text : List ℕ) → MayLack trace shown text → is_some shown ≡ true → MayFollowRun trace 6
-  lacks_trace text (inl none) is = none_shown is none
-  lacks_trace text (inr lacks) is = inr (inr (inr (refl, lacks.0)))
-
-  -- a gate was shown what they left, and then the call ended so
-  pub follows_run : (ending : Ending) → WorkersEndBy ending trace shown c → is_some shown ≡ true → MayFollowRun trace (exit_of ending)
-  follows_run Usage ends is = absurd ends
-  follows_run ReadFault ends is = none_shown is ends.2
-  follows_run Memory (inl ends) is = none_shown is ends.2
-  follows_run Memory (inr ends) is = lacks_trace ends.0 ends.2.1 is
-  follows_run (Refused refusal) ends is = none_shown is ends.2.1
-  follows_run WriteFault ends is = inr (inr (inl refl))
-  follows_run Done ends is = inl refl
-  follows_run NotAllWell ends is = inr (inl refl)

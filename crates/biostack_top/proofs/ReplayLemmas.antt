@@ -1,7 +1,7 @@
 -- What is told of the lines of events behind a scenario.
-use Rattle.std.proofs.Common.{◌≡◌, ◌+◌, ◌^◌, ◌<◌, ◌≤◌, ℕ, Bool, true, false, true≢false, List, length, Option, None, Some, refl, sym, ap, ◌∙◌, subst, arith, length-append}
+use Rattle.std.proofs.Common.{◌≡◌, ◌≤◌, ℕ, Bool, true, false, true≢false, List, length, Option, None, Some, refl, sym, ap, ◌∙◌, subst, arith, length-append}
 use Rattle.std.specs.Prelude.{if◌then◌else◌, is_none, is_some, map, not, nat_lt, IfOk, Result, Ok, Err}
-use Rattle.std.proofs.lemmas.Bool.{le-ltb, lt-ltb}
+use Rattle.std.proofs.lemmas.Bool.{le-ltb}
 use Rattle.decl_text.specs.Text.{lines, most_bytes}
 use Rattle.decl_text.specs.Known.{nothing}
 use Rattle.decl_text.specs.Refusals.{refusal, refused}
@@ -21,18 +21,13 @@ use Rattle.trace_text.specs.Names.{DevicesAreNamed}
 use Rattle.trace_replay.specs.Answer.{replay_text}
 use Rattle.trace_replay.specs.Lines.{told_in}
 use Rattle.trace_replay.specs.Exact.{IsReplayOf, NoneIsStuck, RunsHaveNoBadLine}
-use Rattle.trace_replay.specs.Parts.{AreTextParts, scenario_lines}
+use Rattle.trace_replay.specs.Parts.{AreTextParts}
 use Rattle.trace_replay.specs.Replay.{IsReplay}
 use Rattle.trace_replay.specs.declared.extents.Extent.{Extent}
 use Rattle.trace_replay.specs.declared.walk.Replayed.{Replayed}
 use Rattle.trace_replay.proofs.Exact.{from_start}
 use Rattle.biostack_top.specs.Replaying.{ComeTo, TellsReplay, replay_refusal}
 use Rattle.biostack_top.specs.Scene.{SaysBy}
-
--- a text is too long with its trace
-pub too_long : (text : List ℕ) → most_bytes < length text → replay_refusal text ≡ Some (refused 0 TooLong)
-too_long text long =
-    ap (λ b. if b then Some (refused 0 TooLong) else refusal (checks_by true) nothing 1 (scenario_lines text)) (lt-ltb most_bytes (length text) long)
 
 -- the scenario of a text is refused as the text is, where that is not too long
 not_long : {X : Type 0} (n : ℕ) (long short : X) → n ≤ most_bytes → (if nat_lt most_bytes n then long else short) ≡ short
@@ -88,10 +83,6 @@ pub comes_if_ok : {E : Type 0} (result : Result Replayed E) (text : List ℕ) (a
 comes_if_ok (Ok replayed) text accepted work told core says named exact never opened is pools =
     comes_to text accepted work told replayed says named exact never (from_start (scenario_of accepted work) core told replayed opened is) pools
 comes_if_ok (Err fault) text accepted work told core says named exact never opened is pools = tt
-
--- its lines have numbers
-pub countable : (text scenario events : List ℕ) (first : ℕ) → AreTextParts text scenario events first → length text ≤ most_bytes → first + length events < 2 ^ 64
-countable text scenario events first parts few = omega (arith, few, parts.few, length-append scenario events, ap length parts.joined)
 
 -- what is told of a text
 pub tells_replay : (text scenario events : List ℕ) (first : ℕ) (accepted : Accepted) (work : Work) (replayed : Replayed) → AreTextParts text scenario events first

@@ -17,7 +17,6 @@ use Rattle.run_machine.specs.ReadBehind.{IsReadBehind}
 use Rattle.task_core.specs.Plains.{stage_of}
 use Rattle.run_machine.specs.Opened.{scene, start}
 use Rattle.run_machine.specs.Scenario.{scenario_of}
-use Rattle.block_core.specs.Runnable.{IsRunnable}
 use Rattle.block_core.proofs.claim.Claim.{accepted_texts_run_as_claimed}
 use Rattle.block_core.proofs.claim.Runnable.{accepted_texts_are_runnable, steps_fit_in_24_bits}
 use Rattle.rand_pcg.specs.Lcg.{Lcg}
@@ -38,9 +37,6 @@ use Rattle.biostack_top.specs.Running.{ByNumber, ByThreads, EveryRunOfTextIsAsCl
 module _ (text : List ℕ) (accepted : Accepted) (work : Work) (says : TextSays text accepted work) where
   pub read_behind : IsReadBehind accepted work
   read_behind = record { text = text; begins = says.begins; reads = says.reads; served = says.served }
-
-  pub runnable : IsRunnable (scenario_of accepted work)
-  runnable = (accepted_texts_are_runnable accepted work read_behind).0
 
   -- its bound is small
   pub few_steps : steps_bound work.bound < 2 ^ 64

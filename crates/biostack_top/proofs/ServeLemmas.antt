@@ -8,7 +8,7 @@ use Rattle.biostack_words.specs.declared.order.Order.{Order}
 use Rattle.biostack_words.specs.declared.order.Order.TheVariants.{Run, Workers, Check, Layout, Gen, Replay, Scrub}
 use Rattle.work_text.specs.Whole.{text_refusal}
 use Rattle.work_text.proofs.GeneratedTexts.{never_refused}
-use Rattle.biostack_top.specs.Orders.{is_replay, is_shown}
+use Rattle.biostack_top.specs.Orders.{is_shown}
 use Rattle.decl_text.specs.declared.reason.Refusal.{Refusal}
 use Rattle.biostack_top.specs.declared.ending.Ending.{Ending}
 use Rattle.biostack_top.specs.declared.ending.Ending.TheVariants.{Usage, ReadFault, Memory, Refused, WriteFault, Done, NotAllWell}
@@ -27,16 +27,6 @@ shown_is Check text is made = absurd (true≢false (sym is))
 shown_is Layout text is made = absurd (true≢false (sym is))
 shown_is Replay text is made = absurd (true≢false (sym is))
 shown_is (Scrub number) text is made = absurd (true≢false (sym is))
-
--- only a replay does not refuse its text as it is
-pub refused_as_read : (order : Order) (text : List ℕ) → is_replay order ≡ false → refusal_for order text ≡ text_refusal text
-refused_as_read Replay text none = absurd (true≢false none)
-refused_as_read (Run number trace) text none = refl
-refused_as_read (Workers n trace) text none = refl
-refused_as_read Check text none = refl
-refused_as_read Layout text none = refl
-refused_as_read (Gen number shown) text none = refl
-refused_as_read (Scrub number) text none = refl
 
 -- a text that was written, by how that ended
 pub written_whole : {K E : Type 0} {held : K → Option (List ℕ)} {faults : K → ℕ} {a b : K} {text : List ℕ} {result : Result Unit E} {done : Unit}

@@ -188,9 +188,3 @@ pub says_fault : (stand : Stand) (line : List ℕ) (all : List (List ℕ)) (comm
     → may_stand stand command ≡ true → CommandSays command (drop 1 all) (Err fault) → Says stand line (Err fault)
 says_fault stand line [] command fault text is first_is stands says = absurd (skipped_command command first_is)
 says_fault stand line (word ∷ rest) command fault text is first_is stands says = fault_said stand line rest command fault (commanded stand line word rest command text is first_is) stands says
-
--- a line whose words are right, by its first word
-pub record RightWords (all : List (List ℕ)) (command : Command) : Type 0 where
-  pub formed : is_malformed (form command) (drop 1 all) ≡ false
-  pub numbered : is_misnumbered (form command) (drop 1 all) ≡ false
-  pub said : said all ≡ meaning command (drop 1 all)

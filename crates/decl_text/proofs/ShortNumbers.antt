@@ -1,19 +1,13 @@
 -- Numbers that a few digits write.
-use Rattle.std.proofs.Common.{◌≡◌, ℕ, zero, suc, ◌+◌, ◌-◌, ◌*◌, ◌^◌, ◌<◌, ◌≤◌, true, List, [], ◌∷◌, length, take, get_or, Some, refl, ap, arith, length-take-le, lit≤}
+use Rattle.std.proofs.Common.{◌≡◌, ℕ, zero, suc, ◌+◌, ◌-◌, ◌*◌, ◌^◌, ◌<◌, ◌≤◌, true, List, [], ◌∷◌, length, take, get_or, refl, ap, ◌∙◌, sym, arith, length-take-le, lit≤}
 use Rattle.std.specs.List.{list_all}
 use Rattle.std.specs.Char.{is_ascii_digit}
 use Rattle.std.specs.Str.Parse.{digits_value}
 use Rattle.std.proofs.Math.Nat.{pow-le-pow_right}
 use Rattle.std.proofs.lemmas.Bool.{and_parts, leb-true}
-use Rattle.std.proofs.lemmas.Bool.Decides.{nat_tests}
 use Rattle.std.proofs.lemmas.Int.Digits.{digits_value-lt, digits_value_more}
 use Rattle.std.proofs.lemmas.Str.{digit_value_digit}
 use Rattle.stack_base.proofs.NumeralLemmas.{AllAreDigits, numerals}
-use Rattle.stack_base.specs.Numerals.{number_of}
-
--- powers of ten of numbers that a few digits write
-ten_power : (n : ℕ) → n ≤ 19 → 10 ^ n ≤ 10 ^ 19
-ten_power n few = pow-le-pow_right (lit≤ tt) few
 
 front_power : (n : ℕ) → n ≤ 18 → 10 ^ n ≤ 10 ^ 18
 front_power n few = pow-le-pow_right (lit≤ tt) few
@@ -42,19 +36,7 @@ pub number_more : (word : List ℕ) (i : ℕ) → AllAreDigits word → i < leng
 number_more word i all lt =
     omega (arith, digits_value_more 10 word i lt, digit_value_digit (get_or word i 0) (digit_range word i all lt))
 
--- the digits so far write a number that fits
-pub number_small : (word : List ℕ) → AllAreDigits word → length word ≤ 19 → digits_value 10 word < 10 ^ 19
-number_small word all few =
-    omega (arith, digits_value-lt 10 word (numerals.to word all), ten_power (length word) few)
-
 pub front_small : (word : List ℕ) (i : ℕ) → AllAreDigits word → i < length word → length word ≤ 19 → digits_value 10 (take i word) < 10 ^ 18
 front_small word i all lt few =
     let long : length (take i word) ≡ i = length-take-le i word (omega (arith, lt)) in
     omega (arith, digits_value-lt 10 (take i word) (numerals.to (take i word) (front_digits i word all)), ap (λ n. 10 ^ n) long, front_power i (omega (arith, lt, few)))
-
--- a word of 1 to 19 digits is a number
-pub short_is_number : (word : List ℕ) → AllAreDigits word → 0 < length word → length word ≤ 19 → Some (digits_value 10 word) ≡ number_of word
-unfolding number_of
-short_is_number word all some few =
-    let small : digits_value 10 word < 2 ^ 64 = omega (arith, number_small word all few) in
-    grind (arith, nat_tests)

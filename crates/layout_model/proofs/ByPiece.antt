@@ -18,11 +18,6 @@ pub fragments_of_none : (t : Tree) (r len : ℕ) → len ≡ 0 → fragments_of 
 unfolding fragments_of
 fragments_of_none t r len none = rw none refl
 
--- and needs nothing
-pub needed_none : (t : Tree) (r len : ℕ) → len ≡ 0 → needed t r len ≡ 0
-unfolding needed
-needed_none t r len none = rw none refl
-
 module _ (number : ℕ) (kind : Kind) (sizes : List ℕ) (members : ℕ → Tree) (cut : IsCut (head kind sizes) (next kind sizes) (slot kind sizes))
     (start len : ℕ) (piece : Piece) (is : IsPiece kind sizes start len piece) where
   -- a run that is one piece needs what the piece needs

@@ -123,11 +123,6 @@ module _ (stack : Stack) (good : IsStack stack) (number : ℕ) (device : Device)
   disk_count start len some =
       ap (λ t. fragments_of t start len) (keeps_is stack good number device found sectors keeps) ∙ fragments_of_disk number sectors start len some
 
-  -- there is no choice at a disk
-  pub disk_fits : (s : ℕ) (choices : List ℕ) → Fits (tree stack number) s choices → choices ≡ []
-  unfolding Fits
-  disk_fits s choices fits = subst (λ t. Fits t s choices) (keeps_is stack good number device found sectors keeps) fits
-
   -- a sector stays where it is
   pub disk_place : (s : ℕ) (choices : List ℕ) → place (tree stack number) s choices ≡ record { disk = number; at = s }
   unfolding place
@@ -141,7 +136,3 @@ module _ (stack : Stack) (good : IsStack stack) (number : ℕ) (device : Device)
   -- it is a disk
   pub disk_is : keeps_data (tree stack number) ≡ true
   disk_is = ap keeps_data (keeps_is stack good number device found sectors keeps)
-
-  -- its size is its number of sectors
-  pub disk_size : size (tree stack number) ≡ sectors
-  disk_size = ap size (keeps_is stack good number device found sectors keeps)

@@ -1,22 +1,12 @@
 -- What is sound, from the top down and from below.
-use Rattle.std.proofs.Common.{ℕ, ◌≤◌, List, length}
+use Rattle.std.proofs.Common.{ℕ, List}
 use Rattle.stack_base.specs.declared.stack.Kind.{Kind}
 use Rattle.stack_base.specs.Mapping.{slot, head}
 use Rattle.stack_base.specs.Cutting.{next, IsCut}
-use Rattle.stack_base.specs.Tree.{Tree, Leaf, Split, Mirrored}
+use Rattle.stack_base.specs.Tree.{Tree, Split, Mirrored}
 unfoldable pub use Rattle.layout_model.specs.Sound.{Sound}
 
--- a disk is sound
-pub sound_leaf : (number sectors : ℕ) → Sound (Leaf number sectors)
-unfolding Sound
-sound_leaf number sectors = tt
-
 module _ (number : ℕ) (kind : Kind) (sizes : List ℕ) (members : ℕ → Tree) where
-  -- a device that cuts by the laws over sound members is sound
-  pub sound_split : IsCut (head kind sizes) (next kind sizes) (slot kind sizes) → ((k : ℕ) → Sound (members k)) → Sound (Split number kind sizes members)
-  unfolding Sound
-  sound_split cut below = (cut, below)
-
   -- the laws of a sound device that cuts
   pub cut_of_split : Sound (Split number kind sizes members) → IsCut (head kind sizes) (next kind sizes) (slot kind sizes)
   unfolding Sound
@@ -28,16 +18,6 @@ module _ (number : ℕ) (kind : Kind) (sizes : List ℕ) (members : ℕ → Tree
   sound_piece sound = sound.1
 
 module _ (number : ℕ) (sizes : List ℕ) (members : ℕ → Tree) where
-  -- a device that copies to one or more sound members is sound
-  pub sound_mirrored : 1 ≤ length sizes → ((k : ℕ) → Sound (members k)) → Sound (Mirrored number sizes members)
-  unfolding Sound
-  sound_mirrored some below = (some, below)
-
-  -- a sound device that copies has a member
-  pub some_leg : Sound (Mirrored number sizes members) → 1 ≤ length sizes
-  unfolding Sound
-  some_leg sound = sound.0
-
   -- what is below a sound device that copies is sound
   pub sound_leg : Sound (Mirrored number sizes members) → (k : ℕ) → Sound (members k)
   unfolding Sound

@@ -37,10 +37,6 @@ member_tree stack number device found k within =
     ((get_or items k none).0, (device, found, slice_get-get_or items k none inside), get_or-map (λ (m : DevId). tree stack m.0) items k none (Leaf number 0) inside)
 
 module _ (stack : Stack) (good : IsStack stack) where
-  -- a member is a device of the stack
-  member_within : (p k x : ℕ) → IsMember stack p k x → p < length stack.devices.items → x < length stack.devices.items
-  member_within p k x member within = omega (arith, member_below stack good p k x member)
-
   -- the trees below a bound are sound
   sound_below : (bound number : ℕ) → number < bound → number < length stack.devices.items → Sound (tree stack number)
   sound_below zero number lt within = absurd (omega arith)

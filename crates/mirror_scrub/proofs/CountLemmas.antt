@@ -73,11 +73,6 @@ all_on f a n lt =
     let one : n - a ≡ suc (n - (a + 1)) = omega (arith, lt) in
     ap (λ (k : ℕ). list_all f (range_with_len a k)) one
 
-pub all_past : (f : ℕ → Bool) (a n : ℕ) → n ≤ a → list_all f (range_with_len a (n - a)) ≡ true
-all_past f a n past =
-    let none : n - a ≡ 0 = omega (arith, past) in
-    ap (λ (k : ℕ). list_all f (range_with_len a k)) none
-
 -- the first of them passes
 pub all_rest : (f : ℕ → Bool) (a n : ℕ) → a < n → f a ≡ true → list_all f (range_with_len a (n - a)) ≡ list_all f (range_with_len (a + 1) (n - (a + 1)))
 all_rest f a n lt passes = all_on f a n lt ∙ ap (λ (b : Bool). b && list_all f (range_with_len (a + 1) (n - (a + 1)))) passes

@@ -170,17 +170,6 @@ pub place_is : (slots : List ℕ) (x slot : ℕ) → number_at slots (x / 64) �
 unfolding word_place
 place_is slots x slot is = ap (λ (s : ℕ). 4096 * s + 64 * (x % 64)) is
 
--- what is the same as what was the same
-pub same_same : (words slots mid mid_slots new new_slots : List ℕ) → AreSame words slots mid mid_slots → AreSame mid mid_slots new new_slots
-    → AreSame words slots new new_slots
-same_same words slots mid mid_slots new new_slots was is = record {
-  size = is.size ∙ was.size;
-  sector = λ x lt. is.sector x (omega (arith, lt, was.size)) ∙ was.sector x lt;
-}
-
-pub same_still : (words slots : List ℕ) → AreSame words slots words slots
-same_still words slots = record { size = refl; sector = λ x lt. refl }
-
 -- words that grow by zeros
 pub same_grown : (size : ℕ) (words slots : List ℕ) → AreSame words slots (grown 0 size words) slots
 same_grown size words slots = record { size = refl; sector = λ x lt. sector_grown size words (word_place slots x) }

@@ -98,10 +98,6 @@ filled_same start len first words slots mid mid_slots new new_slots within was f
   outside = λ x lt away. filled.outside x (omega (arith, lt, was.size)) away ∙ was.sector x lt;
 }
 
--- no sector is written
-pub filled_none : (start first : ℕ) (words slots : List ℕ) → AreFilled start 0 first words slots words slots
-filled_none start first words slots = record { size = refl; inside = λ j lt. absurd (omega (arith, lt)); outside = λ x lt away. refl }
-
 sector_mod : (first more on : ℕ) → sector_from ((first + more) % 2 ^ 64 + on) ≡ sector_from (first + (more + on))
 unfolding sector_from
 sector_mod first more on =

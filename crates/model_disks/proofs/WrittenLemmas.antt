@@ -1,5 +1,5 @@
 -- The runs of written sectors, from one to the next.
-use Rattle.std.proofs.Common.{◌≡◌, ◌+◌, ◌-◌, ◌<◌, ◌≤◌, inl, inr, ℕ, zero, suc, Bool, true, false, not, List, [], ◌∷◌, ◌++◌, map, filter, length, drop, zero-add, add-zero, refl, sym, ap, ◌∙◌, subst, arith}
+use Rattle.std.proofs.Common.{◌≡◌, ◌+◌, ◌-◌, ◌<◌, ◌≤◌, inl, inr, ℕ, zero, suc, Bool, true, false, List, [], ◌∷◌, ◌++◌, map, filter, length, drop, zero-add, add-zero, refl, sym, ap, ◌∙◌, subst, arith}
 use Rattle.std.specs.Bool.{beq}
 use Rattle.std.specs.List.{range_with_len, prefix_len}
 use Rattle.std.proofs.lemmas.List.{get_or-drop, get_or_past}
@@ -7,14 +7,6 @@ use Rattle.std.proofs.lemmas.List.Elements.{filter-append}
 use Rattle.std.proofs.lemmas.Bool.{cases_eq}
 use Rattle.std.proofs.lemmas.Bool.Decides.{nat_tests}
 use Rattle.model_disks.specs.Runs.{flag, starts_run, run_at, runs_from, IsApart, IsFirst}
-
--- one more place is not of the kind that is looked for
-pub one_more : (flags : List Bool) (from place : ℕ) (kind : Bool) → ((x : ℕ) → from ≤ x → x < place → flag flags x ≡ kind)
-    → flag flags place ≡ kind → (x : ℕ) → from ≤ x → x < place + 1 → flag flags x ≡ kind
-one_more flags from place kind before here x le lt = elim (cases_eq x place) [
-  | inl same ↦ ap (flag flags) same ∙ here
-  | inr other ↦ before x le (omega (arith, other))
-]
 
 -- no number of the range passes
 pub filter_none : (p : ℕ → Bool) (a m : ℕ) → ((x : ℕ) → a ≤ x → x < a + m → p x ≡ false) → filter p (range_with_len a m) ≡ []
@@ -126,14 +118,7 @@ apart_past flags from past set = cc (set, get_or_past flags from false past)
 pub unset_at : (flags : List Bool) (from place : ℕ) → IsFirst flags from false place → flag flags place ≡ false
 unset_at flags from place found = grind (arith, get_or_past, nat_tests)
 
--- of two flags that differ, one is the other's opposite
-pub differs : (a b : Bool) → beq a b ≡ false → a ≡ not b
-differs true true same = cc
-differs true false same = refl
-differs false true same = refl
-differs false false same = cc
-
--- and of two that do not, they are one
+-- of two flags that do not differ, one is the other
 pub agrees : (a b : Bool) → beq a b ≡ true → a ≡ b
 agrees true true same = refl
 agrees true false same = cc

@@ -149,5 +149,3 @@ finished {held = held} {faults} {a} {b} {c} {mid = mid} {is} {x} (Err fault) new
       stops = all.stops;
       cause = record { later = all.later; failed = says_cause all silent; quiet = _ };
     }
-
-pub ruleset saying = (says_then, says_silence, says_cause)

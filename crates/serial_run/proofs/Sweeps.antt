@@ -74,10 +74,6 @@ some_steps scene state w (event, (new, (place, steps)), free) all =
     let comes = reached w scene.tasks place steps.here in
     free_is_other event.what free (subst (IsPassedOver scene state) comes.2 (all comes.0 comes.1) event new steps)
 
--- there is a task
-pub some_task : (scene : Scene) (state : State) → HasFree scene state → 0 < scene.tasks
-some_task scene state (event, (new, (place, steps)), free) = let here = steps.here in omega (arith, here)
-
 -- A turn so far: these tasks were passed over, and nothing has changed.
 pub record IsSweep {V : Type 0} (old now : Plain) (first tasks : List TaskOf) (w spot passed : ℕ) (stream after : Lcg) (before seen : V) : Type 0 where
   pub same : run_state now tasks ≡ run_state old first

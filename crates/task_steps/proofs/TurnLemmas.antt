@@ -4,16 +4,15 @@ use Rattle.std.proofs.Common.{true≢false, nat_le}
 use Rattle.stack_base.specs.declared.ids.DevId.{DevId}
 use Rattle.stack_base.specs.declared.ids.SetId.TheVariants.{Fs}
 use Rattle.bio_records.specs.declared.tasks.TaskLists.{TaskLists}
-use Rattle.run_machine.specs.declared.event.Breach.{Breach}
 use Rattle.run_machine.specs.declared.event.TaskId.TheVariants as id
 use Rattle.task_steps.specs.declared.step.Step.{Step}
-use Rattle.task_steps.specs.declared.step.Step.TheVariants.{Waiting, Broken, Ended}
+use Rattle.task_steps.specs.declared.step.Step.TheVariants.{Waiting}
 use Rattle.task_steps.specs.declared.writer.begin.Attempt.{Attempt}
 use Rattle.run_machine.specs.Scene.{Setup}
-use Rattle.run_machine.specs.Requests.{Request, Reply, TakeBio, LookRound, Rest, Present}
+use Rattle.run_machine.specs.Requests.{Request, Reply, TakeBio, LookRound, Present}
 use Rattle.run_machine.specs.Lines.{Takes, Punts, Links, ToPush, ToCut, ToRecord, ToMaster, Doing, Rests, Drives, Copies, Breaks, Line, line_request, line_answered}
 use Rattle.run_machine.specs.Tasks.{Todo, Gathered, NoBio, HasBio, HasBoth, TaskState, Writer, Rescuer, needs_vector, with_bio, write_request, writer_request, writer_look, lets, rescuer_request, writer_answered, rescuer_answered}
-use Rattle.task_steps.specs.Turns.{Asks, Turns, Rested, Waited, Asked, Saw, doing_breach, resting_step}
+use Rattle.task_steps.specs.Turns.{Asks, Turns, Waited, Asked, Saw}
 use Rattle.task_steps.specs.LineViews.{is_asking, is_over}
 use Rattle.task_steps.specs.Answers.{AnswersSubmission}
 use Rattle.task_steps.specs.WriterViews.{WriteAnswers, is_taken, tried}
@@ -39,13 +38,6 @@ module _ {S : Type 0} (serves : S → Request → Reply → S → Type 0) (owes 
   asking_is (Breaks breach kept) asking = refl
   asking_is (Drives bio ask) asking = refl
   asking_is (Copies bio master leg want) asking = refl
-
-  -- one that neither asks nor has broken off is over
-  pub it_rests : (doing : Doing) → is_asking doing ≡ false → doing_breach doing ≡ None → doing ≡ Rests
-  it_rests Rests asking none = refl
-  it_rests (Breaks breach kept) asking none = absurd cc
-  it_rests (Drives bio ask) asking none = absurd (true≢false asking)
-  it_rests (Copies bio master leg want) asking none = absurd (true≢false asking)
 
   -- such a writer, or one that has broken off, asks for what its submission does, and looks at nothing
   no_look : (todo : List Todo) (taken : Gathered) (doing : Doing) → is_over doing ≡ false → writer_look todo taken doing ≡ None
@@ -81,33 +73,6 @@ module _ {S : Type 0} (serves : S → Request → Reply → S → Type 0) (owes 
       (asks_once serves owes setup (Writer number todo taken line) (line_request setup line.doing line.lists) old (Writer number todo taken next) new step answers.reply
       (writer_asks number todo taken line.doing line over) (line_asks_any line.doing line.lists asking) answers.replied answers.owed answers.found
       (ap (λ (l : Line). Writer number todo taken l) answers.goes_on ∙ writer_goes_on number todo taken line.doing line answers.reply over) answers.tells)
-
-  -- one that has broken off says so
-  broken_asks : (doing : Doing) (lists : TaskLists) (breach : Breach) → doing_breach doing ≡ Some breach → line_request setup doing lists ≡ Rest
-  broken_asks Rests lists breach broken = refl
-  broken_asks (Breaks other kept) lists breach broken = refl
-  broken_asks (Drives bio ask) lists breach broken = absurd cc
-  broken_asks (Copies bio master leg want) lists breach broken = absurd cc
-
-  broken_is : (doing : Doing) (breach : Breach) → doing_breach doing ≡ Some breach → is_over doing ≡ false
-  broken_is Rests breach broken = absurd cc
-  broken_is (Breaks other kept) breach broken = refl
-  broken_is (Drives bio ask) breach broken = refl
-  broken_is (Copies bio master leg want) breach broken = refl
-
-  pub writer_broken : (number : ℕ) (todo : List Todo) (taken : Gathered) (line : Line) (old : S) (breach : Breach) → doing_breach line.doing ≡ Some breach
-      → Turns serves owes setup (Writer number todo taken line) old (Writer number todo taken line) old (Broken breach)
-  writer_broken number todo taken line old breach broken =
-      Rested (writer_asks number todo taken line.doing line (broken_is line.doing breach broken) ∙ broken_asks line.doing line.lists breach broken)
-      refl refl (ap resting_step (sym broken))
-
-  -- one with no write left has ended
-  pub writer_ended : (number : ℕ) (todo : List Todo) (taken : Gathered) (line : Line) (old : S) → line.doing ≡ Rests → todo ≡ []
-      → Turns serves owes setup (Writer number todo taken line) old (Writer number todo taken line) old Ended
-  writer_ended number todo taken line old rests none =
-      Rested (ap (λ (todo : List Todo). writer_request setup number todo taken line.doing line) none
-      ∙ ap (λ (doing : Doing). writer_request setup number [] taken doing line) rests)
-      refl refl (ap (λ (doing : Doing). resting_step (doing_breach doing)) (sym rests))
 
   -- what a writer does for its next write
   with_bio_any : (number : ℕ) (needs : Bool) (todo : Todo) → asks_any (with_bio number needs todo) ≡ true
@@ -201,9 +166,3 @@ module _ {S : Type 0} (serves : S → Request → Reply → S → Type 0) (owes 
       (asks_once serves owes setup (Rescuer dev line) (line_request setup line.doing line.lists) old (Rescuer dev next) new step answers.reply
       (rescuer_asks dev line.doing line over) (line_asks_any line.doing line.lists asking) answers.replied answers.owed answers.found
       (ap (λ (l : Line). Rescuer dev l) answers.goes_on ∙ rescuer_goes_on dev line.doing line answers.reply over) answers.tells)
-
-  pub rescuer_broken : (dev : DevId) (line : Line) (old : S) (breach : Breach) → doing_breach line.doing ≡ Some breach
-      → Turns serves owes setup (Rescuer dev line) old (Rescuer dev line) old (Broken breach)
-  rescuer_broken dev line old breach broken =
-      Rested (rescuer_asks dev line.doing line (broken_is line.doing breach broken) ∙ broken_asks line.doing line.lists breach broken)
-      refl refl (ap resting_step (sym broken))

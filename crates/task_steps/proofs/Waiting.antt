@@ -1,7 +1,7 @@
 -- What holds of each bio that waits holds of those that wait next.
 use Rattle.std.proofs.Common.{◌≡◌, ◌++◌, List, [], ◌∷◌, All, filter, subst}
 use Rattle.std.specs.Prelude.{not}
-use Rattle.std.proofs.lemmas.List.Elements.{All-head, All-tail, All-nil, All-cons, All-append, All-filter}
+use Rattle.std.proofs.lemmas.List.Elements.{All-head, All-nil, All-cons, All-append, All-filter}
 use Rattle.stack_base.specs.declared.ids.DevId.{DevId}
 use Rattle.bio_records.specs.declared.bio.Pad.{Pad}
 use Rattle.bio_records.specs.declared.tasks.TaskLists.{TaskLists}
@@ -23,9 +23,6 @@ module _ (P : Item Pad → Type 0) (lists : TaskLists) (have : BothHave P lists)
   -- of the one that is served next, and of the others
   pub next_has : (dev : DevId) (item : Item Pad) (rest : List (Item Pad)) → order dev lists ≡ item ∷ rest → P item
   next_has dev item rest e = All-head P item rest (subst (All P) e (all_ordered dev))
-
-  pub rest_has : (dev : DevId) (item : Item Pad) (rest : List (Item Pad)) → order dev lists ≡ item ∷ rest → All P rest
-  rest_has dev item rest e = All-tail P item rest (subst (All P) e (all_ordered dev))
 
   -- one more is submitted
   pub all_submitted : (item : Item Pad) → P item → BothHave P (submitted item lists)

@@ -122,10 +122,3 @@ is_over Rests = true
 is_over (Drives bio ask) = false
 is_over (Copies bio master leg want) = false
 is_over (Breaks breach kept) = false
-
--- whether it has broken off
-abbrev pub has_broken_off : Doing → Bool
-has_broken_off Rests = false
-has_broken_off (Drives bio ask) = false
-has_broken_off (Copies bio master leg want) = false
-has_broken_off (Breaks breach kept) = true

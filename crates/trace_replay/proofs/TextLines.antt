@@ -158,13 +158,6 @@ whole_first (byte ∷ next ∷ more) back = by (ends_line byte) refl (whole_firs
         ∙ onto byte (lines (next ∷ more)) (lines back) (some_lines (slice_split ends_line (next ∷ more)) (more_parts next more))
         ∙ ap (λ ls. ls ++ lines back) (sym (byte_first byte next more is))
 
--- a text that ends with a line's end is in whole lines
-pub whole_stays : (body : List ℕ) → in_whole_lines (body ++ 10 ∷ []) ≡ body ++ 10 ∷ []
-unfolding in_whole_lines
-whole_stays [] = refl
-whole_stays (byte ∷ []) = refl
-whole_stays (byte ∷ next ∷ body) = ap (λ all. byte ∷ all) (whole_stays (next ∷ body))
-
 -- a byte within a line
 abbrev pub is_inner : ℕ → Bool
 is_inner byte = not (byte == 10)

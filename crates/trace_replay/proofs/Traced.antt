@@ -1,5 +1,5 @@
 -- The trace of a run is replayed to its end.
-use Rattle.std.proofs.Common.{◌≡◌, ◌<◌, ℕ, true, List, [], ◌∷◌, ◌++◌, length, filter, map, refl, sym, ap, ◌∙◌, subst, arith}
+use Rattle.std.proofs.Common.{◌≡◌, ◌<◌, ℕ, List, [], ◌∷◌, ◌++◌, length, filter, map, refl, sym, ap, ◌∙◌, subst, arith}
 use Rattle.std.specs.Prelude.{All, sum, drop, slice_index_or}
 use Rattle.std.specs.List.{before_first}
 use Rattle.std.proofs.lemmas.List.{append_assoc, append-nil, length-map}
@@ -33,10 +33,6 @@ use Rattle.trace_replay.specs.declared.walk.Replayed.{Replayed}
 use Rattle.trace_replay.proofs.Exact.{no_bad_line, none_left, one_told}
 use Rattle.trace_replay.proofs.TextLines.{line_first, whole_first, told_are, none_told}
 use Rattle.trace_replay.proofs.renaming.Runs.{runs_are_read_by_names}
-
--- a line of an event begins with its word
-is_event : (stack : Stack) (event : Event) → is_told (line_of_event stack event) ≡ true
-is_event stack event = refl
 
 -- the lines of a trace are its events'
 module _ (stack : Stack) (named : DevicesAreNamed stack) (text_lines : LinesAreText) where

@@ -14,7 +14,7 @@ use Rattle.decl_text.specs.Refusals.{first_found, refusal}
 use Rattle.decl_text.specs.declared.item.Item.{Item}
 use Rattle.decl_text.specs.declared.item.Item.TheVariants as item
 use Rattle.stack_base.specs.declared.stack.Kind.{Kind}
-use Rattle.stack_base.specs.Tree.{Copies, Cuts, Leaf, Tree, member_at, over_shape, size, weight}
+use Rattle.stack_base.specs.Tree.{Copies, Cuts, Leaf, Tree, member_at, over_shape, weight}
 use Rattle.stack_base.specs.Mapping.{size_of, smallest}
 use Rattle.layout_model.specs.Bound.{most_elements}
 use Rattle.layout_model.specs.Need.{needed, vectors}
@@ -86,10 +86,6 @@ module _ (m0 m1 m2 m3 c0 c1 : List ℕ) where
   weighs : weight top ≡ 9
   unfolding weight over_shape
   weighs = refl
-
-  size_is : size top ≡ min (stripe_of c0) (stripe_of c1)
-  unfolding over_shape size_of smallest
-  size_is = refl
 
   -- at most eleven elements a sector: its bio, a vector, and what begins below
   eleven : (write : Written) → write.dev ≡ 10 → 1 ≤ write.count → elements_in devices write ≤ 11 * write.count

@@ -1,7 +1,6 @@
 -- Marks of sectors, and what it is to read and to set a run of them.
-use Rattle.std.proofs.Common.{◌≡◌, ℕ, zero, suc, ◌+◌, ◌==◌, ◌≤◌, ◌&&◌, ◌||◌, Bool, true, false, nat_le, nat_lt, List, length, take, drop, get_or, refl, ap, arith}
+use Rattle.std.proofs.Common.{◌≡◌, ℕ, zero, suc, ◌+◌, ◌==◌, ◌≤◌, ◌&&◌, ◌||◌, Bool, nat_le, nat_lt, List, length, take, drop, get_or, refl, ap, arith}
 use Rattle.std.specs.List.{list_any, range_with_len}
-use Rattle.std.proofs.lemmas.Bool.Decides.{nat_tests}
 use Rattle.std.proofs.lemmas.List.{drop_more}
 
 -- some place of a run has this mark
@@ -14,13 +13,3 @@ any_from mark xs start (suc count) le =
 -- whether sector k is one of those from start on and before end
 abbrev pub inside : ℕ → ℕ → ℕ → Bool
 inside start end k = nat_le start k && nat_lt k end
-
--- none at the start
-pub inside_none : (start k : ℕ) → inside start start k ≡ false
-inside_none start k = grind (arith, nat_tests)
-
-inside_same : (start at k : ℕ) → start ≤ at → k ≡ at → inside start (at + 1) k ≡ true
-inside_same start at k le same = grind (arith, nat_tests)
-
-inside_other : (start at k : ℕ) → (k ≡ at → ⊥) → inside start (at + 1) k ≡ inside start at k
-inside_other start at k other = grind (arith, nat_tests)

@@ -21,7 +21,7 @@ use Rattle.bio_records.specs.Items.{Item}
 use Rattle.stack_base.specs.declared.ids.DevId.{DevId}
 use Rattle.bio_books.specs.declared.node.Role.{Role}
 use Rattle.bio_books.specs.declared.node.Role.TheVariants as role
-use Rattle.bio_books.specs.Books.{Node, VectorItem, SlipItem, Holding, node_at}
+use Rattle.bio_books.specs.Books.{Node, SlipItem, node_at}
 use Rattle.bio_books.specs.Drops.{Closed}
 use Rattle.model_disks.specs.Disks.{DiskState}
 use Rattle.run_machine.specs.declared.event.Event.{Event}
@@ -30,8 +30,8 @@ use Rattle.run_machine.specs.Lines.{Line}
 use Rattle.run_machine.specs.Tasks.{TaskState, Writer, Rescuer, Completer, Keeper, Todo, Gathered, NoBio, HasBio, HasBoth, Duty, Resizes, Starts, Empty, Brings, Carries, Fails}
 use Rattle.run_machine.specs.Opened.{Scenario, scene, start, todos, duties, keepers, setup as setup_in, writers}
 use Rattle.run_machine.specs.Runs.{State, IsRun}
-use Rattle.block_core.specs.Weights.{Weight, Rescued, Pending, total, one, weigh_option, task_weight, book_weight, gathered_weight, elements_of_pool, holding_elements, refs, under}
-use Rattle.block_core.specs.Charges.{there, task_duties, duties_left}
+use Rattle.block_core.specs.Weights.{Weight, Rescued, Pending, total, one, weigh_option, task_weight, book_weight, gathered_weight, elements_of_pool, refs, under}
+use Rattle.block_core.specs.Charges.{task_duties, duties_left}
 use Rattle.block_core.specs.Exact.{is_miss, NoneMissed, all_nodes, all_below, starts_round, StepsWithoutMisses}
 use Rattle.block_core.specs.Fragments.{todo_fragments, HasNone, NothingComes}
 use Rattle.block_core.specs.Rounds.{round_of, is_of_round, tops_left, unfinished_of}
@@ -219,21 +219,6 @@ module _ (scene : Scene) (s : State) (i : Kept scene s) (held : total scene odd 
 
   home : (p place : ℕ) (x : TaskState) → place < scene.tasks → s.task place ≡ x → task_weight (elements_of_pool p) place x ≡ 0
   home p place x lt is = omega (arith, i.outs p, out p, task_part scene (elements_of_pool p) s place x lt is)
-
-  holds_none : (held : Holding) → ((p : ℕ) → holding_elements p held ≡ 0) → there held.bio + there held.vector + there held.slip ≡ 0
-  holds_none held none = omega (arith, by_bio held.bio (λ p. omega (arith, none p)), by_vector held.vector (λ p. omega (arith, none p)), by_slip held.slip (λ p. omega (arith, none p)))
-    where
-      by_bio : (bio : Option (Item Pad)) → ((p : ℕ) → weigh_option (λ (bio : Item Pad). one bio.share.no p) bio ≡ 0) → there bio ≡ 0
-      by_bio None none = refl
-      by_bio (Some bio) none = absurd (omega (arith, none bio.share.no, one-same bio.share.no))
-
-      by_vector : (vector : Option VectorItem) → ((p : ℕ) → weigh_option (λ (vector : VectorItem). one vector.share.no p) vector ≡ 0) → there vector ≡ 0
-      by_vector None none = refl
-      by_vector (Some vector) none = absurd (omega (arith, none vector.share.no, one-same vector.share.no))
-
-      by_slip : (slip : Option SlipItem) → ((p : ℕ) → weigh_option (λ (slip : SlipItem). one slip.share.no p) slip ≡ 0) → there slip ≡ 0
-      by_slip None none = refl
-      by_slip (Some slip) none = absurd (omega (arith, none slip.share.no, one-same slip.share.no))
 
   -- no closed node is carried: it would be told to an open one, or its write be unfinished
   no_closed : (place : ℕ) (disk : DevId) (writer : ℕ) (closed : Closed) → place < scene.tasks → s.task place ≡ Completer disk (Carries writer closed) → (parent : Option ℕ) → closed.parent ≡ parent → ⊥

@@ -1,5 +1,5 @@
 -- Over a valid stack: where bios land, how they are cut and copied, and what they are worth.
-use Rattle.std.proofs.Common.{◌≡◌, ◌≢◌, ◌+◌, ◌-◌, ◌<◌, ◌≤◌, ◌==◌, not, ℕ, zero, suc, Bool, true, false, IsTrue, List, length, map, Some, inl, inr, refl, sym, ◌∙◌, ap, subst, arith, cond, get_or}
+use Rattle.std.proofs.Common.{◌≡◌, ◌≢◌, ◌+◌, ◌<◌, ◌≤◌, ◌==◌, not, ℕ, zero, suc, Bool, true, false, IsTrue, List, length, map, Some, inl, inr, refl, sym, ◌∙◌, ap, subst, arith, cond, get_or}
 use Rattle.std.specs.Prelude.{slice_get}
 use Rattle.stack_base.specs.declared.ids.DevId.{DevId}
 use Rattle.stack_base.specs.declared.ids.Range.{Range}
@@ -211,22 +211,6 @@ module _ (stack : Stack) (good : IsStack stack) (places : ℕ → ℕ) where
   -- how many fragments a bio has
   abbrev pub parts : Bio → ℕ
   parts bio = fragments_of (tree stack bio.dev.0) bio.range.start bio.range.len
-
-  no_parts : (t : Tree) (start : ℕ) → fragments_of t start 0 ≡ 0
-  unfolding fragments_of
-  no_parts t start = refl
-
-  whole_parts : IsWhole parts
-  whole_parts bio device found cuts to len =
-      let run = to.run in
-      let first = first_piece stack device bio.range in
-      let none : bio.range.len - first.len ≡ 0 = omega (arith, len) in
-      let rest : fragments_of (tree stack bio.dev.0) (bio.range.start + first.len) (bio.range.len - first.len) ≡ 0 =
-      ap (fragments_of (tree stack bio.dev.0) (bio.range.start + first.len)) none ∙ no_parts (tree stack bio.dev.0) (bio.range.start + first.len) in
-      omega (arith, run.counts, rest, ap (fragments_of (tree stack to.dev.0) first.at) len)
-
-  pub lands_parts : (bio : Bio) → IsThere setup bio → parts (landed (tree_at setup bio.dev) bio) ≡ parts bio
-  lands_parts bio there = (falls parts whole_parts (bio.dev.0 + 1) bio (omega arith) there).same
 
   pub lands_needs : (bio : Bio) → IsThere setup bio → needs (landed (tree_at setup bio.dev) bio) ≡ needs bio
   lands_needs bio there = (falls needs whole_needs (bio.dev.0 + 1) bio (omega arith) there).same

@@ -13,10 +13,10 @@ use Rattle.stack_base.specs.declared.ids.Status.{Status}
 use Rattle.bio_books.specs.Books.{Node, VectorItem, SlipItem, Holding, node_at, later_part}
 use Rattle.model_disks.specs.Disks.{DiskState}
 use Rattle.run_machine.specs.Scene.{Setup, Scene, tree_at}
-use Rattle.run_machine.specs.Lines.{Want, Takes, Punts, Links, ToPush, ToCut, ToRecord, ToMaster, Doing, Rests, Drives, Copies, Breaks, Line, rests, copies, first_length, landed, legs_of, leg_at}
+use Rattle.run_machine.specs.Lines.{Takes, Punts, Links, ToPush, ToCut, ToRecord, ToMaster, Doing, Rests, Drives, Copies, Breaks, Line, rests, copies, first_length, landed, legs_of, leg_at}
 use Rattle.run_machine.specs.Tasks.{TaskState, Writer, Rescuer, Completer, Keeper, Todo, Gathered, NoBio, HasBio, HasBoth, Carried, Empty, Brings, Carries, Fails}
 use Rattle.run_machine.specs.Runs.{State}
-use Rattle.block_core.specs.Weights.{Weight, Spot, Lined, Rescued, Pending, total, sum_at, weigh_option, want_weight, doing_weight, line_weight, gathered_weight, carried_weight, task_weight, book_weight, elements_of_pool, holding_elements, one, no_weight}
+use Rattle.block_core.specs.Weights.{Weight, Spot, Lined, Rescued, Pending, total, sum_at, weigh_option, doing_weight, line_weight, gathered_weight, carried_weight, task_weight, book_weight, elements_of_pool, holding_elements, one, no_weight}
 use Rattle.block_core.specs.Charges.{there}
 use Rattle.block_core.specs.Rooms.{to_open, todo_need, legs_need}
 use Rattle.block_core.proofs.moves.Moves.{Move, Can, after, lost, gained, limit_of, HasLine, Tells, gathered_of, filled_of, cut_lists}
@@ -169,11 +169,6 @@ module _ (scene : Scene) (s : State) (g : Ground scene.setup) (n : Needs scene.s
   -- each element that is out is one of these
   few : (share : LedgerId) (q : ℕ) → one share.no q ≤ 1
   few share q = omega (arith, some_of share.no q 1)
-
-  want_few : (q : ℕ) (want : Want) → want_weight (elements_of_pool q) want ≤ 1
-  want_few q (Takes waits) = omega arith
-  want_few q Punts = omega arith
-  want_few q (Links hand) = few hand.share q
 
   doing_out : (q limit : ℕ) (doing : Doing) (lists : TaskLists) → DoingFits scene.setup doing lists → DoingPlaced scene.setup limit doing lists
       → doing_weight (elements_of_pool q) limit doing ≤ doing_weight (worth scene.setup) limit doing

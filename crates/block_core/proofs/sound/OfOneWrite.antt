@@ -2,8 +2,6 @@
 use Rattle.std.proofs.Common.{◌≡◌, ◌≢◌, ◌+◌, ◌<◌, ◌≤◌, ◌==◌, ℕ, List, [], ◌∷◌, Option, None, Some, inr, refl, sym, ◌∙◌, ap, subst, arith}
 use Rattle.std.proofs.lemmas.List.Sums.{sum_by-cons, sum_by_push}
 use Rattle.elem_ledger.specs.Ledger.{LedgerId}
-use Rattle.stack_base.specs.declared.ids.DevId.{DevId}
-use Rattle.stack_base.specs.declared.ids.Status.{Status}
 use Rattle.stack_base.specs.Tree.{Tree, Leaf, Split, Mirrored}
 use Rattle.bio_records.specs.declared.bio.Bio.{Bio}
 use Rattle.bio_records.specs.declared.bio.Pad.{Pad}
@@ -15,21 +13,21 @@ use Rattle.bio_books.specs.Links.{IsVacant}
 use Rattle.run_machine.specs.declared.event.Event.{Event}
 use Rattle.run_machine.specs.Scene.{Scene, tree_at}
 use Rattle.run_machine.specs.Lines.{Want, Ask, Links, ToCut, ToMaster, Drives, Copies, first_length, legs_of, leg_at}
-use Rattle.run_machine.specs.Tasks.{TaskState, Todo, Completer, Carried, Empty, Brings, Carries, Fails}
+use Rattle.run_machine.specs.Tasks.{TaskState, Todo}
 use Rattle.run_machine.specs.Opened.{Scenario, scene, start, setup as setup_in}
 use Rattle.run_machine.specs.Runs.{State, IsRun}
-use Rattle.block_core.specs.Weights.{total, task_weight, carried_weight, under}
+use Rattle.block_core.specs.Weights.{total, under}
 use Rattle.block_core.specs.Weights.{apart}
 use Rattle.block_core.specs.Scenarios.{IsScenario}
 use Rattle.block_core.specs.OfOneWrite.{bio_strays, parent_strays, strays, AreOfOneWrite, AllAreOfOneWrite}
-use Rattle.block_core.proofs.moves.Moves.{Move, Can, after, lost, gained, limit_of, HasLine, filled_of, cut_lists, Tells}
+use Rattle.block_core.proofs.moves.Moves.{Move, Can, after, lost, gained, limit_of, HasLine, gathered_of, filled_of, vector_of, cut_lists, piece}
 use Rattle.block_core.proofs.moves.Moves as moves
 use Rattle.block_core.proofs.sound.Facts.{TaskFits, Fair, Kept}
 use Rattle.block_core.proofs.sound.TaskLines.{line_fits}
 use Rattle.block_core.proofs.sound.Orders.{Ground}
 use Rattle.block_core.proofs.moves.Devices.{ground}
 use Rattle.block_core.proofs.moves.Deltas.{vacant_at, delta}
-use Rattle.block_core.proofs.sound.Places.{sum_at-ge, copies_weight, unless, unless_none, cut_weight, line_part}
+use Rattle.block_core.proofs.sound.Places.{copies_weight, unless, unless_none, cut_weight, line_part}
 use Rattle.block_core.proofs.moves.Listed.{IsBlind, landed_same, first_weight, goes_weight}
 use Rattle.block_core.proofs.moves.Marked.{with_mark, mark_here, mark_other, mark_still, IsUnmoved, none_moves}
 use Rattle.block_core.proofs.stuck.Idle.{node_part}
@@ -39,13 +37,6 @@ use Rattle.block_core.proofs.sound.Wholes.{Whole, runs_whole, start_whole}
 
 blind_strays : (write_of : ℕ → ℕ → ℕ) → IsBlind (strays write_of)
 blind_strays write_of limit item t = landed_same (λ (bio : Bio). apart (write_of bio.writer bio.node) bio.write) (λ to members bio. refl) t item.bio
-
--- the write of what a completer carries
-abbrev pub write_in : Carried → ℕ
-write_in Empty = 0
-write_in (Brings bio status) = bio.bio.write
-write_in (Carries writer closed) = closed.write
-write_in (Fails breach kept) = 0
 
 -- what names another place than a vacant one stays with its write
 module _ (write_of : ℕ → ℕ → ℕ) (writer key n : ℕ) where
@@ -215,26 +206,6 @@ module _ (scene : Scene) (s : State) (i : Kept scene s) (write_of : ℕ → ℕ 
       → HasLine x (Copies bio master leg want) lists → node_at (s.objects.book bio.writer) master ≡ Some node → node.write ≡ bio.write
   copied_of_write place x bio master leg want lists node here is h at =
       omega (arith, none, node_write bio.writer master node at, line_part scene (strays write_of) s place x (Copies bio master leg want) lists here is h)
-
-  -- what a completer tells a node is of the node's write,
-  pub told_of_write : (place : ℕ) (disk : DevId) (carried : Carried) (writer key : ℕ) (status : Status) (part : Option (Item Pad)) (node : Node) → place < scene.tasks
-      → s.task place ≡ Completer disk carried → Tells carried writer key status part → node_at (s.objects.book writer) key ≡ Some node → write_in carried ≡ node.write
-  told_of_write place disk carried writer key status part node here is t at =
-      let a : task_weight (strays write_of) place (s.task place) ≡ carried_weight (strays write_of) place carried = ap (task_weight (strays write_of) place) is in
-      let b = sum_at-ge (task_weight (strays write_of)) scene.tasks s.task place here in
-      let c = node_write writer key node at in
-      by_carried carried t (omega (arith, a, b, none)) c
-    where
-      by_carried : (x : Carried) → Tells x writer key status part → carried_weight (strays write_of) place x ≡ 0 → write_of writer key ≡ node.write → write_in x ≡ node.write
-      by_carried Empty t off of_node = absurd t
-      by_carried (Brings bio ending) t off of_node =
-          let same : write_of bio.bio.writer bio.bio.node ≡ write_of writer key = ap (write_of bio.bio.writer) (sym t.1) ∙ ap (λ v. write_of v key) (sym t.0) in
-          omega (arith, same, off, of_node)
-      by_carried (Carries of closed) t off of_node =
-          let up : parent_strays write_of of closed.parent closed.write ≡ apart (write_of of key) closed.write = ap (λ p. parent_strays write_of of p closed.write) t.1 in
-          let same : write_of of key ≡ write_of writer key = ap (λ v. write_of v key) (sym t.0) in
-          omega (arith, up, same, off, of_node)
-      by_carried (Fails breach kept) t off of_node = absurd t
 
   -- and a node is of the write of the one that it is under
   pub child_of_write : (writer key parent : ℕ) (child node : Node) → node_at (s.objects.book writer) key ≡ Some child → parent_of child.role ≡ Some parent

@@ -105,15 +105,6 @@ pub all_map : {X : Type 0} (P Q : X → Type 0) → ((x : X) → P x → Q x) �
 all_map P Q more [] all = All-nil Q
 all_map P Q more (x ∷ xs) all = All-cons Q x xs (more x (All-head P x xs all)) (all_map P Q more xs (All-tail P x xs all))
 
--- what a test passed, and of what it passes nothing
-passed_all : {X : Type 0} (p : X → Bool) (xs : List X) → All (λ x. p x ≡ true) (filter p xs)
-passed_all p [] = All-nil (λ x. p x ≡ true)
-passed_all p (x ∷ xs) = by_test (p x) refl (passed_all p xs)
-  where
-    by_test : (v : Bool) → p x ≡ v → All (λ x. p x ≡ true) (filter p xs) → All (λ x. p x ≡ true) (if v then x ∷ filter p xs else filter p xs)
-    by_test true is rest = All-cons (λ x. p x ≡ true) x (filter p xs) is rest
-    by_test false is rest = rest
-
 passed_none : {X : Type 0} (p : X → Bool) (xs : List X) → All (λ x. p x ≡ false) xs → filter p xs ≡ []
 passed_none p [] none = refl
 passed_none p (x ∷ xs) none = by_test (p x) refl (passed_none p xs (All-tail (λ x. p x ≡ false) x xs none)) (All-head (λ x. p x ≡ false) x xs none)

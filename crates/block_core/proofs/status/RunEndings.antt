@@ -180,12 +180,6 @@ module _ (stack : Stack) (good : IsStack stack) (places : ℕ → ℕ) (ends : F
       let shape_is : HasShape device.kind (length device.members.items) = (good.each number device found).shape in
       kind_cuts device.kind (sizes_at stack device) (can_cut device.kind (length device.members.items) shape_is cuts)
 
-  abbrev member_of : (number : ℕ) (device : Device) → ℕ → Tree
-  member_of number device start = members_at stack number device (slot device.kind (sizes_at stack device) start).member
-
-  abbrev at_of : (device : Device) → ℕ → ℕ
-  at_of device start = (slot device.kind (sizes_at stack device) start).at
-
   whole_run : (end : Status) → IsWhole stack good places (λ bio. bio_may setup ends bio end)
   whole_run end bio device found cuts to whole =
       let sizes = sizes_at stack device in

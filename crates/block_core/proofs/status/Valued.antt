@@ -44,10 +44,6 @@ so : (b : Bool) → 1 ≤ yes b → IsTrue b
 so true le = refl
 so false le = absurd (omega (arith, le))
 
-not_so : (b : Bool) → yes b ≡ 0 → IsTrue b → ⊥
-not_so true none is = absurd (omega (arith, none))
-not_so false none is = absurd (let e = is in cc)
-
 as_one : (b : Bool) → IsTrue b → yes b ≡ 1
 as_one true is = refl
 as_one false is = absurd (let e = is in cc)

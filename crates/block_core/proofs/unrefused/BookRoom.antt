@@ -4,7 +4,6 @@ use Rattle.std.specs.Prelude.{sum_by}
 use Rattle.std.proofs.lemmas.List.{length-set}
 use Rattle.std.proofs.lemmas.List.Sums.{sum_by-cons, sum_by_push}
 use Rattle.stack_base.specs.declared.ids.DevId.{DevId}
-use Rattle.stack_base.specs.declared.ids.Status.{Status}
 use Rattle.stack_base.specs.Tree.{Tree, Leaf, Split, Mirrored}
 use Rattle.bio_records.specs.declared.bio.Bio.{Bio}
 use Rattle.bio_records.specs.declared.bio.Pad.{Pad}
@@ -18,10 +17,10 @@ use Rattle.run_machine.specs.Maps.{upd}
 use Rattle.run_machine.specs.Scene.{Setup, Scene, tree_at}
 use Rattle.bioset_pools.specs.Sets.{waits_first}
 use Rattle.run_machine.specs.Lines.{Takes, Links, ToPush, ToCut, ToMaster, Doing, Drives, Copies, settled, goes_on, copies, first_length, landed, legs_of, leg_at}
-use Rattle.run_machine.specs.Tasks.{TaskState, Todo, Carried, Empty, Brings, Carries, Fails, first_bio}
+use Rattle.run_machine.specs.Tasks.{TaskState, Todo, first_bio}
 use Rattle.run_machine.specs.Runs.{State}
-use Rattle.block_core.specs.Weights.{total, one, line_weight, carried_weight}
-use Rattle.block_core.proofs.moves.Moves.{Move, Can, after, limit_of, HasLine, filled_of, cut_lists, Tells, piece}
+use Rattle.block_core.specs.Weights.{total, one, line_weight}
+use Rattle.block_core.proofs.moves.Moves.{Move, IsTaking, place_of, Can, after, lost, gained, limit_of, with_line, HasLine, Wants, with_want, gathered_of, filled_of, vector_of, cut_lists, IsTake, Hands, piece, with_pool, with_book}
 use Rattle.block_core.proofs.moves.Moves as moves
 use Rattle.block_core.proofs.moves.Sums.{upd-same, upd-other, same_or_not}
 use Rattle.block_core.proofs.sound.Facts.{TaskFits, Kept}
@@ -91,12 +90,6 @@ module _ (scene : Scene) (s : State) (g : Worth scene.setup) (ground : Ground sc
 
   at : (place : ℕ) (x : TaskState) (doing : Doing) (lists : TaskLists) → s.task place ≡ x → HasLine x doing lists → DoingPlaced setup (limit_of x) doing lists
   at place x doing lists is h = line_placed setup x doing lists (subst (TaskPlaced setup) is (p.tasks place)) h
-
-  carried_none : (place : ℕ) (carried : Carried) (writer key : ℕ) (status : Status) (part : Option (Item Pad)) → Tells carried writer key status part → carried_weight (places setup w) place carried ≡ 0
-  carried_none place (Brings bio ending) writer key status part t = refl
-  carried_none place (Carries of closed) writer key status part t = refl
-  carried_none place Empty writer key status part t = absurd t
-  carried_none place (Fails breach kept) writer key status part t = absurd t
 
   -- what an event takes and gives
   room : (m : Move) → Can scene s m → total scene (places setup w) (after scene s m) ≤ total scene (places setup w) s

@@ -9,7 +9,7 @@ use Rattle.stack_base.specs.PoolId.{pool_number}
 use Rattle.bio_records.specs.declared.bio.Pad.{Pad}
 use Rattle.bio_records.specs.declared.tasks.TaskLists.{TaskLists}
 use Rattle.bio_records.specs.Items.{Item}
-use Rattle.mempool_core.specs.Move.{PoolState, gives, resizes, CanMove}
+use Rattle.mempool_core.specs.Move.{gives, resizes, CanMove}
 use Rattle.model_disks.specs.Disks.{DiskState}
 use Rattle.model_disks.specs.Moves.{pushed, Completes}
 use Rattle.bio_books.specs.Books.{BookState, VectorItem, SlipItem}
@@ -69,10 +69,6 @@ pub give_slip : (old new : CoreObjects) (slip : SlipItem) (what : What) (result 
 give_slip old new slip what (Ok d) t = record { stack = ap (λ (o : CoreObjects). o.stack) t.1.2; told = ap Some (sym t.0); serves = moves old new _ gives t.1 }
 give_slip old new slip what (Err fault.NotEnabled) t = (t.0, not_given_slip old slip what t.1)
 give_slip old new slip what (Err fault.Memory) t = absurd t
-
--- a reserve that changes: nothing is out of the pool
-no_more : (pool : PoolState) (min : ℕ) → CanMove pool (resizes min) → (pool.facts.out == 0) ≡ true
-no_more pool min none = rw none refl
 
 resized_by : (pool : PoolId) (min : ℕ) (what : What) (none : Bool) → resize_of none pool min ≡ Some what → (none ≡ true) × (what ≡ told.Resize pool min)
 resized_by pool min what true is = (refl, one is)

@@ -35,10 +35,6 @@ rises_from : (low more : ℕ) (ts : List TaskState) (high : ℕ) → low ≤ mor
 rises_from low more [] high le rises = omega (arith, le, rises)
 rises_from low more (t ∷ ts) high le rises = (let first = rises.0 in omega (arith, le, first), rises.1)
 
-rises_past : (low : ℕ) (ts : List TaskState) (high more : ℕ) → high ≤ more → Rises low ts high → Rises low ts more
-rises_past low [] high more le rises = omega (arith, le, rises)
-rises_past low (t ∷ ts) high more le rises = (rises.0, rises_past (slot_of (id_of t) + 1) ts high more le rises.1)
-
 pub rises_to : (low : ℕ) (ts : List TaskState) (high : ℕ) → Rises low ts high → low ≤ high
 rises_to low [] high rises = rises
 rises_to low (t ∷ ts) high rises = let rest = rises_to (slot_of (id_of t) + 1) ts high rises.1 in let first = rises.0 in omega (arith, first, rest)

@@ -21,7 +21,6 @@ use Rattle.run_machine.specs.Scene.{has_set}
 use Rattle.task_steps.specs.Stage.{Stage, is_pool}
 use Rattle.task_core.proofs.opened.Behind.{no_set_keeps, no_slips_keep, scripts_alone}
 use Rattle.plain_core.specs.opening.Opening.{CanOpen, new_pool}
-use Rattle.plain_core.specs.objects.Plain.{opened_disk}
 use Rattle.plain_core.proofs.opening_lemmas.Readable.{can_open}
 
 -- the pool of a number, by three questions
@@ -120,14 +119,6 @@ module _ (o : Opened) (is : IsOpened o) where
     adds_up facts is_facts =
         full_adds_up facts (reserve_of s.stack (pool_of number)) (script_at s.scripts number)
         (is_facts ∙ ap (λ n. ((objects_of o.objects).pool n).facts) of_number ∙ ap (λ (p : PoolState). p.facts) (pool_there number))
-
-  -- disks
-  pub disk_there : (dev : ℕ) → (objects_of o.objects).disk dev ≡ opened_disk s.stack dev
-  disk_there dev = ap (λ (os : Objects). os.disk dev) is.objects
-
-  -- the tally
-  pub left_there : o.objects.tally.left.items ≡ (objects s).tally.left
-  left_there = ap (λ (os : Objects). os.tally.left) is.objects
 
   -- the stack
   pub stack_there : (own : Routing) → own ≡ stage.routing → own.stack ≡ s.stack

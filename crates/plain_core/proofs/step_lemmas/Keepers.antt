@@ -2,9 +2,8 @@
 use Rattle.std.proofs.Common.{◌≡◌, ◌≢◌, ◌+◌, ◌<◌, ◌⊎◌, inl, inr, ℕ, List, [], ◌∷◌, length, map, drop, sym, ap, subst}
 use Rattle.std.specs.Prelude.{All}
 use Rattle.std.proofs.lemmas.List.{drop_all}
-use Rattle.std.proofs.lemmas.List.Elements.{All-head, All-tail}
+use Rattle.std.proofs.lemmas.List.Elements.{All-tail}
 use Rattle.std.proofs.lemmas.Option.{slice_get_cases}
-use Rattle.run_machine.specs.Tasks.{Duty as Ahead}
 use Rattle.task_steps.specs.declared.keeper.Duty.{Duty}
 use Rattle.task_steps.specs.KeeperViews.{duties_from, duty_of}
 use Rattle.task_steps.proofs.KeeperLemmas.{duty_there}
@@ -30,7 +29,3 @@ others_of_pools duties done some all = elim (at_place duties done) [
   | inl at ↦ All-tail IsOfPool (duty_of at.1.0) (duties_from (done + 1) duties) (subst (All IsOfPool) at.1.1 all)
   | inr none ↦ absurd (some none)
 ]
-
--- the first of all that are left
-pub first_of_pool : (all later : List Ahead) (next : Ahead) → all ≡ next ∷ later → All IsOfPool all → IsOfPool next
-first_of_pool all later next is pools = All-head IsOfPool next later (subst (All IsOfPool) is pools)

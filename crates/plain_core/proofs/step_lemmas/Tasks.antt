@@ -9,7 +9,7 @@ use Rattle.bio_books.specs.Books.{VectorItem, SlipItem, Holding}
 use Rattle.bio_books.specs.Drops.{Closed}
 use Rattle.bio_books.specs.Links.{Made}
 use Rattle.run_machine.specs.declared.event.What.{What}
-use Rattle.run_machine.specs.Requests.{Reply, GiveBio, GiveSlip, Complete, Drop, Done, Did, Completed, DroppedTo, LeftOver, LookRound, Present, HadBio, HadVec, Missed, Pop, Popped, TakeVec, Link, LinkedTo, Write}
+use Rattle.run_machine.specs.Requests.{Reply, GiveBio, GiveSlip, Complete, Drop, Done, Did, Completed, DroppedTo, LeftOver, LookRound, Present, HadBio, HadVec, Missed, Pop, Popped, Link, LinkedTo, Write}
 use Rattle.run_machine.specs.Tasks as task
 use Rattle.run_machine.specs.Lines as line
 use Rattle.run_machine.specs.Runs.{IsLet}
@@ -27,7 +27,7 @@ use Rattle.plain_core.specs.declared.steps.task.Carried.{Carried}
 use Rattle.plain_core.specs.declared.steps.task.Carried.TheVariants as carried
 use Rattle.plain_core.specs.objects.Plain.{CoreObjects, objects_of_core}
 use Rattle.plain_core.specs.steps.Views.{carried_of_plain}
-use Rattle.plain_core.specs.steps.Answers.{IsAnswer, Refuses, HasAnswer, FailsRequest}
+use Rattle.plain_core.specs.steps.Answers.{IsAnswer, Refuses, HasAnswer}
 use Rattle.plain_core.specs.steps.Submissions.{IsSubmitting, LineMoves}
 use Rattle.plain_core.specs.steps.Takes.{TakesPart, TakesVector}
 use Rattle.plain_core.specs.steps.Moves.{TaskMoves, duty_reply}
@@ -169,13 +169,6 @@ writer_ok r old new n tds taken before what reply after rests is_let answer is_a
   is_after ∙ ap (λ d. task.writer_answered (routing_setup r) n tds taken d before reply) (sym rests),
 )
 
-pub writer_failed : (r : Routing) (old new : CoreObjects) (n : ℕ) (tds : List task.Todo) (taken : task.Gathered) (before : line.Line) (what : What) (e : CoreFault)
-    → before.doing ≡ line.Rests → FailsRequest old (task.write_request n tds taken) what e new
-    → TaskMoves r old (task.Writer n tds taken before) what (Err e) new (task.Writer n tds taken before)
-writer_failed r old new n tds taken before what fault.NotEnabled rests f =
-    (f.0, refl, λ let_it. subst (λ q. Refuses old q what) (ap (λ d. task.writer_request (routing_setup r) n tds taken d before) (sym rests)) f.1)
-writer_failed r old new n tds taken before what fault.Memory rests f = absurd f
-
 -- the next write's round has come
 pub round_come : (old : CoreObjects) (n : ℕ) (next : task.Todo) (later : List task.Todo) (before : line.Line) → nat_le next.round old.tally.round ≡ true
     → IsLet ledger_of (objects_of_core old) (task.Writer n (next ∷ later) task.NoBio before) (Some LookRound)
@@ -225,14 +218,6 @@ module _ (r : Routing) (old new : CoreObjects) (n : ℕ) (tds later : List task.
       (writer_ok r old new n (next ∷ later) (task.HasBio part) before what (Missed t.0) (task.Writer n (next ∷ later) (task.HasBio part) before) rests tt
       (subst (λ b. IsAnswer old (task.with_bio n b next) what (Missed t.0) new) (sym needs) t.1) refl))
 
-  pub vector_failed : (part : Item Pad) (e : CoreFault) → taken ≡ task.HasBio part → task.needs_vector next.write ≡ true → FailsRequest old TakeVec what e new
-      → TaskMoves r old (task.Writer n tds taken before) what (Err e) new (task.Writer n tds taken before)
-  vector_failed part e has needs f =
-      writer_failed r old new n tds taken before what e rests
-      (subst (λ k. FailsRequest old (task.write_request n tds k) what e new) (sym has)
-      (subst (λ l. FailsRequest old (task.write_request n l (task.HasBio part)) what e new) (sym is)
-      (subst (λ b. FailsRequest old (task.with_bio n b next) what e new) (sym needs) f)))
-
   pub short_begun : (part filled : Item Pad) (node : ℕ) (after : task.TaskState) → taken ≡ task.HasBio part → task.needs_vector next.write ≡ false
       → filled ≡ task.filled_short n next node part → after ≡ task.Writer n later task.NoBio (line.settled (routing_setup r) (filled ∷ []))
       → IsAnswer old (Link n (Write next.number None)) what (LinkedTo (Made node)) new
@@ -244,14 +229,6 @@ module _ (r : Routing) (old new : CoreObjects) (n : ℕ) (tds later : List task.
       (subst (λ b. IsAnswer old (task.with_bio n b next) what (LinkedTo (Made node)) new) (sym needs) answer)
       (is_after ∙ ap (λ i. task.Writer n later task.NoBio (line.settled (routing_setup r) (i ∷ []))) is_filled)))
 
-  pub short_failed : (part : Item Pad) (e : CoreFault) → taken ≡ task.HasBio part → task.needs_vector next.write ≡ false → FailsRequest old (Link n (Write next.number None)) what e new
-      → TaskMoves r old (task.Writer n tds taken before) what (Err e) new (task.Writer n tds taken before)
-  short_failed part e has needs f =
-      writer_failed r old new n tds taken before what e rests
-      (subst (λ k. FailsRequest old (task.write_request n tds k) what e new) (sym has)
-      (subst (λ l. FailsRequest old (task.write_request n l (task.HasBio part)) what e new) (sym is)
-      (subst (λ b. FailsRequest old (task.with_bio n b next) what e new) (sym needs) f)))
-
   pub long_begun : (part filled : Item Pad) (vector full : VectorItem) (node : ℕ) (after : task.TaskState) → taken ≡ task.HasBoth part vector
       → full ≡ task.filled_vector next vector → filled ≡ task.filled n next node part → after ≡ task.Writer n later task.NoBio (line.settled (routing_setup r) (filled ∷ []))
       → IsAnswer old (Link n (Write next.number (Some full))) what (LinkedTo (Made node)) new
@@ -262,15 +239,6 @@ module _ (r : Routing) (old new : CoreObjects) (n : ℕ) (tds later : List task.
       (writer_ok r old new n (next ∷ later) (task.HasBoth part vector) before what (LinkedTo (Made node)) after rests tt
       (subst (λ v. IsAnswer old (Link n (Write next.number (Some v))) what (LinkedTo (Made node)) new) is_full answer)
       (is_after ∙ ap (λ i. task.Writer n later task.NoBio (line.settled (routing_setup r) (i ∷ []))) is_filled)))
-
-  pub long_failed : (part : Item Pad) (vector full : VectorItem) (e : CoreFault) → taken ≡ task.HasBoth part vector → full ≡ task.filled_vector next vector
-      → FailsRequest old (Link n (Write next.number (Some full))) what e new
-      → TaskMoves r old (task.Writer n tds taken before) what (Err e) new (task.Writer n tds taken before)
-  long_failed part vector full e has is_full f =
-      writer_failed r old new n tds taken before what e rests
-      (subst (λ k. FailsRequest old (task.write_request n tds k) what e new) (sym has)
-      (subst (λ l. FailsRequest old (task.write_request n l (task.HasBoth part vector)) what e new) (sym is)
-      (subst (λ v. FailsRequest old (Link n (Write next.number (Some v))) what e new) is_full f)))
 
 pub come_by : (mine wanted here present : ℕ) → mine ≡ wanted → here ≡ present → wanted ≤ here → nat_le mine present ≡ true
 come_by mine wanted here present same is le = grind (arith, nat_tests)

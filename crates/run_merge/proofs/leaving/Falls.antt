@@ -1,10 +1,9 @@
 -- Rows of pools are walked from the last device to the first.
 use Rattle.std.proofs.Common.{◌≡◌, ◌≢◌, ◌⊎◌, ◌+◌, ◌-◌, ◌<◌, ◌++◌, cond, ℕ, zero, suc, Bool, true, false, List, [], ◌∷◌, length, drop, take, get_or, inl, inr, refl, sym, ap, ◌∙◌, subst, arith}
-use Rattle.std.specs.Prelude.{All, slice_get, Option, None, Some}
-use Rattle.std.specs.Option.{is_some, option_map_or}
+use Rattle.std.specs.Prelude.{All, slice_get, Option, Some}
+use Rattle.std.specs.Option.{option_map_or}
 use Rattle.std.proofs.Math.Seq.{get_or-append_seam}
 use Rattle.std.proofs.lemmas.Option.{slice_get-get_or}
-use Rattle.std.proofs.lemmas.Bool.{true≢false}
 use Rattle.std.proofs.lemmas.List.{append_assoc, append-nil, length-append, map-append, same_from_push}
 use Rattle.std.proofs.lemmas.List.Elements.{All-nil, All-cons, All-append, All-weaker, All-contains, Contains-push}
 use Rattle.stack_base.specs.declared.ids.DevId.{DevId}
@@ -159,21 +158,6 @@ module _ {A : Type 0} where
 
       inside : length rest < length (rest ++ m ∷ [])
       inside = let long = length-append rest (m ∷ []) in omega (arith, long)
-
-  -- and where none is read, there is none
-  pub none_is : (old rest : List A) (m : A) → old ≡ rest ++ m ∷ [] → None ≡ slice_get old (length old - 1) → ⊥
-  none_is old rest m was read =
-      none_some (read ∙ ap (λ xs. slice_get xs (length xs - 1)) was ∙ ap (slice_get (rest ++ m ∷ [])) at
-      ∙ slice_get-get_or (rest ++ m ∷ []) (length rest) m inside)
-    where
-      at : length (rest ++ m ∷ []) - 1 ≡ length rest
-      at = let long = length-append rest (m ∷ []) in omega (arith, long)
-
-      inside : length rest < length (rest ++ m ∷ [])
-      inside = let long = length-append rest (m ∷ []) in omega (arith, long)
-
-      none_some : {x : A} → None ≡ Some x → ⊥
-      none_some e = true≢false (sym (ap is_some e))
 
 -- what leaves a row comes to stand behind others
 pub as_many : {K X : Type 0} (facts : X → Facts) (key : K) (pool : PoolId) (old new : List (K × X)) (before after : List (PoolId × Facts))

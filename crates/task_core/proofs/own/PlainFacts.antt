@@ -1,5 +1,5 @@
 -- The numbers and the scripts of the pools of one thread.
-use Rattle.std.proofs.Common.{◌≡◌, ◌<◌, ℕ, length, get_or, ap, subst, sym}
+use Rattle.std.proofs.Common.{◌≡◌, ℕ, get_or, ap}
 use Rattle.std.specs.Prelude.{IsTrue, slice_index_or}
 use Rattle.stack_base.specs.declared.ids.DevId.{DevId}
 use Rattle.stack_base.specs.declared.ids.PoolId.TheVariants.{Records}
@@ -23,9 +23,6 @@ module _ (plain : Plain) (holds : Holds plain) (of : SetId) (is : IsTrue (is_poo
   used : IsTrue (is_bios (stage_of plain) (pool_number (bios_of of)))
   used = set_is_bios (stage_of plain) of (set_is (stage_of plain) of is)
 
-  pub bios_inside : i < length plain.bios.items
-  bios_inside = subst (λ n. n < length plain.bios.items) (sym place) (holds.seated.bios (pool_number (bios_of of)) used).there
-
   pub bios_facts : (entry : SetId × LedgerPool) → entry ≡ get_or plain.bios.items i entry
       → entry.1.state.facts ≡ ((objects_of plain).pool (pool_number (bios_of of))).facts
   bios_facts entry value = ap (λ (p : LedgerPool). p.state.facts) (bios_there plain holds (pool_number (bios_of of)) i used place entry value)
@@ -38,9 +35,6 @@ module _ (plain : Plain) (holds : Holds plain) (dev : DevId) (is : IsTrue (is_po
     (place : i ≡ slice_index_or plain.index.records (pool_number (Records dev)) 0) where
   kept : IsTrue (is_slips (stage_of plain) (pool_number (Records dev)))
   kept = mirror_is_slips (stage_of plain) dev is
-
-  pub records_inside : i < length plain.records.items
-  records_inside = subst (λ n. n < length plain.records.items) (sym place) (holds.seated.records (pool_number (Records dev)) kept).there
 
   pub records_facts : (entry : DevId × LedgerPool) → entry ≡ get_or plain.records.items i entry
       → entry.1.state.facts ≡ ((objects_of plain).pool (pool_number (Records dev))).facts

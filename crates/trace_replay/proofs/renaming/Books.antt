@@ -45,10 +45,6 @@ stands book key new place has lt is = elim (same_or_not place key) [
   | inr ne ↦ inr (ne, sym (elsewhere book key new place ne) ∙ is)
 ]
 
-open_or : (at : Option Node) → ((node : Node) × (at ≡ Some node)) ⊎ (at ≡ None)
-open_or None = inr refl
-open_or (Some node) = inl (node, refl)
-
 not_none : {A : Type 0} (node : Node) → None ≡ Some node → A
 not_none node is = absurd cc
 
