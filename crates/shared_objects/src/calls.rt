@@ -1,12 +1,14 @@
-//! One call of an object by its seat.
+//! One call of an object by its seat, and what came of it.
 ghost use Rattle.std.specs.Prelude.{◌≡◌, slice_index_or};
 ghost use Rattle.seat_lock.specs.Seats.{IsOf, LockId};
+ghost use Rattle.object_things.specs.Stamps.{or_unmade};
 ghost use Rattle.shared_objects.specs.Calling.{AreSeatedAt, FitsWith, HasAsked, HasAskedAt};
 
 use object_things::stamp::{Asked, Mark, Told};
-use object_things::{Asking, Replied};
+use object_things::{Asking, NoTicket, Replied};
 use seat_lock::{Seat, SeatLock, Thing};
 use std::sync::Wait;
+use task_steps::Unmade;
 use tick_clock::Pass;
 
 /// Asks the object behind a lock. The pass goes with what is asked, and comes back.
@@ -56,4 +58,15 @@ where
     ensures { HasAskedAt T.asked T.told (λ thing. T.owes (T.mark thing)) place locks.now seats.old.items pass.old ask result seats.new.items pass.new }
 {
     call(rt, &locks[place].1, &mut seats[place].1, pass, ask)
+}
+
+/// What came of a call that was handed nothing, as the objects say it.
+#[inline(always)] // as the calls of `Caller`
+pub(crate) fn or_unmade<T>(got: Result<T, NoTicket>) -> Result<T, Unmade>
+    ensures { result ≡ or_unmade got }
+{
+    match got {
+        Ok(got) => Ok(got),
+        Err(NoTicket) => Err(Unmade::Nothing),
+    }
 }

@@ -14,6 +14,7 @@ ghost use Rattle.shared_objects.specs.Desks.{HasCalled};
 ghost use Rattle.shared_objects.specs.Holding.{DeskHolds, desk_of, stage_at};
 
 use crate::caller::Caller;
+use crate::calls::or_unmade;
 use bio_books::{Dropped, Link};
 use bio_records::{BioBody, BioElement, BioList, Pad, Slip, SlipElement, VecElement, Vector};
 use mempool_core::Taken;
@@ -82,8 +83,7 @@ impl<'a, R: Wait> Caller<'a, R> {
     {
         let pool = pool_of(set);
         match self.ask_bios(pool.no(), PoolAsk::Resize { pool, min }) {
-            PoolSaid::Resized(Ok(out)) => Ok(out),
-            PoolSaid::Resized(Err(NoTicket)) => Err(Unmade::Nothing),
+            PoolSaid::Resized(result) => or_unmade(result),
             PoolSaid::Took { .. } | PoolSaid::Gave(_) => unreachable!(),
         }
     }
@@ -100,8 +100,7 @@ impl<'a, R: Wait> Caller<'a, R> {
     {
         let pool = PoolId::FsVecs;
         match self.ask_vecs(PoolAsk::Resize { pool, min }) {
-            PoolSaid::Resized(Ok(out)) => Ok(out),
-            PoolSaid::Resized(Err(NoTicket)) => Err(Unmade::Nothing),
+            PoolSaid::Resized(result) => or_unmade(result),
             PoolSaid::Took { .. } | PoolSaid::Gave(_) => unreachable!(),
         }
     }
@@ -119,8 +118,7 @@ impl<'a, R: Wait> Caller<'a, R> {
     {
         let pool = PoolId::Records(dev);
         match self.ask_records(pool.no(), PoolAsk::Resize { pool, min }) {
-            PoolSaid::Resized(Ok(out)) => Ok(out),
-            PoolSaid::Resized(Err(NoTicket)) => Err(Unmade::Nothing),
+            PoolSaid::Resized(result) => or_unmade(result),
             PoolSaid::Took { .. } | PoolSaid::Gave(_) => unreachable!(),
         }
     }
@@ -142,14 +140,7 @@ impl<'a, R: Wait> Objects for Caller<'a, R> {
     fn take_bio(&mut self, set: SetId, waits: bool) -> Result<Taken<BioBody<Pad>>, Unmade> {
         let pool = pool_of(set);
         match self.ask_bios(pool.no(), PoolAsk::Take { pool, waits }) {
-            PoolSaid::Took {
-                pool: _,
-                result: Ok(taken),
-            } => Ok(taken),
-            PoolSaid::Took {
-                pool: _,
-                result: Err(NoTicket),
-            } => Err(Unmade::Nothing),
+            PoolSaid::Took { pool: _, result } => or_unmade(result),
             PoolSaid::Gave(_) | PoolSaid::Resized(_) => unreachable!(),
         }
     }
@@ -158,14 +149,7 @@ impl<'a, R: Wait> Objects for Caller<'a, R> {
     fn take_vec(&mut self) -> Result<Taken<Vector>, Unmade> {
         let pool = PoolId::FsVecs;
         match self.ask_vecs(PoolAsk::Take { pool, waits: true }) {
-            PoolSaid::Took {
-                pool: _,
-                result: Ok(taken),
-            } => Ok(taken),
-            PoolSaid::Took {
-                pool: _,
-                result: Err(NoTicket),
-            } => Err(Unmade::Nothing),
+            PoolSaid::Took { pool: _, result } => or_unmade(result),
             PoolSaid::Gave(_) | PoolSaid::Resized(_) => unreachable!(),
         }
     }
@@ -174,14 +158,7 @@ impl<'a, R: Wait> Objects for Caller<'a, R> {
     fn take_slip(&mut self, dev: DevId) -> Result<Taken<Slip>, Unmade> {
         let pool = PoolId::Records(dev);
         match self.ask_records(pool.no(), PoolAsk::Take { pool, waits: true }) {
-            PoolSaid::Took {
-                pool: _,
-                result: Ok(taken),
-            } => Ok(taken),
-            PoolSaid::Took {
-                pool: _,
-                result: Err(NoTicket),
-            } => Err(Unmade::Nothing),
+            PoolSaid::Took { pool: _, result } => or_unmade(result),
             PoolSaid::Gave(_) | PoolSaid::Resized(_) => unreachable!(),
         }
     }
@@ -226,8 +203,7 @@ impl<'a, R: Wait> Objects for Caller<'a, R> {
 
     fn pop(&mut self, dev: DevId) -> Result<Option<BioElement>, Unmade> {
         match self.ask_list(dev, ListAsk::Pop { dev }) {
-            ListSaid::Popped(Ok(el)) => Ok(el),
-            ListSaid::Popped(Err(NoTicket)) => Err(Unmade::Nothing),
+            ListSaid::Popped(result) => or_unmade(result),
             ListSaid::Punted(_) => unreachable!(),
         }
     }
@@ -251,10 +227,7 @@ impl<'a, R: Wait> Objects for Caller<'a, R> {
             return Ok(None);
         }
         let index = chooser.choose(pending);
-        match self.complete_at(disk, index) {
-            Ok(done) => Ok(done),
-            Err(NoTicket) => Err(Unmade::Nothing),
-        }
+        or_unmade(self.complete_at(disk, index))
     }
 
     fn link(&mut self, writer: u32, ask: Ask) -> Result<Link, Unmade> {
@@ -285,8 +258,7 @@ impl<'a, R: Wait> Objects for Caller<'a, R> {
 
     fn done(&mut self, write: u32, status: Status) -> Result<(), Unmade> {
         match self.ask_tally(TallyAsk::Done { write, status }) {
-            TallySaid::Did(Ok(())) => Ok(()),
-            TallySaid::Did(Err(NoTicket)) => Err(Unmade::Nothing),
+            TallySaid::Did(result) => or_unmade(result),
             TallySaid::Round(_) | TallySaid::Left(_) => unreachable!(),
         }
     }
@@ -302,8 +274,7 @@ impl<'a, R: Wait> Objects for Caller<'a, R> {
 
     fn next_round(&mut self) -> Result<(), Unmade> {
         match self.ask_tally(TallyAsk::Next) {
-            TallySaid::Did(Ok(())) => Ok(()),
-            TallySaid::Did(Err(NoTicket)) => Err(Unmade::Nothing),
+            TallySaid::Did(result) => or_unmade(result),
             TallySaid::Round(_) | TallySaid::Left(_) => unreachable!(),
         }
     }
