@@ -47,6 +47,9 @@ impl Chooser for Schedule {
     ghost chooses = { λ old pending index new. (index ≡ word old % min pending 64) × (new ≡ behind old) };
 
     fn choose(&mut self, pending: u64) -> u64 {
-        u64::from(self.word()) % pending.min(64)
+        let word = u64::from(self.word());
+        let most = pending.min(64);
+        // By a number that is known here, as in `turn::named`: often many wait.
+        if most == 64 { word % 64 } else { word % most }
     }
 }

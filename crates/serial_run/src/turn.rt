@@ -42,6 +42,28 @@ fn attempt<V: Events>(
     hand_on(step, events)
 }
 
+// The place that a word names among so many. A turn knows its task only then, and a division takes long. By a number that is known here it is a
+// product and a shift, and few runs have more tasks than these.
+fn named(word: usize, count: usize) -> usize
+    requires { 1 ≤ count }
+    ensures { result ≡ word % count }
+{
+    match count {
+        2 => word % 2,
+        3 => word % 3,
+        4 => word % 4,
+        5 => word % 5,
+        6 => word % 6,
+        7 => word % 7,
+        8 => word % 8,
+        9 => word % 9,
+        10 => word % 10,
+        11 => word % 11,
+        12 => word % 12,
+        _ => word % count,
+    }
+}
+
 // The place behind this one, with the first behind the last of so many.
 fn following(place: usize, count: usize) -> usize
     requires { place < count }
@@ -67,7 +89,7 @@ pub(crate) fn turn<V: Events>(
     ensures same { stage_of objects.new ≡ stage_of objects.old }
 {
     let count = tasks.len();
-    let mut place = schedule.word() as usize % count;
+    let mut place = named(schedule.word() as usize, count);
     'trying: for passed in 0..count {
         if attempt(objects, tasks, place, schedule, events) {
             return;
