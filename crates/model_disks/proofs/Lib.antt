@@ -1,3 +1,4 @@
+pub mod AppendLemmas
 pub mod WrittenLemmas
 pub mod RunLemmas
 pub mod SectorLemmas

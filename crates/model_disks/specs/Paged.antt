@@ -30,6 +30,10 @@ paged count words slots = map (sector_words words slots) (range_with_len 0 count
 abbrev pub put_words : ℕ → ℕ → ℕ → List ℕ → List ℕ
 put_words from count first words = take from words ++ (counting first count ++ drop (from + count) words)
 
+-- so many sectors that count up from one of a slot on, behind the words of the slots before it, with zeros around them
+abbrev pub put_behind : ℕ → ℕ → ℕ → ℕ → List ℕ → List ℕ
+put_behind slot start sectors first words = put_words (4096 * slot + 64 * start) (64 * sectors) first (grown 0 (4096 * (slot + 1)) words)
+
 -- each page has a slot, and each slot a page: one list says where a page is, the other whose a slot is
 pub record AreInverse (slots owners : List ℕ) : Type 0 where
   pub size : length owners ≡ length slots

@@ -6,6 +6,7 @@
 //! when it is opened. Contracts speak of whole sectors (`specs/Disks.antt`), whose words one behind the other are that list with zeros behind it.
 #![tactic(auto)]
 
+mod append;
 mod disk;
 pub mod fault;
 mod flags;

@@ -3,8 +3,9 @@ ghost use Rattle.std.specs.Prelude.{◌≡◌, ◌+◌, ◌*◌, ◌<◌, ◌≤
 ghost use Rattle.std.specs.List.{range_with_len};
 ghost use Rattle.stack_base.specs.Words.{zero_sector};
 ghost use Rattle.model_disks.specs.Kept.{grown};
-ghost use Rattle.model_disks.specs.Paged.{AreSwapped, put_words};
+ghost use Rattle.model_disks.specs.Paged.{AreSwapped, put_behind, put_words};
 
+use crate::append::append_sectors;
 use bio_records::Bio;
 use image_lanes::fill;
 use stack_base::Range;
@@ -17,8 +18,8 @@ const WORDS: usize = 4096;
 
 /// The words of a disk, by pages of 64 sectors.
 ///
-/// A page that was never written has a slot too, behind those that have words: its words are zeros, which are set only where it is first
-/// written. Then it changes places with the page in the first slot that has no words.
+/// A page that was never written has a slot too, behind those that have words: its words are zeros, of which those that are not written are set
+/// where it is first written. Then it changes places with the page in the first slot that has no words.
 #[derive(Drop)]
 pub struct Pages {
     // The words of the pages that were written, in the order of their first writes. There is room for those of all pages.
@@ -57,19 +58,32 @@ fn put_words(words: &mut [u64], from: usize, count: usize, first: u64)
     fill(&mut words[from..from + count], first);
 }
 
-// Brings the words up to those of so many slots, for which there is room, with zeros.
-fn grow(words: &mut Vec<u64>, slots: usize)
-    requires { 4096 * slots ≤ vec_capacity words.old }
-    ensures words { words.new.items ≡ grown 0 (4096 * slots) words.old.items }
+// Brings the words up to so many, for which there is room, with zeros.
+fn grow(words: &mut Vec<u64>, size: usize)
+    requires { size ≤ vec_capacity words.old }
+    ensures words { words.new.items ≡ grown 0 size words.old.items }
     ensures room { vec_capacity words.old ≤ vec_capacity words.new }
 {
-    let size = WORDS * slots;
     if words.len() >= size {
         return;
     }
     let Ok(()) = words.resize(size, 0) else {
         unreachable!()
     };
+}
+
+// Writes so many sectors from one of a slot on, which has no words yet, but stands right behind those that have. Zeros are set only before and
+// behind them.
+fn put_behind(words: &mut Vec<u64>, slot: usize, start: usize, sectors: usize, first: u64)
+    requires behind { length words.old.items ≤ 4096 * slot }
+    requires short { start + sectors ≤ 64 }
+    requires room { 4096 * (slot + 1) ≤ vec_capacity words.old }
+    ensures words { words.new.items ≡ put_behind slot start sectors first words.old.items }
+    ensures room { vec_capacity words.old ≤ vec_capacity words.new }
+{
+    grow(words, WORDS * slot + 64 * start);
+    append_sectors(words, sectors, first);
+    grow(words, WORDS * (slot + 1));
 }
 
 // Numbers from 0 on.
@@ -133,29 +147,26 @@ impl Pages {
         ensures same { StaysSame self.old self.new }
     {
         let count = self.slots.len();
-        grow(&mut self.words, count);
+        grow(&mut self.words, WORDS * count);
         'settling: for page in 0..count {
             self.settle(page);
         }
     }
 
-    // The slot of a page, which has words from now on.
-    fn kept_slot(&mut self, page: usize) -> usize
+    // Writes the sectors of a range within a page that has no words yet. The page comes into the first slot without words.
+    fn write_new(&mut self, range: Range, first: u64)
         requires paged { ArePagesKept self.old }
-        requires page { page < length self.old.slots.items }
+        requires page { range.start % 64 + range.len ≤ 64 }
+        requires within { range.start < 64 * length self.old.slots.items }
+        requires behind { length self.old.words.items ≤ 4096 * number_at self.old.slots.items (range.start / 64) }
         ensures paged { ArePagesKept self.new }
-        ensures slot { result ≡ number_at self.new.slots.items page }
-        ensures kept { 4096 * result + 4096 ≤ length self.new.words.items }
-        ensures same { StaysSame self.old self.new }
+        ensures filled { IsFilled range.start range.len first self.old self.new }
     {
         let used = self.words.len() / WORDS;
-        let slot = self.slots[page];
-        if slot < used {
-            return slot;
-        }
+        let slot = self.slots[(range.start / SECTORS) as usize];
         self.exchange(slot, used);
-        grow(&mut self.words, used + 1);
-        used
+        let start = (range.start % SECTORS) as usize;
+        put_behind(&mut self.words, used, start, range.len as usize, first);
     }
 
     // Writes the sectors of a range that ends within the page in which it begins.
@@ -166,7 +177,12 @@ impl Pages {
         ensures paged { ArePagesKept self.new }
         ensures filled { IsFilled range.start range.len first self.old self.new }
     {
-        let slot = self.kept_slot((range.start / SECTORS) as usize);
+        let used = self.words.len() / WORDS;
+        let slot = self.slots[(range.start / SECTORS) as usize];
+        if slot >= used {
+            self.write_new(range, first);
+            return;
+        }
         let from = WORDS * slot + 64 * (range.start % SECTORS) as usize;
         put_words(&mut self.words, from, 64 * range.len as usize, first);
     }
