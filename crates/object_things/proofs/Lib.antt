@@ -2,4 +2,5 @@ mod Pooled
 mod Pops
 pub mod Rising
 pub mod Looking
+mod Spent
 mod Adding

@@ -3,9 +3,9 @@ use Rattle.std.proofs.Common.{◌≡◌, ℕ, inl, inr, true, false, cond, List,
 use Rattle.std.specs.Option.{is_some}
 use Rattle.seat_lock.specs.History.{Leads}
 use Rattle.run_machine.specs.Events.{what_of}
-use Rattle.run_machine.specs.Requests.{Request, Reply}
+use Rattle.run_machine.specs.Requests.{Request, Reply, Spent}
 use Rattle.object_things.specs.Stamps.{ThingState, StepOf, Answers}
-use Rattle.object_things.specs.Histories.{Call, IsNextTicket, or_last, TicketsRise, drawn_in, IsQuiet, LeadDrawn, DrawnRun, KeepsHistory}
+use Rattle.object_things.specs.Histories.{Call, IsNextTicket, or_last, TicketsRise, drawn_in, IsQuiet, LeadDrawn, DrawnRun, KeepsHistory, StaysSpent}
 
 module _ {O : Type 0} (serves : O → Request → Reply → O → Type 0) (looks : ThingState O → Request → Reply → ThingState O → Type 0)
     (quiet : (old new : ThingState O) (asked : Request) (reply : Reply) → looks old asked reply new → IsQuiet old (what_of asked reply) new) where
@@ -60,3 +60,21 @@ module _ {O : Type 0} (serves : O → Request → Reply → O → Type 0) (looks
 
   pub keeps_history : KeepsHistory serves looks
   keeps_history = record { rises = rises; runs = runs; quiet = quiet }
+
+  module _ (unserved : (old : O) (asked : Request) (new : O) → serves old asked Spent new → ⊥)
+      (found : (old new : ThingState O) (asked : Request) → looks old asked Spent new → new.spent ≡ true) where
+    -- a call that is told that there was none has no ticket, and leaves the thing marked
+    told_none : (old new : ThingState O) (asked : Request) (reply : Reply) (ticket : Option ℕ) → reply ≡ Spent → StepOf serves looks old asked reply ticket new
+        → (is_some ticket ≡ false) × (new.spent ≡ true)
+    told_none old new asked reply None is s = (refl, found old new asked (subst (λ r. looks old asked r new) is s.0))
+    told_none old new asked reply (Some n) is s = absurd (unserved old.object asked new.object (subst (λ r. serves old.object asked r new.object) is s.0))
+
+    follows : (old new : ThingState O) (call : Call) (rest : List Call) → Leads (Answers serves looks) old (call ∷ rest) new → call.told.reply ≡ Spent
+        → (drawn_in (call ∷ rest) ≡ []) × (new.spent ≡ true)
+    follows old new call rest l is =
+        let here = told_none old l.0 call.asked call.told.reply call.told.ticket is l.1.step in
+        let after = none_drawn l.0 new rest here.1 l.2 in
+        (ap (λ b. cond b (call ∷ drawn_in rest) (drawn_in rest)) here.0 ∙ after.0, after.1)
+
+    pub stays_spent : StaysSpent serves looks
+    stays_spent = record { found = found; stays = λ old new history l h. none_drawn old new history h l; follows = follows }

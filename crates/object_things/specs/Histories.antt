@@ -5,7 +5,7 @@ use Rattle.seat_lock.specs.declared.view.Entry.{Entry}
 use Rattle.seat_lock.specs.History.{Leads}
 use Rattle.run_machine.specs.declared.event.What.{What}
 use Rattle.run_machine.specs.Events.{what_of}
-use Rattle.run_machine.specs.Requests.{Request, Reply}
+use Rattle.run_machine.specs.Requests.{Request, Reply, Spent}
 use Rattle.object_things.specs.Stamps.{ThingState, Told, Answers}
 
 -- a call as a history keeps it
@@ -55,3 +55,11 @@ module _ {O : Type 0} (serves : O → Request → Reply → O → Type 0) (looks
     pub rises : (old new : ThingState O) (history : List Call) → Leads (Answers serves looks) old history new → TicketsRise old.note history new.note
     pub runs : (old new : ThingState O) (history : List Call) → Leads (Answers serves looks) old history new → DrawnRun serves old new history
     pub quiet : (old new : ThingState O) (asked : Request) (reply : Reply) → looks old asked reply new → IsQuiet old (what_of asked reply) new
+
+  -- Once a draw at a thing found no ticket, none is drawn at it: a call that is told so leaves it marked, along each history it stays marked, and
+  -- no call with a ticket follows.
+  pub record StaysSpent : Type 0 where
+    pub found : (old new : ThingState O) (asked : Request) → looks old asked Spent new → new.spent ≡ true
+    pub stays : (old new : ThingState O) (history : List Call) → Leads (Answers serves looks) old history new → old.spent ≡ true → (drawn_in history ≡ []) × (new.spent ≡ true)
+    pub follows : (old new : ThingState O) (call : Call) (rest : List Call) → Leads (Answers serves looks) old (call ∷ rest) new → call.told.reply ≡ Spent
+        → (drawn_in (call ∷ rest) ≡ []) × (new.spent ≡ true)

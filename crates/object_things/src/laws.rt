@@ -1,7 +1,7 @@
 //! What holds of things, as functions that do nothing.
 ghost use Rattle.object_things.specs.Books.{BookLooks, BookServes};
 ghost use Rattle.object_things.specs.Disks.{DiskAnswers, DiskLooks, DiskServes, disk_mark};
-ghost use Rattle.object_things.specs.Histories.{KeepsHistory};
+ghost use Rattle.object_things.specs.Histories.{KeepsHistory, StaysSpent};
 ghost use Rattle.object_things.specs.Homes.{AddsUpAtHome, PoolAddsUp, ListAddsUp, DiskAddsUp, TallyAddsUp};
 ghost use Rattle.object_things.specs.Lists.{ListAnswers, ListLooks, ListServes, list_mark};
 ghost use Rattle.object_things.specs.Pools.{PoolAnswers, PoolLooks, PoolServes, pool_mark};
@@ -15,6 +15,16 @@ pub fn things_keep_histories()
     ensures disks { KeepsHistory DiskServes DiskLooks }
     ensures books { KeepsHistory BookServes BookLooks }
     ensures tally { KeepsHistory TallyServes TallyLooks }
+{}
+
+/// Once a draw at a thing found no ticket, none is drawn at it: no call with a ticket follows one that was told so, and what is asked later finds the
+/// thing marked.
+pub fn things_stay_spent()
+    ensures pools { StaysSpent PoolServes PoolLooks }
+    ensures lists { StaysSpent ListServes ListLooks }
+    ensures disks { StaysSpent DiskServes DiskLooks }
+    ensures books { StaysSpent BookServes BookLooks }
+    ensures tally { StaysSpent TallyServes TallyLooks }
 {}
 
 /// What lies in a lock adds up at every moment at which it is at home, whatever calls were made and whether or not a draw failed: the numbers of a
