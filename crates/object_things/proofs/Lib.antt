@@ -3,4 +3,5 @@ mod Pops
 pub mod Rising
 pub mod Looking
 mod Spent
+mod Counting
 mod Adding

@@ -1,6 +1,7 @@
 -- What adds up in the lock of an object, at every moment at which the object is at home.
-use Rattle.std.specs.Prelude.{◌≡◌, ◌+◌, ◌≤◌, ◌++◌, ℕ, List, [], ◌∷◌, length, sum, sum_by}
+use Rattle.std.specs.Prelude.{◌≡◌, ◌+◌, ◌≤◌, ◌++◌, ℕ, List, [], ◌∷◌, length, sum, sum_by, count_by}
 use Rattle.std.specs.List.{flat_map}
+use Rattle.std.specs.Option.{is_some}
 use Rattle.std.specs.declared.snapshot.Snapshot.{Snapshot}
 use mathlib.Core.Option.{some}
 use Rattle.atomic_table.specs.Table.{State}
@@ -13,8 +14,11 @@ use Rattle.bio_records.specs.declared.bio.Pad.{Pad}
 use Rattle.bio_records.specs.Items.{Item}
 use Rattle.bio_records.specs.Rescue.{Rescue}
 use Rattle.model_disks.specs.Disks.{DiskState}
+use Rattle.bio_books.specs.Books.{BookState}
+use Rattle.bio_books.specs.Links.{Made}
+use Rattle.bio_books.specs.Drops.{Up, Top}
 use Rattle.run_machine.specs.Objects.{TallyState}
-use Rattle.run_machine.specs.Requests.{Request, Reply, Punt, Pop, Push, Complete, Done, Did, Popped, Completed}
+use Rattle.run_machine.specs.Requests.{Request, Reply, Punt, Pop, Push, Complete, Link, Drop, Done, Did, Popped, Completed, LinkedTo, DroppedTo}
 use Rattle.object_things.specs.Stamps.{Held, MarkState, ThingState, Told, thing_state}
 use Rattle.object_things.specs.Histories.{Call}
 
@@ -61,6 +65,26 @@ completions asked reply = 0
 abbrev pub DiskAddsUp : DiskState → List Call → DiskState → Type 0
 DiskAddsUp old history new =
     length old.pending + sum_by (λ (c : Call). pushes c.asked c.told.reply) history ≡ sum_by (λ (c : Call). completions c.asked c.told.reply) history + length new.pending
+
+-- how many nodes of a book are open
+abbrev pub open_nodes : BookState → ℕ
+open_nodes book = count_by is_some book.nodes
+
+-- how many nodes were opened, and how many closed
+abbrev pub openings : Request → Reply → ℕ
+openings (Link writer opening) (LinkedTo (Made place)) = 1
+openings asked reply = 0
+
+abbrev pub closings : Request → Reply → ℕ
+closings (Drop writer node status part) (DroppedTo (Up closed)) = 1
+closings (Drop writer node status part) (DroppedTo (Top closed)) = 1
+closings asked reply = 0
+
+-- As many nodes as were open and were opened since closed, or are open. The book is of the same writer, and has as many places.
+pub record BookAddsUp (old : BookState) (history : List Call) (new : BookState) : Type 0 where
+  pub nodes : open_nodes old + sum_by (λ (c : Call). openings c.asked c.told.reply) history ≡ sum_by (λ (c : Call). closings c.asked c.told.reply) history + open_nodes new
+  pub places : length new.nodes ≡ length old.nodes
+  pub writer : new.writer ≡ old.writer
 
 -- how many writes were done
 abbrev pub dones : Request → Reply → ℕ

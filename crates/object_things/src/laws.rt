@@ -1,8 +1,8 @@
 //! What holds of things, as functions that do nothing.
-ghost use Rattle.object_things.specs.Books.{BookLooks, BookServes};
+ghost use Rattle.object_things.specs.Books.{BookAnswers, BookLooks, BookServes, book_mark};
 ghost use Rattle.object_things.specs.Disks.{DiskAnswers, DiskLooks, DiskServes, disk_mark};
 ghost use Rattle.object_things.specs.Histories.{KeepsHistory, StaysSpent};
-ghost use Rattle.object_things.specs.Homes.{AddsUpAtHome, PoolAddsUp, ListAddsUp, DiskAddsUp, TallyAddsUp};
+ghost use Rattle.object_things.specs.Homes.{AddsUpAtHome, PoolAddsUp, ListAddsUp, DiskAddsUp, BookAddsUp, TallyAddsUp};
 ghost use Rattle.object_things.specs.Lists.{ListAnswers, ListLooks, ListServes, list_mark};
 ghost use Rattle.object_things.specs.Pools.{PoolAnswers, PoolLooks, PoolServes, pool_mark};
 ghost use Rattle.object_things.specs.Tallies.{TallyAnswers, TallyLooks, TallyServes, tally_mark};
@@ -28,10 +28,11 @@ pub fn things_stay_spent()
 {}
 
 /// What lies in a lock adds up at every moment at which it is at home, whatever calls were made and whether or not a draw failed: the numbers of a
-/// pool, what a rescuer's list was handed and has handed out, the bios of a disk, and the writes that are left.
+/// pool, what a rescuer's list was handed and has handed out, the bios of a disk, the nodes of a book, and the writes that are left.
 pub fn things_add_up_at_home()
     ensures pools { AddsUpAtHome pool_mark PoolAnswers PoolAddsUp }
     ensures lists { AddsUpAtHome list_mark ListAnswers ListAddsUp }
     ensures disks { AddsUpAtHome disk_mark DiskAnswers DiskAddsUp }
+    ensures books { AddsUpAtHome book_mark BookAnswers BookAddsUp }
     ensures tally { AddsUpAtHome tally_mark TallyAnswers TallyAddsUp }
 {}
