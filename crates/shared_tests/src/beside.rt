@@ -16,7 +16,7 @@ use task_core::{Chooser, Event, Oldest, Step, What};
 const LOOKS: u64 = 100_000_000;
 
 /// More steps than a writer of one write makes.
-const STEPS: u32 = 100;
+pub(crate) const STEPS: u32 = 100;
 
 /// What two choosers tell each other.
 #[derive(Drop)]
@@ -51,8 +51,8 @@ impl<'a> Chooser for Meets<'a> {
     }
 }
 
-// Takes the next task.
-fn take_next(shared: &mut Shared) -> Option<Ran>
+/// Takes the next task.
+pub(crate) fn take_next(shared: &mut Shared) -> Option<Ran>
     requires { SharedHolds shared.old }
     ensures holds { SharedHolds shared.new }
     ensures same { shared.new.locks ≡ shared.old.locks }
@@ -126,8 +126,8 @@ fn complete_beside<R: Threads + Wait + Sync>(
     is_one && is_other && flags.missed.load(Ordering::SeqCst) == 0
 }
 
-// Whether the next task comes to its end. It is nothing where there is none.
-fn end_next(rt: &impl Wait, shared: &mut Shared) -> Option<bool>
+/// Whether the next task comes to its end. It is nothing where there is none.
+pub(crate) fn end_next(rt: &impl Wait, shared: &mut Shared) -> Option<bool>
     requires { SharedHolds shared.old }
     ensures { SharedHolds shared.new }
 {

@@ -5,6 +5,8 @@
 #[cfg(test)]
 mod beside;
 #[cfg(test)]
+mod chosen;
+#[cfg(test)]
 mod handed;
 #[cfg(test)]
 mod opened;
