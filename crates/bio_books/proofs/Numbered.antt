@@ -6,6 +6,11 @@ use Rattle.slab.specs.Slab.{Slab, slab_len}
 use Rattle.bio_books.specs.Kept.{IsPlaced, key_at, keyed, times, vacancy, look}
 use Rattle.bio_books.proofs.Keys.{times_itself, times_other}
 
+-- a list with one more at its end
+pub longer : (free : List ℕ) (place : ℕ) → length (free ++ place ∷ []) ≡ length free + 1
+longer [] place = refl
+longer (head ∷ free) place = omega (arith, longer free place)
+
 -- so many places are numbered
 pub record IsNumbered (keys : List (Option ℕ)) (free : List ℕ) (count : ℕ) : Type 0 where
   pub blank : keys ≡ replicate count None
@@ -43,10 +48,6 @@ next_numbered keys free count before = let next : suc count ≡ count + 1 = omeg
         ∙ sym (ap (λ l. vacancy (slice_get (l ++ None ∷ []) place)) before.blank ∙ ap vacancy (get_before None count place differs))
   ];
 }
-  where
-    longer : (free : List ℕ) (place : ℕ) → length (free ++ place ∷ []) ≡ length free + 1
-    longer [] place = refl
-    longer (head ∷ free) place = omega (arith, longer free place)
 
 no_keys : (count : ℕ) → keyed (replicate count None) ≡ 0
 no_keys zero = refl

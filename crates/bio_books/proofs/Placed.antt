@@ -6,6 +6,7 @@ use Rattle.std.proofs.lemmas.List.{length-set, get_or-set_same, get_or-set_other
 use Rattle.std.proofs.lemmas.List.Elements.{All-cons, All-nil}
 use Rattle.slab.specs.Slab.{Slab, get, slab_len, Updates}
 use Rattle.bio_books.specs.Kept.{IsPlaced, key_at, keyed, times, vacancy, look}
+use Rattle.bio_books.proofs.Numbered.{longer}
 use Rattle.bio_books.proofs.Keys.{get_written, get_other, key_read, key_within, read_within, keyed_more, keyed_less, all_keyed, some_keyed, none_keyed, times_itself, times_other, free_once}
 use Rattle.bio_books.proofs.Slots.{shown, altered, read_look}
 
@@ -72,10 +73,6 @@ comes {T} old new keys free room place key value sound absent updates counted ca
       };
     }
   where
-    longer : (free : List ℕ) (place : ℕ) → length (free ++ place ∷ []) ≡ length free + 1
-    longer [] place = refl
-    longer (head ∷ free) place = omega (arith, longer free place)
-
     has : (slots : Slab T) (key k : ℕ) (value : T) → get slots key ≡ Some value → Some key ≡ Some k → IsSome (get slots k)
     has slots key k value found same = let e : key ≡ k = cc in subst (λ x. IsSome (get slots x)) e (subst IsSome (sym found) refl)
 
@@ -125,10 +122,6 @@ goes {T} old new keys free room place key sound found updates counted capacity =
       };
     }
   where
-    longer : (free : List ℕ) (place : ℕ) → length (free ++ place ∷ []) ≡ length free + 1
-    longer [] place = refl
-    longer (head ∷ free) place = omega (arith, longer free place)
-
     never : (k : ℕ) → None ≡ Some k → ⊥
     never k e = cc
 

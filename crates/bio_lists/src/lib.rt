@@ -8,4 +8,4 @@ pub mod laws;
 mod submission;
 
 pub use bio_records::{BioList, Bios, RescueList, TaskLists, Waits};
-pub use submission::Submission;
+pub use submission::SubmissionLists;

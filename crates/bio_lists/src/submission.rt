@@ -9,7 +9,7 @@ use bio_records::{BioElement, BioList, TaskLists, Waits};
 use stack_base::{DevId, SetId};
 
 /// A task's two lists of bios that wait to be served (`current->bio_list`, `block/blk-core.c`).
-pub trait Submission: Waits {
+pub trait SubmissionLists: Waits {
     /// Submits a bio from within a driver: it is put at the end of list 0 (`__submit_bio_noacct`, where `current->bio_list` is set).
     fn submit(&mut self, element: BioElement)
         requires { IsAlone element }
@@ -28,7 +28,7 @@ pub trait Submission: Waits {
         ensures others { Self.waiting self.new ≡ unpunted set (Self.waiting self.old) };
 }
 
-impl Submission for TaskLists {
+impl SubmissionLists for TaskLists {
     fn submit(&mut self, element: BioElement) {
         self.list0.push(element);
     }

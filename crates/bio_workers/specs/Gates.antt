@@ -3,7 +3,7 @@ use Rattle.std.specs.Prelude.{◌≡◌, List}
 use Rattle.run_machine.specs.Laws.{Object}
 use Rattle.task_core.specs.declared.Opened.{Opened}
 use Rattle.object_things.specs.Histories.{Call}
-use Rattle.shared_objects.specs.Closed.{history_in, names_in}
+use Rattle.shared_objects.specs.ClosedByName.{history_in, names_in}
 use Rattle.shared_objects.specs.Left.{HasClosed}
 use Rattle.shared_objects.specs.declared.closed.Closed.{Closed}
 use Rattle.std.specs.Prelude.{Option, None, Some}

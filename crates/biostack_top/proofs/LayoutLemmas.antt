@@ -11,7 +11,7 @@ use Rattle.layout_model.specs.declared.write.Write.{Write}
 use Rattle.layout_model.specs.declared.fragment.Fragment.{Fragment}
 use Rattle.layout_model.specs.Fragments.{AreFragments}
 use Rattle.layout_model.specs.Writes.{IsWrite}
-use Rattle.layout_model.specs.Needs.{elements}
+use Rattle.layout_model.specs.NeedCounts.{elements}
 use Rattle.layout_model.specs.Bound.{all_elements}
 use Rattle.layout_model.proofs.Apart.{frags_have}
 use Rattle.layout_model.proofs.Stacks.{tree_sound, disk_under}

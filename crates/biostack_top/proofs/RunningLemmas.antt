@@ -5,7 +5,7 @@ use Rattle.std.proofs.lemmas.List.Sums.{sum_by-cons}
 use Rattle.stack_base.specs.declared.stack.Stack.{Stack}
 use Rattle.layout_model.specs.declared.write.Write.{Write}
 use Rattle.layout_model.specs.Bound.{all_elements}
-use Rattle.layout_model.specs.Needs.{elements}
+use Rattle.layout_model.specs.NeedCounts.{elements}
 use Rattle.decl_text.specs.declared.accepted.Accepted.{Accepted}
 use Rattle.work_text.specs.declared.Work.{Work}
 use Rattle.work_text.proofs.Ready.{writes_ready}

@@ -1,5 +1,5 @@
 pub mod Facts
-pub mod Places
+pub mod SumParts
 pub mod Outs
 pub mod Counts
 pub mod Owns

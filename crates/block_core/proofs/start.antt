@@ -3,6 +3,5 @@ pub mod StartTotals
 pub mod StagesAtStart
 pub mod WritesAtStart
 pub mod TallyAtStart
-pub mod RoomAtStart
 pub mod PostsAtStart
-pub mod PlacesAtStart
+pub mod RoomAtStart

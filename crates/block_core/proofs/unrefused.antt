@@ -1,8 +1,7 @@
-pub mod BioNeeds
-pub mod BookRoom
 pub mod NodeNeeds
 pub mod NodesOpened
 pub mod RoomKept
+pub mod VacantPlaces
 pub mod Ready
 pub mod Hands
 pub mod Unbroken

@@ -6,7 +6,7 @@ use Rattle.stack_base.specs.Tree.{tree}
 use Rattle.layout_model.specs.declared.write.Write.{Write}
 use Rattle.layout_model.specs.Bound.{all_elements, all_parts}
 use Rattle.layout_model.specs.Need.{needed}
-use Rattle.layout_model.specs.Needs.{nodes}
+use Rattle.layout_model.specs.NeedCounts.{nodes}
 use Rattle.run_machine.specs.declared.event.Event.{Event}
 use Rattle.run_machine.specs.declared.event.Got.TheVariants as got
 use Rattle.run_machine.specs.declared.event.What.{What}

@@ -6,7 +6,6 @@ pub mod Hands
 pub mod Orders
 pub mod EachBio
 pub mod Levels
-pub mod Places
 pub mod Rounds
 pub mod Scenarios
 pub mod Waits

@@ -21,8 +21,8 @@ use Rattle.block_core.specs.Images.{HasItsWord, held_after}
 use Rattle.block_core.specs.KeptEnds.{EndsAreKept}
 use Rattle.block_core.specs.Levels.{HasLevels}
 use Rattle.block_core.specs.Orders.{AreInListOrder}
-use Rattle.block_core.specs.Places.{HasPlaces}
 use Rattle.block_core.specs.Roles.{HasRoles}
+use Rattle.block_core.specs.Rooms.{HasRoomInBooks}
 use Rattle.block_core.specs.Touches.{were_masters, none_was}
 use Rattle.block_core.specs.Rounds.{RoundsAreTallied}
 use Rattle.block_core.specs.NodeBios.{node_bios, no_bios}
@@ -65,8 +65,8 @@ pub record IsSound (s : Scenario) (ledger : ℕ → LedgerId) (events : List Eve
       → slice_index_or (state.objects.disk disk).image at [] ≡ held_after s disk at (completed (scene s ledger) (start s) events state run) zero_sector
   -- each round has as many unfinished writes as the tally says, and what is begun is of the present round
   pub tally : RoundsAreTallied s.rounds (scene s ledger) state
-  -- a book has a place for each node that its writer's writes still open
-  pub places : HasPlaces (scene s ledger) state
+  -- a book has a place for each node that is open there and for each that its writer's writes still open
+  pub places : HasRoomInBooks (scene s ledger) state
   -- what tasks have in hand is of the pools that they asked, and a bio that a completer brings has ended as the bad ranges of its disk say
   pub hands : HandsAreRight (scene s ledger) (fault_of s.stack) state
 

@@ -11,7 +11,7 @@ use Rattle.layout_model.specs.Need.{begun, needed, fragments_of}
 use Rattle.layout_model.specs.Sound.{Sound, Closed}
 use Rattle.layout_model.proofs.RangeSums.{sum_le, term_le_sum, sum_of_one, sum_of_two}
 use Rattle.layout_model.proofs.Begun.{needed_piece, needed_more, needed_legs, fragments_of_disk, fragments_of_piece, fragments_of_more, fragments_of_legs}
-use Rattle.layout_model.proofs.ByPieces.{by_pieces}
+use Rattle.layout_model.proofs.PieceInduction.{by_pieces}
 
 -- a member weighs no more than all of them
 member_le : (number : ℕ) (sizes : List ℕ) (members : ℕ → Tree) → ((k : ℕ) → length sizes ≤ k → members k ≡ Leaf number 0) → (k : ℕ)

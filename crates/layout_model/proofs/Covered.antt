@@ -11,7 +11,7 @@ use Rattle.layout_model.specs.Fragments.{IsIn}
 use Rattle.layout_model.specs.Plan.{frags}
 use Rattle.layout_model.specs.Laws.{FragmentsCover}
 use Rattle.layout_model.proofs.Sound.{Sound, cut_of_split, sound_piece, sound_leg}
-use Rattle.layout_model.proofs.ByPieces.{by_pieces}
+use Rattle.layout_model.proofs.PieceInduction.{by_pieces}
 use Rattle.layout_model.proofs.Parts.{fits_here, from_piece, from_rest}
 use Rattle.layout_model.proofs.Whole.{from_disk, from_leg}
 

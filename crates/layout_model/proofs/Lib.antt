@@ -7,7 +7,7 @@ pub mod Covered
 pub mod RangeSums
 pub mod Counted
 pub mod Begun
-pub mod ByPieces
+pub mod PieceInduction
 pub mod AtMost
 pub mod Chosen
 pub mod ShownLemmas

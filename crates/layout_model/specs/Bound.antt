@@ -4,7 +4,7 @@ use Rattle.stack_base.specs.declared.stack.Stack.{Stack}
 use Rattle.layout_model.specs.declared.write.Write.{Write}
 use Rattle.layout_model.specs.declared.totals.Bounds.{Bounds}
 use Rattle.layout_model.specs.declared.totals.TooMuchWork.{TooMuchWork}
-use Rattle.layout_model.specs.Needs.{elements, parts}
+use Rattle.layout_model.specs.NeedCounts.{elements, parts}
 
 -- no scenario may need more elements
 abbrev pub most_elements : ℕ

@@ -7,7 +7,7 @@ pub mod Sound
 pub mod Laws
 pub mod Pieces
 pub mod Writes
-pub mod Needs
+pub mod NeedCounts
 pub mod Bound
 pub mod May
 pub mod Laid

@@ -3,7 +3,7 @@ ghost use Rattle.std.specs.Prelude.{◌≡◌, ◌+◌, ◌<◌, ◌≤◌, leng
 ghost use Rattle.stack_base.specs.Stack.{IsStack};
 ghost use Rattle.stack_base.specs.Tree.{Copies, Cuts, shape_of, size, tree};
 ghost use Rattle.layout_model.specs.Need.{fragments_of, needed};
-ghost use Rattle.layout_model.specs.Needs.{IsNeeds};
+ghost use Rattle.layout_model.specs.NeedCounts.{IsNeeds};
 ghost use Rattle.layout_model.specs.Pieces.{IsFirstRun};
 ghost use Rattle.layout_model.specs.Writes.{IsWrite};
 

@@ -1,7 +1,7 @@
 //! Bios that a task hands to a rescuer: those of one set, out of both of its lists.
 use crate::asks::Case;
 use crate::bios::{bio_of_write, element_of, has};
-use bio_lists::{Submission, TaskLists};
+use bio_lists::{SubmissionLists, TaskLists};
 use bio_records::{Bio, BioList};
 use stack_base::{DevId, SetId};
 use std::process::Abort;

@@ -4,7 +4,7 @@ ghost use Rattle.bio_records.specs.Items.{IsAlone};
 use crate::asks::{Case, all_hold, holds};
 use crate::bios::{bio_of, bio_of_write, element_of, write_of};
 use crate::punts::PUNTS;
-use bio_lists::{Submission, TaskLists, Waits};
+use bio_lists::{SubmissionLists, TaskLists, Waits};
 use bio_records::{Bio, BioElement, Iter};
 use bio_split::split;
 use stack_base::{DevId, Range, SetId};

@@ -1,5 +1,5 @@
 -- Calls of a pool by its name.
-use Rattle.std.proofs.Common.{◌≡◌, ◌&&◌, Bool, true, false, not, Ok, inl, inr, refl, sym, ap, subst, ◌∙◌}
+use Rattle.std.proofs.Common.{◌≡◌, ◌&&◌, Bool, true, false, not, Ok, inl, inr, refl, sym, ap, subst}
 use Rattle.elem_ledger.specs.Ledger.{LedgerId}
 use Rattle.stack_base.specs.declared.ids.PoolId.{PoolId}
 use Rattle.stack_base.specs.declared.ids.PoolId.TheVariants.{FsBios, FsVecs, Bios, Records}
@@ -10,10 +10,9 @@ use Rattle.mempool_core.specs.declared.Taken.{Taken}
 use Rattle.mempool_core.specs.declared.Taken.TheVariants.{Ordinary, Spare, Miss}
 use Rattle.run_machine.specs.Requests.{Did, Missed, Spent}
 use Rattle.run_machine.specs.Objects.{clear_bio, clear_vector, clear_slip}
-use Rattle.task_steps.specs.Stage.{Stage}
 use Rattle.run_machine.specs.declared.event.Got.TheVariants as got
 use Rattle.object_things.specs.Stamps.{StampState, ThingState, FindsNone, thing_state}
-use Rattle.object_things.specs.Pools.{PoolServes, PoolLooks, TakeFindsNone, TookFrom, GoesBack, Undone, WaitsAt, IsPoolOf, take_request, give_of, took, is_look}
+use Rattle.object_things.specs.Pools.{PoolServes, PoolLooks, TakeFindsNone, TookFrom, GoesBack, Undone, WaitsAt, take_request, give_of, took, is_look}
 
 told_so : (waits used : Bool) → (waits && not used) ≡ false → waits ≡ true → used ≡ true
 told_so true true e h = refl
@@ -86,9 +85,3 @@ give_spent FsBios share old new none = none
 give_spent (Bios dev) share old new none = none
 give_spent FsVecs share old new none = none
 give_spent (Records dev) share old new none = none
-
-pub pool_stays : (stage : Stage) (old new : LedgerPool) → IsPoolOf stage old → (new.ledger ≡ old.ledger) × (new.most ≡ old.most) → IsPoolOf stage new
-pool_stays stage old new is same = record {
-  ledger = same.0 ∙ is.ledger ∙ ap (λ (l : LedgerId). stage.ledger l.no) (sym same.0);
-  most = same.1 ∙ is.most ∙ ap (λ (l : LedgerId). stage.most l.no) (sym same.0);
-}

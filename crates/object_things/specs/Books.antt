@@ -1,5 +1,5 @@
 -- A book as a thing.
-use Rattle.std.specs.Prelude.{◌≡◌, ℕ, IfErr}
+use Rattle.std.specs.Prelude.{◌≡◌, IfErr}
 use Rattle.bio_books.specs.Books.{BookState}
 use Rattle.bio_books.specs.Drops.{Drops}
 use Rattle.bio_books.specs.Views.{bio_of, IsAlonePart}
@@ -67,8 +67,3 @@ pub record BookOwes (mark : MarkState) (asking : Asking BookAsk) (replied : Repl
 
 abbrev pub book_mark : Held BookState → MarkState
 book_mark held = mark_of (OfBook held.object.writer) held
-
--- the writer whose book is asked
-abbrev pub book_writer : BookAsk → ℕ
-book_writer (ask.Link writer asked) = writer
-book_writer (ask.Drop writer node status part) = writer

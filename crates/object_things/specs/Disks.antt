@@ -88,9 +88,3 @@ pub record DiskOwes (mark : MarkState) (asking : Asking DiskAsk) (replied : Repl
 
 abbrev pub disk_mark : Held DiskState → MarkState
 disk_mark held = mark_of (OfDisk held.object.dev.0) held
-
--- the device of the disk that is asked
-abbrev pub disk_dev : DiskAsk → ℕ
-disk_dev (ask.Push el) = (item_of el).bio.dev.0
-disk_dev (ask.Look disk) = disk.0
-disk_dev (ask.Complete disk index) = disk.0

@@ -78,8 +78,9 @@ asks_at setup lists item (Leaf number sectors) = Drives item ToPush
 asks_at setup lists item (Mirrored number sizes members) = Drives item ToRecord
 asks_at setup lists item (Split number kind sizes members) = Drives item (ToCut (Takes (waits_first (setup.rescuer item.bio.dev.0) lists)))
 
-abbrev pub driven : Setup → TaskLists → Item Pad → Doing
-driven setup lists item =
+-- what the driver does that a submitted bio comes to, with the bio as it has landed there
+abbrev pub landed_doing : Setup → TaskLists → Item Pad → Doing
+landed_doing setup lists item =
     let at = landed (tree_at setup item.bio.dev) item.bio in
     asks_at setup lists (record item { bio = at }) (tree_at setup at.dev)
 
@@ -88,7 +89,7 @@ driven setup lists item =
 abbrev pub settled : Setup → List (Item Pad) → Line
 settled setup [] = rests
 settled setup (item ∷ waiting) = record {
-  doing = driven setup (record { list0 = []; list1 = waiting }) item;
+  doing = landed_doing setup (record { list0 = []; list1 = waiting }) item;
   lists = record { list0 = []; list1 = waiting };
 }
 

@@ -16,7 +16,7 @@ use Rattle.stack_base.specs.PoolId.{pool_number}
 use Rattle.stack_base.specs.Tree.{tree, size}
 use Rattle.layout_model.specs.declared.write.Write.{Write}
 use Rattle.layout_model.specs.May.{bads_of}
-use Rattle.layout_model.specs.Needs.{nodes}
+use Rattle.layout_model.specs.NeedCounts.{nodes}
 use Rattle.mempool_core.specs.Move.{opened}
 use Rattle.model_disks.specs.Moves as disk
 use Rattle.run_machine.specs.Scene.{Setup, Scene, setup_of, is_disk}

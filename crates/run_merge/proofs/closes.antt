@@ -6,7 +6,7 @@ pub mod Walks
 pub mod Drawn
 pub mod Objects
 pub mod Sorting
-pub mod Merged
+pub mod CallEntries
 pub mod Places
 pub mod Rounds
 pub mod Owners

@@ -1,6 +1,6 @@
 -- Shared objects that were closed show an ended run.
 pub mod FewTasks
-pub mod Rows
+pub mod TicketRows
 pub mod Counts
 pub mod Early
 pub mod Refused

@@ -1,10 +1,10 @@
 -- What closed objects leave.
-pub mod Named
+pub mod StackHasNamed
 pub mod Falls
 pub mod Looking
 pub mod Devices
-pub mod Rows
+pub mod PoolRows
 pub mod Counted
 pub mod Left
 pub mod Traced
-pub mod Merges
+pub mod MergeOfClosed

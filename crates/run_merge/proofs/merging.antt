@@ -3,4 +3,4 @@ pub mod Tickets
 pub mod Picked
 pub mod Splits
 pub mod Tally
-pub mod Merged
+pub mod MergeIsRun

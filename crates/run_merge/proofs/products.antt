@@ -1,5 +1,5 @@
 -- A list of entries is that of a run exactly where it is a product.
-pub mod Names
+pub mod ObjectNames
 pub mod Served
 pub mod Ends
 pub mod Stages
@@ -9,4 +9,4 @@ pub mod Lets
 pub mod Behind
 pub mod Leads
 pub mod Parts
-pub mod Numbers
+pub mod RoundOrder

@@ -2,7 +2,7 @@ pub mod Entries
 pub mod ObjectsByName
 pub mod Machines
 pub mod Products
-pub mod Numbers
+pub mod RoundNumbers
 pub mod Merging
 pub mod Closing
 pub mod Joining

@@ -13,7 +13,7 @@ use Rattle.task_core.specs.Leaving.{IsLeft}
 use Rattle.task_core.specs.Plains.{stage_of}
 use Rattle.task_core.specs.opened.OfOne.{scenario_in}
 use Rattle.shared_objects.specs.Calls.{calls_at}
-use Rattle.shared_objects.specs.Closed.{history_in, object_left_in, names_in}
+use Rattle.shared_objects.specs.ClosedByName.{history_in, object_left_in, names_in}
 use Rattle.shared_objects.specs.Holding.{calls_of}
 use Rattle.shared_objects.specs.declared.closed.Closed.{Closed}
 use Rattle.shared_objects.specs.declared.closed.ClosedTask.{ClosedTask}

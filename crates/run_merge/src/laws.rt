@@ -1,7 +1,7 @@
 //! What holds of entries, as functions that do nothing.
 ghost use Rattle.run_merge.specs.Closing.{ClosedRunsEnd};
 ghost use Rattle.run_merge.specs.Merging.{MergesAreRuns};
-ghost use Rattle.run_merge.specs.Numbers.{RoundsAreNumbered};
+ghost use Rattle.run_merge.specs.RoundNumbers.{RoundsAreNumbered};
 ghost use Rattle.run_merge.specs.Products.{RunsAreProducts};
 ghost use Rattle.run_merge.specs.SharedObjects.{ClosesAreRuns};
 ghost use Rattle.run_merge.specs.Tracing.{NotesAreRuns};

@@ -23,7 +23,7 @@ use Rattle.object_things.specs.Books.{BookAnswers}
 use Rattle.object_things.specs.Tallies.{TallyAnswers}
 use Rattle.task_core.specs.Tables.{look_up}
 use Rattle.shared_objects.specs.Calls.{calls_at, calls_to, is_same_object}
-use Rattle.shared_objects.specs.Closed.{history_in, object_left_in, names_in, names_of, state_of_held}
+use Rattle.shared_objects.specs.ClosedByName.{history_in, object_left_in, names_in, names_of, state_of_held}
 use Rattle.shared_objects.specs.Closes.{ClosesAs, Returned}
 use Rattle.shared_objects.specs.Holding.{AreSeatsOf, SeatsHold, by_pool, calls_in, desk_of, dev_key, set_key, slip_key, writer_key}
 use Rattle.shared_objects.specs.Kinds.{answers_at, no_list, opened_at, unasked}

@@ -12,7 +12,7 @@ use Rattle.task_core.specs.Plains.{book_number, disk_number, list_number, record
 use Rattle.task_core.specs.declared.opening.Opened.{Opened}
 use Rattle.task_core.specs.declared.plain.Plain.{Plain}
 use Rattle.task_core.specs.opened.OfOne.{IsOpened, scenario_in, states}
-use Rattle.shared_objects.specs.Closed.{history_in, object_left_in, names_in}
+use Rattle.shared_objects.specs.ClosedByName.{history_in, object_left_in, names_in}
 use Rattle.shared_objects.specs.Closes.{ClosesAs, Returned}
 use Rattle.shared_objects.specs.Desks.{DeskState}
 use Rattle.shared_objects.specs.Holding.{SeatsHold, desk_of, dev_key, set_key, slip_key, stage_at, writer_key}

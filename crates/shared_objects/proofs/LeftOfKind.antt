@@ -6,7 +6,7 @@ use Rattle.run_machine.specs.Requests.{Request}
 use Rattle.task_core.specs.Tables.{look_up}
 use Rattle.object_things.specs.Histories.{Call}
 use Rattle.object_things.specs.Stamps.{CommonState, Held, ThingState, Told}
-use Rattle.shared_objects.specs.Closed.{state_of_held}
+use Rattle.shared_objects.specs.ClosedByName.{state_of_held}
 use Rattle.shared_objects.specs.Guards.{guarded}
 use Rattle.shared_objects.specs.Holding.{calls_in}
 use Rattle.shared_objects.specs.Kinds.{unasked}

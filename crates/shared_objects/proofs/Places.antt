@@ -44,10 +44,6 @@ module _ {X Y Z : Type 0} (P : X → Y → Z → Type 0) where
           (are.each place a b c (omega (arith, lt, apart))))
 
 module _ {L X Y : Type 0} (P : L → X → Y → X → Type 0) where
-  -- nothing is changed yet
-  pub none_changed : (locks : List L) (olds : List X) → AreChanged P locks olds [] olds
-  none_changed locks olds = record { lens = refl; done = λ place lock old other new lt. absurd (omega (arith, lt)); ahead = λ place old le. refl }
-
   -- the next entry is changed
   pub one_changed : (locks : List L) (olds : List X) (others : List Y) (news : List X) (other : Y) (new : X) → AreChanged P locks olds others news
       → length others < length olds → ((lock : L) (old : X) → P (get_or locks (length others) lock) (get_or olds (length others) old) other new)
@@ -107,10 +103,6 @@ module _ {L X Y : Type 0} (P : L → X → Y → X → Type 0) where
       each = λ place lock other lt. let old = some_of olds (omega (arith, lt, l)) in
           holds (get_or locks place lock) (get_or olds place old) (get_or others place other) (get_or news place old) (are.done place lock old other old (omega (arith, lt, m)));
     }
-
--- what stands at a place, whatever it would be past the end
-pub abreast_at : {X Y : Type 0} (P : X → Y → Type 0) (xs : List X) (ys : List Y) (place : ℕ) (x : X) (y : Y) → Abreast P xs ys → place < length xs → x ≡ get_or xs place x → y ≡ get_or ys place y → P x y
-abreast_at P xs ys place x y are lt e f = subst (λ b. P x b) (sym f) (subst (λ a. P a (get_or ys place y)) (sym e) (are.each place x y lt))
 
 module _ {X : Type 0} where
   -- This is left of a list, and what came before it is as P says.

@@ -14,7 +14,7 @@ use Rattle.run_machine.specs.Tasks.{TaskState}
 use Rattle.task_core.specs.declared.plain.Plain.{Plain}
 use Rattle.object_things.specs.Histories.{Call, or_last}
 use Rattle.object_things.specs.Stamps.{ThingState, StepOf, is_spent}
-use Rattle.shared_objects.specs.Closed.{history_in}
+use Rattle.shared_objects.specs.ClosedByName.{history_in}
 use Rattle.shared_objects.specs.Closes.{Returned, ClosesAs}
 use Rattle.shared_objects.specs.Kinds.{ThingAt, looks_at, serves_at}
 use Rattle.shared_objects.specs.Led.{BrokeOff, IsLed}

@@ -8,7 +8,7 @@ use Rattle.task_core.specs.Plains.{is_bios_number}
 use Rattle.task_core.specs.Tables.{look_up}
 use Rattle.object_things.specs.Histories.{Call}
 use Rattle.shared_objects.specs.Calls.{is_same_object}
-use Rattle.shared_objects.specs.Closed.{history_in, names_of}
+use Rattle.shared_objects.specs.ClosedByName.{history_in, names_of}
 use Rattle.shared_objects.specs.Holding.{dev_key, set_key, slip_key, writer_key}
 use Rattle.shared_objects.specs.declared.closed.Closed.{Closed}
 

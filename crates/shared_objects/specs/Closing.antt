@@ -3,7 +3,7 @@ use Rattle.std.specs.Prelude.{◌≡◌, List, All, length, Some}
 use Rattle.tick_clock.specs.Tickets.{PassState}
 use Rattle.run_machine.specs.Scene.{Setup}
 use Rattle.task_core.specs.declared.plain.Plain.{Plain}
-use Rattle.shared_objects.specs.Closed.{history_in, object_left_in, names_in}
+use Rattle.shared_objects.specs.ClosedByName.{history_in, object_left_in, names_in}
 use Rattle.shared_objects.specs.Closes.{ClosesAs, Returned}
 use Rattle.shared_objects.specs.Holding.{SeatsHold, desk_of}
 use Rattle.shared_objects.specs.Logs.{HasStopped, IsLogged}

@@ -7,7 +7,7 @@ use Rattle.task_core.specs.declared.plain.Plain.{Plain}
 use Rattle.task_core.specs.Leaving.{IsReservedForRun}
 use Rattle.task_core.specs.opened.OfOne.{IsOpened, scenario_in, states}
 use Rattle.task_core.specs.Plains.{book_number, disk_number, list_number, records_number, set_number, stage_of}
-use Rattle.shared_objects.specs.Closed.{history_in, object_left_in, names_in}
+use Rattle.shared_objects.specs.ClosedByName.{history_in, object_left_in, names_in}
 use Rattle.shared_objects.specs.Closes.{ClosesAs, Returned}
 use Rattle.shared_objects.specs.Holding.{desk_of, dev_key, set_key, slip_key, writer_key}
 use Rattle.shared_objects.specs.Logs.{events_in}

@@ -13,7 +13,7 @@ pub mod Joins
 pub mod Sharing
 pub mod Taking
 pub mod Shutting
-pub mod Closed
+pub mod ClosedByName
 pub mod Noting
 pub mod Led
 pub mod Rans

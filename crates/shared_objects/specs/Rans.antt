@@ -112,9 +112,3 @@ pub record IsNewRan (ran : RanState) : Type 0 where
   pub events : ran.events ≡ 0
   pub stopped : ran.stopped ≡ false
   pub blank : IsBlank ran.noted
-
--- whether a step tells that the task has stopped
-abbrev pub has_stopped : Step → Bool
-has_stopped Ended = true
-has_stopped (Broken breach) = true
-has_stopped step = false

@@ -7,7 +7,7 @@ use Rattle.run_machine.specs.Scene.{Setup}
 use Rattle.task_core.specs.declared.plain.Plain.{Plain}
 use Rattle.object_things.specs.Histories.{Call}
 use Rattle.object_things.specs.Stamps.{ThingState}
-use Rattle.shared_objects.specs.Closed.{history_in}
+use Rattle.shared_objects.specs.ClosedByName.{history_in}
 use Rattle.shared_objects.specs.Closes.{ClosesAs, Returned}
 use Rattle.shared_objects.specs.Kinds.{ThingAt}
 use Rattle.shared_objects.specs.Logs.{FoundNone, is_event, is_refused}

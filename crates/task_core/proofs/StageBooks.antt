@@ -1,5 +1,5 @@
 -- What a call makes of a book of a stage is a book of this stage, and what it answers is at home there.
-use Rattle.std.proofs.Common.{◌⊎◌, inl, inr, ◌<◌, ◌≤◌, ℕ, length, Option, None, Some, sym, subst, arith}
+use Rattle.std.proofs.Common.{◌⊎◌, inl, inr, ◌<◌, ◌≤◌, ℕ, length, Option, None, Some, sym, subst}
 use Rattle.std.specs.Prelude.{IfSome}
 use Rattle.std.proofs.lemmas.List.{get_or_past}
 use Rattle.std.proofs.lemmas.List.Elements.{All-set}
@@ -14,17 +14,15 @@ use Rattle.run_machine.specs.Requests.{Opening, Write, Chain, Master, Leg}
 use Rattle.run_machine.specs.Objects.{Opened}
 use Rattle.task_steps.specs.Stage.{Stage, is_bios, is_slips, IsHome, IsBioHome, IsVecHome, HoldsHome, OpeningFits, LinkFits, TopFits, ClosedFits, DropFits}
 use Rattle.task_core.specs.ObjectsOf.{IsNodeOf, IsBookOf}
+use Rattle.task_core.proofs.TestLemmas.{lt_or}
 
 module _ (stage : Stage) where
   abbrev pub IsOpenOf : Option Node → Type 0
   IsOpenOf node = IfSome node (IsNodeOf stage)
 
   pub node_is : (writer place : ℕ) (book : BookState) → IsBookOf stage writer book → IsOpenOf (node_at book place)
-  node_is writer place book is = by_case (nat_lt_or place (length book.nodes))
+  node_is writer place book is = by_case (lt_or place (length book.nodes))
     where
-      nat_lt_or : (a b : ℕ) → (a < b) ⊎ (b ≤ a)
-      nat_lt_or a b = search arith
-
       by_case : (place < length book.nodes) ⊎ (length book.nodes ≤ place) → IsOpenOf (node_at book place)
       by_case (inl lt) = is.nodes place None lt
       by_case (inr le) = subst IsOpenOf (sym (get_or_past book.nodes place None le)) tt

@@ -27,7 +27,7 @@ use Rattle.run_machine.specs.Scene.{is_device, has_set, keeps_data, is_mirror}
 use Rattle.run_machine.specs.Requests.{Reply, HadBio, HadSlip, Missed, Did, LinkedTo, Spent}
 use Rattle.run_machine.specs.Kept.{Kept}
 use Rattle.bioset_pools.specs.Sets.{is_empty, waits_first}
-use Rattle.run_machine.specs.Lines.{Takes, Punts, Links, ToPush, ToCut, ToRecord, ToMaster, Doing, Rests, Drives, Copies, Breaks, first_length, mapped, landed, asks_at, driven, settled, goes_on, cut_at, legs_of, leg_at, copies, line_request, after_chain, after_master, after_leg, at_hand, punts_of, spent, line_answered}
+use Rattle.run_machine.specs.Lines.{Takes, Punts, Links, ToPush, ToCut, ToRecord, ToMaster, Doing, Rests, Drives, Copies, Breaks, first_length, mapped, landed, asks_at, landed_doing, settled, goes_on, cut_at, legs_of, leg_at, copies, line_request, after_chain, after_master, after_leg, at_hand, punts_of, spent, line_answered}
 use Rattle.task_steps.specs.Routed.{routing_setup, places_at, sent}
 use Rattle.task_steps.specs.Routed.{copies_bios as copies_shape}
 use Rattle.task_steps.specs.Within.{IsWithinDevice, IsItemWithin, ListsAreWithin, is_cut, DoingFits}
@@ -145,9 +145,9 @@ line_asks stage good (Copies bio master leg (Links hand)) lists fits home within
 
 module _ (stage : Stage) (good : IsStack stage.routing.stack) where
   -- a bio that is served is owned still where it lands
-  driven_home : (lists : TaskLists) (item : Item Pad) → IsItemWithin stage.routing.stack item → IsOwned stage item
-      → DoingIsHome stage (driven (routing_setup stage.routing) lists item)
-  driven_home lists item within owned =
+  landed_home : (lists : TaskLists) (item : Item Pad) → IsItemWithin stage.routing.stack item → IsOwned stage item
+      → DoingIsHome stage (landed_doing (routing_setup stage.routing) lists item)
+  landed_home lists item within owned =
       let stack = stage.routing.stack in
       let at : Bio = landed (tree stack item.bio.dev.0) item.bio in
       let inside : IsWithinDevice stack at = (lands_within stack good item.bio within).within in
@@ -171,7 +171,7 @@ module _ (stage : Stage) (good : IsStack stage.routing.stack) where
   }
   settled_home (item ∷ waiting) within owned = record {
     fits = settled_fits stage.routing.stack good (places_at stage.routing.places) (item ∷ waiting) within;
-    doing = driven_home (record { list0 = []; list1 = waiting }) item (All-head (IsItemWithin stage.routing.stack) item waiting within)
+    doing = landed_home (record { list0 = []; list1 = waiting }) item (All-head (IsItemWithin stage.routing.stack) item waiting within)
         (All-head (IsOwned stage) item waiting owned);
     list0 = All-nil (IsOwned stage);
     list1 = All-tail (IsOwned stage) item waiting owned;

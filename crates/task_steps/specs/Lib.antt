@@ -14,4 +14,3 @@ pub mod RescuerViews
 pub mod TaskSteps
 pub mod TaskViews
 pub mod Named
-pub mod Laws

@@ -22,7 +22,7 @@ use Rattle.task_steps.specs.declared.submission.Doing.TheVariants as doing
 use Rattle.task_steps.specs.declared.submission.mirror.Copying.{Copying}
 use Rattle.run_machine.specs.Kept.{Kept, KeptBio, KeptVec, KeptSlip, bio_kept, holding_kept, opening_kept}
 use Rattle.task_steps.specs.Views.{vec_item, opening_of}
-use Rattle.run_machine.specs.Lines.{Want, Takes, Punts, Links, Ask, ToPush, ToCut, ToRecord, ToMaster, Doing, Rests, Drives, Copies, Breaks, Line, driven}
+use Rattle.run_machine.specs.Lines.{Want, Takes, Punts, Links, Ask, ToPush, ToCut, ToRecord, ToMaster, Doing, Rests, Drives, Copies, Breaks, Line, landed_doing}
 use Rattle.run_machine.specs.Scene.{Setup}
 
 abbrev pub want_of : RealWant → Want
@@ -84,8 +84,8 @@ abbrev pub submission_of : RealDoing → TaskLists → Line
 submission_of doing lists = record { doing = doing_of doing; lists = lists }
 
 -- the driver of a bio's device has it, while these wait
-abbrev pub driven_line : Setup → TaskLists → Item Pad → Line
-driven_line setup lists item = record { doing = driven setup lists item; lists = lists }
+abbrev pub landed_line : Setup → TaskLists → Item Pad → Line
+landed_line setup lists item = record { doing = landed_doing setup lists item; lists = lists }
 
 -- no element that is at hand is in a list
 abbrev pub IsWantAlone : RealWant → Type 0

@@ -19,8 +19,8 @@ use Rattle.task_steps.specs.Stage.{Owes}
 use Rattle.task_steps.specs.Turns.{Asks, Turns, step_of}
 
 -- objects that hold together, with a task that is one of theirs
-abbrev pub TaskReady : {S : Type 0} → Ghosts S → S → TaskState → Type 0
-TaskReady words objects task = words.holds objects × IsTaskOf (words.stage objects) task
+abbrev pub HoldsTask : {S : Type 0} → Ghosts S → S → TaskState → Type 0
+HoldsTask words objects task = words.holds objects × IsTaskOf (words.stage objects) task
 
 -- a step of a task over these objects, which hold together behind it too
 pub record TaskTurns {S : Type 0} (words : Ghosts S) (setup : Setup) (task : TaskState) (old : S) (next : TaskState) (new : S) (step : Step) : Type 0 where

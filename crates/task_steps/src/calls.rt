@@ -15,7 +15,7 @@ use crate::routes::Routes;
 use crate::step::Step;
 use crate::submission::{HandedBack, Want};
 use bio_books::Link;
-use bio_lists::Submission;
+use bio_lists::SubmissionLists;
 use bio_records::TaskLists;
 use mempool_core::Taken;
 use run_machine::{Breach, Event, Got, TaskId, What};

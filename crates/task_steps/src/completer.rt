@@ -8,7 +8,7 @@ ghost use Rattle.run_machine.specs.Kept.{holding_kept};
 ghost use Rattle.run_machine.specs.Tasks.{Brings, Carries, Completer as Completes, Empty, Fails};
 ghost use Rattle.task_steps.specs.Turns.{completes, Chosen};
 ghost use Rattle.task_steps.specs.CarriedViews.{carried_of, held_of, put_back, is_bringing, is_busy, is_carrying, IsLoadAlone};
-ghost use Rattle.task_steps.specs.TaskSteps.{CompleterDoes, TaskReady};
+ghost use Rattle.task_steps.specs.TaskSteps.{CompleterDoes, HoldsTask};
 
 mod closed;
 mod ends;
@@ -162,7 +162,7 @@ impl Carried {
         disk: DevId,
     ) -> Step
         requires empty { self.old ≡ Empty }
-        requires ready { TaskReady O.Objects objects.old (Completes disk Empty) }
+        requires ready { HoldsTask O.Objects objects.old (Completes disk Empty) }
         ensures does { CompleterDoes O.Objects disk Empty objects.old (self.new, result) objects.new }
         ensures chosen { Chosen C.chooses (O.picks objects.old) disk chooser.old result chooser.new }
     {
@@ -199,7 +199,7 @@ impl Carried {
     // Tells the node of the bio that it carries of its end.
     fn bring<O: Objects>(&mut self, objects: &mut O, disk: DevId) -> Step
         requires brings { is_bringing self.old ≡ true }
-        requires ready { TaskReady O.Objects objects.old (Completes disk self.old) }
+        requires ready { HoldsTask O.Objects objects.old (Completes disk self.old) }
         ensures does { CompleterDoes O.Objects disk self.old objects.old (self.new, result) objects.new }
         ensures completes_none { completes result ≡ false }
     {
@@ -212,7 +212,7 @@ impl Carried {
     // A step of a completer that carries something, or has broken off.
     fn go_on<O: Objects>(&mut self, objects: &mut O, disk: DevId) -> Step
         requires busy { is_busy self.old ≡ true }
-        requires ready { TaskReady O.Objects objects.old (Completes disk self.old) }
+        requires ready { HoldsTask O.Objects objects.old (Completes disk self.old) }
         ensures does { CompleterDoes O.Objects disk self.old objects.old (self.new, result) objects.new }
         ensures completes_none { completes result ≡ false }
     {
@@ -235,7 +235,7 @@ impl Carried {
         chooser: &mut C,
         disk: DevId,
     ) -> Step
-        requires ready { TaskReady O.Objects objects.old (Completes disk self.old) }
+        requires ready { HoldsTask O.Objects objects.old (Completes disk self.old) }
         ensures does { CompleterDoes O.Objects disk self.old objects.old (self.new, result) objects.new }
         ensures chosen { Chosen C.chooses (O.picks objects.old) disk chooser.old result chooser.new }
     {

@@ -7,7 +7,7 @@ ghost use Rattle.run_machine.specs.Requests.{Resize};
 ghost use Rattle.run_machine.specs.Tasks.{Duty as DutyState, Keeper as Keeping', Keeps, Resizes, Starts, later_of};
 ghost use Rattle.task_steps.specs.Homes.{DutyFits};
 ghost use Rattle.task_steps.specs.KeeperViews.{duty_of, keeping_of, IsDutyAt};
-ghost use Rattle.task_steps.specs.TaskSteps.{KeeperAsks, TaskDoes, TaskReady};
+ghost use Rattle.task_steps.specs.TaskSteps.{KeeperAsks, TaskDoes, HoldsTask};
 ghost use Rattle.task_steps.specs.Answers.{Ready};
 
 use crate::objects::{Objects, Unmade};
@@ -141,7 +141,7 @@ impl Keeper {
 
     /// A step of the keeper: it looks at the number of unfinished writes, and does what is next where none is left of the rounds so far.
     pub fn step<O: Objects>(&mut self, objects: &mut O) -> Step
-        requires ready { TaskReady O.Objects objects.old (Keeping' self.old) }
+        requires ready { HoldsTask O.Objects objects.old (Keeping' self.old) }
         ensures does { TaskDoes O.Objects (O.stage objects.old).routing (Keeping' self.old) objects.old (Keeping' self.new) objects.new result }
     {
         if let Some(breach) = self.broken {

@@ -5,7 +5,6 @@ mod calls;
 mod completer;
 pub mod homes;
 mod keeper;
-pub mod laws;
 mod objects;
 mod rescuer;
 mod routes;

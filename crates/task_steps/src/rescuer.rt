@@ -3,7 +3,7 @@ ghost use Rattle.std.specs.Prelude.{◌≡◌};
 ghost use Rattle.run_machine.specs.Requests.{Pop};
 ghost use Rattle.run_machine.specs.Lines.{Rests, rests};
 ghost use Rattle.task_steps.specs.RescuerViews.{rescuer_task};
-ghost use Rattle.task_steps.specs.TaskSteps.{TaskDoes, TaskReady};
+ghost use Rattle.task_steps.specs.TaskSteps.{TaskDoes, HoldsTask};
 ghost use Rattle.task_steps.specs.Answers.{Ready};
 
 use crate::calls::idle;
@@ -77,7 +77,7 @@ impl Rescuer {
     #[inline(always)] // as `Task::step`
     pub fn step<O: Objects>(&mut self, objects: &mut O, routes: &Routes) -> Step
         requires routing { (O.stage objects.old).routing ≡ routes.now }
-        requires ready { TaskReady O.Objects objects.old (rescuer_task self.old) }
+        requires ready { HoldsTask O.Objects objects.old (rescuer_task self.old) }
         ensures does { TaskDoes O.Objects routes.now (rescuer_task self.old) objects.old (rescuer_task self.new) objects.new result }
     {
         if self.line.asks() {

@@ -1,6 +1,6 @@
 //! Tasks.
 ghost use Rattle.std.specs.Prelude.{◌≡◌};
-ghost use Rattle.task_steps.specs.TaskSteps.{TaskDoes, TaskReady};
+ghost use Rattle.task_steps.specs.TaskSteps.{TaskDoes, HoldsTask};
 ghost use Rattle.task_steps.specs.TaskViews.{task_of, ChosenBy};
 
 use crate::completer::Carried;
@@ -93,7 +93,7 @@ impl Task {
     #[inline(always)] // a task that waits then writes no answer
     pub fn step<O: Objects, C: Chooser>(&mut self, objects: &mut O, chooser: &mut C) -> Step
         requires routing { self.old.routing ≡ (O.stage objects.old).routing }
-        requires ready { TaskReady O.Objects objects.old self.old.state }
+        requires ready { HoldsTask O.Objects objects.old self.old.state }
         ensures does { TaskDoes O.Objects self.old.routing self.old.state objects.old self.new.state objects.new result }
         ensures chosen { ChosenBy self.old.state C.chooses (O.picks objects.old) chooser.old result chooser.new }
         ensures same { self.new.routing ≡ self.old.routing }

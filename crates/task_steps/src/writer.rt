@@ -6,7 +6,7 @@ ghost use Rattle.run_machine.specs.Lines.{Rests, rests};
 ghost use Rattle.run_machine.specs.Tasks.{Todo as TodoState, NoBio};
 ghost use Rattle.run_machine.specs.Scene.{Setup};
 ghost use Rattle.task_steps.specs.WriterViews.{writer_task, tried, IsNextAlone, IsAttemptAtBioAlone, is_taken, writer_next};
-ghost use Rattle.task_steps.specs.TaskSteps.{TaskAsks, TaskDoes, TaskReady, TaskTurns};
+ghost use Rattle.task_steps.specs.TaskSteps.{TaskAsks, TaskDoes, HoldsTask, TaskTurns};
 ghost use Rattle.task_steps.specs.Answers.{Ready};
 
 pub(crate) mod begin;
@@ -83,7 +83,7 @@ impl Writer {
 
     // Asks for what its next write needs, whose bio it has taken.
     fn act<O: Objects>(&mut self, objects: &mut O, routes: &Routes, todo: &Todo) -> Step
-        requires ready { TaskReady O.Objects objects.old (writer_task self.old) }
+        requires ready { HoldsTask O.Objects objects.old (writer_task self.old) }
         requires routing { (O.stage objects.old).routing ≡ routes.now }
         requires rests { self.old.line.doing ≡ Rests }
         requires first { self.old.todo ≡ todo.now ∷ drop 1 self.old.todo }
@@ -156,7 +156,7 @@ impl Writer {
     #[inline(always)] // as `Task::step`
     pub fn step<O: Objects>(&mut self, objects: &mut O, routes: &Routes) -> Step
         requires routing { (O.stage objects.old).routing ≡ routes.now }
-        requires ready { TaskReady O.Objects objects.old (writer_task self.old) }
+        requires ready { HoldsTask O.Objects objects.old (writer_task self.old) }
         ensures does { TaskDoes O.Objects routes.now (writer_task self.old) objects.old (writer_task self.new) objects.new result }
     {
         if self.line.asks() {

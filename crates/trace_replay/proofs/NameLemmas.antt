@@ -10,7 +10,7 @@ use Rattle.std.proofs.lemmas.Cmp.{ranked}
 use Rattle.std.proofs.lemmas.Bool.Decides.{nat_tests}
 use Rattle.run_machine.specs.Maps.{upd}
 use Rattle.trace_replay.specs.declared.names.Name.{Name}
-use Rattle.trace_replay.specs.Named.{opened_by, name_cmp, place_in}
+use Rattle.trace_replay.specs.KeptNames.{opened_by, name_cmp, place_in}
 
 told_same : (r : Ordering) (w v : ℕ) → MatchOrdering r (w < v) (w ≡ v) (v < w) → is_eq r ≡ (v == w)
 told_same Less w v is = grind (arith, nat_tests)

@@ -1,7 +1,7 @@
 pub mod Lines
 pub mod Parts
 pub mod Names
-pub mod Named
+pub mod KeptNames
 pub mod Replay
 pub mod Walks
 pub mod Exact

@@ -1,7 +1,7 @@
 //! Which place each name of a trace stands for.
 ghost use Rattle.std.specs.Prelude.{◌≡◌, None, Some, OnOk};
 ghost use Rattle.trace_replay.specs.Names.{names_after, event_placed, linked, no_names, placed, renamed};
-ghost use Rattle.trace_replay.specs.Named.{names_in_entries};
+ghost use Rattle.trace_replay.specs.KeptNames.{names_in_entries};
 
 use run_machine::{End, Event, What};
 use std::alloc::{AllocError, Global};

@@ -5,7 +5,7 @@ ghost use Rattle.plain_core.specs.Cores.{scene_of_core, state_of_core};
 ghost use Rattle.report_text.specs.Pools.{told_pools};
 ghost use Rattle.trace_replay.specs.Replay.{IsFinish, IsReplay};
 ghost use Rattle.trace_replay.specs.Lines.{told_in};
-ghost use Rattle.trace_replay.specs.Named.{names_in_entries};
+ghost use Rattle.trace_replay.specs.KeptNames.{names_in_entries};
 ghost use Rattle.trace_replay.specs.Names.{no_names};
 ghost use Rattle.trace_replay.specs.Walks.{AppliesLine, FollowsLines, extents_over};
 

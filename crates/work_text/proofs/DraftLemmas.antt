@@ -11,7 +11,7 @@ use Rattle.layout_model.specs.declared.write.Write.{Write}
 use Rattle.layout_model.specs.declared.counts.Needs.{Needs}
 use Rattle.layout_model.specs.declared.totals.Bounds.{Bounds}
 use Rattle.layout_model.specs.Need.{needed, vectors}
-use Rattle.layout_model.specs.Needs.{IsNeeds, elements, parts}
+use Rattle.layout_model.specs.NeedCounts.{IsNeeds, elements, parts}
 use Rattle.layout_model.specs.Bound.{IsBound, most_elements, all_elements}
 use Rattle.layout_model.specs.Writes.{IsWrite}
 use Rattle.layout_model.proofs.WriteSizes.{parts_le_elements}

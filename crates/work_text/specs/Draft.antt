@@ -4,7 +4,7 @@ use Rattle.stack_base.specs.PoolId.{pool_number}
 use Rattle.stack_base.specs.declared.stack.Stack.{Stack}
 use Rattle.layout_model.specs.declared.write.Write.{Write}
 use Rattle.layout_model.specs.declared.counts.Needs.{Needs}
-use Rattle.layout_model.specs.Needs.{IsNeeds}
+use Rattle.layout_model.specs.NeedCounts.{IsNeeds}
 use Rattle.layout_model.specs.Bound.{IsBound, most_elements}
 use Rattle.layout_model.specs.Writes.{IsWrite}
 use Rattle.decl_text.specs.Known.{Known, device_of, present}

@@ -2,7 +2,7 @@
 use Rattle.std.proofs.Common.{◌≡◌, ◌+◌, ◌*◌, ◌≤◌, ℕ, Bool, true, false, List, [], ◌∷◌, length, Option, None, Some, inl, inr, refl, sym, ◌∙◌, ap, subst, arith}
 use Rattle.elem_ledger.specs.Ledger.{LedgerId}
 use Rattle.run_machine.specs.declared.event.Event.{Event}
-use Rattle.mempool_core.specs.Move.{PoolState, Move as PoolMove, after_move, takes_ordinary, takes_spare, misses, gives, resizes}
+use Rattle.mempool_core.specs.Move.{PoolState, Move as PoolMove, after_move, misses, gives, resizes}
 use Rattle.stack_base.specs.PoolId.{pool_number}
 use Rattle.run_machine.specs.Maps.{upd}
 use Rattle.run_machine.specs.Scene.{Scene}
@@ -14,6 +14,7 @@ use Rattle.block_core.specs.Payers.{Paid, unit_price}
 use Rattle.block_core.specs.Touches.{touch_of, masters_after, were_masters, none_was}
 use Rattle.block_core.specs.Paying.{end_told, paid_as, costs, all_costs, CostsAreCharged, EventsUseUpCharges, NoMoreIsSpent}
 use Rattle.block_core.specs.Bounded.{most_steps, OpenedRankIsBounded, OutsAreBounded, RunsAreBounded}
+use Rattle.block_core.proofs.sound.Counters.{one_out}
 use Rattle.block_core.proofs.moves.Moves.{Move, touch_by, after}
 use Rattle.block_core.proofs.moves.PaidKinds.{kind_of}
 use Rattle.block_core.proofs.sound.Misplaced.{was_after}
@@ -32,18 +33,10 @@ use Rattle.block_core.proofs.bound.ChargesAtStart.{start_charge, start_spent}
 use Rattle.block_core.proofs.bound.PayerCounts.{few_costs}
 use Rattle.block_core.proofs.sound.Wholes.{Whole, runs_whole, start_whole}
 
--- an event takes one element out of a pool at most
-move_out : (pool : PoolState) (move : PoolMove) → (after_move pool move).facts.out ≤ pool.facts.out + 1
-move_out pool takes_ordinary = omega arith
-move_out pool takes_spare = omega arith
-move_out pool (misses used) = omega arith
-move_out pool gives = omega arith
-move_out pool (resizes min) = omega arith
-
 pool_out : (pools : ℕ → PoolState) (p : ℕ) (move : PoolMove) (q : ℕ) → (upd pools p (after_move (pools p) move) q).facts.out ≤ (pools q).facts.out + 1
 pool_out pools p move q = elim (same_or_not q p) [
   | inl e ↦ subst (λ (k : ℕ). (upd pools p (after_move (pools p) move) k).facts.out ≤ (pools k).facts.out + 1) (sym e)
-      (let same = ap (λ (y : PoolState). y.facts.out) (upd-same pools p (after_move (pools p) move)) in omega (arith, same, move_out (pools p) move))
+      (let same = ap (λ (y : PoolState). y.facts.out) (upd-same pools p (after_move (pools p) move)) in omega (arith, same, one_out (pools p) move))
   | inr ne ↦ let same = ap (λ (y : PoolState). y.facts.out) (upd-other pools p (after_move (pools p) move) q ne) in omega (arith, same)
 ]
 

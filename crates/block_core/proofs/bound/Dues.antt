@@ -1,10 +1,8 @@
 -- What is due of each thing in a state where no take misses: as many events as still come of it.
-use Rattle.std.proofs.Common.{◌≡◌, ◌+◌, ◌-◌, ◌*◌, ◌==◌, if◌then◌else◌, ℕ, Bool, true, false, List, [], ◌∷◌, length, Option, None, Some, refl, sym, ◌∙◌, ap, arith}
+use Rattle.std.proofs.Common.{◌≡◌, ◌+◌, ◌*◌, ◌==◌, if◌then◌else◌, ℕ, Bool, true, false, List, [], ◌∷◌, Option, None, Some, refl, sym, ◌∙◌, ap, arith}
 use Rattle.std.specs.Prelude.{sum_by}
-use Rattle.std.specs.List.{range_with_len}
 use Rattle.std.proofs.lemmas.List.Sums.{sum_by-cons}
 use Rattle.stack_base.specs.declared.ids.Status.{Status}
-use Rattle.stack_base.specs.Tree.{Tree, Leaf, Split, Mirrored}
 use Rattle.layout_model.specs.declared.fragment.Fragment.{Fragment}
 use Rattle.layout_model.specs.Need.{needed, vectors}
 use Rattle.bio_records.specs.declared.bio.Bio.{Bio}
@@ -20,14 +18,14 @@ use Rattle.run_machine.specs.Tasks.{Todo, Gathered, NoBio, HasBio, HasBoth, Carr
 use Rattle.block_core.specs.Weights.{Weight, Spot, Lined, Rescued, Pending, Brought, line_weight, carried_weight, no_weight}
 use Rattle.block_core.specs.Charges.{there}
 use Rattle.block_core.specs.Fragments.{todo_fragments, legs_come, leg_fragments}
-use Rattle.block_core.specs.Places.{bio_needs, unmade_legs_need}
+use Rattle.block_core.specs.Rooms.{need_at, leg_need, legs_need}
 use Rattle.block_core.proofs.moves.Moves.{Move, IsBare, Tells}
 use Rattle.block_core.proofs.moves.Moves as moves
 use Rattle.block_core.proofs.sound.Facts.{own_part, own_of, away}
 use Rattle.block_core.proofs.moves.Listed.{IsBlind}
 use Rattle.block_core.proofs.moves.Landings.{AreThere, IsLanding, copies_there}
-use Rattle.block_core.proofs.sound.Places.{unless}
-use Rattle.block_core.proofs.unrefused.BioNeeds.{Worth}
+use Rattle.block_core.proofs.sound.SumParts.{unless}
+use Rattle.block_core.proofs.unrefused.NodeNeeds.{Needs}
 use Rattle.block_core.proofs.images.FragmentCounts.{Divided, worth, legs_none}
 use Rattle.block_core.proofs.images.MasterRecords.{bare_slip}
 use Rattle.block_core.proofs.sound.Owns.{brought}
@@ -39,7 +37,7 @@ one_each f = 1
 
 -- four events a node that a bio still needs, and three a fragment that it comes to
 abbrev pub run_due : Setup → Bio → ℕ
-run_due setup bio = 4 * bio_needs setup bio + 3 * worth setup one_each bio
+run_due setup bio = 4 * need_at setup bio + 3 * worth setup one_each bio
 
 abbrev pub bio_due : Setup → Spot → Item Pad → ℕ
 bio_due setup (Lined limit) item = run_due setup item.bio
@@ -48,7 +46,7 @@ bio_due setup Pending item = 2
 bio_due setup Brought item = 1
 
 abbrev pub copy_due : Setup → Bio → ℕ → ℕ
-copy_due setup bio leg = 4 * unmade_legs_need (tree_at setup bio.dev) bio.range.start bio.range.len leg + 3 * legs_come setup one_each bio leg
+copy_due setup bio leg = 4 * legs_need setup bio leg + 3 * legs_come setup one_each bio leg
 
 abbrev pub todo_run : Setup → Todo → ℕ
 todo_run setup todo = 4 * needed (tree_at setup todo.write.dev) todo.write.start todo.write.count + 3 * sum_by one_each (todo_fragments setup todo)
@@ -90,14 +88,6 @@ IsHad (moves.MissesTry place x doing lists dev used) = ⊥
 IsHad (moves.Punts place x doing lists dev) = ⊥
 IsHad (moves.Pops place dev bio bios) = ⊥
 IsHad m = Unit {0}
-
--- behind the last leg nothing is due
-legs_done : (t : Tree) (start len leg : ℕ) → leg ≡ legs_of t → unmade_legs_need t start len leg ≡ 0
-legs_done (Leaf number sectors) start len leg is = refl
-legs_done (Split number kind sizes members) start len leg is = refl
-legs_done (Mirrored number sizes members) start len leg is =
-    let none : length sizes - leg ≡ 0 = omega (arith, is) in
-    ap (λ n. n + sum_by (λ k. needed (members k) start len) (range_with_len leg n)) none
 
 -- a write's vector is what it needs
 pub bare_none : (todo : Todo) → IsBare todo None → vectors todo.write.count ≡ 0
@@ -157,7 +147,7 @@ closes_one (Carries of closed) writer key status part node t none own odd_none =
 closes_one Empty writer key status part node t none own odd_none = absurd t
 closes_one (Fails breach kept) writer key status part node t none own odd_none = absurd t
 
-module _ (setup : Setup) (p : Worth setup) (v : Divided setup one_each) where
+module _ (setup : Setup) (p : Needs setup) (v : Divided setup one_each) where
   pub lands : IsLanding setup (due setup)
   lands limit item is = omega (arith, p.lands item.bio is, v.lands item.bio is)
 
@@ -171,7 +161,8 @@ module _ (setup : Setup) (p : Worth setup) (v : Divided setup one_each) where
           → n ≡ copy_due setup bio leg + sum_by (bio_due setup (Lined limit)) lists.list0 + sum_by (bio_due setup (Lined limit)) lists.list1
       by_test true is are =
           let same : leg ≡ legs_of (tree_at setup bio.dev) = search (is, arith) in
-          let none : legs_come setup one_each bio leg ≡ 0 =
-          ap (legs_come setup one_each bio) same ∙ legs_none (λ k. sum_by one_each (leg_fragments (tree_at setup bio.dev) bio k)) (legs_of (tree_at setup bio.dev)) in
-          omega (arith, are, none, legs_done (tree_at setup bio.dev) bio.range.start bio.range.len leg same)
+          let tree = tree_at setup bio.dev in
+          let none : legs_come setup one_each bio leg ≡ 0 = ap (legs_come setup one_each bio) same ∙ legs_none (λ k. sum_by one_each (leg_fragments tree bio k)) (legs_of tree) in
+          let no_need : legs_need setup bio leg ≡ 0 = ap (legs_need setup bio) same ∙ legs_none (leg_need tree bio.range) (legs_of tree) in
+          omega (arith, are, none, no_need)
       by_test false is are = are

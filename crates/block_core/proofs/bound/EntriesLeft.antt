@@ -1,12 +1,12 @@
 -- The entries that are left of the scripts of pools: a take uses one up, or none.
-use Rattle.std.proofs.Common.{◌≡◌, ◌+◌, ◌<◌, ◌≤◌, ◌⊎◌, if◌then◌else◌, ℕ, Bool, true, false, length, inl, inr, sym, ◌∙◌, ap, arith}
+use Rattle.std.proofs.Common.{◌≡◌, ◌+◌, ◌<◌, ◌≤◌, if◌then◌else◌, ℕ, Bool, true, false, length, inl, inr, sym, ◌∙◌, ap, arith}
 use Rattle.std.proofs.lemmas.Bool.Decides.{nat_tests}
 use Rattle.mempool_core.specs.Move.{PoolState, Move as PoolMove, after_move, takes_ordinary, takes_spare, misses, gives, resizes}
 use Rattle.bio_books.specs.Books.{told}
 use Rattle.run_machine.specs.Maps.{upd}
 use Rattle.block_core.specs.Weights.{sum_at}
 use Rattle.block_core.specs.Charges.{entries_left}
-use Rattle.block_core.proofs.moves.Sums.{sum_at-upd, sum_at-other}
+use Rattle.block_core.proofs.moves.Sums.{sum_at-upd, sum_at-other, below_or}
 use Rattle.mempool_core.specs.Position.{uses_entry, next_pos}
 
 -- the entries that are left of a pool's script
@@ -29,9 +29,6 @@ pool_used pool used same told =
 
 abbrev pub all_entries : (ℕ → PoolState) → ℕ
 all_entries pools = sum_at (λ number pool. entries_left pool) 66 pools
-
-pub below_or : (a b : ℕ) → (a < b) ⊎ (b ≤ a)
-below_or a b = grind arith
 
 pub pools_left : (pools : ℕ → PoolState) (number : ℕ) (move : PoolMove) → all_entries (upd pools number (after_move (pools number) move)) ≤ all_entries pools
 pools_left pools number move = elim (below_or number 66) [

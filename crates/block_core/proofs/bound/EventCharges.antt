@@ -37,10 +37,9 @@ use Rattle.block_core.proofs.sound.TaskLines.{line_fits}
 use Rattle.block_core.proofs.sound.Orders.{waiting_placed}
 use Rattle.block_core.proofs.sound.OrdersKept.{line_placed}
 use Rattle.block_core.proofs.moves.Landings.{IsLanding, settled_there, goes_there, all_there, none_there, cut_there, leg_there}
-use Rattle.block_core.proofs.sound.Places.{cut_weight}
+use Rattle.block_core.proofs.sound.SumParts.{cut_weight}
 use Rattle.std.proofs.Math.Nat.{mul-le-mul_left, mul-add}
 use Rattle.block_core.proofs.bound.EntriesLeft.{all_entries, pools_left, pools_used}
-pub use Rattle.block_core.proofs.bound.EntriesLeft.{below_or}
 
 -- as much more costs as much more
 costs_less : (each old new : ℕ) → new ≤ old → each * new ≤ each * old

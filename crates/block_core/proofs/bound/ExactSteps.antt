@@ -10,7 +10,7 @@ use Rattle.layout_model.specs.declared.write.Write.{Write}
 use Rattle.layout_model.specs.declared.fragment.Fragment.{Fragment}
 use Rattle.layout_model.specs.Bound.{all_elements, all_parts}
 use Rattle.layout_model.specs.Need.{needed, vectors}
-use Rattle.layout_model.specs.Needs.{elements as elements_of, nodes, parts}
+use Rattle.layout_model.specs.NeedCounts.{elements as elements_of, nodes, parts}
 use Rattle.layout_model.specs.Plan.{frags}
 use Rattle.layout_model.specs.Writes.{IsWrite}
 use Rattle.layout_model.proofs.CountFrags.{fragments_of_is_length}
@@ -36,6 +36,7 @@ use Rattle.block_core.specs.Exact.{is_miss, NoneMissed, all_nodes, all_below, st
 use Rattle.block_core.specs.Fragments.{todo_fragments, HasNone, NothingComes}
 use Rattle.block_core.specs.Rounds.{round_of, is_of_round, tops_left, unfinished_of}
 use Rattle.block_core.specs.Scenarios.{IsScenario, IsNaming}
+use Rattle.block_core.proofs.stuck.Idle.{sum_none}
 use Rattle.block_core.proofs.sound.Facts.{Fair, Kept}
 use Rattle.block_core.proofs.sound.Orders.{Ground}
 use Rattle.block_core.proofs.start.FactsAtStart.{Begins, total_zero, start_opened, todos_all}
@@ -43,17 +44,16 @@ use Rattle.block_core.proofs.moves.Devices.{ground}
 use Rattle.block_core.proofs.sound.Wholes.{Whole, step_whole, runs_whole, start_whole, run_tallied}
 use Rattle.block_core.proofs.sound.Lasting.{runs_keep}
 use Rattle.block_core.proofs.moves.StepMoves.{step_is_move}
-use Rattle.block_core.proofs.unrefused.BioNeeds.{Worth, worth}
+use Rattle.block_core.proofs.unrefused.NodeNeeds.{Needs, needs_known}
 use Rattle.block_core.proofs.images.FragmentCounts.{Divided, divided}
 use Rattle.block_core.proofs.images.Completed.{start_counted, over_follows}
 use Rattle.block_core.proofs.moves.Misfits.{misfits, no_misfits}
 use Rattle.block_core.proofs.images.StillToCome.{over}
 use Rattle.block_core.proofs.start.StartTotals.{placed_sum, opened_sum, opened_total, all_sum}
 use Rattle.block_core.proofs.moves.Sums.{one-same}
-use Rattle.block_core.proofs.images.PlannedOnce.{sum_none}
 use Rattle.block_core.proofs.images.EndedRuns.{zero_at, nothing_comes_where_ended}
 use Rattle.block_core.proofs.images.NothingComes.{none_open}
-use Rattle.block_core.proofs.images.Ancestors.{open_at}
+use Rattle.block_core.proofs.stuck.Idle.{open_at}
 use Rattle.block_core.proofs.moves.Totals.{task_part}
 use Rattle.block_core.proofs.moves.SumsCompared.{under_in_all}
 use Rattle.block_core.proofs.images.MasterRecords.{bare, bare_node}
@@ -71,7 +71,7 @@ pub record Exactly (scene : Scene) (s : State) : Type 0 where
   pub held : total scene odd s ≡ 0
   pub none : NonePunts s
 
-module _ (scene : Scene) (f : Fair scene) (g : Ground scene.setup) (p : Worth scene.setup) (v : Divided scene.setup one_each) where
+module _ (scene : Scene) (f : Fair scene) (g : Ground scene.setup) (p : Needs scene.setup) (v : Divided scene.setup one_each) where
   pub runs_take : (s : State) (events : List Event) (new : State) → Exactly scene s → IsRun scene s events new → NoneMissed events
       → length events + total scene (due scene.setup) new + total scene in_hand s + duties_left scene new
       ≡ total scene (due scene.setup) s + total scene in_hand new + duties_left scene s
@@ -288,7 +288,7 @@ steps_without_misses s ledger events state good naming run ended all =
     (λ r. sym (tally.left r) ∙ zero_at state.objects.tally.left r ended.writes) in
     omega (
       arith,
-      runs_take sc f g (worth s.stack good.stack places) (divided s.stack good.stack places one_each) (start s) events state first run all,
+      runs_take sc f g (needs_known s.stack good.stack places) (divided s.stack good.stack places one_each) (start s) events state first run all,
       none.0,
       none.1,
       total_zero sc (start s) in_hand (λ n todos. refl) (start_opened s good ledger),

@@ -1,5 +1,5 @@
 -- Where a run has ended, the keeper has done all: each of its duties belongs to a round that has writes, or that has such rounds behind it.
-use Rattle.std.proofs.Common.{◌≡◌, ◌+◌, ◌-◌, ◌<◌, ◌≤◌, ◌==◌, ◌⊎◌, ◌++◌, if◌then◌else◌, ℕ, zero, suc, Bool, true, false, List, [], ◌∷◌, length, map, filter, inl, inr, refl, sym, subst, arith}
+use Rattle.std.proofs.Common.{◌≡◌, ◌+◌, ◌-◌, ◌≤◌, ◌==◌, ◌⊎◌, ◌++◌, if◌then◌else◌, ℕ, zero, suc, Bool, true, false, List, [], ◌∷◌, length, map, filter, inl, inr, refl, sym, subst, arith}
 use Rattle.std.specs.Prelude.{All, nat_le, fold, max}
 use Rattle.std.specs.List.{range_with_len, flat_map}
 use Rattle.std.proofs.lemmas.Bool.Decides.{nat_tests}
@@ -16,6 +16,7 @@ use Rattle.run_machine.specs.Opened.{Scenario, Change, scene, start, tasks as op
 use Rattle.run_machine.specs.Runs.{State, IsRun, unfinished}
 use Rattle.block_core.specs.Charges.{task_duties, duties_left}
 use Rattle.block_core.specs.Scenarios.{IsScenario, IsNaming}
+use Rattle.block_core.proofs.moves.Sums.{below_or}
 use Rattle.block_core.proofs.moves.Devices.{ground}
 use Rattle.block_core.proofs.moves.Moves.{Move, Can, after, HasLine, with_line}
 use Rattle.block_core.proofs.moves.Moves as moves
@@ -140,9 +141,6 @@ module _ (s : Scenario) (good : IsScenario s) (ledger : ℕ → LedgerId) where
     | inl lt ↦ All-get_or KeepsLater (opened_tasks s) place no_task lt tasks_later
     | inr ge ↦ subst KeepsLater (sym (get_or_past (opened_tasks s) place no_task ge)) tt
   ]
-    where
-      below_or : (a b : ℕ) → (a < b) ⊎ (b ≤ a)
-      below_or a b = grind arith
 
   -- where no write is unfinished, none is of a round behind the present one, so nothing is left to do
   pub no_duties_left : IsNaming ledger → (events : List Event) (state : State) → IsRun (scene s ledger) (start s) events state → unfinished state ≡ 0

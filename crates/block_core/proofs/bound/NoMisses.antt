@@ -29,7 +29,7 @@ use Rattle.block_core.proofs.moves.Moves.{Move, IsTaking, place_of, Can, after, 
 use Rattle.block_core.proofs.moves.Moves as moves
 use Rattle.block_core.proofs.bound.Dues.{IsHad}
 use Rattle.block_core.proofs.sound.TaskLines.{all-upd, wants_busy}
-use Rattle.block_core.proofs.sound.Places.{out_more, out_same}
+use Rattle.block_core.proofs.sound.SumParts.{out_more, out_same}
 use Rattle.block_core.proofs.moves.LineSteps.{asks_line}
 use Rattle.block_core.proofs.moves.Sums.{one-same}
 
@@ -114,16 +114,21 @@ module _ (scene : Scene) (s : State) (i : NonePunts s) where
   at place x is = subst TaskNoPunt is (i.tasks place)
 
   pub still_none : (m : Move) → Can scene s m → IsHad m → NonePunts (after scene s m)
+  -- takes: the writer's line rests on, or the line links next
   still_none (moves.TakesFirst place writer todo later move) c h = record { tasks = goes place _ (at place _ c.1); rescued = i.rescued }
   still_none (moves.TakesVector place writer todo later item move) c h = record { tasks = goes place _ (at place _ c.1); rescued = i.rescued }
   still_none (moves.TakesSub place x doing lists dev waits move) c h = record { tasks = goes place _ (relined x _ (links_none doing dev (Takes waits) _ c.3)); rescued = i.rescued }
   still_none (moves.TakesSlip place x bio lists move) c h = record { tasks = goes place _ (relined x _ tt); rescued = i.rescued }
+  -- misses, punts and pops: none of them comes
   still_none (moves.MissesOne place x number used) c h = absurd h
   still_none (moves.MissesTry place x doing lists dev used) c h = absurd h
   still_none (moves.Punts place x doing lists dev) c h = absurd h
   still_none (moves.Pops place dev bio bios) c h = absurd h
+  -- pushes: the line rests, or its next bio is to be pushed or asks for an element
   still_none (moves.Pushes place x bio lists) c h = record { tasks = goes place _ (relined x _ (settled_none scene.setup (order bio.bio.dev lists))); rescued = i.rescued }
+  -- completions: the completer brings a bio
   still_none (moves.Completed place disk index bio status new) c h = record { tasks = goes place _ tt; rescued = i.rescued }
+  -- links: the line rests, or its next bio is to be pushed or asks for an element, as its next leg does
   still_none (moves.Begins place writer todo later item vector key) c h = record { tasks = goes place _ (settled_none scene.setup (filled_of writer todo item vector key ∷ [])); rescued = i.rescued }
   still_none (moves.Chained place x bio lists hand number kind sizes members key node) c h =
       record {
@@ -136,6 +141,7 @@ module _ (scene : Scene) (s : State) (i : NonePunts s) where
         tasks = goes place _ (relined x _ (copies_none scene.setup (submitted (leg_at bio hand leg key (tree_at scene.setup bio.dev)) lists) bio master (leg + 1)));
         rescued = i.rescued;
       }
+  -- drops, gives, ends of writes, resizes and rounds: by completers and the keeper, which never punt
   still_none (moves.Told place disk carried writer key status part node) c h = record { tasks = goes place _ tt; rescued = i.rescued }
   still_none (moves.Closes place disk carried writer key status part node) c h = record { tasks = goes place _ tt; rescued = i.rescued }
   still_none (moves.Gives place disk writer number closed held) c h = record { tasks = goes place _ tt; rescued = i.rescued }
@@ -187,6 +193,7 @@ module _ (scene : Scene) (s : State) (i : NonePunts s) (place : ℕ) (event : Ev
   more taking = taken_out scene.ledger s.objects new.objects (request scene.setup (s.task place)) steps.reply event.what taking steps.told no_miss steps.serves
 
   pub had : (m : Move) → Can scene s m → new ≡ after scene s m → place_of m ≡ place → IsHad m
+  -- misses: no pool has one more out
   had (moves.MissesOne at x number used) c is same =
       let taking : IsTaking (request scene.setup (s.task place)) = subst (λ p. IsTaking (request scene.setup (s.task p))) same (subst (λ t. IsTaking (request scene.setup t)) (sym c.1) c.3) in
       let one_more = more taking in
@@ -201,8 +208,11 @@ module _ (scene : Scene) (s : State) (i : NonePunts s) (place : ℕ) (event : Ev
       let stays : (new.objects.pool one_more.0).facts.out ≡ (s.objects.pool one_more.0).facts.out =
       ap (λ (t : State). (t.objects.pool one_more.0).facts.out) is ∙ out_same s.objects.pool (2 * dev.0) used one_more.0 in
       absurd (omega (arith, one_more.1, stays))
+  -- punts: no task is to punt
   had (moves.Punts at x doing lists dev) c is same = no_punt doing dev c.3 (line_none x doing lists (subst TaskNoPunt c.1 (i.tasks at)) c.2)
+  -- pops: no rescue list has a bio
   had (moves.Pops at dev bio bios) c is same = let e : bio ∷ bios ≡ [] = sym c.3 ∙ i.rescued dev.0 in absurd cc
+  -- all others are of those that come
   had (moves.TakesFirst at writer todo later move) c is same = tt
   had (moves.TakesVector at writer todo later item move) c is same = tt
   had (moves.TakesSub at x doing lists dev waits move) c is same = tt

@@ -10,7 +10,7 @@ use Rattle.stack_base.specs.Tree.{Tree, Leaf, Split, Mirrored, tree}
 use Rattle.layout_model.specs.declared.write.Write.{Write}
 use Rattle.layout_model.specs.Bound.{all_elements, all_parts}
 use Rattle.layout_model.specs.Need.{begun, needed, ended, fragments_of, vectors}
-use Rattle.layout_model.specs.Needs.{elements, parts}
+use Rattle.layout_model.specs.NeedCounts.{elements, parts}
 use Rattle.layout_model.proofs.RangeSums.{sum_next}
 use Rattle.run_machine.specs.Opened.{Scenario, Change, round_count}
 use Rattle.run_machine.specs.Tasks.{needs_vector}

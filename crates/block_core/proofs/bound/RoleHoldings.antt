@@ -19,8 +19,8 @@ use Rattle.block_core.proofs.moves.Moves as moves
 use Rattle.block_core.proofs.moves.Deltas.{delta}
 use Rattle.block_core.proofs.sound.Facts.{own_part, Kept}
 use Rattle.block_core.proofs.moves.Listed.{IsBlind, first_weight, goes_weight}
-use Rattle.block_core.proofs.sound.Places.{copies_weight, unless_none, is_away}
-use Rattle.block_core.proofs.sound.Places as places
+use Rattle.block_core.proofs.sound.SumParts.{copies_weight, unless_none, is_away}
+use Rattle.block_core.proofs.sound.SumParts as parts
 use Rattle.block_core.proofs.images.MasterRecords.{bare_slip, zeros}
 
 -- how much of what a node of a role holds is not as its role has it
@@ -82,8 +82,8 @@ module _ (scene : Scene) (s : State) (i : Kept scene s) (none : total scene odd 
   -- links of masters
   none_odd (moves.Mastered place x bio lists slip key node) c =
       let legs = legs_of (tree_at scene.setup bio.bio.dev) in
-      let part = places.line_part scene (named bio.bio.writer bio.bio.node) s place x (Drives bio (ToMaster slip)) lists c.0 c.1 c.2 in
-      let a = places.named_away scene s bio node i c.4 (omega (arith, part)) in
+      let part = parts.line_part scene (named bio.bio.writer bio.bio.node) s place x (Drives bio (ToMaster slip)) lists c.0 c.1 c.2 in
+      let a = parts.named_away scene s bio node i c.4 (omega (arith, part)) in
       omega (
         arith,
         none,

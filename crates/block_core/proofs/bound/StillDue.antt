@@ -19,7 +19,6 @@ use Rattle.run_machine.specs.Runs.{State}
 use Rattle.block_core.specs.Weights.{Weight, Lined, total}
 use Rattle.block_core.specs.Charges.{there, task_duties}
 use Rattle.block_core.specs.Fragments.{leg_fragments}
-use Rattle.block_core.specs.Places.{bio_needs, unmade_legs_need}
 use Rattle.block_core.proofs.moves.Moves.{Move, Can, after, limit_of, HasLine, with_want, filled_of, cut_lists}
 use Rattle.block_core.proofs.moves.Moves as moves
 use Rattle.block_core.proofs.moves.Deltas.{delta}
@@ -29,8 +28,8 @@ use Rattle.block_core.proofs.sound.OrdersKept.{line_placed}
 use Rattle.block_core.proofs.sound.TaskLines.{line_fits}
 use Rattle.block_core.proofs.moves.Listed.{first_weight, goes_weight}
 use Rattle.block_core.proofs.moves.Landings.{settled_there, goes_there, all_there, none_there, cut_there, leg_there}
-use Rattle.block_core.proofs.sound.Places.{cut_weight, copies_weight, unless_none, is_away}
-use Rattle.block_core.proofs.unrefused.BioNeeds.{Worth}
+use Rattle.block_core.proofs.sound.SumParts.{cut_weight, copies_weight, unless_none, is_away}
+use Rattle.block_core.proofs.unrefused.NodeNeeds.{Needs, mirror_need, legs_on}
 use Rattle.block_core.proofs.images.FragmentCounts.{Divided, IsCounted, mirror_worth, legs_next}
 use Rattle.block_core.proofs.moves.Misfits.{misfits, cut_fits}
 use Rattle.block_core.proofs.images.StillToCome.{over}
@@ -41,7 +40,7 @@ use Rattle.block_core.proofs.bound.RoleHoldings.{odd, odd_holding}
 use Rattle.block_core.proofs.stuck.Idle.{node_part}
 use Rattle.block_core.proofs.bound.Dues.{one_each, bio_due, due, in_hand, IsHad, blind, bare_none, later_due, tells_due, carried_hand, closes_one, lands, copies_due}
 
-module _ (scene : Scene) (s : State) (f : Fair scene) (g : Ground scene.setup) (p : Worth scene.setup) (v : Divided scene.setup one_each) (i : Kept scene s) (a : Placed scene.setup s)
+module _ (scene : Scene) (s : State) (f : Fair scene) (g : Ground scene.setup) (p : Needs scene.setup) (v : Divided scene.setup one_each) (i : Kept scene s) (a : Placed scene.setup s)
     (counted : total scene (misfits over) s ≡ 0) (held : total scene odd s ≡ 0) where
   abbrev w : Weight
   w = due scene.setup
@@ -181,14 +180,8 @@ module _ (scene : Scene) (s : State) (f : Fair scene) (g : Ground scene.setup) (
         zeros lists.list1,
         copies_due scene.setup p v (limit_of x) lists bio.bio key 0 (none_there scene.setup (limit_of x) lists d.0) (all_there scene.setup (limit_of x) lists.list1 d.1.1),
         mirror_worth (tree_at scene.setup bio.bio.dev) one_each bio.bio bio.bio.range bio.bio.dev.0 slip d.3,
-        by_tree (tree_at scene.setup bio.bio.dev) refl d.3,
+        mirror_need (tree_at scene.setup bio.bio.dev) bio.bio.range bio.bio.dev.0 slip d.3 d.1.0.0.some,
       )
-    where
-      by_tree : (t : Tree) → tree_at scene.setup bio.bio.dev ≡ t → AskFits t bio.bio.range bio.bio.dev.0 (ToMaster slip)
-          → bio_needs scene.setup bio.bio ≡ 1 + unmade_legs_need (tree_at scene.setup bio.bio.dev) bio.bio.range.start bio.bio.range.len 0
-      by_tree (Mirrored number sizes members) is fits = p.master bio.bio (has place x (Drives bio (ToMaster slip)) lists c.1 c.2).1.0.0 number sizes members is
-      by_tree (Leaf number sectors) is fits = absurd fits
-      by_tree (Split number kind sizes members) is fits = absurd fits
   -- links of legs
   takes_one (moves.Legged place x bio lists master leg hand key node) c h =
       let m : Move = moves.Legged place x bio lists master leg hand key node in
@@ -209,6 +202,7 @@ module _ (scene : Scene) (s : State) (f : Fair scene) (g : Ground scene.setup) (
         zeros lists.list1,
         copies_due scene.setup p v (limit_of x) more bio master (leg + 1) (leg_there scene.setup (limit_of x) g bio hand lists master leg key d lt) (all_there scene.setup (limit_of x) lists.list1 d.3),
         sum_by_push (bio_due scene.setup (Lined (limit_of x))) lists.list0 item,
+        legs_on (tree_at scene.setup bio.dev) bio.range leg lt,
         p.leg bio hand leg key d.0 lt,
         v.leg bio hand leg key d.0 lt,
         legs_next (λ k. sum_by one_each (leg_fragments (tree_at scene.setup bio.dev) bio k)) legs leg lt,

@@ -25,7 +25,7 @@ use Rattle.block_core.proofs.moves.Sums.{sum_at-upd}
 use Rattle.block_core.proofs.sound.Orders.{Each, IsPlaced, DoingPlaced, each_map, each_filter, of_set}
 use Rattle.block_core.proofs.bound.DeviceCharges.{Priced}
 use Rattle.block_core.proofs.moves.Landings.{AreThere, IsLanding, copies_there}
-use Rattle.block_core.proofs.sound.Places.{unless_less}
+use Rattle.block_core.proofs.sound.SumParts.{unless_less}
 
 module _ (price : Paid → ℕ) where
   -- bios are charged the same where they land

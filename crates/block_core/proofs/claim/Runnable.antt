@@ -1,17 +1,16 @@
 -- What a text means that is not refused can be run.
 use Rattle.std.proofs.Common.{◌≡◌, ◌-◌, ◌<◌, ◌≤◌, max, ℕ, suc, List, [], ◌∷◌, length, get_or, refl, ap, arith}
-use Rattle.std.specs.Prelude.{All, Bool, Contains, fold, sum_by}
+use Rattle.std.specs.Prelude.{All, Bool, Contains, fold}
 use Rattle.std.specs.List.{AllPairs}
 use Rattle.std.proofs.lemmas.List.{length-map}
-use Rattle.std.proofs.lemmas.List.Elements.{All-contains_itself, All-from_get_or, All-head, All-map, All-tail, All-weaker}
-use Rattle.std.proofs.lemmas.List.Sums.{sum_by-cons}
+use Rattle.std.proofs.lemmas.List.Elements.{All-contains_itself, All-from_get_or, All-map, All-weaker}
 use Rattle.stack_base.specs.declared.stack.Kind.{Kind}
 use Rattle.stack_base.specs.declared.stack.Kind.TheVariants.{Disk, Linear, Stripe, Zoned, Limit, Mirror}
 use Rattle.stack_base.specs.declared.stack.Stack.{Stack}
 use Rattle.stack_base.specs.Stack.{IsStack}
 use Rattle.stack_base.specs.Tree.{tree}
 use Rattle.layout_model.specs.declared.write.Write.{Write}
-use Rattle.layout_model.specs.Needs.{elements, parts}
+use Rattle.layout_model.specs.NeedCounts.{elements, parts}
 use Rattle.layout_model.specs.Writes.{IsWrite}
 use Rattle.layout_model.proofs.AtMost.{fragments_le_needed}
 use Rattle.layout_model.proofs.PlanLaws.{trees_are_sound}
@@ -26,6 +25,7 @@ use Rattle.run_machine.specs.Opened.{Change}
 use Rattle.run_machine.specs.Scenario.{change_of}
 use Rattle.block_core.specs.Runnable.{AcceptedTextsAreRunnable, StepsFitIn24Bits}
 use Rattle.block_core.specs.Scenarios.{KeepsSome, AreInOrder}
+use Rattle.block_core.proofs.images.PlannedOnce.{all_le}
 
 -- rounds that do not fall, pair by pair, are in order
 in_order : (rounds : List ℕ) → AllPairs (λ round later. round ≤ later) rounds → AreInOrder rounds
@@ -93,12 +93,6 @@ accepted_texts_are_runnable accepted work read =
       omega (arith, bound.elements, bound.fragments, bound.entries, rounds, changes),
     )
 
--- sums of what is no more
-sum_le : {X : Type 0} (P : X → Type 0) (f g : X → ℕ) (xs : List X) → ((x : X) → P x → f x ≤ g x) → All P xs → sum_by f xs ≤ sum_by g xs
-sum_le P f g [] le all = omega arith
-sum_le P f g (x ∷ xs) le all =
-    omega (arith, sum_by-cons f x xs, sum_by-cons g x xs, le x (All-head P x xs all), sum_le P f g xs le (All-tail P x xs all))
-
 -- a write has no more fragments than it needs elements
 parts_few : (stack : Stack) → IsStack stack → (write : Write) → IsWrite stack write → parts stack write ≤ elements stack write
 parts_few stack good write is =
@@ -112,4 +106,4 @@ steps_fit_in_24_bits s runnable =
     let good = runnable.scenario in
     let allowed = runnable.allowed in
     let few = runnable.few in
-    omega (arith, allowed, few, sum_le (IsWrite s.stack) (parts s.stack) (elements s.stack) s.writes (parts_few s.stack good.stack) good.writes)
+    omega (arith, allowed, few, all_le (IsWrite s.stack) (parts s.stack) (elements s.stack) s.writes (parts_few s.stack good.stack) good.writes)

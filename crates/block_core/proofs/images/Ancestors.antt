@@ -14,7 +14,7 @@ use Rattle.run_machine.specs.Scene.{Scene, tree_at}
 use Rattle.run_machine.specs.Lines.{Want, Ask, Doing, Rests, Drives, Copies, Breaks, legs_of}
 use Rattle.run_machine.specs.Tasks.{TaskState, Writer, Rescuer, Completer, Keeper, Carried, Empty, Brings, Carries, Fails}
 use Rattle.run_machine.specs.Runs.{State}
-use Rattle.block_core.specs.Weights.{Weight, Lined, Rescued, Pending, total, sum_at, one, line_weight, refs, names_node, under, legs_left, count_of}
+use Rattle.block_core.specs.Weights.{Weight, Lined, Rescued, Pending, total, sum_at, one, line_weight, refs, names_node, under, legs_left}
 use Rattle.block_core.specs.Weights.{apart}
 use Rattle.block_core.specs.OfOneWrite.{bio_strays, parent_strays, strays}
 use Rattle.block_core.specs.Present.{AreSuch, DoingIs, LineIs, CarriedIs, TaskIs, AllAtWork}
@@ -23,21 +23,13 @@ use Rattle.block_core.proofs.moves.Sums.{one-same, within_book}
 use Rattle.block_core.proofs.sound.Facts.{DoingFits, TaskFits, Kept}
 use Rattle.block_core.proofs.start.FactsAtStart.{all_map}
 use Rattle.block_core.proofs.moves.Totals.{part_of, task_part, line_part}
-use Rattle.block_core.proofs.stuck.Idle.{GoesDown, open_in_books, node_part}
+use Rattle.block_core.proofs.stuck.Idle.{GoesDown, open_in_books, open_at, node_part}
 use Rattle.block_core.proofs.images.PlannedOnce.{term_in}
 use Rattle.block_core.proofs.sound.OfOneWrite.{node_write, driven_of_write, copied_of_write, child_of_write}
 
 -- a bio refers to the node that it names
 pub names_one : (item : Item Pad) → names_node item.bio.writer item.bio.node item ≡ 1
 names_one item = ap (λ n. n * one item.bio.node item.bio.node) (one-same item.bio.writer) ∙ ap (λ n. 1 * n) (one-same item.bio.node)
-
--- what is referred to is open
-pub open_at : (scene : Scene) (s : State) → Kept scene s → (writer key : ℕ) → 1 ≤ total scene (refs scene.setup writer key) s → (node : Node) × (node_at (s.objects.book writer) key ≡ Some node)
-open_at scene s i writer key some = by_node (node_at (s.objects.book writer) key) refl
-  where
-    by_node : (found : Option Node) → node_at (s.objects.book writer) key ≡ found → (node : Node) × (node_at (s.objects.book writer) key ≡ Some node)
-    by_node None at = absurd (let count : count_of (node_at (s.objects.book writer) key) ≡ 0 = ap count_of at in omega (arith, some, count, i.counts writer key))
-    by_node (Some node) at = (node, at)
 
 module _ (scene : Scene) (s : State) (i : Kept scene s) (level : ℕ → ℕ → ℕ) (down : GoesDown s level) (write_of : ℕ → ℕ → ℕ) (none : total scene (strays write_of) s ≡ 0)
     (P : ℕ → Type 0) (tops : (writer key : ℕ) (node : Node) → writer < scene.books → node_at (s.objects.book writer) key ≡ Some node → parent_of node.role ≡ None → P node.write) where

@@ -33,7 +33,7 @@ use Rattle.block_core.specs.DoneWrites.{DoneIsCompleted}
 use Rattle.block_core.proofs.moves.Sums.{one-same}
 use Rattle.block_core.proofs.sound.Facts.{Fair, Kept}
 use Rattle.block_core.proofs.moves.SumsCompared.{under_in_all}
-use Rattle.block_core.proofs.stuck.Idle.{GoesDown, node_part}
+use Rattle.block_core.proofs.stuck.Idle.{GoesDown, open_at, node_part}
 use Rattle.block_core.proofs.unrefused.Resizes.{goes_down}
 use Rattle.block_core.proofs.moves.Devices.{ground}
 use Rattle.block_core.proofs.sound.DoneOnce.{to_begin, stage}
@@ -41,7 +41,7 @@ use Rattle.block_core.proofs.sound.EventStages.{top_is}
 use Rattle.block_core.specs.Rounds.{tops}
 use Rattle.block_core.proofs.sound.Wholes.{Whole, runs_whole, start_whole, runs_leveled, start_leveled, runs_done, stage_once}
 use Rattle.block_core.proofs.sound.OfOneWrite.{runs_of_one_write, start_of_one_write, node_write}
-use Rattle.block_core.proofs.images.Ancestors.{open_at, of_node, of_named}
+use Rattle.block_core.proofs.images.Ancestors.{of_node, of_named}
 use Rattle.block_core.proofs.images.FragmentCounts.{divided}
 use Rattle.block_core.proofs.sound.Orders.{Ground}
 use Rattle.block_core.proofs.moves.StepMoves.{step_is_move}

@@ -10,7 +10,7 @@ use Rattle.block_core.specs.Weights.{total, task_weight}
 use Rattle.block_core.specs.Rounds.{round_of, is_of_round, unfinished_of}
 use Rattle.block_core.specs.Fragments.{HasBegun, AllIsHome, NothingComesWhereEnded}
 use Rattle.block_core.proofs.moves.Sums.{one-same}
-use Rattle.block_core.proofs.sound.Places.{sum_at-ge}
+use Rattle.block_core.proofs.moves.Totals.{part_of}
 use Rattle.block_core.proofs.sound.Wholes.{run_tallied}
 use Rattle.block_core.proofs.images.NothingComes.{nothing_comes_where_all_is_home}
 
@@ -25,7 +25,7 @@ begun scene s rounds none place (Writer number [] taken line) lt is = refl
 begun scene s rounds none place (Writer number (todo ∷ later) taken line) lt is =
     let r : ℕ = round_of rounds todo.number in
     let w = unfinished_of (is_of_round rounds r) in
-    let a = sum_at-ge (task_weight w) scene.tasks s.task place lt in
+    let a = part_of (task_weight w) scene.tasks s.task place lt in
     let b : task_weight w place (s.task place) ≡ task_weight w place (Writer number (todo ∷ later) taken line) = ap (task_weight w place) is in
     absurd (omega (arith, a, b, none r, one-same r))
 begun scene s rounds none place (Rescuer dev line) lt is = tt

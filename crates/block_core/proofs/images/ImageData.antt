@@ -35,13 +35,13 @@ use Rattle.block_core.specs.Weights.{total}
 use Rattle.block_core.specs.Scenarios.{IsScenario}
 use Rattle.block_core.specs.Fragments.{offset_of, fragment_of, completed_by, completed}
 use Rattle.block_core.specs.Images.{tag_of, lies_at, put, held_after, ImagesAreOfCompleted}
-use Rattle.block_core.proofs.moves.Sums.{upd-same, upd-other, same_or_not}
-use Rattle.block_core.proofs.sound.Places.{sum_at-ge}
+use Rattle.block_core.proofs.moves.Sums.{upd-same, upd-other, same_or_not, below_or}
+use Rattle.block_core.proofs.moves.Totals.{part_of}
 use Rattle.block_core.proofs.moves.Moves.{Move, Can, after, limit_of}
 use Rattle.block_core.proofs.moves.Moves as moves
 use Rattle.block_core.proofs.moves.Geometry.{IsThere}
 use Rattle.block_core.proofs.sound.Orders.{DoingPlaced, TaskPlaced, Placed, Ground}
-use Rattle.block_core.proofs.sound.OrdersKept.{line_placed}
+use Rattle.block_core.proofs.sound.OrdersKept.{line_placed, all_at}
 use Rattle.block_core.proofs.sound.Facts.{Fair}
 use Rattle.block_core.proofs.moves.StepMoves.{step_is_move}
 use Rattle.block_core.proofs.sound.Wholes.{Whole, runs_whole, start_whole}
@@ -55,9 +55,6 @@ use Rattle.block_core.proofs.images.Completions.{step_completes}
 use Rattle.block_core.specs.Images.{HasItsWord}
 use Rattle.block_core.proofs.images.BioData.{loose, unfit, tied, not_loose, unfit_follows, own_tags, first_tied}
 
-below_or : (a b : ℕ) → (a < b) ⊎ (b ≤ a)
-below_or a b = grind arith
-
 all_remove : {X : Type 0} (P : X → Type 0) (xs : List X) (n : ℕ) (d : X) → n < length xs → All P xs → All P (remove xs n)
 all_remove P xs n d lt all =
     let long = length-remove xs n lt in
@@ -65,13 +62,6 @@ all_remove P xs n d lt all =
       | inl below ↦ subst P (sym (get_or-remove_below xs n d i below lt)) (All-get_or P xs i d (omega (arith, within, long)) all)
       | inr above ↦ subst P (sym (get_or-remove_above xs n d i above lt)) (All-get_or P xs (i + 1) d (omega (arith, within, long)) all)
     ])
-
-at_each : {X : Type 0} (P : ℕ → X → Type 0) (f : ℕ → X) (i : ℕ) (v : X) → ((j : ℕ) → P j (f j)) → P i v → (j : ℕ) → P j (upd f i v j)
-at_each P f i v h hv j =
-    elim (same_or_not j i) [
-      | inl e ↦ subst (λ y. P y (upd f i v y)) (sym e) (subst (P i) (sym (upd-same f i v)) hv)
-      | inr ne ↦ subst (P j) (sym (upd-other f i v j ne)) (h j)
-    ]
 
 -- words that are the same modulo 2 ^ 64 give the same sector
 same_sector : (word tag o j : ℕ) → word % 2 ^ 64 ≡ (tag + 64 * o) % 2 ^ 64 → sector_from (word + 64 * j) ≡ sector_from (tag + 64 * (o + j))
@@ -166,7 +156,7 @@ module _ (s : Scenario) (ledger : ℕ → LedgerId) (st : State) (a : Placed (se
   pushed_own : (bio : Item Pad) → IsThere (setup_in s) bio.bio → (number : ℕ) → IsOwn s number (upd st.objects.disk bio.bio.dev.0 (pushed bio (st.objects.disk bio.bio.dev.0)) number)
   pushed_own bio there =
       let old = own bio.bio.dev.0 in
-      at_each (IsOwn s) st.objects.disk bio.bio.dev.0 (pushed bio (st.objects.disk bio.bio.dev.0)) own
+      all_at (IsOwn s) st.objects.disk bio.bio.dev.0 (pushed bio (st.objects.disk bio.bio.dev.0)) own
       (record { waiting = All-push (IsWaiting s bio.bio.dev.0) (st.objects.disk bio.bio.dev.0).pending bio old.waiting (there, refl); bads = old.bads; sized = old.sized })
 
   pub own_stays : (m : Move) → Can here st m → (number : ℕ) → IsOwn s number ((after here st m).objects.disk number)
@@ -174,7 +164,7 @@ module _ (s : Scenario) (ledger : ℕ → LedgerId) (st : State) (a : Placed (se
       let d : DoingPlaced (setup_in s) (limit_of x) (Drives bio ToPush) lists = line_placed (setup_in s) x (Drives bio ToPush) lists (subst (TaskPlaced (setup_in s)) c.1 (a.tasks place)) c.2 in
       pushed_own bio d.1.0.0
   own_stays (moves.Completed place disk index bio ending new) c =
-      at_each (IsOwn s) st.objects.disk disk.0 new own (own_after s disk.0 (st.objects.disk disk.0) index bio ending new (own disk.0) c.3)
+      all_at (IsOwn s) st.objects.disk disk.0 new own (own_after s disk.0 (st.objects.disk disk.0) index bio ending new (own disk.0) c.3)
   own_stays (moves.TakesFirst place writer todo later move) c = own
   own_stays (moves.TakesVector place writer todo later item move) c = own
   own_stays (moves.TakesSub place x doing lists dev waits move) c = own
@@ -200,7 +190,7 @@ module _ (s : Scenario) (ledger : ℕ → LedgerId) (st : State) (a : Placed (se
       let g : Item Pad → ℕ = λ item. unfit s item.bio in
       let xs = (st.objects.disk disk).pending in
       let within = slice_get_within xs index bio at in
-      let a = sum_at-ge (λ dev (disk : DiskState). sum_by g disk.pending) here.setup.count st.objects.disk disk lt in
+      let a = part_of (λ dev (disk : DiskState). sum_by g disk.pending) here.setup.count st.objects.disk disk lt in
       let b = get_or-le-sum_by g xs index bio within in
       let c : g (get_or xs index bio) ≡ g bio = ap g (get_or_from_slice_get xs index bio bio at) in
       tied s bio.bio (omega (arith, none, a, b, c))

@@ -15,7 +15,7 @@ use Rattle.layout_model.proofs.PlanLaws.{plan_gives_fragments, trees_are_sound}
 use Rattle.run_machine.specs.Opened.{Scenario}
 use Rattle.block_core.specs.Scenarios.{IsScenario}
 use Rattle.block_core.specs.Images.{writes_at, LaidIsOne, EndedRunsLeaveTheSame}
-use Rattle.block_core.proofs.moves.Sums.{same_or_not}
+use Rattle.block_core.proofs.moves.Sums.{same_or_not, below_or}
 use Rattle.block_core.proofs.images.LaidOut.{lands_there, way_writes}
 use Rattle.block_core.proofs.images.ImagesLaid.{images_are_laid_out}
 
@@ -88,9 +88,6 @@ module _ (s : Scenario) (good : IsScenario s) (disk at : ℕ) where
           | inr ne ↦ last.latest other later (omega (arith, lt, ne)) found there
         ];
       })
-
-      below_or : (a b : ℕ) → (a < b) ⊎ (b ≤ a)
-      below_or a b = grind arith
 
       -- one that lands is the last one, or the last one stays
       lands : (write : Write) → slice_get s.writes n ≡ Some write → LandsHere n write → NoneLands n ⊎ IsLast n → IsLast (suc n)

@@ -1,5 +1,5 @@
 -- Where no element is out and each write was begun, nothing is left to come.
-use Rattle.std.proofs.Common.{◌≡◌, ◌*◌, ◌<◌, ◌≤◌, ◌⊎◌, ℕ, List, [], ◌∷◌, length, Option, None, Some, inl, inr, refl, sym, ◌∙◌, ap, subst, arith}
+use Rattle.std.proofs.Common.{◌≡◌, ◌*◌, ◌<◌, ◌≤◌, ℕ, List, [], ◌∷◌, length, Option, None, Some, inl, inr, refl, sym, ◌∙◌, ap, subst, arith}
 use Rattle.std.specs.Prelude.{sum_by}
 use Rattle.std.proofs.lemmas.List.Sums.{sum_by-cons}
 use Rattle.bio_records.specs.declared.bio.Pad.{Pad}
@@ -14,11 +14,12 @@ use Rattle.run_machine.specs.Tasks.{TaskState, Writer, Rescuer, Completer, Keepe
 use Rattle.run_machine.specs.Runs.{State}
 use Rattle.block_core.specs.Weights.{Weight, Pending, Rescued, Lined, total, one, weigh_option, doing_weight, task_weight, line_weight, gathered_weight, book_weight, elements_of_pool, holding_elements, refs, legs_left, count_of}
 use Rattle.block_core.specs.Fragments.{HasNone, NothingComes, HasBegun, AllIsHome, NothingComesWhereAllIsHome}
-use Rattle.block_core.proofs.moves.Sums.{one-same, within_book}
-use Rattle.block_core.proofs.sound.Places.{sum_at-ge}
+use Rattle.block_core.proofs.stuck.Idle.{sum_none}
+use Rattle.block_core.proofs.moves.Sums.{one-same, within_book, below_or}
+use Rattle.block_core.proofs.moves.Totals.{part_of}
 use Rattle.block_core.specs.Roles.{named}
 use Rattle.block_core.proofs.sound.Facts.{away, own_part, own_of, TaskFits, LineFits, DoingFits, Kept}
-use Rattle.block_core.proofs.images.PlannedOnce.{sum_none, node_none}
+use Rattle.block_core.proofs.images.PlannedOnce.{node_none}
 use Rattle.block_core.proofs.images.MasterRecords.{bare_slip, bare_node, bare, no_bare}
 use Rattle.layout_model.proofs.RangeSums.{sum_of_zero}
 use Rattle.run_machine.specs.declared.event.Event.{Event}
@@ -91,14 +92,14 @@ module _ (scene : Scene) (s : State) (i : Kept scene s) (slips : total scene bar
   all_home p = sym (i.outs p) ∙ out p
 
   task_home : (p place : ℕ) → place < scene.tasks → task_weight (elements_of_pool p) place (s.task place) ≡ 0
-  task_home p place lt = omega (arith, all_home p, sum_at-ge (task_weight (elements_of_pool p)) scene.tasks s.task place lt)
+  task_home p place lt = omega (arith, all_home p, part_of (task_weight (elements_of_pool p)) scene.tasks s.task place lt)
 
   rescue_home : (dev : ℕ) → dev < scene.setup.count → s.objects.rescue dev ≡ []
-  rescue_home dev lt = no_items (s.objects.rescue dev) (λ p. omega (arith, all_home p, sum_at-ge (λ dev bios. sum_by ((elements_of_pool p).bio Rescued) bios) scene.setup.count s.objects.rescue dev lt))
+  rescue_home dev lt = no_items (s.objects.rescue dev) (λ p. omega (arith, all_home p, part_of (λ dev bios. sum_by ((elements_of_pool p).bio Rescued) bios) scene.setup.count s.objects.rescue dev lt))
 
   disk_home : (dev : ℕ) → dev < scene.setup.count → (s.objects.disk dev).pending ≡ []
   disk_home dev lt =
-      no_items (s.objects.disk dev).pending (λ p. omega (arith, all_home p, sum_at-ge (λ dev (disk : DiskState). sum_by ((elements_of_pool p).bio Pending) disk.pending) scene.setup.count s.objects.disk dev lt))
+      no_items (s.objects.disk dev).pending (λ p. omega (arith, all_home p, part_of (λ dev (disk : DiskState). sum_by ((elements_of_pool p).bio Pending) disk.pending) scene.setup.count s.objects.disk dev lt))
 
   -- no bio names a node
   none_named : (w k : ℕ) → total scene (named w k) s ≡ 0
@@ -111,14 +112,11 @@ module _ (scene : Scene) (s : State) (i : Kept scene s) (slips : total scene bar
         sum_none (book_weight (named w k)) scene.books s.objects.book (λ writer lt. sum_none (λ place. weigh_option ((named w k).node writer place)) _ _ (λ place below. node_none _)),
       )
 
-  below_or : (a b : ℕ) → (a < b) ⊎ (b ≤ a)
-  below_or a b = grind arith
-
   node_weighs : (w : Weight) (writer k : ℕ) (node : Node) → writer < scene.books → node_at (s.objects.book writer) k ≡ Some node → w.node writer k node ≤ total scene w s
   node_weighs w writer k node lt at =
       let within = within_book (s.objects.book writer) k node at in
-      let a = sum_at-ge (book_weight w) scene.books s.objects.book writer lt in
-      let b = sum_at-ge (λ place. weigh_option (w.node writer place)) (length (s.objects.book writer).nodes) (node_at (s.objects.book writer)) k within in
+      let a = part_of (book_weight w) scene.books s.objects.book writer lt in
+      let b = part_of (λ place. weigh_option (w.node writer place)) (length (s.objects.book writer).nodes) (node_at (s.objects.book writer)) k within in
       let c : weigh_option (w.node writer k) (node_at (s.objects.book writer) k) ≡ w.node writer k node = ap (weigh_option (w.node writer k)) at in
       omega (arith, a, b, c)
 
@@ -148,7 +146,7 @@ module _ (scene : Scene) (s : State) (i : Kept scene s) (slips : total scene bar
     where
       weighs : (w : Weight) → doing_weight w limit line.doing ≤ total scene w s
       weighs w =
-          let a = sum_at-ge (task_weight w) scene.tasks s.task place lt in
+          let a = part_of (task_weight w) scene.tasks s.task place lt in
           let b : task_weight w place (s.task place) ≡ task_weight w place x = ap (task_weight w place) is in
           omega (arith, a, b, part w)
 

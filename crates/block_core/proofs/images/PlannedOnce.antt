@@ -1,5 +1,5 @@
 -- Each fragment of the layout is planned once and no other is, so none is completed twice.
-use Rattle.std.proofs.Common.{◌≡◌, ◌≢◌, ◌<◌, ◌≤◌, if◌then◌else◌, ℕ, zero, suc, Bool, true, false, List, [], ◌∷◌, length, Option, None, Some, inl, inr, refl, sym, ◌∙◌, ap, subst, arith}
+use Rattle.std.proofs.Common.{◌≡◌, ◌≢◌, ◌<◌, ◌≤◌, if◌then◌else◌, ℕ, suc, Bool, true, false, List, [], ◌∷◌, length, Option, None, Some, inl, inr, refl, sym, ◌∙◌, ap, subst, arith}
 use Rattle.std.specs.Prelude.{sum_by, All, Contains, zip}
 use Rattle.std.specs.List.{AllPairs}
 use Rattle.std.proofs.lemmas.Bool.{eq-eqb}
@@ -16,9 +16,10 @@ use Rattle.run_machine.specs.Scene.{Scene}
 use Rattle.run_machine.specs.Tasks.{TaskState, Writer, Rescuer, Completer, Keeper, Gathered, NoBio, HasBio, HasBoth, Todo}
 use Rattle.run_machine.specs.Opened.{Scenario, scene, todos, setup as setup_in}
 use Rattle.run_machine.specs.Runs.{State}
-use Rattle.block_core.specs.Weights.{Weight, Pending, Rescued, one, total, sum_at, weigh_option, task_weight, gathered_weight, book_weight}
+use Rattle.block_core.specs.Weights.{Weight, Pending, Rescued, one, total, weigh_option, task_weight, gathered_weight, book_weight}
 use Rattle.block_core.specs.Scenarios.{IsScenario}
 use Rattle.block_core.specs.Fragments.{todo_fragments, to_come, planned, is_same, is_it, times, IsOfScenario, HasNone, NothingComes, NoneIsCompletedTwice, NoOtherIsCompleted, EachIsCompletedOnce}
+use Rattle.block_core.proofs.stuck.Idle.{sum_none}
 use Rattle.block_core.proofs.moves.Sums.{one-same, same_or_not}
 use Rattle.block_core.proofs.start.FactsAtStart.{sum_at-zero, todos_all, all_map}
 use Rattle.block_core.proofs.start.StagesAtStart.{once, begins_sum}
@@ -110,7 +111,7 @@ some_sum h (x ∷ xs) lt = elim (same_or_not (h x) 0) [
   | inr ne ↦ (x, (0, omega arith, refl), omega (arith, ne))
 ]
 
-all_le : {X : Type 0} (P : X → Type 0) (f g : X → ℕ) (xs : List X) → ((x : X) → P x → f x ≤ g x) → All P xs → sum_by f xs ≤ sum_by g xs
+pub all_le : {X : Type 0} (P : X → Type 0) (f g : X → ℕ) (xs : List X) → ((x : X) → P x → f x ≤ g x) → All P xs → sum_by f xs ≤ sum_by g xs
 all_le P f g [] le all = omega arith
 all_le P f g (x ∷ xs) le all =
     omega (arith, sum_by-cons f x xs, sum_by-cons g x xs, le x (All-head P x xs all), all_le P f g xs le (All-tail P x xs all))
@@ -161,12 +162,6 @@ module _ (s : Scenario) (good : IsScenario s) (ledger : ℕ → LedgerId) where
         flat_sum (is_it f) (todo_fragments (setup_in s)) (todos s),
         planned_once f,
       )
-
--- where nothing is left to come
-pub sum_none : {X : Type 0} (w : ℕ → X → ℕ) (n : ℕ) (f : ℕ → X) → ((k : ℕ) → k < n → w k (f k) ≡ 0) → sum_at w n f ≡ 0
-unfolding sum_at
-sum_none w zero f none = refl
-sum_none w (suc n) f none = omega (arith, sum_none w n f (λ k lt. none k (omega (arith, lt))), none n (omega arith))
 
 pub node_none : {X : Type 0} (held : Option X) → weigh_option (λ (x : X). 0) held ≡ 0
 node_none None = refl

@@ -18,7 +18,7 @@ use Rattle.block_core.specs.Fragments.{offset_of, fragment_of, leg_fragments, to
 use Rattle.block_core.proofs.moves.Moves.{Move, Can, after, limit_of, HasLine, filled_of, cut_lists}
 use Rattle.block_core.proofs.moves.Moves as moves
 use Rattle.block_core.proofs.moves.Landings.{AreThere, IsLanding, settled_there, goes_there, copies_there, all_there, none_there, cut_there, leg_there}
-use Rattle.block_core.proofs.sound.Places.{cut_weight, unless}
+use Rattle.block_core.proofs.sound.SumParts.{cut_weight, unless}
 use Rattle.block_core.proofs.moves.Deltas.{delta}
 use Rattle.block_core.proofs.sound.Facts.{TaskFits, Kept}
 use Rattle.block_core.proofs.sound.TaskLines.{line_fits}

@@ -18,7 +18,7 @@ use Rattle.run_machine.specs.Lines.{Takes, Links, ToCut, Drives, Copies, settled
 use Rattle.block_core.specs.Weights.{Weight, Lined, line_weight}
 use Rattle.block_core.proofs.moves.Moves.{cut_lists, piece}
 use Rattle.block_core.proofs.moves.Listed.{asks_weight, order_weight}
-use Rattle.block_core.proofs.sound.Places.{unless}
+use Rattle.block_core.proofs.sound.SumParts.{unless}
 use Rattle.block_core.proofs.moves.Geometry.{IsThere, is_cut}
 use Rattle.block_core.proofs.sound.Orders.{Each, IsPlaced, IsOwn, AskFits, DoingPlaced, Ground, each_map, each_less, each_append}
 

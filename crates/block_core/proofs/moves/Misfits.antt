@@ -19,7 +19,7 @@ use Rattle.block_core.specs.Weights.{Weight, total, no_weight}
 use Rattle.block_core.proofs.moves.Moves.{Move, Can, after, limit_of, HasLine, filled_of, cut_lists, piece}
 use Rattle.block_core.proofs.moves.Moves as moves
 use Rattle.block_core.proofs.moves.Listed.{landed_same, IsBlind, first_weight, goes_weight}
-use Rattle.block_core.proofs.sound.Places.{cut_weight, copies_weight, line_part, unless_less}
+use Rattle.block_core.proofs.sound.SumParts.{cut_weight, copies_weight, line_part, unless_less}
 use Rattle.block_core.proofs.moves.Deltas.{delta}
 use Rattle.block_core.proofs.sound.Facts.{TaskFits, Kept}
 use Rattle.block_core.proofs.sound.TaskLines.{line_fits}

@@ -25,6 +25,9 @@ one-other i j ne = rw (ne_eqb i j ne)
 pub same_or_not : (i j : ℕ) → (i ≡ j) ⊎ (i ≢ j)
 same_or_not i j = grind arith
 
+pub below_or : (i j : ℕ) → (i < j) ⊎ (j ≤ i)
+below_or i j = grind arith
+
 pub weight-upd : {X : Type 0} (w : X → ℕ) (f : ℕ → X) (i : ℕ) (v : X) (k : ℕ) → w (upd f i v k) + one i k * w (f i) ≡ w (f k) + one i k * w v
 weight-upd {X} w f i v k =
     elim (same_or_not i k) [
@@ -72,9 +75,6 @@ within_book book place node e =
       | inl lt ↦ lt
       | inr ge ↦ let p : node_at book place ≡ None = get_or_past book.nodes place None ge in absurd (let g : None ≡ Some node = sym p ∙ e in cc)
     ]
-  where
-    below_or : (i j : ℕ) → (i < j) ⊎ (j ≤ i)
-    below_or i j = grind arith
 
 -- a book with another node is the map with another place
 pub with_node_is : (book : BookState) (place : ℕ) (v : Option Node) → place < length book.nodes → (k : ℕ) → node_at (with_node book place v) k ≡ upd (node_at book) place v k

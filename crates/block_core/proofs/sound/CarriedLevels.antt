@@ -18,7 +18,7 @@ use Rattle.block_core.proofs.moves.Moves as moves
 use Rattle.block_core.proofs.sound.Facts.{Kept}
 use Rattle.block_core.proofs.sound.LevelsKept.{told_on}
 use Rattle.block_core.proofs.sound.OffLevels.{held_off, off_levels}
-use Rattle.block_core.proofs.sound.Places.{sum_at-ge}
+use Rattle.block_core.proofs.moves.Totals.{part_of}
 use Rattle.block_core.proofs.sound.TaskLines.{all-upd}
 use Rattle.block_core.proofs.start.FactsAtStart.{Begins}
 use Rattle.block_core.proofs.stuck.Idle.{node_part}
@@ -83,31 +83,41 @@ module _ (scene : Scene) (s : State) (i : Kept scene s) (level : ℕ → ℕ →
   goes place y one = all-upd TaskOne s.task place y all one
 
   pub stays_one : (m : Move) → Can scene s m → (other : ℕ) → TaskOne ((after scene s m).task other)
+  -- takes: by tasks that carry nothing of closed nodes
   stays_one (moves.TakesFirst place writer todo later move) c = goes place _ tt
   stays_one (moves.TakesVector place writer todo later item move) c = goes place _ tt
   stays_one (moves.TakesSub place x doing lists dev waits move) c = goes place _ (lined x doing lists _ c.2)
   stays_one (moves.TakesSlip place x bio lists move) c = goes place _ (lined x _ lists _ c.2)
+  -- misses: the task carries what it carried
   stays_one (moves.MissesOne place x number used) c = goes place x (subst TaskOne c.1 (all place))
   stays_one (moves.MissesTry place x doing lists dev used) c = goes place _ (lined x doing lists _ c.2)
+  -- punts, pops and pushes: by tasks that carry nothing of closed nodes
   stays_one (moves.Punts place x doing lists dev) c = goes place _ (lined x doing lists _ c.2)
   stays_one (moves.Pops place dev bio bios) c = goes place _ tt
   stays_one (moves.Pushes place x bio lists) c = goes place _ (lined x _ lists _ c.2)
+  -- completions: the completer brings a bio
   stays_one (moves.Completed place disk index bio status new) c = goes place (Completer disk (Brings bio status)) tt
+  -- links: by tasks that carry nothing of closed nodes
   stays_one (moves.Begins place writer todo later item vector key) c = goes place _ tt
   stays_one (moves.Chained place x bio lists hand number kind sizes members key node) c = goes place _ (lined x _ lists _ c.2)
   stays_one (moves.Mastered place x bio lists slip key node) c = goes place _ (lined x _ lists _ c.2)
   stays_one (moves.Legged place x bio lists master leg hand key node) c = goes place _ (lined x _ lists _ c.2)
+  -- drops that leave a node open: the completer has nothing any more
   stays_one (moves.Told place disk carried writer key status part node) c = goes place (Completer disk Empty) tt
+  -- drops that close a node: what it held and what came with its last end are of its level
   stays_one (moves.Closes place disk carried writer key status part node) c =
       let a : task_weight (off_levels level) place (s.task place) ≡ carried_weight (off_levels level) 0 carried = ap (task_weight (off_levels level) 0) c.1 in
-      let b = sum_at-ge (task_weight (off_levels level)) scene.tasks s.task place c.0 in
+      let b = part_of (task_weight (off_levels level)) scene.tasks s.task place c.0 in
       let held = told_on level writer key status part carried node c.2 (omega (arith, a, b, off)) in
       let own = node_part scene s i (off_levels level) writer key node c.4 in
       goes place (Completer disk (Carries writer (closed_of (told node status part))))
       (level writer key, on_level (level writer key) (told node status part).held (omega (arith, held, own, off)))
+  -- gives: what is left is of the same level
   stays_one (moves.Gives place disk writer number closed held) c =
       let h : HoldsOneLevel closed.held = subst TaskOne c.1 (all place) in
       goes place (Completer disk (Carries writer (record closed { held = held }))) (one_less closed.held held number c.2 h)
+  -- ends of writes: the completer has nothing any more
   stays_one (moves.Ends place disk writer closed) c = goes place (Completer disk Empty) tt
+  -- resizes and rounds: by the keeper, which carries nothing
   stays_one (moves.Resized place pool min later duties) c = goes place _ tt
   stays_one (moves.Started place round later duties) c = goes place _ tt

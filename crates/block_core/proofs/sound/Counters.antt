@@ -24,7 +24,7 @@ pub record Counted (n : ℕ) (s : State) : Type 0 where
   pub ends : (w k : ℕ) → count_of (node_at (s.objects.book w) k) ≤ n + 8
 
 -- a move takes one element at most
-one_out : (pool : PoolState) (move : PoolMove) → (after_move pool move).facts.out ≤ pool.facts.out + 1
+pub one_out : (pool : PoolState) (move : PoolMove) → (after_move pool move).facts.out ≤ pool.facts.out + 1
 one_out pool takes_ordinary = omega arith
 one_out pool takes_spare = omega arith
 one_out pool (misses used) = omega arith
@@ -52,12 +52,15 @@ module _ (scene : Scene) (s : State) (g : Ground scene.setup) (p : Placed scene.
   was writer key node at = subst (λ o. count_of o ≤ n + 8) at (i.ends writer key)
 
   outs : (m : Move) → Can scene s m → (q : ℕ) → ((after scene s m).objects.pool q).facts.out ≤ n + 1
+  -- takes: one element more is out
   outs (moves.TakesFirst place writer todo later move) c = one_pool 65 move
   outs (moves.TakesVector place writer todo later item move) c = one_pool 64 move
   outs (moves.TakesSub place x doing lists dev waits move) c = one_pool (2 * dev.0) move
   outs (moves.TakesSlip place x bio lists move) c = one_pool (2 * bio.bio.dev.0 + 1) move
+  -- misses: none more is out
   outs (moves.MissesOne place x number used) c = one_pool number (misses used)
   outs (moves.MissesTry place x doing lists dev used) c = one_pool (2 * dev.0) (misses used)
+  -- punts, pops, pushes, completions, links and drops: pools stay as they are
   outs (moves.Punts place x doing lists dev) c = stays
   outs (moves.Pops place dev bio bios) c = stays
   outs (moves.Pushes place x bio lists) c = stays
@@ -68,12 +71,17 @@ module _ (scene : Scene) (s : State) (g : Ground scene.setup) (p : Placed scene.
   outs (moves.Legged place x bio lists master leg hand key node) c = stays
   outs (moves.Told place disk carried writer key status part node) c = stays
   outs (moves.Closes place disk carried writer key status part node) c = stays
+  -- gives: one less is out
   outs (moves.Gives place disk writer number closed held) c = one_pool number gives
+  -- ends of writes: pools stay as they are
   outs (moves.Ends place disk writer closed) c = stays
+  -- resizes: as many are out as before
   outs (moves.Resized place pool min later duties) c = one_pool (pool_number pool) (resizes min)
+  -- rounds: pools stay as they are
   outs (moves.Started place round later duties) c = stays
 
   ends : (m : Move) → Can scene s m → (w k : ℕ) → Small (node_at ((after scene s m).objects.book w) k)
+  -- takes, misses, punts, pops, pushes and completions: books stay as they are
   ends (moves.TakesFirst place writer todo later move) c = nodes
   ends (moves.TakesVector place writer todo later item move) c = nodes
   ends (moves.TakesSub place x doing lists dev waits move) c = nodes
@@ -84,12 +92,15 @@ module _ (scene : Scene) (s : State) (g : Ground scene.setup) (p : Placed scene.
   ends (moves.Pops place dev bio bios) c = nodes
   ends (moves.Pushes place x bio lists) c = nodes
   ends (moves.Completed place disk index bio status new) c = nodes
+  -- links of writes: the new node waits for one end
   ends (moves.Begins place writer todo later item vector key) c =
       let v = vacant_at (s.objects.book writer) key c.3 in
       of_book writer _ (nodes_all Small (s.objects.book writer) key (Some (top_node todo.number (vector_of todo vector))) v.1 (nodes writer) (omega arith))
+  -- links of pieces: the new node waits for one end, and its parent for one more
   ends (moves.Chained place x bio lists hand number kind sizes members key node) c =
       let old = was bio.bio.writer bio.bio.node node c.5 in
       of_book bio.bio.writer _ (two_all Small (s.objects.book bio.bio.writer) key bio.bio.node node (child_node node.write bio.bio.node) (raised node) c.6 c.5 (nodes bio.bio.writer) (omega arith) (omega (arith, old)))
+  -- links of masters: the new node waits for its legs, of which there are at most eight, and its parent for as many as before
   ends (moves.Mastered place x bio lists slip key node) c =
       let old = was bio.bio.writer bio.bio.node node c.4 in
       let d = line_placed scene.setup x (Drives bio (ToMaster slip)) lists (subst (TaskPlaced scene.setup) c.1 (p.tasks place)) c.2 in
@@ -102,14 +113,18 @@ module _ (scene : Scene) (s : State) (g : Ground scene.setup) (p : Placed scene.
       by_tree (Leaf number sectors) has = omega arith
       by_tree (Split number kind sizes members) has = omega arith
       by_tree (Mirrored number sizes members) has = has.1
+  -- links of legs: the new node waits for one end
   ends (moves.Legged place x bio lists master leg hand key node) c =
       let v = vacant_at (s.objects.book bio.writer) key c.5 in
       of_book bio.writer _ (nodes_all Small (s.objects.book bio.writer) key (Some (leg_node node.write master)) v.1 (nodes bio.writer) (omega arith))
+  -- drops that leave a node open: it waits for one less
   ends (moves.Told place disk carried writer key status part node) c =
       let old = was writer key node c.4 in
       of_book writer _ (nodes_all Small (s.objects.book writer) key (Some (lowered (told node status part))) (within_book (s.objects.book writer) key node c.4) (nodes writer) (omega (arith, old)))
+  -- drops that close a node: none is there any more
   ends (moves.Closes place disk carried writer key status part node) c =
       of_book writer _ (nodes_all Small (s.objects.book writer) key None (within_book (s.objects.book writer) key node c.4) (nodes writer) (omega arith))
+  -- gives, ends of writes, resizes and rounds: books stay as they are
   ends (moves.Gives place disk writer number closed held) c = nodes
   ends (moves.Ends place disk writer closed) c = nodes
   ends (moves.Resized place pool min later duties) c = nodes

@@ -21,7 +21,7 @@ use Rattle.block_core.proofs.moves.Moves as moves
 use Rattle.block_core.proofs.moves.Listed.{IsBlind, goes_weight, first_weight, landed_same}
 use Rattle.block_core.proofs.moves.Deltas.{delta}
 use Rattle.block_core.proofs.sound.Facts.{LineFits, TaskFits, Fair, Kept}
-use Rattle.block_core.proofs.sound.Places.{cut_weight, copies_weight, unless}
+use Rattle.block_core.proofs.sound.SumParts.{cut_weight, copies_weight, unless}
 use Rattle.block_core.proofs.moves.BookMaps.{made, became, chained}
 
 -- where a bio comes to does not matter to the node that it names

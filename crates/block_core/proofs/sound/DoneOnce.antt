@@ -12,6 +12,7 @@ use Rattle.run_machine.specs.Lines.{Takes, Punts as WantsPunt, Links, ToPush, To
 use Rattle.run_machine.specs.Tasks.{Completer, Todo, Carried, Empty, Brings, Carries, Fails}
 use Rattle.run_machine.specs.Runs.{State}
 use Rattle.block_core.specs.Weights.{Weight, total, one}
+use Rattle.block_core.proofs.sound.Sayings.{none_told}
 use Rattle.block_core.proofs.moves.Moves.{Move, IsTaking, place_of, Can, after, Tells, Hands}
 use Rattle.block_core.proofs.moves.Moves as moves
 use Rattle.run_machine.specs.declared.event.What.{What}
@@ -39,9 +40,6 @@ done_by w = ended_worth (λ n. one n w)
 abbrev pub done_of : ℕ → Option What → ℕ
 done_of w None = 0
 done_of w (Some what) = done_in w what
-
-none_told : {X : Type 0} (what : What) → None ≡ Some what → X
-none_told what is = absurd cc
 
 -- an event tells a write done exactly where its request does
 pub told_done : (w : ℕ) (request : Request) (reply : Reply) (what : What) → what_of request reply ≡ Some what → done_of w (what_of request reply) ≡ asked w request

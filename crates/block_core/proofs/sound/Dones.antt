@@ -25,7 +25,7 @@ use Rattle.block_core.specs.Scenarios.{IsScenario, IsNaming}
 use Rattle.block_core.specs.Dones.{done_in, times_done}
 use Rattle.block_core.specs.Rounds.{round_of, is_of_round, tops, tops_left, all_worth, unfinished_of}
 use Rattle.block_core.specs.Dones.{unfinished_write, WritesAreUnfinishedUntilDone, TallyHasStatuses, NoneIsLeftUndone, WritesAreDoneInTheirRound, RoundsStartInTurn}
-use Rattle.block_core.proofs.moves.Sums.{same_or_not, one-same, one-other}
+use Rattle.block_core.proofs.moves.Sums.{same_or_not, one-same, one-other, below_or}
 use Rattle.block_core.proofs.moves.Moves.{Move, Can, after, place_of}
 use Rattle.block_core.proofs.moves.Moves as moves
 use Rattle.block_core.proofs.sound.Facts.{Fair}
@@ -233,9 +233,6 @@ tally_has_statuses s ledger events state good naming run event write status c te
     let told = runs_tell (scene s ledger) (start s) events state write status event run c tells (omega (arith, total_is, stage_once s ledger good naming write))
     (let all = (start_told s good ledger).all in omega (arith, known, all)) in
     slice_get-get_or state.objects.tally.statuses write Ok told.1 ∙ ap Some told.0
-  where
-    below_or : (a b : ℕ) → (a < b) ⊎ (b ≤ a)
-    below_or a b = grind arith
 
 -- of what comes next
 module _ (s : Scenario) (ledger : ℕ → LedgerId) (events : List Event) (state : State) (good : IsScenario s) (naming : IsNaming ledger) (run : IsRun (scene s ledger) (start s) events state) where

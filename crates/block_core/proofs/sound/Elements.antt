@@ -27,7 +27,7 @@ use Rattle.block_core.proofs.sound.Orders.{Each, IsOwn, DoingPlaced, LinePlaced,
 use Rattle.block_core.proofs.moves.Deltas.{delta}
 use Rattle.block_core.proofs.sound.TaskLines.{line_fits}
 use Rattle.block_core.proofs.sound.OrdersKept.{line_placed}
-use Rattle.block_core.proofs.sound.Places.{cut_weight, unless_less}
+use Rattle.block_core.proofs.sound.SumParts.{cut_weight, unless_less}
 use Rattle.block_core.proofs.unrefused.NodeNeeds.{Needs, mirror_need, cut_need, legs_on, legs_few}
 use Rattle.block_core.proofs.moves.Landings.{AreThere, IsLanding, settled_there, goes_there, copies_there, all_there, none_there, cut_there, leg_there}
 use Rattle.block_core.proofs.bound.TaskCharges.{hands_charge}

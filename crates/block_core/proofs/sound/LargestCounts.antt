@@ -4,7 +4,7 @@ use Rattle.std.specs.Prelude.{sum_by, zip}
 use Rattle.std.specs.List.{range_with_len}
 use Rattle.elem_ledger.specs.Ledger.{LedgerId}
 use Rattle.layout_model.specs.declared.write.Write.{Write}
-use Rattle.layout_model.specs.Needs.{elements}
+use Rattle.layout_model.specs.NeedCounts.{elements}
 use Rattle.layout_model.specs.Bound.{all_elements}
 use Rattle.bio_books.specs.Books.{Node, node_at}
 use Rattle.run_machine.specs.declared.event.Event.{Event}

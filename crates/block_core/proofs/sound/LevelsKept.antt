@@ -25,7 +25,8 @@ use Rattle.block_core.proofs.sound.Orders.{AskFits, DoingPlaced, HandHome, TaskP
 use Rattle.std.specs.Prelude.{min}
 use Rattle.block_core.proofs.sound.OrdersKept.{line_placed}
 use Rattle.block_core.proofs.moves.Deltas.{vacant_at, delta}
-use Rattle.block_core.proofs.sound.Places.{sum_at-ge, copies_weight, unless, unless_none, cut_weight, line_part}
+use Rattle.block_core.proofs.sound.SumParts.{copies_weight, unless, unless_none, cut_weight, line_part}
+use Rattle.block_core.proofs.moves.Totals.{part_of}
 use Rattle.block_core.proofs.moves.Listed.{IsBlind, landed_same, first_weight, goes_weight}
 use Rattle.block_core.specs.Weights.{apart}
 use Rattle.block_core.proofs.sound.OffLevels.{bio_off, parent_off, held_off, first_level, held_level, below_off, closed_off, off_levels, AreLeveled}
@@ -141,7 +142,7 @@ module _ (scene : Scene) (s : State) (g : Ground scene.setup) (i : Kept scene s)
   carried_off : (place : ℕ) (disk : DevId) (carried : Carried) → place < scene.tasks → s.task place ≡ Completer disk carried → carried_weight (off_levels level) 0 carried ≡ 0
   carried_off place disk carried lt is =
       let a : task_weight (off_levels level) place (s.task place) ≡ carried_weight (off_levels level) 0 carried = ap (task_weight (off_levels level) 0) is in
-      omega (arith, a, sum_at-ge (task_weight (off_levels level)) scene.tasks s.task place lt, off)
+      omega (arith, a, part_of (task_weight (off_levels level)) scene.tasks s.task place lt, off)
 
   -- an open node has another place than a vacant one
   other_place : (writer key place : ℕ) (node : Node) → IsVacant (s.objects.book writer) key → node_at (s.objects.book writer) place ≡ Some node → place ≢ key

@@ -20,14 +20,14 @@ use Rattle.block_core.specs.Weights.{total, under}
 use Rattle.block_core.specs.Weights.{apart}
 use Rattle.block_core.specs.Scenarios.{IsScenario}
 use Rattle.block_core.specs.OfOneWrite.{bio_strays, parent_strays, strays, AreOfOneWrite, AllAreOfOneWrite}
-use Rattle.block_core.proofs.moves.Moves.{Move, Can, after, lost, gained, limit_of, HasLine, gathered_of, filled_of, vector_of, cut_lists, piece}
+use Rattle.block_core.proofs.moves.Moves.{Move, Can, after, lost, gained, limit_of, HasLine, filled_of, cut_lists}
 use Rattle.block_core.proofs.moves.Moves as moves
 use Rattle.block_core.proofs.sound.Facts.{TaskFits, Fair, Kept}
 use Rattle.block_core.proofs.sound.TaskLines.{line_fits}
 use Rattle.block_core.proofs.sound.Orders.{Ground}
 use Rattle.block_core.proofs.moves.Devices.{ground}
 use Rattle.block_core.proofs.moves.Deltas.{vacant_at, delta}
-use Rattle.block_core.proofs.sound.Places.{copies_weight, unless, unless_none, cut_weight, line_part}
+use Rattle.block_core.proofs.sound.SumParts.{copies_weight, unless, unless_none, cut_weight, line_part}
 use Rattle.block_core.proofs.moves.Listed.{IsBlind, landed_same, first_weight, goes_weight}
 use Rattle.block_core.proofs.moves.Marked.{with_mark, mark_here, mark_other, mark_still, IsUnmoved, none_moves}
 use Rattle.block_core.proofs.stuck.Idle.{node_part}

@@ -18,7 +18,7 @@ use Rattle.block_core.proofs.moves.Listed.{goes_weight, first_weight}
 use Rattle.block_core.proofs.moves.Deltas.{delta}
 use Rattle.block_core.specs.Roles.{named}
 use Rattle.block_core.proofs.sound.Facts.{Fair, Kept}
-use Rattle.block_core.proofs.sound.Places.{out_more, out_same, out_less, cut_weight, blind_elements, begun_elements, hands_elements, copies_weight, unless_none, line_part, named_away, told_elements, is_away}
+use Rattle.block_core.proofs.sound.SumParts.{out_more, out_same, out_less, cut_weight, blind_elements, begun_elements, hands_elements, copies_weight, unless_none, line_part, named_away, told_elements, is_away}
 
 module _ (scene : Scene) (s : State) (f : Fair scene) (i : Kept scene s) where
   pub outs : (m : Move) → Can scene s m → (q : ℕ) → ((after scene s m).objects.pool q).facts.out ≡ total scene (elements_of_pool q) (after scene s m)

@@ -22,7 +22,7 @@ use Rattle.block_core.proofs.moves.Listed.{IsBlind, goes_weight, first_weight, l
 use Rattle.block_core.proofs.moves.Deltas.{delta}
 use Rattle.block_core.specs.Roles.{named}
 use Rattle.block_core.proofs.sound.Facts.{own_part, own_of, Fair, Kept}
-use Rattle.block_core.proofs.sound.Places.{cut_weight, copies_weight, unless_none, line_part, named_away, is_away}
+use Rattle.block_core.proofs.sound.SumParts.{cut_weight, copies_weight, unless_none, line_part, named_away, is_away}
 use Rattle.block_core.proofs.moves.BookMaps.{made, became, chained}
 use Rattle.block_core.proofs.sound.Counts.{begun_names, tells_refs, leg_named, makes_leg}
 

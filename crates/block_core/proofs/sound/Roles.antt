@@ -20,8 +20,7 @@ use Rattle.block_core.proofs.moves.BookMaps.{made}
 use Rattle.block_core.proofs.sound.Splitting.{total_sum}
 use Rattle.block_core.proofs.sound.Misplaced.{wrong_parent, wrong_above, misplaced}
 use Rattle.block_core.proofs.moves.Totals.{task_part}
-use Rattle.block_core.proofs.stuck.Idle.{node_part}
-use Rattle.block_core.proofs.images.Ancestors.{open_at}
+use Rattle.block_core.proofs.stuck.Idle.{open_at, node_part}
 use Rattle.block_core.proofs.moves.SumsCompared.{under_in_all}
 use Rattle.block_core.proofs.sound.StoodFor.{refs_are, Stands}
 

@@ -14,9 +14,9 @@ use Rattle.run_machine.specs.Runs.{State}
 use Rattle.block_core.specs.Weights.{Weight, total, one, task_weight}
 use Rattle.block_core.proofs.moves.Moves.{Move, Can, after, with_line, gathered_of}
 use Rattle.block_core.proofs.moves.Moves as moves
-use Rattle.block_core.proofs.moves.Sums.{upd-same, upd-other, one-same, one-other, same_or_not}
+use Rattle.block_core.proofs.moves.Sums.{upd-same, upd-other, one-same, one-other, same_or_not, below_or}
 use Rattle.block_core.proofs.sound.Orders.{Each}
-use Rattle.block_core.proofs.sound.Places.{sum_at-ge}
+use Rattle.block_core.proofs.moves.Totals.{part_of}
 use Rattle.std.specs.Prelude.{nat_le}
 use Rattle.std.proofs.lemmas.Bool.Decides.{nat_tests}
 use Rattle.run_machine.specs.Objects.{TallyState}
@@ -92,7 +92,7 @@ module _ (rounds : List ℕ) (keeper : ℕ) (scene : Scene) (s : State) (i : Tal
       → w.closed place writer closed ≤ total scene w s
   carried_part w place disk writer closed lt is =
       let a : task_weight w place (s.task place) ≡ w.closed place writer closed = ap (task_weight w place) is in
-      let b = sum_at-ge (task_weight w) scene.tasks s.task place lt in
+      let b = part_of (task_weight w) scene.tasks s.task place lt in
       omega (arith, a, b)
 
   -- a write that is told done is of the present round
@@ -115,9 +115,6 @@ module _ (rounds : List ℕ) (keeper : ℕ) (scene : Scene) (s : State) (i : Tal
           let not_later : r ≤ s.objects.tally.round = by_other (below_or s.objects.tally.round r) in
           omega (arith, not_past, not_later)
         where
-          below_or : (a b : ℕ) → (a < b) ⊎ (b ≤ a)
-          below_or a b = grind arith
-
           by_two : (r < s.objects.tally.round) ⊎ (s.objects.tally.round ≤ r) → s.objects.tally.round ≤ r
           by_two (inl lt) = absurd (omega (arith, i.tally.past r lt, some))
           by_two (inr ge) = ge

@@ -24,7 +24,7 @@ Says (requests.Done write status) told = told ≡ what.Done write status
 Says (requests.NextRound round) told = told ≡ what.Round round
 Says request told = IsOther told
 
-none_told : {X : Type 0} (what : What) → None ≡ Some what → X
+pub none_told : {X : Type 0} (what : What) → None ≡ Some what → X
 none_told what is = absurd cc
 
 some_is : (first second : What) → Some first ≡ Some second → first ≡ second

@@ -19,7 +19,7 @@ use Rattle.block_core.specs.Sound.{EveryRunIsSound}
 use Rattle.block_core.proofs.sound.Facts.{own_of, Fair, Kept}
 use Rattle.block_core.proofs.start.FactsAtStart.{Begins, IsOpened, total_zero, start_opened}
 use Rattle.block_core.proofs.moves.Devices.{ground}
-use Rattle.block_core.proofs.sound.Wholes.{runs_whole, run_tallied, runs_roomy, start_whole, start_leveled, none_waits_for_itself}
+use Rattle.block_core.proofs.sound.Wholes.{runs_whole, run_tallied, start_whole, start_leveled, none_waits_for_itself}
 use Rattle.block_core.proofs.sound.Lasting.{runs_keep}
 use Rattle.block_core.proofs.sound.EachBio.{each_bio, each_copied}
 use Rattle.block_core.proofs.stuck.Idle.{node_part}
@@ -31,8 +31,7 @@ use Rattle.block_core.proofs.sound.ListOrder.{hands_right, in_list_order}
 use Rattle.block_core.proofs.status.KeptEnds.{ends_are_kept}
 use Rattle.block_core.proofs.sound.Positions.{IsWithin, stays_within}
 use Rattle.block_core.proofs.sound.Alive.{IsAlive}
-use Rattle.block_core.proofs.start.RoomAtStart.{start_roomy}
-use Rattle.block_core.proofs.unrefused.BioNeeds.{worth}
+use Rattle.block_core.proofs.unrefused.RoomKept.{run_roomy}
 use Rattle.block_core.proofs.images.Completed.{fragments_add_up}
 use Rattle.block_core.proofs.images.PlannedOnce.{planned_is, is_planned}
 use Rattle.block_core.proofs.moves.Misfits.{misfits, no_misfits}
@@ -123,6 +122,6 @@ every_run_is_sound s ledger events state good naming run =
       copied = each_copied (λ bio master. HasItsWord s bio) (misfits (unfit s)) (λ bio master leg none. tied s bio (omega (arith, none))) sc state fits;
       images = λ disk at lt. images_are_of_completed s ledger events state good naming run disk at lt;
       tally = run_tallied s ledger good naming events state run;
-      places = runs_roomy sc f g (worth s.stack good.stack (setup_in s).places) (start s) events state first (start_roomy s good ledger) run;
+      places = run_roomy s ledger good naming events state run;
       hands = hands_right sc state i.kept i.placed (fault_of s.stack) (completers_are_right s ledger events state good naming run) l.1;
     }

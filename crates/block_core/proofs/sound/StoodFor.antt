@@ -23,7 +23,7 @@ use Rattle.block_core.proofs.sound.Orders.{Ground}
 use Rattle.block_core.proofs.sound.Wholes.{Whole, step_whole}
 use Rattle.block_core.proofs.moves.StepMoves.{step_is_move}
 use Rattle.block_core.proofs.moves.Deltas.{vacant_at, delta}
-use Rattle.block_core.proofs.sound.Places.{copies_weight, unless_none, is_away}
+use Rattle.block_core.proofs.sound.SumParts.{copies_weight, unless_none, is_away}
 use Rattle.block_core.proofs.moves.BookMaps.{made, became, chained}
 use Rattle.block_core.proofs.moves.Listed.{IsBlind, first_weight, goes_weight}
 use Rattle.block_core.proofs.sound.Owns.{brought, told_own, own_some}
@@ -31,7 +31,7 @@ use Rattle.block_core.proofs.moves.Marked.{no_ref}
 use Rattle.block_core.proofs.sound.Splitting.{IsSumOf, total_sum, IsSameButClosed, total_but}
 use Rattle.block_core.proofs.sound.Misplaced.{ArePlaced, was_after, stays_right}
 use Rattle.block_core.proofs.images.MasterRecords.{zeros}
-use Rattle.block_core.proofs.sound.Places as places
+use Rattle.block_core.proofs.sound.SumParts as parts
 
 -- what refers to a node
 pub refs_are : (setup : Setup) (was_master : ℕ → Bool) (w k : ℕ) → IsSumOf (refs setup w k) (named w k) (masters was_master w k) (children was_master w k) (legs_to_make setup w k)
@@ -138,8 +138,8 @@ module _ (scene : Scene) (s : State) (i : Kept scene s) (was_master : ℕ → Bo
   -- links of masters
   stays_stood_for (moves.Mastered place x bio lists slip key node) c w k =
       let legs = legs_of (tree_at scene.setup bio.bio.dev) in
-      let part = places.line_part scene (named bio.bio.writer bio.bio.node) s place x (Drives bio (ToMaster slip)) lists c.0 c.1 c.2 in
-      let a = places.named_away scene s bio node i c.4 (omega (arith, part)) in
+      let part = parts.line_part scene (named bio.bio.writer bio.bio.node) s place x (Drives bio (ToMaster slip)) lists c.0 c.1 c.2 in
+      let a = parts.named_away scene s bio node i c.4 (omega (arith, part)) in
       let b : own_part node.role node.held.bio ≡ own_part node.role None = ap (own_part node.role) a.0 in
       let lost_own : own_of (Some (keeping bio node)) + 1 ≡ own_of (Some node) + 0 = omega (arith, a.1, b, own_some node.role bio) in
       omega (

@@ -1,10 +1,10 @@
 -- Every run of every scenario keeps all facts, and tells no write done twice.
-use Rattle.std.proofs.Common.{◌≡◌, ◌⊎◌, inl, inr, ◌+◌, ◌<◌, ◌≤◌, ℕ, List, [], ◌∷◌, length, refl, sym, ◌∙◌, ap, subst, arith}
+use Rattle.std.proofs.Common.{◌≡◌, ◌+◌, ◌≤◌, ℕ, List, [], ◌∷◌, length, refl, sym, ◌∙◌, ap, subst, arith}
 use Rattle.elem_ledger.specs.Ledger.{LedgerId}
 use Rattle.bio_books.specs.Books.{node_at}
 use Rattle.run_machine.specs.Scene.{Scene}
 use Rattle.run_machine.specs.Runs.{State}
-use Rattle.block_core.specs.Weights.{total, count_of}
+use Rattle.block_core.specs.Weights.{total}
 use Rattle.block_core.proofs.sound.Facts.{Fair, Kept}
 use Rattle.block_core.proofs.sound.Orders.{Placed, Ground}
 use Rattle.run_machine.specs.Opened.{Scenario, scene, start, setup as setup_in}
@@ -29,26 +29,9 @@ use Rattle.block_core.proofs.stuck.Waits.{Waits, AreRescued, stays_waiting, none
 use Rattle.block_core.proofs.stuck.Rescuers.{are_rescued, opened_waits}
 use Rattle.block_core.proofs.sound.OffLevels.{off_levels, AreLeveled}
 use Rattle.block_core.proofs.sound.LevelsKept.{stays_leveled}
-use Rattle.block_core.specs.Places.{HasPlaces}
 use Rattle.block_core.specs.Rounds.{RoundsAreTallied}
-use Rattle.block_core.proofs.unrefused.BioNeeds.{Worth, worth}
-use Rattle.block_core.proofs.unrefused.BookRoom.{stays_roomy}
-use Rattle.block_core.proofs.start.RoomAtStart.{start_roomy}
-use Rattle.block_core.specs.Scenarios.{EveryPoolKeepsSome, AreInOrder}
-use Rattle.block_core.specs.Stuck.{NoStateIsStuck}
-use Rattle.std.proofs.lemmas.List.FromFn.{length-map-range_with_len}
 use Rattle.run_machine.specs.declared.event.TaskId.{TaskId}
-use Rattle.run_machine.specs.Opened.{round_count, writes_in}
-use Rattle.run_machine.specs.Runs.{HasFree, HasEnded, unfinished}
-use Rattle.block_core.proofs.sound.Rounds.{from_round}
-use Rattle.block_core.proofs.start.TallyAtStart.{from_none}
 use Rattle.block_core.proofs.sound.Posts.{Posted, stays_posted, left_long}
-use Rattle.block_core.proofs.start.PostsAtStart.{ids_of, start_posted, start_crew}
-use Rattle.block_core.proofs.stuck.WaitersBelow.{Known}
-use Rattle.block_core.proofs.stuck.Stuck.{goes_on_or_ended}
-use Rattle.block_core.proofs.stuck.FreeEvents.{HasNumbers}
-use Rattle.block_core.proofs.sound.Counters.{Counted, stays_counted}
-use Rattle.std.specs.Prelude.{◌^◌}
 use Rattle.block_core.proofs.moves.Devices.{ground}
 use Rattle.block_core.proofs.start.WritesAtStart.{start_placed}
 
@@ -110,25 +93,6 @@ module _ (scene : Scene) (f : Fair scene) (g : Ground scene.setup) (rounds : Lis
       runs_long next events new (step_whole scene f g s place event next i steps) run
       ∙ ap (λ (x : State). length x.objects.tally.left) moved.is ∙ left_long scene s moved.move
 
--- no counter is above the number of events, and eight
-module _ (scene : Scene) (f : Fair scene) (g : Ground scene.setup) where
-  runs_counted : (n : ℕ) (s : State) (events : List Event) (new : State) → Whole scene s → Counted n s → IsRun scene s events new → Counted (n + length events) new
-  runs_counted n s [] new i t run = let e : n ≡ n + 0 = omega arith in subst (λ k. Counted k new) e (subst (Counted n) (sym run) t)
-  runs_counted n s (event ∷ events) new i t (next, (place, steps), run) =
-      let moved = step_is_move scene s f i.kept place event next steps in
-      let e : n + 1 + length events ≡ n + length (event ∷ events) = omega arith in
-      subst (λ k. Counted k new) e
-      (runs_counted (n + 1) next events new (step_whole scene f g s place event next i steps)
-      (subst (Counted (n + 1)) (sym moved.is) (stays_counted scene s g i.placed n t moved.move moved.can)) run)
-
-  pub few_numbers : (s : State) (events : List Event) (new : State) → Whole scene s → Counted 0 s → IsRun scene s events new → length events + 9 < 2 ^ 64 → HasNumbers new
-  few_numbers s events new i t run few =
-      let c = runs_counted 0 s events new i t run in
-      record {
-        outs = λ q. let le = c.outs q in omega (arith, le, few);
-        ends = λ w k node at. let le : node.count ≤ 0 + length events + 8 = subst (λ o. count_of o ≤ 0 + length events + 8) at (c.ends w k) in omega (arith, le, few);
-      }
-
 -- nodes stay on levels
 module _ (scene : Scene) (f : Fair scene) (g : Ground scene.setup) where
   pub runs_leveled : (s : State) (events : List Event) (new : State) → Whole scene s → AreLeveled scene s → IsRun scene s events new → AreLeveled scene new
@@ -137,15 +101,6 @@ module _ (scene : Scene) (f : Fair scene) (g : Ground scene.setup) where
       let moved = step_is_move scene s f i.kept place event next steps in
       runs_leveled next events new (step_whole scene f g s place event next i steps)
       (subst (AreLeveled scene) (sym moved.is) (stays_leveled scene s g i.kept i.placed t.0 t.1 moved.move moved.can)) run
-
--- books keep room
-module _ (scene : Scene) (f : Fair scene) (g : Ground scene.setup) (worth : Worth scene.setup) where
-  pub runs_roomy : (s : State) (events : List Event) (new : State) → Whole scene s → HasPlaces scene s → IsRun scene s events new → HasPlaces scene new
-  runs_roomy s [] new i t run = subst (HasPlaces scene) (sym run) t
-  runs_roomy s (event ∷ events) new i t (next, (place, steps), run) =
-      let moved = step_is_move scene s f i.kept place event next steps in
-      runs_roomy next events new (step_whole scene f g s place event next i steps)
-      (subst (HasPlaces scene) (sym moved.is) (λ w. stays_roomy scene s worth g i.kept i.placed w moved.move moved.can (t w))) run
 
 -- and no task waits for itself
 module _ (scene : Scene) (f : Fair scene) (g : Ground scene.setup) (r : AreRescued scene.setup) where
@@ -187,45 +142,6 @@ module _ (s : Scenario) (ledger : ℕ → LedgerId) (good : IsScenario s) (namin
       (runs_waiting (scene s ledger) fair g (are_rescued s.stack good.stack (setup_in s).places rescuers) (start s) events state start_whole
       (opened_waits (scene s ledger) (start s) (start_opened s good ledger)) run)
 
-  pub run_goes_by : HasRescuers s.stack → EveryPoolKeepsSome s → AreInOrder s.rounds → (events : List Event) (state : State) → IsRun (scene s ledger) (start s) events state → HasNumbers state
-      → HasFree (scene s ledger) state ⊎ HasEnded state
-  run_goes_by rescuers reserves ordered events state run numbers =
-      let places = (setup_in s).places in
-      let sc = scene s ledger in
-      let g = ground s.stack good.stack places in
-      let keeper = keeper_place s good ledger in
-      let ids = ids_of s good ledger reserves ordered in
-      let i = runs_whole sc fair g (start s) events state start_whole run in
-      let t0 = start_tallied s good ledger in
-      let t = runs_tallied sc fair g s.rounds keeper (start s) events state start_whole t0 run in
-      let p = runs_posted sc fair g s.rounds ids keeper (start s) events state start_whole t0 (start_posted s good ledger reserves ordered) run in
-      let l = runs_leveled sc fair g (start s) events state start_whole start_leveled run in
-      let r = runs_roomy sc fair g (worth s.stack good.stack places) (start s) events state start_whole (start_roomy s good ledger) run in
-      let w = runs_waiting sc fair g (are_rescued s.stack good.stack places rescuers) (start s) events state start_whole (opened_waits sc (start s) (start_opened s good ledger)) run in
-      let long = runs_long sc fair g s.rounds ids keeper (start s) events state start_whole run ∙ length-map-range_with_len (writes_in s) 0 (round_count s) in
-      let none : from_round s.rounds (length state.objects.tally.left) ≡ 0 = ap (from_round s.rounds) long ∙ (from_none s.rounds 0 (round_count s) (omega arith)).1 in
-      let known : Known sc state l.0 = record { ground = g; kept = i.kept; placed = i.placed; waits = w; alive = i.alive; levels = l.1; mins = p.mins } in
-      goes_on_or_ended sc state l.0 known ids keeper p (start_crew s good ledger reserves ordered) s.rounds t none fair (worth s.stack good.stack places) r numbers
-
-  -- a run that has ended has no unfinished write
-  pub run_free_by : HasRescuers s.stack → EveryPoolKeepsSome s → AreInOrder s.rounds → (events : List Event) (state : State) → IsRun (scene s ledger) (start s) events state → HasNumbers state → 1 ≤ unfinished state
-      → HasFree (scene s ledger) state
-  run_free_by rescuers reserves ordered events state run numbers some =
-      elim (run_goes_by rescuers reserves ordered events state run numbers) [
-        | inl free ↦ free
-        | inr ended ↦ let none = ended.writes in absurd (omega (arith, some, none))
-      ]
-
-  run_free : HasRescuers s.stack → EveryPoolKeepsSome s → AreInOrder s.rounds → (events : List Event) (state : State) → IsRun (scene s ledger) (start s) events state → length events + 9 < 2 ^ 64 → 1 ≤ unfinished state
-      → HasFree (scene s ledger) state
-  run_free rescuers reserves ordered events state run few some =
-      let sc = scene s ledger in
-      let g = ground s.stack good.stack (setup_in s).places in
-      let o = start_opened s good ledger in
-      let counted : Counted 0 (start s) = record { outs = λ q. let z = o.pools q in omega (arith, z); ends = λ w k. let z : count_of (node_at ((start s).objects.book w) k) ≡ 0 = ap count_of (o.books w k) in omega (arith, z) } in
-      let numbers = few_numbers sc fair g (start s) events state start_whole counted run few in
-      run_free_by rescuers reserves ordered events state run numbers some
-
   run_done : (events : List Event) (state : State) → IsRun (scene s ledger) (start s) events state → (w : ℕ) → times_done w events ≤ 1
   run_done events state run w =
       omega (arith, stage_once w, runs_done (scene s ledger) fair (ground s.stack good.stack (setup_in s).places) w (start s) events state start_whole run)
@@ -235,6 +151,3 @@ each_is_done_once s ledger events state good naming run = run_done s ledger good
 
 pub none_waits_for_itself : NoTaskWaitsForItself
 none_waits_for_itself s ledger events state good rescuers naming run = run_waiting s ledger good naming rescuers events state run
-
-pub no_state_is_stuck : NoStateIsStuck
-no_state_is_stuck s ledger events state good rescuers reserves ordered naming run few some = run_free s ledger good naming rescuers reserves ordered events state run few some

@@ -1,5 +1,5 @@
 -- The state in which runs begin keeps all facts.
-use Rattle.std.proofs.Common.{◌≡◌, ◌<◌, ◌≤◌, ◌⊎◌, ◌++◌, if◌then◌else◌, ℕ, zero, suc, Bool, true, false, List, [], ◌∷◌, length, map, filter, Option, None, inl, inr, refl, sym, ◌∙◌, ap, subst, arith, get_or, true≢false}
+use Rattle.std.proofs.Common.{◌≡◌, ◌<◌, ◌≤◌, ◌++◌, if◌then◌else◌, ℕ, zero, suc, Bool, true, false, List, [], ◌∷◌, length, map, filter, Option, None, inl, inr, refl, sym, ◌∙◌, ap, subst, arith, get_or, true≢false}
 use Rattle.std.specs.Prelude.{sum_by}
 use Rattle.std.proofs.lemmas.List.{get_or_past}
 use Rattle.elem_ledger.specs.Ledger.{LedgerId}
@@ -12,6 +12,7 @@ use Rattle.run_machine.specs.Tasks.{TaskState, Writer, Rescuer, Completer, Keepe
 use Rattle.run_machine.specs.Runs.{State}
 use Rattle.block_core.specs.Weights.{Weight, Pending, Rescued, total, sum_at, weigh_option, task_weight, book_weight, elements_of_pool, refs, count_of}
 use Rattle.block_core.specs.Roles.{named}
+use Rattle.block_core.proofs.moves.Sums.{below_or}
 use Rattle.block_core.proofs.sound.Facts.{own_of, GoesOn, TaskFits, IsIn, Kept}
 use Rattle.std.specs.Prelude.{All, replicate, zip}
 use Rattle.std.proofs.lemmas.List.{get_or-replicate, length-replicate}
@@ -22,7 +23,7 @@ use Rattle.mempool_core.proofs.MoveLemmas.{opened_adds_up}
 use Rattle.block_core.specs.Scenarios.{IsScenario}
 use Rattle.std.specs.List.{range_with_len, list_any}
 use Rattle.layout_model.specs.declared.write.Write.{Write}
-use Rattle.layout_model.specs.Needs.{nodes}
+use Rattle.layout_model.specs.NeedCounts.{nodes}
 use Rattle.run_machine.specs.Events.{pool_of}
 use Rattle.run_machine.specs.Scene.{is_disk}
 use Rattle.run_machine.specs.Opened.{Scenario, scene, start, tasks as opened_tasks, todos, todos_of, is_by, writers, duties, keepers, no_task, places_of, reserve_of, script_at, setup as setup_in, at as device_at}
@@ -51,9 +52,6 @@ none_in places k = elim (below_or k places) [
   | inl lt ↦ get_or-replicate places k None None lt
   | inr ge ↦ get_or_past (replicate places None) k None (omega (arith, length-replicate {A = Option Node} places None, ge))
 ]
-  where
-    below_or : (a b : ℕ) → (a < b) ⊎ (b ≤ a)
-    below_or a b = grind arith
 
 pub record IsOpened (scene : Scene) (s : State) : Type 0 where
   pub pools : (p : ℕ) → (s.objects.pool p).facts.out ≡ 0
@@ -170,9 +168,6 @@ module _ (s : Scenario) (good : IsScenario s) (ledger : ℕ → LedgerId) where
     | inl lt ↦ All-get_or (Begins (scene s ledger)) (opened_tasks s) place no_task lt tasks_begin
     | inr ge ↦ subst (Begins (scene s ledger)) (sym (get_or_past (opened_tasks s) place no_task ge)) tt
   ]
-    where
-      below_or : (a b : ℕ) → (a < b) ⊎ (b ≤ a)
-      below_or a b = grind arith
 
   pub start_opened : IsOpened (scene s ledger) (start s)
   start_opened = record {

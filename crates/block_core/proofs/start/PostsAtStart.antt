@@ -5,6 +5,7 @@ use Rattle.stack_base.specs.declared.stack.Kind.{Kind}
 use Rattle.elem_ledger.specs.Ledger.{LedgerId}
 use Rattle.run_machine.specs.Lines.{rests}
 use Rattle.run_machine.specs.Tasks.{TaskState, Writer, Rescuer, Completer, Duty, Resizes, Starts, Todo, NoBio, Empty}
+use Rattle.block_core.proofs.start.WritesAtStart.{each_of}
 use Rattle.block_core.proofs.moves.Sums.{same_or_not}
 use Rattle.block_core.proofs.sound.Orders.{Each}
 use Rattle.std.specs.Prelude.{zip, All}
@@ -123,10 +124,6 @@ mins_all s a (suc n) all =
         → Mins ((map (λ (change : Change). Resizes change.pool change.min (writes_from s a)) cs ++ Starts a (writes_from s a) ∷ []) ++ flat_map (duties_of s) (range_with_len (a + 1) n))
     by_changes rest [] each = rest
     by_changes rest (change ∷ cs) each = (each.0, by_changes rest cs each.1)
-
-each_of : {X : Type 0} (P : X → Type 0) (xs : List X) → All P xs → Each P xs
-each_of P [] all = tt
-each_of P (x ∷ xs) all = (All-head P x xs all, each_of P xs (All-tail P x xs all))
 
 keepers_id : (ds : List Duty) → id_of (get_or (keepers ds) 0 no_task) ≡ id.Keeper
 keepers_id [] = refl

@@ -1,5 +1,5 @@
 -- At the start the tally has the number of the writes of each round, and nothing is begun.
-use Rattle.std.proofs.Common.{◌≡◌, ◌+◌, ◌-◌, ◌<◌, ◌≤◌, ◌==◌, ◌⊎◌, ◌++◌, if◌then◌else◌, ℕ, zero, suc, Bool, true, false, List, [], ◌∷◌, length, map, filter, inl, inr, refl, sym, ◌∙◌, ap, subst, arith, get_or}
+use Rattle.std.proofs.Common.{◌≡◌, ◌+◌, ◌-◌, ◌<◌, ◌==◌, ◌++◌, if◌then◌else◌, ℕ, zero, suc, Bool, true, false, List, [], ◌∷◌, length, map, filter, inl, inr, refl, sym, ◌∙◌, ap, subst, arith, get_or}
 use Rattle.std.specs.Prelude.{sum, sum_by}
 use Rattle.std.proofs.lemmas.List.{get_or_past}
 use Rattle.std.proofs.lemmas.List.Sums.{sum_by-cons}
@@ -7,6 +7,7 @@ use Rattle.elem_ledger.specs.Ledger.{LedgerId}
 use Rattle.run_machine.specs.Lines.{rests}
 use Rattle.run_machine.specs.Tasks.{TaskState, Writer, Rescuer, Completer, Duty, Resizes, Starts, Todo, NoBio, Empty}
 use Rattle.block_core.specs.Weights.{total, one}
+use Rattle.block_core.proofs.moves.Sums.{below_or}
 use Rattle.block_core.proofs.sound.Orders.{Each}
 use Rattle.std.specs.Prelude.{nat_le, fold, max, zip}
 use Rattle.std.specs.List.{range_with_len, flat_map}
@@ -166,9 +167,6 @@ module _ (s : Scenario) (good : IsScenario s) (ledger : ℕ → LedgerId) where
   round_at_start : (r : ℕ) → total (scene s ledger) (unfinished_of (is_of_round s.rounds r)) (start s) ≡ of_round s.rounds r
   round_at_start r =
       unfinished_at_start (is_of_round s.rounds r) ∙ todos_worth s.rounds r 0 (length s.writes) s.rounds s.writes (sym good.rounds) good.rounds own_rounds
-
-  below_or : (a b : ℕ) → (a < b) ⊎ (b ≤ a)
-  below_or a b = grind arith
 
   left_at_start : (r : ℕ) → get_or (map (writes_in s) (range_with_len 0 (round_count s))) r 0 ≡ of_round s.rounds r
   left_at_start r = elim (below_or r (round_count s)) [

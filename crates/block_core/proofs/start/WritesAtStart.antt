@@ -1,9 +1,10 @@
 -- At the start each write is at a device that can serve it, and nothing is submitted.
-use Rattle.std.proofs.Common.{◌<◌, ◌≤◌, ◌⊎◌, ◌++◌, ℕ, List, [], ◌∷◌, length, map, filter, inl, inr, sym, subst, arith}
+use Rattle.std.proofs.Common.{◌++◌, ℕ, List, [], ◌∷◌, length, map, filter, inl, inr, sym, subst}
 use Rattle.std.proofs.lemmas.List.{get_or_past}
 use Rattle.elem_ledger.specs.Ledger.{LedgerId}
 use Rattle.run_machine.specs.Lines.{rests}
 use Rattle.run_machine.specs.Tasks.{TaskState, Writer, Rescuer, Completer, Keeper, Keeps, Duty, Todo, NoBio, Empty}
+use Rattle.block_core.proofs.moves.Sums.{below_or}
 use Rattle.block_core.proofs.sound.Orders.{Each, TodoThere, TaskPlaced, Placed}
 use Rattle.std.specs.Prelude.{All}
 use Rattle.std.proofs.lemmas.List.Elements.{All-nil, All-cons, All-head, All-tail, All-map, All-append, All-filter, All-get_or}
@@ -15,12 +16,9 @@ use Rattle.block_core.specs.Scenarios.{IsScenario}
 use Rattle.block_core.proofs.start.FactsAtStart.{all_map, todos_all}
 
 -- a fact of each element, as a product
-each_of : {X : Type 0} (P : X → Type 0) (xs : List X) → All P xs → Each P xs
+pub each_of : {X : Type 0} (P : X → Type 0) (xs : List X) → All P xs → Each P xs
 each_of P [] all = tt
 each_of P (x ∷ xs) all = (All-head P x xs all, each_of P xs (All-tail P x xs all))
-
-below_or : (a b : ℕ) → (a < b) ⊎ (b ≤ a)
-below_or a b = grind arith
 
 module _ (s : Scenario) (good : IsScenario s) (ledger : ℕ → LedgerId) where
   todo_there : (writer : ℕ) (todo : Todo) → IsWrite s.stack todo.write → TodoThere (setup_in s) writer todo

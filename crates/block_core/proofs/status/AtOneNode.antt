@@ -16,7 +16,7 @@ use Rattle.run_machine.specs.Lines.{legs_of, leg_at}
 use Rattle.block_core.specs.Weights.{one}
 use Rattle.block_core.proofs.status.Marks.{leg_may, Mark, decides, above}
 use Rattle.block_core.proofs.moves.Sums.{upd-same, upd-other, one-same, one-other, same_or_not}
-use Rattle.block_core.proofs.sound.Places.{unless}
+use Rattle.block_core.proofs.sound.SumParts.{unless}
 use Rattle.block_core.proofs.status.RunEndings.{few_yes}
 
 pub above_less : (written : ℕ → Status → ℕ) (mark : ℕ → ℕ → Mark) (end : Status) (less more writer write : ℕ) (parent : Option ℕ) → less ≤ more

@@ -29,7 +29,7 @@ use Rattle.block_core.proofs.sound.Facts.{TaskFits, own_part, Kept}
 use Rattle.block_core.specs.Roles.{named}
 use Rattle.block_core.proofs.sound.TaskLines.{line_fits}
 use Rattle.block_core.proofs.moves.Deltas.{delta}
-use Rattle.block_core.proofs.sound.Places.{cut_weight, line_part, named_away, unless_less}
+use Rattle.block_core.proofs.sound.SumParts.{cut_weight, line_part, named_away, unless_less}
 use Rattle.block_core.proofs.moves.Listed.{landed_same}
 use Rattle.block_core.proofs.sound.Orders.{Each, IsOwn, DoingPlaced, TaskPlaced, Placed, Ground}
 use Rattle.block_core.proofs.sound.OrdersKept.{line_placed}
@@ -38,7 +38,7 @@ use Rattle.block_core.proofs.images.StillToCome.{over}
 use Rattle.block_core.proofs.images.FragmentCounts.{legs_next}
 use Rattle.block_core.proofs.moves.Landings.{IsLanding, settled_there, goes_there, copies_there, all_there, none_there, cut_there, leg_there}
 use Rattle.block_core.proofs.moves.Marked.{with_mark, mark_here, mark_other, elsewhere, none_moves}
-use Rattle.block_core.proofs.status.RunEndings.{few_yes, Given, mirror_may}
+use Rattle.block_core.proofs.status.RunEndings.{few_yes, EndingsByParts, mirror_may}
 use Rattle.block_core.proofs.status.NodeValues.{is_given, own_allowed, well_allowed, failed_allowed, less_allowed, leg_allowed, told_allowed, unallowed_unmoved}
 use Rattle.block_core.proofs.status.AtOneNode.{above_less, range_none, leg_named_by, leg_few}
 use Rattle.block_core.proofs.status.MarksBehind.{new_mark, marks_by}
@@ -52,7 +52,7 @@ not_master (role.Chain parent) true own same = absurd (omega (arith, same))
 not_master (role.Master parent) true own same = absurd (omega (arith, own))
 not_master (role.Leg parent) true own same = absurd (omega (arith, same))
 
-module _ (scene : Scene) (ends : Fragment → Status) (written : ℕ → Status → ℕ) (v : Given scene.setup ends) where
+module _ (scene : Scene) (ends : Fragment → Status) (written : ℕ → Status → ℕ) (v : EndingsByParts scene.setup ends) where
   abbrev setup : Setup
   setup = scene.setup
 

@@ -16,13 +16,9 @@ use Rattle.run_machine.specs.Tasks.{Todo, Gathered, NoBio, HasBio, HasBoth, Carr
 use Rattle.run_machine.specs.Runs.{State}
 use Rattle.block_core.specs.Weights.{Weight, Spot, Lined, Rescued, Pending, Brought, sum_at, weigh_option, doing_weight, line_weight, gathered_weight, want_weight, ask_weight, task_weight, book_weight, total}
 use Rattle.block_core.specs.AtWork.{DoingHolds, LineHolds, CarriedHolds, LineOf, IsBrought, IsInDisk, IsAtWork}
+use Rattle.block_core.proofs.images.PlannedOnce.{term_in}
 use Rattle.block_core.proofs.moves.Totals.{part_of, task_part}
 use Rattle.block_core.proofs.stuck.NothingWaits.{zero_or, some_place}
-
-pub in_sum : {X : Type 0} (f : X → ℕ) (xs : List X) (x : X) → Contains xs x → f x ≤ sum_by f xs
-in_sum f [] x (k, lt, at) = absurd (omega (arith, lt))
-in_sum f (y ∷ xs) x (zero, lt, at) = let e : f y ≡ f x = ap f at in omega (arith, e, sum_by-cons f y xs)
-in_sum f (y ∷ xs) x (suc k, lt, at) = omega (arith, in_sum f xs x (k, omega (arith, lt), at), sum_by-cons f y xs)
 
 pub some_in : {X : Type 0} (f : X → ℕ) (xs : List X) → 1 ≤ sum_by f xs → (x : X) × Contains xs x × (1 ≤ f x)
 some_in f [] h = absurd (omega (arith, h))
@@ -72,7 +68,7 @@ module _ (scene : Scene) (s : State) (w : Weight) where
   in_disk item (dev, lt, has) =
       omega (
         arith,
-        in_sum (w.bio Pending) (s.objects.disk dev).pending item has,
+        term_in (w.bio Pending) (s.objects.disk dev).pending item has,
         part_of (λ dev (disk : DiskState). sum_by (w.bio Pending) disk.pending) scene.setup.count s.objects.disk dev lt,
       )
 
@@ -102,14 +98,14 @@ module _ (scene : Scene) (s : State) (w : Weight) where
 
       by_line : LineHolds item line → (limit : ℕ) → line_weight w limit line ≤ total scene w s → w.bio (Lined limit) item ≤ total scene w s
       by_line (inl driven) limit le = omega (arith, le, by_doing limit line.doing driven)
-      by_line (inr (inl listed)) limit le = omega (arith, le, in_sum (w.bio (Lined limit)) line.lists.list0 item listed)
-      by_line (inr (inr listed)) limit le = omega (arith, le, in_sum (w.bio (Lined limit)) line.lists.list1 item listed)
+      by_line (inr (inl listed)) limit le = omega (arith, le, term_in (w.bio (Lined limit)) line.lists.list0 item listed)
+      by_line (inr (inr listed)) limit le = omega (arith, le, term_in (w.bio (Lined limit)) line.lists.list1 item listed)
   at_work item (inr (inl brought)) = (Brought, is_brought item brought)
   at_work item (inr (inr (inl (dev, lt, has)))) = (
     Rescued,
     omega (
       arith,
-      in_sum (w.bio Rescued) (s.objects.rescue dev) item has,
+      term_in (w.bio Rescued) (s.objects.rescue dev) item has,
       part_of (λ dev bios. sum_by (w.bio Rescued) bios) scene.setup.count s.objects.rescue dev lt,
     ),
   )

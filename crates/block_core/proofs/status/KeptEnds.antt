@@ -29,6 +29,7 @@ use Rattle.run_machine.specs.Runs.{State, Steps, IsRun}
 use Rattle.run_machine.proofs.Frames.{one_object_changes}
 use Rattle.block_core.specs.Touches.{is_master}
 use Rattle.block_core.specs.KeptEnds.{ends_after, ends_told, KeepsFailure, KeepsMark, KeepsEnds, EndsAreKept}
+use Rattle.block_core.proofs.sound.Sayings.{none_told}
 use Rattle.block_core.proofs.moves.Sums.{upd-same, upd-other, same_or_not, within_book}
 use Rattle.block_core.proofs.moves.Deltas.{vacant_at}
 
@@ -130,9 +131,6 @@ in_books f writer key book w k ends more here old = elim (same_or_not writer w) 
       rw (eq-eqb writer w same) (subst (λ b. KeepsAt (if key == k then more else ends) (node_at b k)) (sym is) (here (subst (λ x. KeepsAt ends (node_at (f x) k)) (sym same) old)))
   | inr ne ↦ rw (ne_eqb writer w ne) (subst (λ b. KeepsAt ends (node_at b k)) (sym (upd-other f writer book w (λ q. ne (sym q)))) old)
 ]
-
-none_told : {X : Type 0} (what : What) → None ≡ Some what → X
-none_told what is = absurd cc
 
 abbrev ends_by : (w k : ℕ) → Option What → List Status → List Status
 ends_by w k None ends = ends

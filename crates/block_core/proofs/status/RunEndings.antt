@@ -30,6 +30,7 @@ use Rattle.bio_books.specs.Books.{SlipItem}
 use Rattle.run_machine.specs.Scene.{Setup, tree_at, tree_number, setup_of}
 use Rattle.run_machine.specs.Lines.{ToPush, ToMaster, first_length, landed, legs_of, leg_at}
 use Rattle.block_core.specs.Fragments.{offset_of, fragment_of}
+use Rattle.block_core.proofs.moves.Sums.{same_or_not}
 use Rattle.block_core.proofs.status.Marks.{yes, may, bio_may, leg_may}
 use Rattle.block_core.proofs.moves.Moves.{piece}
 use Rattle.run_machine.proofs.TreeNumbers.{number_of_tree}
@@ -110,11 +111,8 @@ module _ (ends : Fragment → Status) where
   each_some : (f : ℕ → Plan) (n a k : ℕ) (end : Status) → a ≤ k → k < a + n → may ends (f k) end ≤ yes (some_may_end ends (each f (range_with_len a n)) end)
   unfolding some_may_end each
   each_some f zero a k end ge lt = absurd (omega (arith, ge, lt))
-  each_some f (suc n) a k end ge lt = by_place (same_place k a) (λ ne. each_some f n (a + 1) k end (omega (arith, ge, ne)) (omega (arith, lt)))
+  each_some f (suc n) a k end ge lt = by_place (same_or_not k a) (λ ne. each_some f n (a + 1) k end (omega (arith, ge, ne)) (omega (arith, lt)))
     where
-      same_place : (k a : ℕ) → (k ≡ a) ⊎ (k ≢ a)
-      same_place k a = grind arith
-
       by_place : (k ≡ a) ⊎ (k ≢ a) → ((k ≢ a) → may ends (f k) end ≤ yes (some_may_end ends (each f (range_with_len (a + 1) n)) end))
           → may ends (f k) end ≤ yes (may_end ends (f a) end || some_may_end ends (each f (range_with_len (a + 1) n)) end)
       by_place (inl e) later = omega (arith, ap (λ j. may ends (f j) end) e, (or_both (may_end ends (f a) end) (some_may_end ends (each f (range_with_len (a + 1) n)) end)).0)
@@ -145,7 +143,7 @@ module _ (ends : Fragment → Status) where
   whole_may f end = refl
 
 -- what is known of it at the devices of a stack
-pub record Given (setup : Setup) (ends : Fragment → Status) : Type 0 where
+pub record EndingsByParts (setup : Setup) (ends : Fragment → Status) : Type 0 where
   pub lands : (bio : Bio) (end : Status) → IsThere setup bio → bio_may setup ends (landed (tree_at setup bio.dev) bio) end ≡ bio_may setup ends bio end
   pub cut : (bio hand : Item Pad) (key number : ℕ) (kind : Kind) (sizes : List ℕ) (members : ℕ → Tree) → IsThere setup bio.bio → IsCounted bio.bio
       → tree_at setup bio.bio.dev ≡ Split number kind sizes members → IsTrue (is_cut (Split number kind sizes members) bio.bio.range)
@@ -272,9 +270,9 @@ module _ (stack : Stack) (good : IsStack stack) (places : ℕ → ℕ) (ends : F
       here : (sectors : ℕ) → DiskOf bio end (Leaf bio.dev.0 sectors)
       here sectors fits = ap (λ p. may ends p end) (whole_is bio.dev.0 sectors bio.write (offset_of bio) bio.range.start bio.range.len) ∙ whole_may ends (fragment_of bio) end
 
-  pub given : Given setup ends
+  pub endings_by_parts : EndingsByParts setup ends
   unfolding CutOf DiskOf
-  given = record {
+  endings_by_parts = record {
     lands = λ bio end is. (falls stack good places (λ bio. bio_may setup ends bio end) (whole_run end) (bio.dev.0 + 1) bio (omega arith) is).same;
     cut = λ bio hand key number kind sizes members is counted at many.
         let a : CutOf bio hand key (Split number kind sizes members) = subst (CutOf bio hand key) at (cut_of bio hand key is counted) in a many;

@@ -60,7 +60,7 @@ use Rattle.block_core.proofs.start.StagesAtStart.{begins_sum}
 use Rattle.block_core.proofs.start.StartTotals.{opened_total, all_sum}
 use Rattle.block_core.proofs.images.BioData.{own_writes}
 use Rattle.block_core.proofs.images.ImageData.{IsOwn, own_stays, completed_waits, completed_ends, start_own}
-use Rattle.block_core.proofs.status.RunEndings.{Given, given, plan_alone}
+use Rattle.block_core.proofs.status.RunEndings.{EndingsByParts, endings_by_parts, plan_alone}
 use Rattle.block_core.proofs.status.NodeValues.{is_itself}
 use Rattle.block_core.proofs.status.ValuesKept.{stays_marked}
 use Rattle.block_core.proofs.status.Tellers.{HasEnding}
@@ -140,7 +140,7 @@ set_get_other xs i j x y ne at =
     let lt = slice_get_within xs j y at in
     slice_get-get_or (set xs i x) j y (omega (arith, lt, long)) ∙ ap Some (get_or-set_other xs i j x y ne ∙ get_or_from_slice_get xs j y y at)
 
-module _ (s : Scenario) (ledger : ℕ → LedgerId) (f : Fair (scene s ledger)) (g : Ground (setup_in s)) (v : Given (setup_in s) (fault_of s.stack)) where
+module _ (s : Scenario) (ledger : ℕ → LedgerId) (f : Fair (scene s ledger)) (g : Ground (setup_in s)) (v : EndingsByParts (setup_in s) (fault_of s.stack)) where
   abbrev sc : Scene
   sc = scene s ledger
 
@@ -342,7 +342,7 @@ module _ (s : Scenario) (ledger : ℕ → LedgerId) (events : List Event) (state
   told : IsTold s ledger (node_bios (scene s ledger) (start s) events state run no_bios) state
   told =
       let places = (setup_in s).places in
-      runs_told s ledger (record { named = naming }) (ground s.stack good.stack places) (given s.stack good.stack places (fault_of s.stack)) (start s) events state no_bios
+      runs_told s ledger (record { named = naming }) (ground s.stack good.stack places) (endings_by_parts s.stack good.stack places (fault_of s.stack)) (start s) events state no_bios
       (start_whole s ledger good naming) (start_told s good ledger) run
 
   happens_given : (event : Event) (new : State) → Happens (scene s ledger) state event new → (w : ℕ) (end : Status) → event.what ≡ what.Done w end → IsGiven s w end

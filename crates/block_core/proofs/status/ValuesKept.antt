@@ -11,13 +11,13 @@ use Rattle.block_core.proofs.sound.Facts.{Kept}
 use Rattle.block_core.proofs.sound.Orders.{Placed, Ground}
 use Rattle.block_core.proofs.moves.Misfits.{misfits}
 use Rattle.block_core.proofs.images.StillToCome.{over}
-use Rattle.block_core.proofs.status.RunEndings.{Given}
+use Rattle.block_core.proofs.status.RunEndings.{EndingsByParts}
 use Rattle.block_core.proofs.status.MarksBehind.{marks_by, fair_after}
 use Rattle.block_core.proofs.status.Tellers.{HasEnding}
 use Rattle.block_core.proofs.status.EndsAllowed.{off_after}
 use Rattle.block_core.proofs.status.EndsDecided.{decided_after}
 
-module _ (scene : Scene) (ends : Fragment → Status) (written : ℕ → Status → ℕ) (v : Given scene.setup ends) (s : State) (g : Ground scene.setup) (i : Kept scene s)
+module _ (scene : Scene) (ends : Fragment → Status) (written : ℕ → Status → ℕ) (v : EndingsByParts scene.setup ends) (s : State) (g : Ground scene.setup) (i : Kept scene s)
     (a : Placed scene.setup s) (counted : total scene (misfits over) s ≡ 0) (endings : (place : ℕ) → HasEnding ends (s.task place)) (mark : ℕ → ℕ → Mark)
     (h : IsMarked scene ends written mark s) where
   pub stays_marked : (m : Move) → Can scene s m → IsMarked scene ends written (marks_by scene.setup ends mark m) (after scene s m)

@@ -15,9 +15,9 @@ use Rattle.run_machine.specs.Objects.{done_one}
 use Rattle.run_machine.specs.Runs.{State}
 use Rattle.block_core.specs.Weights.{total, one, elements_of_pool, holding_elements, refs}
 use Rattle.block_core.proofs.moves.Moves.{with_pool, with_book}
-use Rattle.block_core.proofs.moves.Sums.{upd-same, one-same}
-use Rattle.block_core.proofs.sound.Facts.{Fair, Kept}
-use Rattle.block_core.proofs.sound.Orders.{Placed}
+use Rattle.block_core.proofs.moves.Totals.{task_part}
+use Rattle.block_core.proofs.moves.Sums.{upd-same, one-same, below_or}
+use Rattle.block_core.proofs.sound.Facts.{Kept}
 use Rattle.std.specs.Prelude.{IsSome}
 use Rattle.stack_base.specs.Fault.{status_eq, fault}
 use Rattle.stack_base.specs.declared.ids.Status.TheVariants.{Ok}
@@ -30,11 +30,10 @@ use Rattle.run_machine.specs.Objects.{Serves}
 use Rattle.run_machine.specs.Events.{what_of, is_free}
 use Rattle.run_machine.specs.Tasks.{request}
 use Rattle.run_machine.specs.Runs.{HasFree}
-use Rattle.block_core.specs.Places.{HasPlaces}
-use Rattle.block_core.proofs.unrefused.BioNeeds.{Worth}
-use Rattle.block_core.proofs.stuck.FreeEvents.{HasNumbers, below_or, free_of, task_in, drop_serves, open_at}
+use Rattle.block_core.proofs.stuck.Idle.{open_at}
+use Rattle.block_core.proofs.stuck.FreeEvents.{free_of, drop_serves}
 
-module _ (scene : Scene) (s : State) (f : Fair scene) (worth : Worth scene.setup) (k : Kept scene s) (p : Placed scene.setup s) (room : HasPlaces scene s) (numbers : HasNumbers s) where
+module _ (scene : Scene) (s : State) (k : Kept scene s) where
   abbrev setup : Setup
   setup = scene.setup
 
@@ -87,7 +86,7 @@ module _ (scene : Scene) (s : State) (f : Fair scene) (worth : Worth scene.setup
   -- an element is out whose completer has it
   held_out : (place : ℕ) → place < scene.tasks → (disk : DevId) (w : ℕ) (closed : Closed) → s.task place ≡ Completer disk (Carries w closed) → (q : ℕ) → 1 ≤ holding_elements q closed.held → 0 < (s.objects.pool q).facts.out
   held_out place here disk w closed at q some =
-      let part = task_in scene s (elements_of_pool q) place (Completer disk (Carries w closed)) here at in
+      let part = task_part scene (elements_of_pool q) s place (Completer disk (Carries w closed)) here at in
       let all = k.outs q in
       omega (arith, part, all, some)
 
@@ -103,7 +102,7 @@ module _ (scene : Scene) (s : State) (f : Fair scene) (worth : Worth scene.setup
       let out = held_out place here disk w _ at r.share.no (omega (arith, one-same r.share.no)) in
       free_of scene s place here _ at requests.Did _ tt refl refl (with_pool s.objects r.share.no gives) (out, refl)
   carries_free place here disk w None None None (Some parent) write status at =
-      let part = task_in scene s (refs setup w parent) place _ here at in
+      let part = task_part scene (refs setup w parent) s place _ here at in
       let both_one : one w w * one parent parent ≡ 1 = rw (one-same w, one-same parent) refl in
       drop_free place here disk _ at w parent status None refl (omega (arith, part, both_one))
   carries_free place here disk w None None None None write status at =

@@ -15,11 +15,13 @@ use Rattle.run_machine.specs.Objects.{clear_bio, clear_vector}
 use Rattle.run_machine.specs.Runs.{State}
 use Rattle.block_core.specs.Weights.{one, refs}
 use Rattle.block_core.proofs.moves.Moves.{with_pool, with_book}
-use Rattle.block_core.proofs.moves.Sums.{upd-same, one-same}
-use Rattle.block_core.proofs.sound.Facts.{DoingFits, LineFits, TaskFits, Fair, Kept}
+use Rattle.block_core.proofs.moves.Totals.{task_part}
+use Rattle.block_core.proofs.moves.Sums.{upd-same, one-same, below_or}
+use Rattle.block_core.proofs.sound.Facts.{DoingFits, LineFits, TaskFits, Kept}
 use Rattle.block_core.proofs.sound.TaskLines.{IsBusy}
 use Rattle.block_core.proofs.sound.Orders.{TaskPlaced, Placed}
-use Rattle.std.specs.Prelude.{nat_le}
+use Rattle.std.specs.Prelude.{nat_le, sum_by}
+use Rattle.std.proofs.lemmas.List.Sums.{sum_by-cons}
 use Rattle.std.proofs.lemmas.Bool.Decides.{nat_tests}
 use Rattle.bio_books.specs.Links.{Made}
 use Rattle.run_machine.specs.declared.event.TaskId.{TaskId}
@@ -29,15 +31,16 @@ use Rattle.run_machine.specs.Objects.{Serves}
 use Rattle.run_machine.specs.Events.{what_of}
 use Rattle.run_machine.specs.Tasks.{request, look_of, needs_vector, with_bio}
 use Rattle.run_machine.specs.Runs.{IsLet, HasFree}
-use Rattle.block_core.specs.Places.{writes_need, places, HasPlaces}
-use Rattle.block_core.proofs.unrefused.BioNeeds.{Worth}
+use Rattle.block_core.specs.Rooms.{todo_need, HasRoomInBooks}
+use Rattle.block_core.proofs.unrefused.NodeNeeds.{Needs}
+use Rattle.block_core.proofs.unrefused.VacantPlaces.{has_vacant}
 use Rattle.block_core.proofs.sound.Posts.{TakenFits, AtPost, Posted}
 use Rattle.block_core.proofs.stuck.NothingWaits.{spares, StillDoing, StillTaken, StillWriter, StillRescuer, IsStill, zero_or}
-use Rattle.block_core.proofs.stuck.FreeEvents.{HasNumbers, some_needs, below_or, free_of, task_in, link_serves, vacant}
+use Rattle.block_core.proofs.stuck.FreeEvents.{HasNumbers, some_needs, free_of, link_serves}
 use Rattle.block_core.proofs.stuck.LinesFree.{line_free}
 use Rattle.block_core.proofs.stuck.CompletersFree.{complete_free, drop_free, carries_free}
 
-module _ (scene : Scene) (s : State) (f : Fair scene) (worth : Worth scene.setup) (k : Kept scene s) (p : Placed scene.setup s) (room : HasPlaces scene s) (numbers : HasNumbers s) where
+module _ (scene : Scene) (s : State) (n : Needs scene.setup) (k : Kept scene s) (p : Placed scene.setup s) (r : HasRoomInBooks scene s) (numbers : HasNumbers s) where
   abbrev setup : Setup
   setup = scene.setup
 
@@ -48,9 +51,9 @@ module _ (scene : Scene) (s : State) (f : Fair scene) (worth : Worth scene.setup
   opens_free : (place : ℕ) → place < scene.tasks → (number : ℕ) (todo : Todo) (later : List Todo) (taken : Gathered) → s.task place ≡ At_rest number (todo ∷ later) taken → number < scene.books
       → look_of (At_rest number (todo ∷ later) taken) ≡ None → (vector : Option VectorItem) → request setup (At_rest number (todo ∷ later) taken) ≡ requests.Link number (requests.Write todo.number vector) → HasFree scene s
   opens_free place here number todo later taken at lt look vector asks =
-      let part = task_in scene s (places setup number) place (At_rest number (todo ∷ later) taken) here at in
-      let need : 1 ≤ one number number * writes_need setup (todo ∷ later) = some_needs (one number number) (writes_need setup (todo ∷ later)) (one-same number) (omega arith) in
-      let v = vacant scene s room number lt (omega (arith, part, need)) in
+      let all = sum_by-cons (todo_need setup) todo later in
+      let need = some_needs (one number number) (sum_by (todo_need setup) (todo ∷ later)) (one-same number) (omega (arith, all)) in
+      let v = has_vacant scene s r place (At_rest number (todo ∷ later) taken) number here at lt (omega (arith, need)) in
       let book = with_node (s.objects.book number) v.0 (Some (top_node todo.number vector)) in
       free_of scene s place here (At_rest number (todo ∷ later) taken) at (requests.LinkedTo (Made v.0)) _ (subst (IsLet scene.ledger s.objects (At_rest number (todo ∷ later) taken)) (sym look) tt)
       (ap (λ r. what_of r (requests.LinkedTo (Made v.0))) asks) refl (with_book s.objects number book)
@@ -138,18 +141,18 @@ module _ (scene : Scene) (s : State) (f : Fair scene) (worth : Worth scene.setup
           by_line (inl is) =
               or_map (subst (StillWriter s todo taken) (sym is)) (writer_free place here number todo taken (at ∙ ap (Writer number todo taken) (at_rest line is fits.1)) fits.0 post.1.1)
           by_line (inr busy) =
-              or_map (busy_writer todo taken line.doing busy) (line_free scene s f worth k p room numbers place here (Writer number todo taken line) at line.doing line.lists refl busy fits.1 t.1)
+              or_map (busy_writer todo taken line.doing busy) (line_free scene s n k r numbers place here (Writer number todo taken line) at line.doing line.lists refl busy fits.1 t.1)
       by_task (Rescuer dev line) at fits t post = by_line (line_or_rests line)
         where
           by_line : (line.doing ≡ Rests) ⊎ IsBusy line.doing → HasFree scene s ⊎ StillRescuer s dev.0 line.doing
           by_line (inl is) = or_map (subst (StillRescuer s dev.0) (sym is)) (pop_free place here dev (at ∙ ap (Rescuer dev) (at_rest line is fits.1)))
-          by_line (inr busy) = or_map (busy_rescuer dev.0 line.doing busy) (line_free scene s f worth k p room numbers place here (Rescuer dev line) at line.doing line.lists refl busy fits.1 t)
-      by_task (Completer disk Empty) at fits t post = complete_free scene s f worth k p room numbers place here disk at
+          by_line (inr busy) = or_map (busy_rescuer dev.0 line.doing busy) (line_free scene s n k r numbers place here (Rescuer dev line) at line.doing line.lists refl busy fits.1 t)
+      by_task (Completer disk Empty) at fits t post = complete_free scene s k place here disk at
       by_task (Completer disk (Brings bio status)) at fits t post =
-          let part = task_in scene s (refs setup bio.bio.writer bio.bio.node) place (Completer disk (Brings bio status)) here at in
+          let part = task_part scene (refs setup bio.bio.writer bio.bio.node) s place (Completer disk (Brings bio status)) here at in
           let both_one : one bio.bio.writer bio.bio.writer * one bio.bio.node bio.bio.node ≡ 1 = rw (one-same bio.bio.writer, one-same bio.bio.node) refl in
-          inl (drop_free scene s f worth k p room numbers place here disk (Brings bio status) at bio.bio.writer bio.bio.node status (Some bio) refl (omega (arith, part, both_one)))
+          inl (drop_free scene s k place here disk (Brings bio status) at bio.bio.writer bio.bio.node status (Some bio) refl (omega (arith, part, both_one)))
       by_task (Completer disk (Carries w closed)) at fits t post =
-          inl (carries_free scene s f worth k p room numbers place here disk w closed.held.vector closed.held.bio closed.held.slip closed.parent closed.write closed.status at)
+          inl (carries_free scene s k place here disk w closed.held.vector closed.held.bio closed.held.slip closed.parent closed.write closed.status at)
       by_task (Completer disk (Fails breach kept)) at fits t post = absurd post.1
       by_task (Keeper keeping) at fits t post = inr tt

@@ -1,5 +1,5 @@
 -- Where no write is begun, no node is open and every element is at home.
-use Rattle.std.proofs.Common.{◌≡◌, ◌+◌, ◌*◌, ◌<◌, ◌≤◌, ◌⊎◌, ℕ, zero, suc, List, [], ◌∷◌, length, Option, None, Some, inl, inr, refl, sym, ◌∙◌, ap, arith, get_or}
+use Rattle.std.proofs.Common.{◌≡◌, ◌+◌, ◌*◌, ◌<◌, ◌≤◌, ℕ, zero, suc, List, [], ◌∷◌, length, Option, None, Some, inl, inr, refl, sym, ◌∙◌, ap, arith, get_or}
 use Rattle.std.specs.Prelude.{sum_by}
 use Rattle.std.proofs.lemmas.List.Sums.{sum_by-cons}
 use Rattle.stack_base.specs.declared.ids.DevId.{DevId}
@@ -16,16 +16,16 @@ use Rattle.run_machine.specs.Tasks.{TaskState, Writer, Rescuer, Completer, Keepe
 use Rattle.run_machine.specs.Runs.{State}
 use Rattle.block_core.specs.Weights.{Weight, Rescued, Pending, total, sum_at, one, weigh_option, line_weight, task_weight, book_weight, elements_of_pool, refs, names_node, under, legs_left, count_of}
 use Rattle.block_core.proofs.moves.Moves.{HasLine}
-use Rattle.block_core.proofs.moves.Sums.{one-same, within_book}
+use Rattle.block_core.proofs.moves.Sums.{one-same, within_book, below_or}
 use Rattle.block_core.proofs.sound.Facts.{DoingFits, TaskFits, Kept}
 use Rattle.block_core.proofs.start.FactsAtStart.{nodes_zero}
 use Rattle.block_core.proofs.moves.Totals.{part_of, task_part, line_part}
 
 -- sums of nothing
-none_at : {X : Type 0} (w : ℕ → X → ℕ) (n : ℕ) (f : ℕ → X) → ((i : ℕ) → i < n → w i (f i) ≡ 0) → sum_at w n f ≡ 0
+pub sum_none : {X : Type 0} (w : ℕ → X → ℕ) (n : ℕ) (f : ℕ → X) → ((i : ℕ) → i < n → w i (f i) ≡ 0) → sum_at w n f ≡ 0
 unfolding sum_at
-none_at w zero f none = refl
-none_at w (suc n) f none = omega (arith, none_at w n f (λ i lt. none i (omega (arith, lt))), none n (omega arith))
+sum_none w zero f none = refl
+sum_none w (suc n) f none = omega (arith, sum_none w n f (λ i lt. none i (omega (arith, lt))), none n (omega arith))
 
 -- a node has a level below that of the node that it is under
 abbrev pub GoesDown : State → (ℕ → ℕ → ℕ) → Type 0
@@ -48,9 +48,17 @@ open_in_books scene s i writer key node at = elim (below_or writer scene.books) 
       let a : node_at (s.objects.book writer) key ≡ None = ap (λ (nodes : List (Option Node)). get_or nodes key None) (i.inside writer ge) in
       let b : None ≡ Some node = sym a ∙ at in absurd cc
 ]
+
+-- what is referred to is open, and waits for an end
+pub open_at : (scene : Scene) (s : State) → Kept scene s → (writer key : ℕ) → 1 ≤ total scene (refs scene.setup writer key) s
+    → (node : Node) × (node_at (s.objects.book writer) key ≡ Some node) × (1 ≤ node.count)
+open_at scene s i writer key some = by_node (node_at (s.objects.book writer) key) refl
   where
-    below_or : (a b : ℕ) → (a < b) ⊎ (b ≤ a)
-    below_or a b = grind arith
+    by_node : (found : Option Node) → node_at (s.objects.book writer) key ≡ found → (node : Node) × (node_at (s.objects.book writer) key ≡ Some node) × (1 ≤ node.count)
+    by_node None at = absurd (let count : count_of (node_at (s.objects.book writer) key) ≡ 0 = ap count_of at in omega (arith, some, count, i.counts writer key))
+    by_node (Some node) at =
+        let count : count_of (node_at (s.objects.book writer) key) ≡ node.count = ap count_of at in
+        (node, at, omega (arith, some, count, i.counts writer key))
 
 pub node_part : (scene : Scene) (s : State) → Kept scene s → (w : Weight) (writer key : ℕ) (node : Node) → node_at (s.objects.book writer) key ≡ Some node
     → w.node writer key node ≤ total scene w s
@@ -64,14 +72,6 @@ node_part scene s i w writer key node at =
     )
 
 module _ (scene : Scene) (s : State) (i : Kept scene s) (level : ℕ → ℕ → ℕ) (down : GoesDown s level) (none : NoneBegun scene s) where
-  -- what is referred to is open
-  open_at : (writer key : ℕ) → 1 ≤ total scene (refs scene.setup writer key) s → (node : Node) × (node_at (s.objects.book writer) key ≡ Some node)
-  open_at writer key some = by_node (node_at (s.objects.book writer) key) refl
-    where
-      by_node : (found : Option Node) → node_at (s.objects.book writer) key ≡ found → (node : Node) × (node_at (s.objects.book writer) key ≡ Some node)
-      by_node None at = absurd (let count : count_of (node_at (s.objects.book writer) key) ≡ 0 = ap count_of at in omega (arith, some, count, i.counts writer key))
-      by_node (Some node) at = (node, at)
-
   -- no level in a book is above all of them together, so a way up from node to node would come to a top
   no_way_up : (fuel writer key : ℕ) (node : Node) → node_at (s.objects.book writer) key ≡ Some node
       → sum_at (λ place (found : Option Node). level writer place) (length (s.objects.book writer).nodes) (node_at (s.objects.book writer)) < level writer key + fuel → ⊥
@@ -91,7 +91,7 @@ module _ (scene : Scene) (s : State) (i : Kept scene s) (level : ℕ → ℕ →
       by_parent on (Some parent) is =
           let refers : under writer parent writer (parent_of node.role) ≡ 1 =
           ap (under writer parent writer) is ∙ (ap (λ n. n * one parent parent) (one-same writer) ∙ ap (λ n. 1 * n) (one-same parent)) in
-          let up = open_at writer parent (omega (arith, refers, node_part scene s i (refs scene.setup writer parent) writer key node at)) in
+          let up = open_at scene s i writer parent (omega (arith, refers, node_part scene s i (refs scene.setup writer parent) writer key node at)) in
           on parent up.0 up.1 (omega (arith, lt, down writer key node parent at is))
 
   pub none_open : (writer key : ℕ) → node_at (s.objects.book writer) key ≡ None
@@ -192,8 +192,8 @@ module _ (scene : Scene) (s : State) (i : Kept scene s) (level : ℕ → ℕ →
       omega (
         arith,
         i.outs q,
-        none_at (task_weight (elements_of_pool q)) scene.tasks s.task (λ place lt. task_home q place (s.task place) lt refl (i.tasks place)),
-        none_at (λ dev bios. sum_by ((elements_of_pool q).bio Rescued) bios) scene.setup.count s.objects.rescue (rescue_home q),
-        none_at (λ dev (disk : DiskState). sum_by ((elements_of_pool q).bio Pending) disk.pending) scene.setup.count s.objects.disk (pending_home q),
-        none_at (book_weight (elements_of_pool q)) scene.books s.objects.book (λ writer lt. nodes_zero (elements_of_pool q) writer (s.objects.book writer) (none_open writer)),
+        sum_none (task_weight (elements_of_pool q)) scene.tasks s.task (λ place lt. task_home q place (s.task place) lt refl (i.tasks place)),
+        sum_none (λ dev bios. sum_by ((elements_of_pool q).bio Rescued) bios) scene.setup.count s.objects.rescue (rescue_home q),
+        sum_none (λ dev (disk : DiskState). sum_by ((elements_of_pool q).bio Pending) disk.pending) scene.setup.count s.objects.disk (pending_home q),
+        sum_none (book_weight (elements_of_pool q)) scene.books s.objects.book (λ writer lt. nodes_zero (elements_of_pool q) writer (s.objects.book writer) (none_open writer)),
       )

@@ -2,11 +2,10 @@
 use Rattle.std.proofs.Common.{◌≡◌, ◌+◌, ◌*◌, ◌<◌, ◌≤◌, ◌⊎◌, ◌++◌, ℕ, Bool, true, false, Some, inl, inr, refl, sym, ap, subst, arith}
 use Rattle.stack_base.specs.declared.ids.DevId.{DevId}
 use Rattle.stack_base.specs.declared.ids.SetId.TheVariants.{Of}
-use Rattle.stack_base.specs.Tree.{Tree, Leaf, Split, Mirrored}
 use Rattle.mempool_core.specs.Move.{takes_spare, misses}
 use Rattle.bio_records.specs.declared.tasks.TaskLists.{TaskLists}
 use Rattle.bioset_pools.specs.Sets.{bios_of}
-use Rattle.bio_books.specs.Books.{with_node, child_node, master_node, leg_node, keeping, raised}
+use Rattle.bio_books.specs.Books.{Node, node_at, with_node, child_node, master_node, leg_node, keeping, raised}
 use Rattle.model_disks.specs.Moves.{pushed}
 use Rattle.run_machine.specs.Maps.{upd}
 use Rattle.run_machine.specs.Scene.{Setup, Scene, tree_at}
@@ -14,12 +13,12 @@ use Rattle.run_machine.specs.Lines.{Takes, Punts as WantsPunt, Links, ToPush, To
 use Rattle.run_machine.specs.Tasks.{TaskState}
 use Rattle.run_machine.specs.Objects.{clear_bio, clear_slip}
 use Rattle.run_machine.specs.Runs.{State}
-use Rattle.block_core.specs.Weights.{one, refs, legs_left}
+use Rattle.block_core.specs.Weights.{one, refs, doing_weight, legs_left}
 use Rattle.block_core.proofs.moves.Moves.{limit_of, HasLine, with_pool, with_book}
 use Rattle.block_core.proofs.moves.Sums.{one-same}
-use Rattle.block_core.proofs.sound.Facts.{DoingFits, Fair, Kept}
+use Rattle.block_core.proofs.sound.Facts.{DoingFits, Kept}
 use Rattle.block_core.proofs.sound.TaskLines.{IsBusy}
-use Rattle.block_core.proofs.sound.Orders.{AskFits, DoingPlaced, Placed}
+use Rattle.block_core.proofs.sound.Orders.{DoingPlaced}
 use Rattle.mempool_core.specs.Position.{uses_entry}
 use Rattle.bio_books.specs.Links.{Made, ChainsAt, MastersAt, LegsAt}
 use Rattle.run_machine.specs.declared.event.Got.TheVariants as got
@@ -29,13 +28,15 @@ use Rattle.run_machine.specs.Objects.{Serves}
 use Rattle.run_machine.specs.Events.{what_of}
 use Rattle.run_machine.specs.Lines.{line_request}
 use Rattle.run_machine.specs.Runs.{HasFree}
-use Rattle.block_core.specs.Places.{bio_needs, unmade_legs_need, places, HasPlaces}
-use Rattle.block_core.proofs.unrefused.BioNeeds.{Worth}
+use Rattle.block_core.specs.Rooms.{need_at, legs_need, room, HasRoomInBooks}
+use Rattle.block_core.proofs.moves.Totals.{task_part, line_part}
+use Rattle.block_core.proofs.unrefused.NodeNeeds.{Needs, mirror_need, cut_need, legs_few}
+use Rattle.block_core.proofs.unrefused.VacantPlaces.{HasVacant, has_vacant}
 use Rattle.block_core.proofs.stuck.NothingWaits.{spares, StillWant, StillDoing, zero_or}
-use Rattle.block_core.proofs.stuck.Idle.{open_in_books}
-use Rattle.block_core.proofs.stuck.FreeEvents.{HasNumbers, some_needs, free_line, line_in, link_serves, open_at, vacant}
+use Rattle.block_core.proofs.stuck.Idle.{open_in_books, open_at}
+use Rattle.block_core.proofs.stuck.FreeEvents.{HasNumbers, some_needs, free_line, link_serves}
 
-module _ (scene : Scene) (s : State) (f : Fair scene) (worth : Worth scene.setup) (k : Kept scene s) (p : Placed scene.setup s) (room : HasPlaces scene s) (numbers : HasNumbers s) where
+module _ (scene : Scene) (s : State) (n : Needs scene.setup) (k : Kept scene s) (r : HasRoomInBooks scene s) (numbers : HasNumbers s) where
   abbrev setup : Setup
   setup = scene.setup
 
@@ -62,6 +63,17 @@ module _ (scene : Scene) (s : State) (f : Fair scene) (worth : Worth scene.setup
           (subst (λ r. Serves scene.ledger s.objects r (requests.HadBio got.Spare (clear_bio (scene.ledger (2 * dev.0)))) (with_pool s.objects (2 * dev.0) takes_spare)) (sym asks)
           (((omega (arith, some), numbers.outs (2 * dev.0)), refl), refl)))
 
+  -- the node that a line names is open
+  named : (place : ℕ) → place < scene.tasks → (x : TaskState) → s.task place ≡ x → (doing : Doing) (lists : TaskLists) → HasLine x doing lists → (w key : ℕ)
+      → 1 ≤ doing_weight (refs setup w key) (limit_of x) doing → (node : Node) × (node_at (s.objects.book w) key ≡ Some node) × (1 ≤ node.count)
+  named place here x at doing lists h w key some = open_at scene s k w key (omega (arith, task_part scene (refs setup w key) s place x here at, line_part (refs setup w key) place x doing lists h, some))
+
+  -- and a place of its book is vacant where it still needs one
+  opens : (place : ℕ) → place < scene.tasks → (x : TaskState) → s.task place ≡ x → (doing : Doing) (lists : TaskLists) → HasLine x doing lists → (w key : ℕ) (node : Node)
+      → node_at (s.objects.book w) key ≡ Some node → 1 ≤ doing_weight (room setup w) (limit_of x) doing → HasVacant (s.objects.book w)
+  opens place here x at doing lists h w key node is some =
+      has_vacant scene s r place x w here at (open_in_books scene s k w key node is) (omega (arith, line_part (room setup w) place x doing lists h, some))
+
   -- a line that does not stand still
   pub line_free : (place : ℕ) → place < scene.tasks → (x : TaskState) → s.task place ≡ x → (doing : Doing) (lists : TaskLists) → HasLine x doing lists → IsBusy doing
       → DoingFits setup doing lists → DoingPlaced setup (limit_of x) doing lists → HasFree scene s ⊎ StillDoing s doing
@@ -75,28 +87,17 @@ module _ (scene : Scene) (s : State) (f : Fair scene) (worth : Worth scene.setup
   line_free place here x at (Drives bio (ToCut WantsPunt)) lists h busy fits d =
       inl (free_line scene s place here x at (Drives bio (ToCut WantsPunt)) lists h busy requests.Did _ refl refl
       (record s.objects { rescue = upd s.objects.rescue bio.bio.dev.0 (s.objects.rescue bio.bio.dev.0 ++ punted bio.bio.dev lists) }) refl)
-  line_free place here x at (Drives bio (ToCut (Links hand))) lists h busy fits d = inl (by_tree (tree_at setup bio.bio.dev) refl d.3)
-    where
-      w : ℕ
-      w = bio.bio.writer
-
-      named_one : one bio.bio.writer w * one bio.bio.node bio.bio.node ≡ 1
-      named_one = rw (one-same bio.bio.writer, one-same bio.bio.node) refl
-
-      by_tree : (t : Tree) → tree_at setup bio.bio.dev ≡ t → AskFits t bio.bio.range bio.bio.dev.0 (ToCut (Links hand)) → HasFree scene s
-      by_tree (Leaf number sectors) is a = absurd a
-      by_tree (Mirrored number sizes members) is a = absurd a
-      by_tree (Split number kind sizes members) is a =
-          let part = line_in scene s (refs setup w bio.bio.node) place x (Drives bio (ToCut (Links hand))) lists here at h in
-          let o = open_at scene s k w bio.bio.node (omega (arith, part, named_one)) in
-          let cut = worth.cut bio hand 0 number kind sizes members d.1.0.0 is a.0 in
-          let need : 1 ≤ bio_needs setup bio.bio = omega (arith, cut) in
-          let roomy = line_in scene s (places setup w) place x (Drives bio (ToCut (Links hand))) lists here at h in
-          let v = vacant scene s room w (open_in_books scene s k w bio.bio.node o.0 o.1) (omega (arith, roomy, some_needs (one bio.bio.writer w) (bio_needs setup bio.bio) (one-same w) need)) in
-          let book = with_node (with_node (s.objects.book w) v.0 (Some (child_node o.0.write bio.bio.node))) bio.bio.node (Some (raised o.0)) in
-          let opened : ChainsAt (s.objects.book w) bio.bio.node (Some o.0) (Made v.0) book = (numbers.ends w bio.bio.node o.0 o.1, v.1, refl) in
-          free_line scene s place here x at (Drives bio (ToCut (Links hand))) lists h busy (requests.LinkedTo (Made v.0)) _ refl refl (with_book s.objects w book)
-          (link_serves scene s w (requests.Chain bio.bio.node) (Made v.0) book (subst (λ found. ChainsAt (s.objects.book w) bio.bio.node found (Made v.0) book) (sym o.1) opened))
+  line_free place here x at (Drives bio (ToCut (Links hand))) lists h busy fits d =
+      let doing : Doing = Drives bio (ToCut (Links hand)) in
+      let w = bio.bio.writer in
+      let names_it : one w w * one bio.bio.node bio.bio.node ≡ 1 = rw (one-same w, one-same bio.bio.node) refl in
+      let o = named place here x at doing lists h w bio.bio.node (omega (arith, names_it)) in
+      let need = cut_need setup n bio (Links hand) (tree_at setup bio.bio.dev) refl d.1.0.0 d.3 in
+      let v = opens place here x at doing lists h w bio.bio.node o.0 o.1 (omega (arith, some_needs (one w w) (need_at setup bio.bio) (one-same w) need)) in
+      let book = with_node (with_node (s.objects.book w) v.0 (Some (child_node o.0.write bio.bio.node))) bio.bio.node (Some (raised o.0)) in
+      let opened : ChainsAt (s.objects.book w) bio.bio.node (Some o.0) (Made v.0) book = (numbers.ends w bio.bio.node o.0 o.1, v.1, refl) in
+      inl (free_line scene s place here x at doing lists h busy (requests.LinkedTo (Made v.0)) _ refl refl (with_book s.objects w book)
+      (link_serves scene s w (requests.Chain bio.bio.node) (Made v.0) book (subst (λ found. ChainsAt (s.objects.book w) bio.bio.node found (Made v.0) book) (sym o.1) opened)))
   line_free place here x at (Drives bio ToRecord) lists h busy fits d = by_spare (zero_or (spares s (2 * bio.bio.dev.0 + 1)))
     where
       by_spare : (spares s (2 * bio.bio.dev.0 + 1) ≡ 0) ⊎ (1 ≤ spares s (2 * bio.bio.dev.0 + 1)) → HasFree scene s ⊎ StillDoing s (Drives bio ToRecord)
@@ -104,46 +105,34 @@ module _ (scene : Scene) (s : State) (f : Fair scene) (worth : Worth scene.setup
       by_spare (inr some) =
           inl (free_line scene s place here x at (Drives bio ToRecord) lists h busy (requests.HadSlip got.Spare (clear_slip (scene.ledger (2 * bio.bio.dev.0 + 1)))) _ refl refl
           (with_pool s.objects (2 * bio.bio.dev.0 + 1) takes_spare) (((omega (arith, some), numbers.outs (2 * bio.bio.dev.0 + 1)), refl), refl))
-  line_free place here x at (Drives bio (ToMaster slip)) lists h busy fits d = inl (by_tree (tree_at setup bio.bio.dev) refl d.3)
-    where
-      w : ℕ
-      w = bio.bio.writer
-
-      named_one : one bio.bio.writer w * one bio.bio.node bio.bio.node ≡ 1
-      named_one = rw (one-same bio.bio.writer, one-same bio.bio.node) refl
-
-      by_tree : (t : Tree) → tree_at setup bio.bio.dev ≡ t → AskFits t bio.bio.range bio.bio.dev.0 (ToMaster slip) → HasFree scene s
-      by_tree (Leaf number sectors) is a = absurd a
-      by_tree (Split number kind sizes members) is a = absurd a
-      by_tree (Mirrored number sizes members) is a =
-          let legs = legs_of (tree_at setup bio.bio.dev) in
-          let part = line_in scene s (refs setup w bio.bio.node) place x (Drives bio (ToMaster slip)) lists here at h in
-          let o = open_at scene s k w bio.bio.node (omega (arith, part, named_one)) in
-          let master = worth.master bio.bio d.1.0.0 number sizes members is in
-          let need : 1 ≤ bio_needs setup bio.bio = omega (arith, master) in
-          let roomy = line_in scene s (places setup w) place x (Drives bio (ToMaster slip)) lists here at h in
-          let v = vacant scene s room w (open_in_books scene s k w bio.bio.node o.0 o.1) (omega (arith, roomy, some_needs (one bio.bio.writer w) (bio_needs setup bio.bio) (one-same w) need)) in
-          let book = with_node (with_node (s.objects.book w) v.0 (Some (master_node o.0.write bio.bio.node slip legs))) bio.bio.node (Some (keeping bio o.0)) in
-          let opened : MastersAt (s.objects.book w) bio.bio.node (Some o.0) bio slip legs (Made v.0) book = (v.1, refl) in
-          free_line scene s place here x at (Drives bio (ToMaster slip)) lists h busy (requests.LinkedTo (Made v.0)) _ refl refl (with_book s.objects w book)
-          (link_serves scene s w (requests.Master bio.bio.node bio slip legs) (Made v.0) book
-          (subst (λ found. MastersAt (s.objects.book w) bio.bio.node found bio slip legs (Made v.0) book) (sym o.1) opened))
+  line_free place here x at (Drives bio (ToMaster slip)) lists h busy fits d =
+      let doing : Doing = Drives bio (ToMaster slip) in
+      let w = bio.bio.writer in
+      let tree = tree_at setup bio.bio.dev in
+      let legs = legs_of tree in
+      let names_it : one w w * one bio.bio.node bio.bio.node ≡ 1 = rw (one-same w, one-same bio.bio.node) refl in
+      let o = named place here x at doing lists h w bio.bio.node (omega (arith, names_it)) in
+      let need : 1 ≤ need_at setup bio.bio = omega (arith, mirror_need tree bio.bio.range bio.bio.dev.0 slip d.3 d.1.0.0.some) in
+      let v = opens place here x at doing lists h w bio.bio.node o.0 o.1 (omega (arith, some_needs (one w w) (need_at setup bio.bio) (one-same w) need)) in
+      let book = with_node (with_node (s.objects.book w) v.0 (Some (master_node o.0.write bio.bio.node slip legs))) bio.bio.node (Some (keeping bio o.0)) in
+      let opened : MastersAt (s.objects.book w) bio.bio.node (Some o.0) bio slip legs (Made v.0) book = (v.1, refl) in
+      inl (free_line scene s place here x at doing lists h busy (requests.LinkedTo (Made v.0)) _ refl refl (with_book s.objects w book)
+      (link_serves scene s w (requests.Master bio.bio.node bio slip legs) (Made v.0) book
+      (subst (λ found. MastersAt (s.objects.book w) bio.bio.node found bio slip legs (Made v.0) book) (sym o.1) opened)))
   line_free place here x at (Copies bio master leg (Takes waits)) lists h busy fits d =
       want_free place here x at (Copies bio master leg (Takes waits)) lists h busy bio.dev waits refl
   line_free place here x at (Copies bio master leg WantsPunt) lists h busy fits d =
       inl (free_line scene s place here x at (Copies bio master leg WantsPunt) lists h busy requests.Did _ refl refl
       (record s.objects { rescue = upd s.objects.rescue bio.dev.0 (s.objects.rescue bio.dev.0 ++ punted bio.dev lists) }) refl)
   line_free place here x at (Copies bio master leg (Links hand)) lists h busy fits d =
+      let doing : Doing = Copies bio master leg (Links hand) in
       let w = bio.writer in
       let left : 1 ≤ legs_left setup bio leg = omega (arith, fits) in
-      let both_one : one bio.writer w * one master master ≡ 1 = rw (one-same bio.writer, one-same master) refl in
-      let part = line_in scene s (refs setup w master) place x (Copies bio master leg (Links hand)) lists here at h in
-      let o = open_at scene s k w master (omega (arith, part, some_needs (one bio.writer w * one master master) (legs_left setup bio leg) both_one left)) in
-      let own = worth.leg bio hand leg 0 d.0 fits in
-      let need : 1 ≤ unmade_legs_need (tree_at setup bio.dev) bio.range.start bio.range.len leg = omega (arith, own) in
-      let roomy = line_in scene s (places setup w) place x (Copies bio master leg (Links hand)) lists here at h in
-      let v = vacant scene s room w (open_in_books scene s k w master o.0 o.1) (omega (arith, roomy, some_needs (one bio.writer w) (unmade_legs_need (tree_at setup bio.dev) bio.range.start bio.range.len leg) (one-same w) need)) in
+      let both_one : one w w * one master master ≡ 1 = rw (one-same w, one-same master) refl in
+      let o = named place here x at doing lists h w master (omega (arith, some_needs (one w w * one master master) (legs_left setup bio leg) both_one left)) in
+      let need : 1 ≤ legs_need setup bio leg = omega (arith, left, legs_few (tree_at setup bio.dev) bio.range leg) in
+      let v = opens place here x at doing lists h w master o.0 o.1 (omega (arith, some_needs (one w w) (legs_need setup bio leg) (one-same w) need)) in
       let book = with_node (s.objects.book w) v.0 (Some (leg_node o.0.write master)) in
       let opened : LegsAt (s.objects.book w) master (Some o.0) (Made v.0) book = (v.1, refl) in
-      inl (free_line scene s place here x at (Copies bio master leg (Links hand)) lists h busy (requests.LinkedTo (Made v.0)) _ refl refl (with_book s.objects w book)
+      inl (free_line scene s place here x at doing lists h busy (requests.LinkedTo (Made v.0)) _ refl refl (with_book s.objects w book)
       (link_serves scene s w (requests.Leg master) (Made v.0) book (subst (λ found. LegsAt (s.objects.book w) master found (Made v.0) book) (sym o.1) opened)))

@@ -73,7 +73,7 @@ IsStill s (Completer disk (Carries writer closed)) = ⊥
 IsStill s (Completer disk (Fails breach kept)) = ⊥
 IsStill s (Keeper keeping) = Unit {0}
 
-pub record Calm (scene : Scene) (s : State) : Type 0 where
+pub record AllStill (scene : Scene) (s : State) : Type 0 where
   pub still : (place : ℕ) → place < scene.tasks → IsStill s (s.task place)
   -- each set that has a rescuer has its task
   pub rescuers : (dev : ℕ) → dev < scene.setup.count → scene.setup.rescuer dev ≡ true

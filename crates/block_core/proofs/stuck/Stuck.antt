@@ -15,7 +15,7 @@ use Rattle.run_machine.specs.Runs.{State}
 use Rattle.block_core.specs.Weights.{Weight, Pending, Rescued, sum_at, weigh_option, task_weight, gathered_weight, book_weight}
 use Rattle.block_core.proofs.moves.Moves.{with_pool}
 use Rattle.block_core.proofs.moves.Sums.{one-other, same_or_not}
-use Rattle.block_core.proofs.sound.Facts.{DoingFits, TaskFits, Fair}
+use Rattle.block_core.proofs.sound.Facts.{DoingFits, TaskFits}
 use Rattle.block_core.proofs.sound.TaskLines.{IsBusy}
 use Rattle.block_core.proofs.sound.Orders.{Each, DoingPlaced, TaskPlaced, each_map}
 use Rattle.run_machine.specs.Scene.{is_disk}
@@ -25,14 +25,14 @@ use Rattle.run_machine.specs.declared.event.What.TheVariants as what
 use Rattle.run_machine.specs.Requests as requests
 use Rattle.run_machine.specs.Events.{id_of}
 use Rattle.run_machine.specs.Runs.{HasFree, HasEnded, unfinished}
-use Rattle.block_core.specs.Places.{HasPlaces}
+use Rattle.block_core.specs.Rooms.{HasRoomInBooks}
 use Rattle.block_core.proofs.sound.OffLevels.{off_levels}
 use Rattle.block_core.specs.Rounds.{round_of, is_of_round, all_worth, unfinished_of}
 use Rattle.block_core.proofs.sound.EventStages.{zeros, line_zero}
 use Rattle.block_core.proofs.sound.Rounds.{from_round, TodosFit, TaskRounds, Tallied}
-use Rattle.block_core.proofs.unrefused.BioNeeds.{Worth}
+use Rattle.block_core.proofs.unrefused.NodeNeeds.{Needs}
 use Rattle.block_core.proofs.sound.Posts.{ByRounds, starts, AtPost, Posted}
-use Rattle.block_core.proofs.stuck.NothingWaits.{IsPool, spares, StillDoing, StillTaken, StillWriter, IsStill, Calm, zero_or, some_place, line_below}
+use Rattle.block_core.proofs.stuck.NothingWaits.{IsPool, spares, StillDoing, StillTaken, StillWriter, IsStill, AllStill, zero_or, some_place, line_below}
 use Rattle.block_core.proofs.stuck.WaitersBelow.{Known, none_open, all_home, has_spare}
 use Rattle.block_core.proofs.stuck.Frees.{task_free}
 use Rattle.block_core.proofs.stuck.FreeEvents.{HasNumbers, free_of}
@@ -82,12 +82,12 @@ pub record Crew (ids : ℕ → TaskId) (keeper : ℕ) (scene : Scene) : Type 0 w
 
 module _ (scene : Scene) (s : State) (level : ℕ → ℕ → ℕ) (known : Known scene s level) (ids : ℕ → TaskId) (keeper : ℕ) (posted : Posted ids keeper scene s) (crew : Crew ids keeper scene)
     (rounds : List ℕ) (tallied : Tallied rounds keeper scene s) (no_more : from_round rounds (length s.objects.tally.left) ≡ 0)
-    (f : Fair scene) (worth : Worth scene.setup) (room : HasPlaces scene s) (numbers : HasNumbers s) where
+    (n : Needs scene.setup) (r : HasRoomInBooks scene s) (numbers : HasNumbers s) where
   abbrev setup : Setup
   setup = scene.setup
 
-  calm : ((place : ℕ) → place < scene.tasks → IsStill s (s.task place)) → Calm scene s
-  calm still = record {
+  all_still_of : ((place : ℕ) → place < scene.tasks → IsStill s (s.task place)) → AllStill scene s
+  all_still_of still = record {
     still = still;
     rescuers = λ dev lt has.
         let r = crew.rescuers dev lt has in
@@ -110,11 +110,11 @@ module _ (scene : Scene) (s : State) (level : ℕ → ℕ → ℕ) (known : Know
           by_carried (Fails breach kept) none = absurd none
 
   module _ (still : (place : ℕ) → place < scene.tasks → IsStill s (s.task place)) where
-    all_calm : Calm scene s
-    all_calm = calm still
+    all_still : AllStill scene s
+    all_still = all_still_of still
 
     spare : (q : ℕ) → IsPool setup q → spares s q ≡ 0 → ⊥
-    spare = has_spare scene s level known all_calm
+    spare = has_spare scene s level known all_still
 
     abbrev now : ℕ
     now = s.objects.tally.round
@@ -211,7 +211,7 @@ module _ (scene : Scene) (s : State) (level : ℕ → ℕ → ℕ) (known : Know
           where
             by_node : (v j : ℕ) (found : Option Node) → node_at (s.objects.book v) j ≡ found → 1 ≤ weigh_option (u.node v j) found → ⊥
             by_node v j None is h = omega (arith, h)
-            by_node v j (Some node) is h = none_open scene s level known all_calm v j node is
+            by_node v j (Some node) is h = none_open scene s level known all_still v j node is
 
     -- so the keeper has an event
     keeper_free : 1 ≤ unfinished s → HasFree scene s
@@ -233,7 +233,7 @@ module _ (scene : Scene) (s : State) (level : ℕ → ℕ → ℕ) (known : Know
             let none : from_round rounds (now + 1) ≡ 0 = ap (from_round rounds) e ∙ no_more in
             absurd (omega (arith, some, left_over, none))
         by_keeping (Keeps (Resizes pool min later ∷ duties)) at fits r post =
-            let home = all_home scene s level known all_calm (pool_number pool) in
+            let home = all_home scene s level known all_still (pool_number pool) in
             let same : sum s.objects.tally.left ≡ later = left_over ∙ sym (r.1.0) in
             let lets_it : IsTrue (sum s.objects.tally.left == later) = eq-eqb (sum s.objects.tally.left) later same in
             free_of scene s keeper post.1.2 (Keeper (Keeps (Resizes pool min later ∷ duties))) at (requests.OutIs 0) (what.Resize pool min)
@@ -251,10 +251,10 @@ module _ (scene : Scene) (s : State) (level : ℕ → ℕ → ℕ) (known : Know
   pub goes_on_or_ended : HasFree scene s ⊎ HasEnded s
   goes_on_or_ended =
       elim (find (HasFree scene s) (λ place. IsStill s (s.task place)) scene.tasks
-      (λ place lt. task_free scene s f worth known.kept known.placed room numbers ids keeper posted place lt)) [
+      (λ place lt. task_free scene s n known.kept known.placed r numbers ids keeper posted place lt)) [
         | inl free ↦ inl free
         | inr still ↦ elim (zero_or (unfinished s)) [
-          | inl done ↦ inr (record { writes = done; pools = all_home scene s level known (calm still) })
+          | inl done ↦ inr (record { writes = done; pools = all_home scene s level known (all_still_of still) })
           | inr some ↦ inl (keeper_free still some)
         ]
       ]

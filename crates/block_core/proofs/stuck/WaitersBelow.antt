@@ -19,11 +19,11 @@ use Rattle.block_core.proofs.sound.TaskLines.{IsBusy}
 use Rattle.block_core.proofs.sound.Orders.{IsOwn, DoingPlaced, TaskPlaced, Placed, Ground}
 use Rattle.std.specs.Prelude.{min}
 use Rattle.block_core.proofs.sound.Alive.{IsAlive}
-use Rattle.block_core.proofs.sound.Places.{sum_at-ge}
+use Rattle.block_core.proofs.moves.Totals.{part_of}
 use Rattle.block_core.specs.Weights.{apart}
 use Rattle.block_core.proofs.sound.OffLevels.{bio_off, parent_off, held_off, off_levels}
 use Rattle.block_core.proofs.stuck.Waits.{DoingWaits, TaskWaits, Waits}
-use Rattle.block_core.proofs.stuck.NothingWaits.{IsPool, spares, StillDoing, StillWriter, StillRescuer, IsStill, Calm, Below, lower, zero_or, some_place, some_one, one-eq, both, Found, line_found, line_below}
+use Rattle.block_core.proofs.stuck.NothingWaits.{IsPool, spares, StillDoing, StillWriter, StillRescuer, IsStill, AllStill, Below, lower, zero_or, some_place, some_one, one-eq, both, Found, line_found, line_below}
 
 -- what holds of a state of a run, so far as no task waits for itself
 pub record Known (scene : Scene) (s : State) (level : ℕ → ℕ → ℕ) : Type 0 where
@@ -36,7 +36,7 @@ pub record Known (scene : Scene) (s : State) (level : ℕ → ℕ → ℕ) : Typ
   -- each pool that a task can wait at keeps an element
   pub mins : (number : ℕ) → IsPool scene.setup number → 1 ≤ (s.objects.pool number).facts.min
 
-module _ (scene : Scene) (s : State) (level : ℕ → ℕ → ℕ) (known : Known scene s level) (c : Calm scene s) where
+module _ (scene : Scene) (s : State) (level : ℕ → ℕ → ℕ) (known : Known scene s level) (c : AllStill scene s) where
   abbrev setup : Setup
   setup = scene.setup
 
@@ -130,16 +130,16 @@ module _ (scene : Scene) (s : State) (level : ℕ → ℕ → ℕ) (known : Know
 
   -- parts of the levels' sum
   off_task : (place : ℕ) → place < scene.tasks → task_weight off place (s.task place) ≡ 0
-  off_task place lt = let le = sum_at-ge (task_weight off) scene.tasks s.task place lt in let z = known.levels in omega (arith, le, z)
+  off_task place lt = let le = part_of (task_weight off) scene.tasks s.task place lt in let z = known.levels in omega (arith, le, z)
 
   off_rescue : (dev : ℕ) → dev < setup.count → sum_by (off.bio Rescued) (s.objects.rescue dev) ≡ 0
-  off_rescue dev lt = let le = sum_at-ge (λ dev bios. sum_by (off.bio Rescued) bios) setup.count s.objects.rescue dev lt in let z = known.levels in omega (arith, le, z)
+  off_rescue dev lt = let le = part_of (λ dev bios. sum_by (off.bio Rescued) bios) setup.count s.objects.rescue dev lt in let z = known.levels in omega (arith, le, z)
 
   off_node : (w k : ℕ) (node : Node) → w < scene.books → k < length (s.objects.book w).nodes → node_at (s.objects.book w) k ≡ Some node
       → (parent_off level w k (parent_of node.role) ≡ 0) × (held_off (level w k) node.held ≡ 0)
   off_node w k node lt few at =
-      let a = sum_at-ge (book_weight off) scene.books s.objects.book w lt in
-      let b = sum_at-ge (λ place. weigh_option (off.node w place)) (length (s.objects.book w).nodes) (node_at (s.objects.book w)) k few in
+      let a = part_of (book_weight off) scene.books s.objects.book w lt in
+      let b = part_of (λ place. weigh_option (off.node w place)) (length (s.objects.book w).nodes) (node_at (s.objects.book w)) k few in
       let e : weigh_option (off.node w k) (node_at (s.objects.book w) k) ≡ parent_off level w k (parent_of node.role) + held_off (level w k) node.held = ap (weigh_option (off.node w k)) at in
       let z = known.levels in
       (omega (arith, a, b, e, z), omega (arith, a, b, e, z))

@@ -29,7 +29,7 @@ use Rattle.block_core.proofs.moves.Deltas.{delta}
 use Rattle.block_core.proofs.moves.Landings.{AreThere, IsLanding, settled_there, goes_there, copies_there, all_there, none_there, cut_there, leg_there}
 use Rattle.block_core.proofs.sound.TaskLines.{line_fits}
 use Rattle.block_core.proofs.sound.OrdersKept.{line_placed}
-use Rattle.block_core.proofs.sound.Places.{cut_weight, unless_less}
+use Rattle.block_core.proofs.sound.SumParts.{cut_weight, unless_less}
 use Rattle.block_core.proofs.unrefused.NodeNeeds.{Needs, mirror_need, legs_on}
 
 -- the nodes that writer w's writes have still to open, and those that are open, where each in a writer's book is worth this

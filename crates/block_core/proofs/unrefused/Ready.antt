@@ -1,7 +1,7 @@
 -- Each object answers what a task asks it for next, and does not refuse it.
-use Rattle.std.proofs.Common.{◌≡◌, ◌+◌, ◌-◌, ◌*◌, ◌<◌, ◌≤◌, ◌⊎◌, ℕ, zero, suc, Bool, true, false, List, [], ◌∷◌, length, Option, None, Some, IsSome, inl, inr, refl, sym, ◌∙◌, ap, subst, arith, get_or, true≢false}
-use Rattle.std.specs.Prelude.{◌^◌, sum_by, slice_get, All}
-use Rattle.std.proofs.lemmas.List.Elements.{All-nil, All-cons, All-get_or}
+use Rattle.std.proofs.Common.{◌≡◌, ◌+◌, ◌-◌, ◌*◌, ◌<◌, ◌≤◌, ℕ, Bool, true, false, List, [], ◌∷◌, Option, None, Some, IsSome, inl, inr, refl, sym, ◌∙◌, ap, subst, arith, true≢false}
+use Rattle.std.specs.Prelude.{◌^◌, sum_by}
+use Rattle.std.proofs.lemmas.List.Elements.{All-get_or}
 use Rattle.std.proofs.lemmas.List.Sums.{sum_by-cons}
 use Rattle.elem_ledger.specs.Ledger.{LedgerId}
 use Rattle.stack_base.specs.declared.ids.DevId.{DevId}
@@ -12,17 +12,17 @@ use Rattle.bio_records.specs.Items.{Item}
 use Rattle.bio_books.specs.declared.node.Role.{Role}
 use Rattle.bio_books.specs.declared.node.Role.TheVariants as role
 use Rattle.bio_books.specs.Books.{Node, BookState, VectorItem, SlipItem, node_at}
-use Rattle.bio_books.specs.Links.{IsVacant, IsFull, Linked, Made, NoRoom, Stray, ChainsAt, MastersAt, LegsAt}
+use Rattle.bio_books.specs.Links.{IsFull, Linked, Made, NoRoom, Stray, ChainsAt, MastersAt, LegsAt}
 use Rattle.bio_books.specs.Drops.{Ended, DropsAt}
 use Rattle.bio_books.specs.Drops as end
-use Rattle.run_machine.specs.Scene.{Setup, Scene, tree_at}
+use Rattle.run_machine.specs.Scene.{Scene, tree_at}
 use Rattle.run_machine.specs.Lines.{Takes, Punts, Links, ToPush, ToCut, ToRecord, ToMaster, Doing, Rests, Drives, Copies, Breaks, Line, line_request}
 use Rattle.run_machine.specs.Requests as requests
 use Rattle.run_machine.specs.Requests.{Request, Reply, Opening}
 use Rattle.run_machine.specs.Tasks.{TaskState, Writer, Rescuer, Completer, Keeper, Keeping, Keeps, Stops, Resizes, Starts, Todo, Gathered, NoBio, HasBio, HasBoth, Carried, Empty, Brings, Carries, Fails, request, with_bio, needs_vector}
 use Rattle.run_machine.specs.Objects.{Objects, Serves}
 use Rattle.run_machine.specs.Runs.{State}
-use Rattle.block_core.specs.Weights.{sum_at, one, weigh_option, task_weight, book_weight, refs, count_of, legs_left}
+use Rattle.block_core.specs.Weights.{one, task_weight, refs, count_of, legs_left}
 use Rattle.block_core.specs.Rooms.{need_at, todo_need, legs_need, room, HasRoomInBooks}
 use Rattle.block_core.specs.Breaks.{is_refusal}
 use Rattle.block_core.proofs.moves.Moves.{HasLine}
@@ -34,12 +34,11 @@ use Rattle.block_core.proofs.moves.Deltas.{vacant_at}
 use Rattle.block_core.proofs.sound.TaskLines.{line_fits}
 use Rattle.block_core.proofs.sound.OrdersKept.{line_placed}
 use Rattle.block_core.proofs.unrefused.NodeNeeds.{Needs, mirror_need, cut_need, legs_few}
-use Rattle.block_core.proofs.moves.Totals.{task_part, both_parts, line_part, within, refs_within, carrying, carried_few}
+use Rattle.block_core.proofs.stuck.Idle.{open_in_books, open_at}
+use Rattle.block_core.proofs.unrefused.VacantPlaces.{HasVacant, has_vacant}
+use Rattle.block_core.proofs.moves.Totals.{task_part, line_part, within, refs_within, carrying, carried_few}
 
--- a book has a vacant place, and a node is open at a place
-abbrev pub HasVacant : BookState → Type 0
-HasVacant book = (place : ℕ) × IsVacant book place
-
+-- a node is open at a place
 pub record IsOpenAt (book : BookState) (place : ℕ) : Type 0 where
   pub node : Node
   pub is : node_at book place ≡ Some node
@@ -65,9 +64,6 @@ not_full book (place, vacant) full =
     let some : IsSome (node_at book place) = All-get_or IsSome book.nodes place None at.1 full in
     let none : IsSome {T = Node} None = subst IsSome at.0 some in
     true≢false (sym none)
-
-open_there : (book : BookState) (place : ℕ) → IsOpenAt book place → node_at book place ≡ None → ⊥
-open_there book place stands none = let same : None ≡ Some stands.node = sym none ∙ stands.is in cc
 
 -- and its answer is no refusal
 module _ (ledger : ℕ → LedgerId) (old : Objects) (new : Objects) where
@@ -191,30 +187,6 @@ module _ (ledger : ℕ → LedgerId) (old : Objects) (new : Objects) where
   not_refused request (requests.LeftOver count) ready h = refl
   not_refused request requests.Nothing ready h = refl
 
--- a list of places has a vacant one, or all are taken
-vacant_or_full : (nodes : List (Option Node)) → ((place : ℕ) × (slice_get nodes place ≡ Some None)) ⊎ All IsSome nodes
-vacant_or_full [] = inr (All-nil IsSome)
-vacant_or_full (None ∷ nodes) = inl (0, refl)
-vacant_or_full (Some node ∷ nodes) = elim (vacant_or_full nodes) [
-  | inl x ↦ inl (suc x.0, x.1)
-  | inr full ↦ inr (All-cons IsSome (Some node) nodes refl full)
-]
-
--- where all are taken each counts
-all_count : {X : Type 0} (w : ℕ → X → ℕ) (n : ℕ) (f : ℕ → X) → ((i : ℕ) → i < n → w i (f i) ≡ 1) → sum_at w n f ≡ n
-unfolding sum_at
-all_count w zero f one_each = refl
-all_count w (suc n) f one_each = omega (arith, all_count w n f (λ i lt. one_each i (omega (arith, lt))), one_each n (omega arith))
-
-full_weight : (setup : Setup) (writer : ℕ) (book : BookState) → IsFull book → book_weight (room setup writer) writer book ≡ length book.nodes
-full_weight setup writer book full =
-    all_count (λ place. weigh_option ((room setup writer).node writer place)) (length book.nodes) (node_at book)
-    (λ place lt. counts place (node_at book place) (All-get_or IsSome book.nodes place None lt full))
-  where
-    counts : (place : ℕ) (node : Option Node) → IsSome node → weigh_option ((room setup writer).node writer place) node ≡ 1
-    counts place None some = absurd (true≢false (sym some))
-    counts place (Some node) some = one-same writer
-
 own_few : (node : Option Node) → own_of node ≤ 1
 own_few None = omega arith
 own_few (Some node) = by_role node.role node.held.bio
@@ -248,47 +220,16 @@ ends_few scene s i r writer key =
 
 module _ (scene : Scene) (s : State) (n : Needs scene.setup) (small : IsSmall scene) (i : Kept scene s) (a : Placed scene.setup s) (r : HasRoomInBooks scene s)
     (place : ℕ) (here : place < scene.tasks) where
-  -- a task that has still to open a node in a book finds a vacant place there
-  has_vacant : (x : TaskState) (writer : ℕ) → s.task place ≡ x → writer < scene.books → 1 ≤ task_weight (room scene.setup writer) place x → HasVacant (s.objects.book writer)
-  has_vacant x writer is some more = elim (vacant_or_full (s.objects.book writer).nodes) [
-    | inl vacant ↦ vacant
-    | inr full ↦ absurd (omega (
-      arith,
-      more,
-      full_weight scene.setup writer (s.objects.book writer) full,
-      both_parts scene (room scene.setup writer) s place x writer here is some,
-      r.room writer,
-      r.places writer,
-    ))
-  ]
-
   -- a node that a task refers to is open
   is_open : (x : TaskState) (writer key : ℕ) → s.task place ≡ x → 1 ≤ task_weight (refs scene.setup writer key) place x → IsOpenAt (s.objects.book writer) key
-  is_open x writer key is more = by_node (node_at (s.objects.book writer) key) refl
-    where
-      by_node : (found : Option Node) → node_at (s.objects.book writer) key ≡ found → IsOpenAt (s.objects.book writer) key
-      by_node None at = absurd (let none : count_of (node_at (s.objects.book writer) key) ≡ 0 = ap count_of at in
-          omega (arith, more, none, i.counts writer key, task_part scene (refs scene.setup writer key) s place x here is))
-      by_node (Some node) at =
-          let count : count_of (node_at (s.objects.book writer) key) ≡ node.count = ap count_of at in
-          record {
-            node = node;
-            is = at;
-            waits = omega (arith, more, count, i.counts writer key, task_part scene (refs scene.setup writer key) s place x here is);
-            few = omega (arith, count, ends_few scene s i r writer key, small writer);
-          }
+  is_open x writer key is more =
+      let o = open_at scene s i writer key (omega (arith, more, task_part scene (refs scene.setup writer key) s place x here is)) in
+      let count : count_of (node_at (s.objects.book writer) key) ≡ o.0.count = ap count_of o.1 in
+      record { node = o.0; is = o.1; waits = o.2; few = omega (arith, count, ends_few scene s i r writer key, small writer) }
 
   -- a book with an open node is one of the books
   in_books : (writer key : ℕ) → IsOpenAt (s.objects.book writer) key → writer < scene.books
-  in_books writer key stands = elim (below_or writer scene.books) [
-    | inl lt ↦ lt
-    | inr ge ↦
-        let none : node_at (s.objects.book writer) key ≡ None = ap (λ (nodes : List (Option Node)). get_or nodes key None) (i.inside writer ge) in
-        absurd (open_there (s.objects.book writer) key stands none)
-  ]
-    where
-      below_or : (a b : ℕ) → (a < b) ⊎ (b ≤ a)
-      below_or a b = grind arith
+  in_books writer key stands = open_in_books scene s i writer key stands.node stands.is
 
   -- a submission
   ready_line : (x : TaskState) (doing : Doing) (lists : TaskLists) → s.task place ≡ x → HasLine x doing lists → IsReady s.objects (line_request scene.setup doing lists)
@@ -306,7 +247,7 @@ module _ (scene : Scene) (s : State) (n : Needs scene.setup) (small : IsSmall sc
       let all : one writer writer * need_at scene.setup bio.bio ≡ need_at scene.setup bio.bio = ap (λ k. k * need_at scene.setup bio.bio) (one-same writer) ∙ omega arith in
       let names_it : one writer writer * one key key ≡ 1 = ap (λ k. k * one key key) (one-same writer) ∙ (ap (λ k. 1 * k) (one-same key)) in
       let stands = is_open x writer key is (omega (arith, names_it, line_part (refs scene.setup writer key) place x doing lists h)) in
-      (has_vacant x writer is (in_books writer key stands) (omega (arith, need, all, line_part (room scene.setup writer) place x doing lists h)), stands)
+      (has_vacant scene s r place x writer here is (in_books writer key stands) (omega (arith, need, all, line_part (room scene.setup writer) place x doing lists h)), stands)
   ready_line x (Drives bio ToRecord) lists is h = tt
   ready_line x (Drives bio (ToMaster slip)) lists is h =
       let doing : Doing = Drives bio (ToMaster slip) in
@@ -318,7 +259,7 @@ module _ (scene : Scene) (s : State) (n : Needs scene.setup) (small : IsSmall sc
       let all : one writer writer * need_at scene.setup bio.bio ≡ need_at scene.setup bio.bio = ap (λ k. k * need_at scene.setup bio.bio) (one-same writer) ∙ omega arith in
       let names_it : one writer writer * one key key ≡ 1 = ap (λ k. k * one key key) (one-same writer) ∙ (ap (λ k. 1 * k) (one-same key)) in
       let stands = is_open x writer key is (omega (arith, names_it, line_part (refs scene.setup writer key) place x doing lists h)) in
-      (has_vacant x writer is (in_books writer key stands) (omega (arith, need, all, line_part (room scene.setup writer) place x doing lists h)), stands)
+      (has_vacant scene s r place x writer here is (in_books writer key stands) (omega (arith, need, all, line_part (room scene.setup writer) place x doing lists h)), stands)
   ready_line x (Copies bio master leg (Takes waits)) lists is h = tt
   ready_line x (Copies bio master leg Punts) lists is h = tt
   ready_line x (Copies bio master leg (Links hand)) lists is h =
@@ -330,14 +271,14 @@ module _ (scene : Scene) (s : State) (n : Needs scene.setup) (small : IsSmall sc
       let left = legs_left scene.setup bio leg in
       let refers : one writer writer * one master master * left ≡ left = ap (λ k. k * one master master * left) (one-same writer) ∙ (ap (λ k. 1 * k * left) (one-same master) ∙ omega arith) in
       let stands = is_open x writer master is (omega (arith, refers, lt, line_part (refs scene.setup writer master) place x doing lists h)) in
-      (has_vacant x writer is (in_books writer master stands) (omega (arith, few, lt, all, line_part (room scene.setup writer) place x doing lists h)), stands)
+      (has_vacant scene s r place x writer here is (in_books writer master stands) (omega (arith, few, lt, all, line_part (room scene.setup writer) place x doing lists h)), stands)
 
   -- a writer that has still to begin a write
   begins : (number : ℕ) (todo : Todo) (later : List Todo) (taken : Gathered) (line : Line) → s.task place ≡ Writer number (todo ∷ later) taken line → number < scene.books
       → HasVacant (s.objects.book number)
   begins number todo later taken line is lt =
       let all = ap (λ k. k * sum_by (todo_need scene.setup) (todo ∷ later)) (one-same number) in
-      has_vacant (Writer number (todo ∷ later) taken line) number is lt (omega (arith, all, sum_by-cons (todo_need scene.setup) todo later))
+      has_vacant scene s r place (Writer number (todo ∷ later) taken line) number here is lt (omega (arith, all, sum_by-cons (todo_need scene.setup) todo later))
 
   vector_or_not : (b : Bool) (number : ℕ) (todo : Todo) → HasVacant (s.objects.book number) → IsReady s.objects (with_bio number b todo)
   vector_or_not true number todo vacant = tt

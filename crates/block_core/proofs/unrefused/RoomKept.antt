@@ -1,4 +1,4 @@
--- Every run of every scenario keeps room in all books, and no task of it breaks off.
+-- Every run of every scenario keeps room in all books.
 use Rattle.std.proofs.Common.{ℕ, List, [], ◌∷◌, refl, sym, subst}
 use Rattle.elem_ledger.specs.Ledger.{LedgerId}
 use Rattle.run_machine.specs.declared.event.Event.{Event}
@@ -13,7 +13,7 @@ use Rattle.block_core.proofs.moves.Devices.{ground}
 use Rattle.block_core.proofs.unrefused.NodeNeeds.{Needs, needs_known}
 use Rattle.block_core.proofs.moves.StepMoves.{step_is_move}
 use Rattle.block_core.proofs.unrefused.NodesOpened.{stays_roomy}
-use Rattle.block_core.proofs.start.PlacesAtStart.{start_roomy}
+use Rattle.block_core.proofs.start.RoomAtStart.{start_roomy}
 use Rattle.block_core.proofs.sound.Wholes.{Whole, runs_whole, start_whole}
 
 module _ (scene : Scene) (f : Fair scene) (g : Ground scene.setup) (n : Needs scene.setup) where

@@ -8,7 +8,7 @@ use Rattle.std.proofs.lemmas.List.Filters.{length-filter_both}
 use Rattle.std.proofs.lemmas.List.Sums.{sum_by-le-sum_by}
 use Rattle.elem_ledger.specs.Ledger.{LedgerId}
 use Rattle.layout_model.specs.declared.write.Write.{Write}
-use Rattle.layout_model.specs.Needs.{elements, nodes}
+use Rattle.layout_model.specs.NeedCounts.{elements, nodes}
 use Rattle.layout_model.specs.Bound.{most_elements}
 use Rattle.bio_records.specs.declared.tasks.TaskLists.{TaskLists}
 use Rattle.run_machine.specs.declared.event.Event.{Event}

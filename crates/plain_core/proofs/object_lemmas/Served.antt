@@ -29,7 +29,7 @@ use Rattle.plain_core.specs.objects.Books.{ended_of_plain, end_of, IsToldBy}
 use Rattle.plain_core.specs.declared.objects.book.Ended.{Ended}
 use Rattle.plain_core.specs.declared.objects.book.Ended.TheVariants as ended
 use Rattle.plain_core.specs.objects.Plain.{CoreObjects, core_pool_at, core_rescue_at, kept_disk, core_disk_at, disk_or, opened_disk, core_book_at, objects_of_core}
-use Rattle.plain_core.specs.objects.Told.{MovesAs, IsPunt, Punts, Pops, IsPush, PushesIn, Pushes, CompletesIn, IsComplete, Links, Joins, IsDrop, Finishes, StartsRound}
+use Rattle.plain_core.specs.objects.Told.{MovesAs, IsPunt, Punts, Pops, IsPush, PushesIn, Pushes, CompletesIn, CompletesBio, Links, Joins, IsDrop, Finishes, StartsRound}
 use Rattle.plain_core.specs.steps.Answers.{IsAnswer, Refuses, HasAnswer, AnswersRequest, Lacks}
 use Rattle.plain_core.specs.declared.fault.CoreFault.{CoreFault}
 use Rattle.plain_core.specs.declared.fault.CoreFault.TheVariants as fault
@@ -193,7 +193,7 @@ not_completed old disk what never (Completed index bio status) new is serves =
 not_completed old disk what never Nothing new is serves = absurd cc
 not_completed old disk what never _ new is serves = absurd serves
 
-pub complete : (old new : CoreObjects) (disk : DevId) (what : What) (result : Result (ℕ × Item Pad × Status) CoreFault) → IsComplete old disk what result new
+pub complete : (old new : CoreObjects) (disk : DevId) (what : What) (result : Result (ℕ × Item Pad × Status) CoreFault) → CompletesBio old disk what result new
     → AnswersRequest old (Complete disk) what (λ done. Completed done.0 done.1 done.2) result new
 complete old new disk what (Ok done) t = record {
   stack = ap (λ (o : CoreObjects). o.stack) t.2;

@@ -17,7 +17,7 @@ use Rattle.stack_base.specs.declared.stack.Stack.{Stack}
 use Rattle.stack_base.specs.PoolId.{IsOfStack, pool_number}
 use Rattle.stack_base.specs.Tree.{size, tree}
 use Rattle.layout_model.specs.declared.write.Write.{Write}
-use Rattle.layout_model.specs.Needs.{elements, nodes}
+use Rattle.layout_model.specs.NeedCounts.{elements, nodes}
 use Rattle.mempool_core.specs.Move.{PoolState, opened}
 use Rattle.bio_records.specs.declared.bio.Pad.{Pad}
 use Rattle.bio_records.specs.Items.{Item}

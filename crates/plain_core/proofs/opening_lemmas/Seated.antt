@@ -24,7 +24,7 @@ get_set_other xs i j x y ne is =
     slice_get-get_or (slice_set xs i y) j x (omega (arith, lt, length-set xs i y))
     ∙ ap Some (get_or-set_other xs i j y x ne ∙ get_or_from_slice_get xs j x x is)
 
-last_or : (k n : ℕ) → k < n + 1 → (k < n) ⊎ (k ≡ n)
+pub last_or : (k n : ℕ) → k < n + 1 → (k < n) ⊎ (k ≡ n)
 last_or k n lt = search (lt, arith)
 
 module _ (tasks : List TaskState) (task : TaskState) (places : List ℕ) (so_far : AreTasksSeated tasks places (slot_of (id_of task))) (small : slot_of (id_of task) < 73) where

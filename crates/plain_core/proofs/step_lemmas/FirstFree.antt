@@ -1,5 +1,5 @@
 -- A task of a core is free exactly where it has a step that needs no ordinary memory.
-use Rattle.std.proofs.Common.{◌≡◌, ◌+◌, ◌<◌, ◌⊎◌, inl, inr, ℕ, zero, suc, List, [], ◌∷◌, length, map, refl, sym, ap, ◌∙◌, subst, arith, Some}
+use Rattle.std.proofs.Common.{◌≡◌, ◌+◌, ◌<◌, inl, inr, ℕ, zero, suc, List, [], ◌∷◌, length, map, refl, sym, ap, ◌∙◌, subst, arith, Some}
 use Rattle.std.specs.Prelude.{slice_get}
 use Rattle.std.proofs.lemmas.List.{length-map}
 use Rattle.run_machine.specs.declared.event.TaskId.{TaskId}
@@ -13,6 +13,7 @@ use Rattle.plain_core.specs.objects.Plain.{CoreObjects}
 use Rattle.plain_core.specs.steps.Views.{task_of_plain}
 use Rattle.plain_core.specs.Cores.{CoreState, scene_of_core, state_of_core, task_at}
 use Rattle.plain_core.specs.steps.Free.{IsFirstFree, IsFreeAt, TaskIsFree}
+use Rattle.plain_core.proofs.opening_lemmas.Seated.{last_or}
 
 pub free_at : (c : CoreState) (place : ℕ) → place < length c.tasks → TaskIsFree c.routing c.objects (task_at c.tasks place) → IsFreeAt c place
 free_at c place here f = record {
@@ -63,6 +64,3 @@ next_is_not c place before here k lt = elim (last_or k place lt) [
   | inl less ↦ before k less
   | inr last ↦ λ f. here (subst (IsFreeAt c) last f)
 ]
-  where
-    last_or : (k n : ℕ) → k < n + 1 → (k < n) ⊎ (k ≡ n)
-    last_or k n lt = search (lt, arith)

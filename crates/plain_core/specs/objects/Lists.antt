@@ -11,7 +11,7 @@ use Rattle.plain_core.specs.declared.objects.lists.Lists.{Lists}
 abbrev pub lists_of : Lists → TaskLists
 lists_of lists = record { list0 = lists.list0.items; list1 = lists.list1.items }
 
--- this many more bios can be submitted, and all of list 0 can be put before list 1
+-- this many more bios can be submitted, and list 1 has room for twice all of list 0: it is put before list 1 in two passes
 pub record ListsHaveCapacity (more : ℕ) (lists : Lists) : Type 0 where
   pub list0 : length lists.list0.items + more ≤ deque_capacity lists.list0
   pub list1 : 2 * (length lists.list0.items + more) + length lists.list1.items ≤ deque_capacity lists.list1

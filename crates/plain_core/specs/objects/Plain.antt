@@ -94,7 +94,7 @@ pub record HasPlacesForStack (stack : Stack) (pools : List PoolState) (rescues :
   pub within : (dev : ℕ) → AreWithin stack (slice_index_or rescues dev [])
 
 -- A call answers so, and makes this of the objects. Where it can't, they are as they were. It takes no memory, so it never lacks any.
-abbrev pub Gives : {X : Type 0} → CoreObjects → (X → CoreObjects → Type 0) → Type 0 → Result X CoreFault → CoreObjects → Type 0
-Gives old Does Cannot (Ok x) new = Does x new
-Gives old Does Cannot (Err fault.NotEnabled) new = (new ≡ old) × Cannot
-Gives old Does Cannot (Err fault.Memory) new = ⊥
+abbrev pub AnswersIfEnabled : {X : Type 0} → CoreObjects → (X → CoreObjects → Type 0) → Type 0 → Result X CoreFault → CoreObjects → Type 0
+AnswersIfEnabled old Does Cannot (Ok x) new = Does x new
+AnswersIfEnabled old Does Cannot (Err fault.NotEnabled) new = (new ≡ old) × Cannot
+AnswersIfEnabled old Does Cannot (Err fault.Memory) new = ⊥

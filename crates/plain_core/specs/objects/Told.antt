@@ -24,7 +24,7 @@ use Rattle.run_machine.specs.Objects.{Opened, done_one}
 use Rattle.plain_core.specs.objects.Pools.{move_of, CanTake}
 use Rattle.plain_core.specs.declared.objects.book.Ended.{Ended}
 use Rattle.plain_core.specs.objects.Books.{ended_of_plain, end_of, IsToldBy}
-use Rattle.plain_core.specs.objects.Plain.{CoreObjects, Gives, core_pool_at, with_pool, core_rescue_at, with_rescue, kept_disk, with_disk, core_book_at, with_book}
+use Rattle.plain_core.specs.objects.Plain.{CoreObjects, AnswersIfEnabled, core_pool_at, with_pool, core_rescue_at, with_rescue, kept_disk, with_disk, core_book_at, with_book}
 use Rattle.plain_core.specs.declared.fault.CoreFault.{CoreFault}
 use Rattle.plain_core.specs.declared.fault.CoreFault.TheVariants as fault
 
@@ -38,7 +38,7 @@ CorePoolMoves old number move new =
 -- a take of a pool had this
 abbrev pub Takes : CoreObjects → ℕ → PoolId → Bool → What → Result Got CoreFault → CoreObjects → Type 0
 Takes old number pool waits what result new =
-    Gives old
+    AnswersIfEnabled old
     (λ got next.
     (what ≡ take_of waits pool got) × CanTake (core_pool_at old number) waits got × CorePoolMoves old number (move_of (core_pool_at old number) got) next)
     ((got : Got) → what ≡ take_of waits pool got → CanTake (core_pool_at old number) waits got → ⊥)
@@ -47,7 +47,7 @@ Takes old number pool waits what result new =
 -- the pool of this number makes a move that the event tells
 abbrev pub MovesAs : CoreObjects → ℕ → Move → What → What → Result (Unit {0}) CoreFault → CoreObjects → Type 0
 MovesAs old number move tells what result new =
-    Gives old (λ done next. (what ≡ tells) × CorePoolMoves old number move next) (what ≡ tells → CanMove (core_pool_at old number) move → ⊥) result new
+    AnswersIfEnabled old (λ done next. (what ≡ tells) × CorePoolMoves old number move next) (what ≡ tells → CanMove (core_pool_at old number) move → ⊥) result new
 
 -- all bios of a device's set that wait in these lists go to its rescuer
 abbrev pub IsPunt : TaskLists → DevId → What → Type 0
@@ -65,7 +65,7 @@ Punts old lists dev what (Err fault.Memory) new rest = (new ≡ old) × (rest �
 -- the first bio that waits for a rescuer was taken
 abbrev pub Pops : CoreObjects → DevId → What → Result (Item Pad) CoreFault → CoreObjects → Type 0
 Pops old dev what result new =
-    Gives old
+    AnswersIfEnabled old
     (λ part next.
     (what ≡ told.Pop dev) × (core_rescue_at old dev.0 ≡ part ∷ core_rescue_at next dev.0) × (next ≡ with_rescue old dev.0 (core_rescue_at next dev.0)))
     ((part : Item Pad) (rest : List (Item Pad)) → what ≡ told.Pop dev → core_rescue_at old dev.0 ≡ part ∷ rest → ⊥)
@@ -98,9 +98,9 @@ CompletesInOrNot old index status ended new =
     ((new ≡ old) × ((part : Item Pad) (after : Option DiskState) → CompletesIn old index part status after → ⊥))
     (λ part. CompletesIn old index part status new)
 
-abbrev pub IsComplete : CoreObjects → DevId → What → Result (ℕ × Item Pad × Status) CoreFault → CoreObjects → Type 0
-IsComplete old disk what result new =
-    Gives old
+abbrev pub CompletesBio : CoreObjects → DevId → What → Result (ℕ × Item Pad × Status) CoreFault → CoreObjects → Type 0
+CompletesBio old disk what result new =
+    AnswersIfEnabled old
     (λ done next. (what ≡ told.Complete disk done.0 done.2)
     × CompletesIn (kept_disk old disk.0) done.0 done.1 done.2 (kept_disk next disk.0)
     × (next ≡ with_disk old disk.0 (kept_disk next disk.0)))
@@ -111,7 +111,7 @@ IsComplete old disk what result new =
 -- a node was opened in a writer's book
 abbrev pub Links : CoreObjects → ℕ → Opening → What → Result ℕ CoreFault → CoreObjects → Type 0
 Links old writer opening what result new =
-    Gives old
+    AnswersIfEnabled old
     (λ node next. (what ≡ told.Link writer (how_of opening) node)
     × Opened (core_book_at old writer) opening (Made node) (core_book_at next writer)
     × (next ≡ with_book old writer (core_book_at next writer)))
@@ -132,7 +132,7 @@ Joins old writer opening what (Err fault.Memory) new =
 -- a node of a writer's book was told of an end
 abbrev pub IsDrop : CoreObjects → ℕ → ℕ → Status → Option (Item Pad) → What → Result Ended CoreFault → CoreObjects → Type 0
 IsDrop old writer place status part what result new =
-    Gives old
+    AnswersIfEnabled old
     (λ ended next. (what ≡ told.Drop writer place status (end_of ended))
     × Drops (core_book_at old writer) place status part (ended_of_plain ended) (core_book_at next writer)
     × (next ≡ with_book old writer (core_book_at next writer)))
@@ -143,7 +143,7 @@ IsDrop old writer place status part what result new =
 -- a write was done
 abbrev pub Finishes : CoreObjects → ℕ → Status → What → Result (Unit {0}) CoreFault → CoreObjects → Type 0
 Finishes old write status what result new =
-    Gives old
+    AnswersIfEnabled old
     (λ done next. (what ≡ told.Done write status) × (next ≡ record old { tally = done_one write status old.tally }))
     (what ≡ told.Done write status → ⊥)
     result new
@@ -151,7 +151,7 @@ Finishes old write status what result new =
 -- the round behind the present one started
 abbrev pub StartsRound : CoreObjects → ℕ → What → Result (Unit {0}) CoreFault → CoreObjects → Type 0
 StartsRound old round what result new =
-    Gives old
+    AnswersIfEnabled old
     (λ done next. (what ≡ told.Round round)
     × (old.tally.round + 1 < length old.tally.left)
     × (next ≡ record old { tally = record old.tally { round = old.tally.round + 1 } }))

@@ -32,11 +32,6 @@ AnswersRequest old request what replied (Ok x) new = IsAnswer old request what (
 AnswersRequest old request what replied (Err fault.NotEnabled) new = (new ≡ old) × Refuses old request what
 AnswersRequest old request what replied (Err fault.Memory) new = ⊥
 
--- a request that takes no memory was not answered
-abbrev pub FailsRequest : CoreObjects → Request → What → CoreFault → CoreObjects → Type 0
-FailsRequest old request what fault.NotEnabled new = (new ≡ old) × Refuses old request what
-FailsRequest old request what fault.Memory new = ⊥
-
 -- one that takes some was not answered: it can't be, or it could be but for memory
 abbrev pub Lacks : CoreObjects → Request → What → CoreFault → CoreObjects → Type 0
 Lacks old request what fault.NotEnabled new = (new ≡ old) × Refuses old request what

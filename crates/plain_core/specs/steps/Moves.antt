@@ -24,7 +24,8 @@ Submits (task.Writer number todo taken l) = IsSubmitting l.doing
 Submits (task.Rescuer dev l) = IsSubmitting l.doing
 Submits state = ⊥
 
--- a task goes on with an answer to what it asks for, where what it looks at lets it ask; it lacks memory only where it could go on so
+-- A task goes on with an answer to what it asks for, where what it looks at lets it ask; it lacks memory only where it could go on so. An `Err`
+-- leaves the objects and the task as they were.
 abbrev pub TaskMoves : Routing → CoreObjects → TaskState → What → Result (Unit {0}) CoreFault → CoreObjects → TaskState → Type 0
 TaskMoves r old before what (Ok done) new after =
     (reply : Reply)

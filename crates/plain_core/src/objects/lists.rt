@@ -112,7 +112,7 @@ impl Lists {
         self.list1.clear();
     }
 
-    /// Makes room for two more bios.
+    /// Makes room for two more bios in list 0, and in list 1 for twice as many as list 0 has with them: `next` moves list 0 there in two passes.
     ///
     /// # Errors
     /// Where there is no memory. The lists have the same bios in any case.

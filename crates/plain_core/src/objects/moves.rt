@@ -9,7 +9,7 @@ ghost use Rattle.run_machine.specs.Scene.{keeps_data};
 ghost use Rattle.task_steps.specs.Within.{IsWithinDevice, ListsAreWithin};
 ghost use Rattle.plain_core.specs.objects.Lists.{lists_of, ListsHaveCapacity};
 ghost use Rattle.plain_core.specs.objects.Plain.{HasSize};
-ghost use Rattle.plain_core.specs.objects.Told.{Takes, MovesAs, Punts, Pops, Pushes, PushesIn, IsComplete, CompletesInOrNot, Finishes, StartsRound};
+ghost use Rattle.plain_core.specs.objects.Told.{Takes, MovesAs, Punts, Pops, Pushes, PushesIn, CompletesBio, CompletesInOrNot, Finishes, StartsRound};
 
 use crate::fault::CoreFault;
 use crate::objects::disk::Disk;
@@ -146,7 +146,7 @@ impl Objects {
 
     /// A disk ends a bio that waits in it: its place among them, the bio, and how it ended (`bio_endio`, `block/bio.c`).
     pub fn complete(&mut self, disk: DevId, what: &What) -> Result<(u64, Part, Status), CoreFault>
-        ensures { IsComplete self.old disk what.now result self.new }
+        ensures { CompletesBio self.old disk what.now result self.new }
     {
         let Some((index, status)) = told::completed_of(what, disk) else {
             return Err(CoreFault::NotEnabled);

@@ -1,6 +1,6 @@
 //! Steps of submissions.
 ghost use Rattle.std.specs.Prelude.{◌≡◌, ◌<◌, length, IfOk};
-ghost use Rattle.run_machine.specs.Lines.{driven, goes_on};
+ghost use Rattle.run_machine.specs.Lines.{landed_doing, goes_on};
 ghost use Rattle.task_steps.specs.Routed.{routing_setup};
 ghost use Rattle.task_steps.specs.Within.{IsWithinDevice, ListsAreWithin, DoingFits, LineFits};
 ghost use Rattle.plain_core.specs.objects.Lists.{lists_of, ListsHaveCapacity};
@@ -51,7 +51,7 @@ fn first_ask(routes: &Routes, dev: DevId, lists: &Lists) -> Ask
 // A bio is served next.
 pub fn drive(routes: &Routes, part: Part, line: &mut Line)
     requires { IsWithinDevice routes.now.stack part.bio }
-    ensures { line_of_plain line.new ≡ record { doing = driven (routing_setup routes.now) (lists_of line.old.lists) part; lists = lists_of line.old.lists } }
+    ensures { line_of_plain line.new ≡ record { doing = landed_doing (routing_setup routes.now) (lists_of line.old.lists) part; lists = lists_of line.old.lists } }
 {
     let at = routes.land(part.bio());
     let ask = first_ask(routes, at.dev, &line.lists);

@@ -13,7 +13,7 @@ use Rattle.stack_base.specs.Tree.{Tree, Leaf, Mirrored, tree, tree_below, over_s
 use Rattle.layout_model.specs.declared.write.Write.{Write}
 use Rattle.layout_model.specs.May.{bads_of}
 use Rattle.layout_model.specs.Need.{needed, begun as begins}
-use Rattle.layout_model.specs.Needs.{nodes as nodes_of}
+use Rattle.layout_model.specs.NeedCounts.{nodes as nodes_of}
 use Rattle.run_machine.specs.Scene.{Setup}
 use Rattle.run_machine.specs.Tasks.{Todo}
 use Rattle.run_machine.specs.Objects.{Objects, TallyState}

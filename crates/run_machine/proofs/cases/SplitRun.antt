@@ -22,7 +22,7 @@ use Rattle.decl_text.specs.Refusals.{refusal, first_found}
 use Rattle.layout_model.specs.declared.write.Write.{Write}
 use Rattle.layout_model.specs.May.{bads_of}
 use Rattle.layout_model.specs.Need.{needed, begun}
-use Rattle.layout_model.specs.Needs.{nodes as nodes_of}
+use Rattle.layout_model.specs.NeedCounts.{nodes as nodes_of}
 use Rattle.mempool_core.specs.Move.{takes_spare, gives}
 use Rattle.bio_records.specs.declared.bio.Pad.{Pad}
 use Rattle.bio_records.specs.Segments.{segments_of}

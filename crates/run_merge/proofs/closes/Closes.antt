@@ -43,7 +43,7 @@ use Rattle.run_merge.proofs.closes.DrewEvents.{drew_as_events}
 use Rattle.run_merge.proofs.closes.Drawn.{events_told, events_untold, rises_events}
 use Rattle.run_merge.proofs.closes.Events.{ticketed_events, event_histories, histories_are}
 use Rattle.run_merge.proofs.closes.Looks.{lets_ask}
-use Rattle.run_merge.proofs.closes.Merged.{history_is, all_events, are_apart, are_tagged}
+use Rattle.run_merge.proofs.closes.CallEntries.{history_is, all_events, are_apart, are_tagged}
 use Rattle.run_merge.proofs.closes.Objects.{told_drew, IsReady, object_leads}
 use Rattle.run_merge.proofs.closes.Owners.{ask_some}
 use Rattle.run_merge.proofs.closes.Rounds.{rounds_there}
@@ -51,7 +51,7 @@ use Rattle.run_merge.proofs.closes.Sorting.{done_is}
 use Rattle.run_merge.proofs.closes.Stopping.{object_last, log_drew, comes_to}
 use Rattle.run_merge.proofs.closes.Walks.{is_told, AskSome, Walked, looks_there}
 use Rattle.run_merge.proofs.closing.Closed.{closed_runs_end}
-use Rattle.run_merge.proofs.products.Names.{get_made}
+use Rattle.run_merge.proofs.products.ObjectNames.{get_made}
 
 abbrev has_some : {X : Type 0} → List X → Bool
 has_some [] = false

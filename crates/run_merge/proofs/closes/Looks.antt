@@ -27,7 +27,7 @@ use Rattle.run_merge.specs.ObjectsByName.{get}
 use Rattle.run_merge.specs.SharedObjects.{seen_at}
 use Rattle.run_merge.proofs.closes.Drawn.{events_around, none_greater}
 use Rattle.run_merge.proofs.closes.Events.{ticketed_events, event_histories}
-use Rattle.run_merge.proofs.closes.Merged.{history_is}
+use Rattle.run_merge.proofs.closes.CallEntries.{history_is}
 use Rattle.run_merge.proofs.closes.Objects.{told_drew, IsReady, ready_first, drawn_leads, tally_drawn}
 use Rattle.run_merge.proofs.closes.Walks.{is_told}
 

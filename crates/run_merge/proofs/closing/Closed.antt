@@ -25,11 +25,11 @@ use Rattle.run_merge.specs.Products.{AreOfRun}
 use Rattle.run_merge.proofs.closing.Counts.{merge_length}
 use Rattle.run_merge.proofs.closing.FewTasks.{few_tasks}
 use Rattle.run_merge.proofs.closing.Refused.{not_refused}
-use Rattle.run_merge.proofs.closing.Rows.{row_long}
-use Rattle.run_merge.proofs.merging.Merged.{merge_runs}
+use Rattle.run_merge.proofs.closing.TicketRows.{row_long}
+use Rattle.run_merge.proofs.merging.MergeIsRun.{merge_runs}
 use Rattle.run_merge.proofs.merging.Splits.{object_split}
 use Rattle.run_merge.proofs.merging.Tally.{from_there}
-use Rattle.run_merge.proofs.products.Names.{all_same}
+use Rattle.run_merge.proofs.products.ObjectNames.{all_same}
 
 module _ (s : Scenario) (ledger : ℕ → LedgerId) (good : IsRunnable s) (rescuers : HasRescuers s.stack) (naming : IsNaming ledger) (hs : Histories) where
   merged : (last : State) → Shown s ledger hs last → AreOfRun s ledger (without_tickets (sorted (all_of hs))) last

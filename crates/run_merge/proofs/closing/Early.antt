@@ -19,7 +19,7 @@ use Rattle.run_merge.specs.Products.{LeadsTask, task_behind}
 use Rattle.run_merge.proofs.merging.Picked.{is_by, filter_swap}
 use Rattle.run_merge.proofs.merging.Splits.{object_split, task_split}
 use Rattle.run_merge.proofs.merging.Tickets.{sorted_ordered, filter_sorted, early, early_first, early_all, early_few, rises_ordered}
-use Rattle.run_merge.proofs.products.Names.{get_put, get_other, get_made}
+use Rattle.run_merge.proofs.products.ObjectNames.{get_put, get_other, get_made}
 
 abbrev pub early_histories : ℕ → Histories → Histories
 early_histories ticket [] = []

@@ -28,11 +28,11 @@ use Rattle.run_merge.specs.Merging.{Ticketed, Histories, without_tickets, sorted
 use Rattle.run_merge.specs.ObjectsByName.{StateAt, get, put_object}
 use Rattle.run_merge.specs.Products.{LeadsTask, AreOfRun, led_by, task_behind}
 use Rattle.run_merge.proofs.closing.Early.{early_histories, history_early, lets_early, then_state, then_task, shown_early, shown_put}
-use Rattle.run_merge.proofs.merging.Merged.{still_let, merge_runs}
+use Rattle.run_merge.proofs.merging.MergeIsRun.{still_let, merge_runs}
 use Rattle.run_merge.proofs.merging.Tickets.{early, early_all, early_none}
 use Rattle.run_merge.proofs.products.Behind.{behind_run, one_event}
 use Rattle.run_merge.proofs.products.Leads.{is_inside}
-use Rattle.run_merge.proofs.products.Names.{get_put}
+use Rattle.run_merge.proofs.products.ObjectNames.{get_put}
 use Rattle.run_merge.proofs.products.Served.{serves_all, struck_serves}
 
 -- a task that was let ask would break off with this reply of its object

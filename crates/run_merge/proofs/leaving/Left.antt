@@ -24,7 +24,7 @@ use Rattle.task_core.specs.Tables.{look_up}
 use Rattle.task_core.specs.declared.plain.Plain.{Plain}
 use Rattle.task_steps.specs.Routed.{Routing, routing_setup}
 use Rattle.object_things.specs.Stamps.{ThingState}
-use Rattle.shared_objects.specs.Closed.{state_of_held}
+use Rattle.shared_objects.specs.ClosedByName.{state_of_held}
 use Rattle.shared_objects.specs.Holding.{set_key, slip_key}
 use Rattle.shared_objects.specs.Kinds.{unasked}
 use Rattle.shared_objects.specs.Left.{HasClosed}
@@ -33,7 +33,7 @@ use Rattle.run_merge.specs.Falling.{DevicePools, row_of, at_number, below, sets_
 use Rattle.run_merge.specs.Outcomes.{state_in, shared_scenario}
 use Rattle.run_merge.proofs.leaving.Devices.{has_records, disk_is, set_is, records_is, no_set, no_records, disks_found, below_is, below_past, falls, none_falls}
 use Rattle.run_merge.proofs.leaving.Looking.{map_alike}
-use Rattle.run_merge.proofs.leaving.Rows.{of_bios, of_records, all_small, all_sets, all_records, all_disks}
+use Rattle.run_merge.proofs.leaving.PoolRows.{of_bios, of_records, all_small, all_sets, all_records, all_disks}
 
 -- as many pools fall as stand in rows
 one_length : {A B C D : Type 0} (b c : Bool) (x : A) (y : B) (z : C) (w : D) (m n : ℕ)

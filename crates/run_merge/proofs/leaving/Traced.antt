@@ -10,7 +10,7 @@ use Rattle.run_machine.specs.Runs.{State}
 use Rattle.run_machine.specs.Scene.{Setup}
 use Rattle.task_core.specs.Plains.{stage_of}
 use Rattle.task_steps.specs.Routed.{routing_setup}
-use Rattle.shared_objects.specs.Closed.{history_in, object_left_in, names_in}
+use Rattle.shared_objects.specs.ClosedByName.{history_in, object_left_in, names_in}
 use Rattle.shared_objects.specs.Closes.{Returned, ClosesAs}
 use Rattle.shared_objects.specs.Left.{HasClosed}
 use Rattle.shared_objects.specs.Noting.{notes_of, AreNoted, HaveTickets}

@@ -11,14 +11,13 @@ use Rattle.block_core.specs.Rounds.{round_of, is_of_round}
 use Rattle.block_core.specs.Scenarios.{IsScenario, IsNaming}
 use Rattle.block_core.specs.Dones.{times_done}
 use Rattle.block_core.specs.Weights.{total, one}
-use Rattle.block_core.proofs.bound.EventCharges.{below_or}
 use Rattle.block_core.proofs.sound.DoneOnce.{stage}
 use Rattle.block_core.proofs.moves.Devices.{ground}
 use Rattle.block_core.proofs.sound.Facts.{Fair}
 use Rattle.block_core.proofs.sound.Orders.{Ground}
 use Rattle.block_core.proofs.sound.Rounds.{DutiesFit, TaskRounds, Tallied}
 use Rattle.block_core.proofs.start.TallyAtStart.{keeper_place, start_tallied}
-use Rattle.block_core.proofs.moves.Sums.{one-same, one-other, same_or_not}
+use Rattle.block_core.proofs.moves.Sums.{one-same, one-other, same_or_not, below_or}
 use Rattle.block_core.proofs.sound.Wholes.{Whole, runs_whole, runs_done, runs_tallied, start_whole, stage_once}
 use Rattle.run_merge.specs.Entries.{Entry}
 use Rattle.run_merge.specs.Products.{AreDone, AreOfRun}

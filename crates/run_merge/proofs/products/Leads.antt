@@ -20,7 +20,7 @@ use Rattle.run_machine.specs.Scene.{Scene}
 use Rattle.run_machine.specs.Tasks.{TaskState, request, answered}
 use Rattle.run_machine.proofs.Frames.{upd_same, upd_other}
 use Rattle.block_core.specs.Scenarios.{IsScenario, IsNaming}
-use Rattle.block_core.proofs.bound.EventCharges.{below_or}
+use Rattle.block_core.proofs.moves.Sums.{below_or}
 use Rattle.shared_objects.specs.Calls.{is_same_object, struck}
 use Rattle.shared_objects.specs.Logs.{is_event}
 use Rattle.shared_objects.proofs.Naming.{same_is, same_self}
@@ -31,7 +31,7 @@ use Rattle.run_merge.specs.Products.{LeadsTask, entries_by, AreOfRun}
 use Rattle.run_merge.proofs.products.Behind.{Behind, one_more}
 use Rattle.run_merge.proofs.products.Known.{known}
 use Rattle.run_merge.proofs.products.Lets.{ComesBehind, lets}
-use Rattle.run_merge.proofs.products.Names.{get_put, get_other, all_same}
+use Rattle.run_merge.proofs.products.ObjectNames.{get_put, get_other, all_same}
 use Rattle.run_merge.proofs.products.Served.{serves_all, struck_serves, struck_event}
 
 is_some_of : (w : Option What) → IsTrue (is_some w) → (what : What) × (w ≡ Some what)

@@ -25,7 +25,7 @@ use Rattle.run_merge.proofs.products.Behind.{entry_of, at_start, behind_run}
 use Rattle.run_merge.proofs.products.Known.{known}
 use Rattle.run_merge.proofs.products.Leads.{leads}
 use Rattle.run_merge.proofs.products.Lets.{ComesBehind, comes_by}
-use Rattle.run_merge.proofs.products.Names.{get_other}
+use Rattle.run_merge.proofs.products.ObjectNames.{get_other}
 use Rattle.run_merge.proofs.products.Served.{others_stay, serves_one, serves_struck, struck_event}
 
 -- equations of lists

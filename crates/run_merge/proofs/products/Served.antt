@@ -21,7 +21,7 @@ use Rattle.shared_objects.specs.Calls.{struck}
 use Rattle.shared_objects.specs.Logs.{is_event}
 use Rattle.run_merge.specs.Machines.{PoolGoes, PoolHas, ServesAt}
 use Rattle.run_merge.specs.ObjectsByName.{StateAt, get, put_object}
-use Rattle.run_merge.proofs.products.Names.{get_put, put_get}
+use Rattle.run_merge.proofs.products.ObjectNames.{get_put, put_get}
 
 -- all objects but this one are as before
 pub others_stay : (ledger : ℕ → LedgerId) (o : Objects) (request : Request) (reply : Reply) (new : Objects) → Serves ledger o request reply new

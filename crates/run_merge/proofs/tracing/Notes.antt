@@ -43,7 +43,7 @@ use Rattle.run_merge.proofs.merging.Picked.{is_by, merge_by}
 use Rattle.run_merge.proofs.merging.Tickets.{sorted_ordered, of_sorted}
 use Rattle.run_merge.proofs.products.Parts.{run_events}
 use Rattle.run_merge.proofs.tracing.Climbing.{is_hit, hits, AreOnce, climbs, none_falls, Climbs, NoneFalls, falls_rises, same_climbing}
-use Rattle.run_merge.proofs.tracing.Numbers.{merged, merged_placed, merged_climbs, ordered_falls, parts_once}
+use Rattle.run_merge.proofs.tracing.DrawnOnce.{merged, merged_placed, merged_climbs, ordered_falls, parts_once}
 use Rattle.run_merge.proofs.tracing.Walking.{keys_of, events_of, own_falls, own_notes, led_notes, run_notes, of_task, IsNotedOf, task_of, tickets_of, keys_fewer, log_notes}
 
 record IsFrom {X Y : Type 0} (f : X → List Y) (xs : List X) (y : Y) : Type 0 where

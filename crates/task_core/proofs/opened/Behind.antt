@@ -14,7 +14,7 @@ use Rattle.stack_base.specs.Stack.{IsStack}
 use Rattle.stack_base.specs.Tree.{shape_of, size, tree}
 use Rattle.layout_model.specs.declared.write.Write.{Write}
 use Rattle.layout_model.specs.May.{bads_of, kind_bads}
-use Rattle.layout_model.specs.Needs.{elements, nodes}
+use Rattle.layout_model.specs.NeedCounts.{elements, nodes}
 use Rattle.layout_model.specs.Writes.{IsWrite}
 use Rattle.model_disks.specs.Disks.{IsBadRange}
 use Rattle.decl_text.specs.Accepting.{bad_of, shown_devices, what_of}

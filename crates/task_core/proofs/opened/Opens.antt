@@ -15,7 +15,7 @@ use Rattle.stack_base.specs.Stack.{HasRescuers, IsStack}
 use Rattle.stack_base.specs.Tree.{size, tree}
 use Rattle.layout_model.specs.declared.write.Write.{Write}
 use Rattle.layout_model.specs.May.{bads_of}
-use Rattle.layout_model.specs.Needs.{nodes}
+use Rattle.layout_model.specs.NeedCounts.{nodes}
 use Rattle.layout_model.specs.Writes.{IsWrite}
 use Rattle.model_disks.specs.Moves as disk
 use Rattle.mempool_core.specs.Move as pool

@@ -90,18 +90,12 @@ from_next (r ∷ rounds) round = by_order (order r round) (from_next rounds roun
     is_le : (a b : ℕ) → a ≤ b → nat_le a b ≡ true
     is_le a b le = grind (le, arith, nat_tests)
 
-    apart : (a b : ℕ) → a ≢ b → (a == b) ≡ false
-    apart a b e = grind (arith, nat_tests)
-
-    itself : (a b : ℕ) → a ≡ b → (a == b) ≡ true
-    itself a b e = grind (arith, nat_tests)
-
     by_order : (r < round) ⊎ ((r ≡ round) ⊎ (round < r)) → from_round rounds round ≡ in_round rounds round + from_round rounds (round + 1)
         → from_round (r ∷ rounds) round ≡ in_round (r ∷ rounds) round + from_round (r ∷ rounds) (round + 1)
-    by_order (inl lt) rest = rw (not_le round r lt, not_le (round + 1) r (omega (arith, lt)), apart r round (λ e. absurd (omega (arith, lt, e)))) rest
-    by_order (inr (inl e)) rest = rw (is_le round r (omega (arith, e)), not_le (round + 1) r (omega (arith, e)), itself r round e) (omega (arith, rest))
+    by_order (inl lt) rest = rw (not_le round r lt, not_le (round + 1) r (omega (arith, lt)), is_apart r round (λ e. absurd (omega (arith, lt, e)))) rest
+    by_order (inr (inl e)) rest = rw (is_le round r (omega (arith, e)), not_le (round + 1) r (omega (arith, e)), is_itself r round e) (omega (arith, rest))
     by_order (inr (inr lt)) rest =
-        rw (is_le round r (omega (arith, lt)), is_le (round + 1) r (omega (arith, lt)), apart r round (λ e. absurd (omega (arith, lt, e)))) (omega (arith, rest))
+        rw (is_le round r (omega (arith, lt)), is_le (round + 1) r (omega (arith, lt)), is_apart r round (λ e. absurd (omega (arith, lt, e)))) (omega (arith, rest))
 
 pub from_first : (rounds : List ℕ) → length rounds ≡ from_round rounds 0
 from_first [] = refl

@@ -9,7 +9,7 @@ use Rattle.fail_script.specs.Script.{Answers}
 use Rattle.stack_base.specs.declared.ids.PoolId.{PoolId}
 use Rattle.stack_base.specs.declared.stack.Stack.{Stack}
 use Rattle.layout_model.specs.declared.write.Write.{Write}
-use Rattle.layout_model.specs.Needs.{nodes}
+use Rattle.layout_model.specs.NeedCounts.{nodes}
 use Rattle.work_text.specs.declared.Work.{Work}
 use Rattle.run_machine.specs.Opened.{Scenario, is_by, places_of, tasks, todos}
 use Rattle.run_machine.specs.Opened as opened

@@ -9,7 +9,7 @@ use Rattle.std.proofs.lemmas.List.Sums.{sum_by-cons}
 use Rattle.std.proofs.lemmas.Slice.Zip.{get_or-zip, length-zip}
 use Rattle.stack_base.specs.declared.stack.Stack.{Stack}
 use Rattle.layout_model.specs.declared.write.Write.{Write}
-use Rattle.layout_model.specs.Needs.{nodes}
+use Rattle.layout_model.specs.NeedCounts.{nodes}
 use Rattle.layout_model.specs.Writes.{IsWrite}
 use Rattle.task_steps.specs.declared.task.Kind.{Kind}
 use Rattle.run_machine.specs.Lines.{rests}

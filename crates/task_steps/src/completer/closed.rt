@@ -1,7 +1,7 @@
 //! What a completer does with a node that has closed.
 ghost use Rattle.std.specs.Prelude.{◌≡◌, true, None, Some};
 ghost use Rattle.run_machine.specs.Tasks.{Completer as Completes, Empty};
-ghost use Rattle.task_steps.specs.TaskSteps.{CompleterDoes, TaskReady};
+ghost use Rattle.task_steps.specs.TaskSteps.{CompleterDoes, HoldsTask};
 ghost use Rattle.task_steps.specs.CarriedViews.{given_back, is_carrying, GaveBack, IsEmptyNode};
 
 use crate::completer::gives::{gives, pool_of};
@@ -23,7 +23,7 @@ impl Carried {
         status: Status,
     ) -> Step
         requires empty { self.old ≡ Empty }
-        requires ready { TaskReady O.Objects objects.old (Completes disk (given_back writer None write status)) }
+        requires ready { HoldsTask O.Objects objects.old (Completes disk (given_back writer None write status)) }
         ensures does { CompleterDoes O.Objects disk (given_back writer None write status) objects.old (self.new, result) objects.new }
     {
         match objects.done(write, status) {
@@ -39,7 +39,7 @@ impl Carried {
     // Goes on behind a closed node that holds nothing any more: its parent is told, or its write is done.
     fn pass_on<O: Objects>(&mut self, objects: &mut O, disk: DevId) -> Step
         requires empty { IsEmptyNode self.old }
-        requires ready { TaskReady O.Objects objects.old (Completes disk self.old) }
+        requires ready { HoldsTask O.Objects objects.old (Completes disk self.old) }
         ensures does { CompleterDoes O.Objects disk self.old objects.old (self.new, result) objects.new }
     {
         match self.take() {
@@ -79,7 +79,7 @@ impl Carried {
     // record (`free_r1bio`, `drivers/md/raid1.c`), then its parent is told, or its write is done.
     pub(crate) fn finish<O: Objects>(&mut self, objects: &mut O, disk: DevId) -> Step
         requires carries { is_carrying self.old ≡ true }
-        requires ready { TaskReady O.Objects objects.old (Completes disk self.old) }
+        requires ready { HoldsTask O.Objects objects.old (Completes disk self.old) }
         ensures does { CompleterDoes O.Objects disk self.old objects.old (self.new, result) objects.new }
     {
         match &mut self.load {

@@ -9,7 +9,7 @@ ghost use Rattle.run_machine.specs.declared.event.What.TheVariants as What';
 ghost use Rattle.task_steps.specs.declared.step.Step.TheVariants as Step';
 ghost use Rattle.run_machine.specs.Kept.{bio_kept};
 ghost use Rattle.run_machine.specs.Tasks.{Brings, Completer as Completes, Empty, Fails, after_drop};
-ghost use Rattle.task_steps.specs.TaskSteps.{CompleterDoes, TaskReady, TellsDrop};
+ghost use Rattle.task_steps.specs.TaskSteps.{CompleterDoes, HoldsTask, TellsDrop};
 ghost use Rattle.task_steps.specs.CarriedViews.{given_back};
 
 use crate::completer::{Carried, nothing_held};
@@ -90,7 +90,7 @@ impl Carried {
     ) -> Step
         requires empty { self.old ≡ Empty }
         requires alone { IsAlone bio }
-        requires ready { TaskReady O.Objects objects.old (Completes disk (Brings (item_of bio) status)) }
+        requires ready { HoldsTask O.Objects objects.old (Completes disk (Brings (item_of bio) status)) }
         ensures does { CompleterDoes O.Objects disk (Brings (item_of bio) status) objects.old (self.new, result) objects.new }
     {
         let Bio { writer, node, .. } = bio.body.bio;
@@ -111,7 +111,7 @@ impl Carried {
         status: Status,
     ) -> Step
         requires empty { self.old ≡ Empty }
-        requires ready { TaskReady O.Objects objects.old (Completes disk (given_back writer (Some parent) write status)) }
+        requires ready { HoldsTask O.Objects objects.old (Completes disk (given_back writer (Some parent) write status)) }
         ensures does { CompleterDoes O.Objects disk (given_back writer (Some parent) write status) objects.old (self.new, result) objects.new }
     {
         match objects.drop_one(writer, parent, status, None) {

@@ -19,7 +19,7 @@ use crate::routes::{Cut, Routes};
 use crate::step::Step;
 use crate::submission::dispatch::go_on;
 use crate::submission::{Doing, DriverAsk, Kept, Want, break_off, put, spent};
-use bio_lists::Submission;
+use bio_lists::SubmissionLists;
 use bio_records::{BioElement, TaskLists};
 use bio_split::split;
 use run_machine::{Event, How, TaskId, What};

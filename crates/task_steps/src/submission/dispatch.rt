@@ -6,7 +6,7 @@ ghost use Rattle.run_machine.specs.Lines.{Rests, Drives, goes_on};
 ghost use Rattle.task_steps.specs.declared.submission.Doing.TheVariants as doing';
 ghost use Rattle.task_steps.specs.Within.{IsWithinDevice, ListsAreWithin, is_cut, DoingFits, LineFits};
 ghost use Rattle.task_steps.specs.Routed.{routing_setup};
-ghost use Rattle.task_steps.specs.LineViews.{asking, cutting, copying, attempt_of, ask_of, doing_of, driven_line, submission_of, IsWantAlone, IsAskOfAlone, IsDoingAlone, is_asking};
+ghost use Rattle.task_steps.specs.LineViews.{asking, cutting, copying, attempt_of, ask_of, doing_of, landed_line, submission_of, IsWantAlone, IsAskOfAlone, IsDoingAlone, is_asking};
 ghost use Rattle.task_steps.specs.Answers.{AsksFirst, Does, LineReady};
 
 use crate::objects::Objects;
@@ -17,7 +17,7 @@ use crate::submission::cut::{chain, punt_to_cut};
 use crate::submission::mirror::{Copying, leg, master, punt_to_copy, take_record};
 use crate::submission::push::push;
 use crate::submission::{Doing, DriverAsk, Want, put};
-use bio_lists::Submission;
+use bio_lists::SubmissionLists;
 use bio_records::{BioElement, TaskLists};
 use run_machine::TaskId;
 use stack_base::DevId;
@@ -43,7 +43,7 @@ pub(crate) fn serve(routes: &Routes, mut bio: BioElement, at: &mut Doing, lists:
     requires rests { at.old ≡ doing'.Rests }
     requires within { IsWithinDevice routes.now.stack (item_of bio).bio }
     requires alone { IsAlone bio }
-    ensures line { submission_of at.new lists.now ≡ driven_line (routing_setup routes.now) lists.now (item_of bio) }
+    ensures line { submission_of at.new lists.now ≡ landed_line (routing_setup routes.now) lists.now (item_of bio) }
     ensures alone { IsDoingAlone at.new }
 {
     bio.body.bio = routes.land(bio.body.bio);

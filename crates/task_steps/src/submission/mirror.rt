@@ -19,7 +19,7 @@ use crate::routes::Routes;
 use crate::step::Step;
 use crate::submission::dispatch::go_on;
 use crate::submission::{Doing, DriverAsk, Kept, Want, break_off, put, spent};
-use bio_lists::Submission;
+use bio_lists::SubmissionLists;
 use bio_records::{Bio, BioElement, SlipElement, TaskLists};
 use bioset_pools::fill_bio;
 use mempool_core::Taken;

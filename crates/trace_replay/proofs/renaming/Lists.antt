@@ -13,7 +13,7 @@ use Rattle.bio_records.specs.Sorting.{is_lower, is_same}
 use Rattle.bio_lists.specs.Submission.{submitted, order}
 use Rattle.run_machine.specs.Scene.{Setup, tree_at}
 use Rattle.bioset_pools.specs.Sets.{is_empty, waits_first}
-use Rattle.run_machine.specs.Lines.{Takes, ToCut, Drives, Copies, first_length, mapped, landed, asks_at, driven, settled, goes_on, legs_of, copies, is_of, punted, not_punted}
+use Rattle.run_machine.specs.Lines.{Takes, ToCut, Drives, Copies, first_length, mapped, landed, asks_at, landed_doing, settled, goes_on, legs_of, copies, is_of, punted, not_punted}
 use Rattle.trace_replay.proofs.renaming.Renaming.{Places, share_to, bio_to, item_to, lists_to, doing_to, line_to}
 
 -- a filter that does not see what a map changes
@@ -87,8 +87,8 @@ module _ (to : Places) where
   asks_to setup lists item gone (Mirrored number sizes members) = refl
   asks_to setup lists item gone (Split number kind sizes members) = ap (λ waits. Drives (item_to to item) (ToCut (Takes waits))) (waits_to setup item.bio.dev lists)
 
-  driven_to : (setup : Setup) (lists : TaskLists) (item : Item Pad) (gone : ℕ) → driven setup (lists_to to lists) (item_to to item) ≡ doing_to to gone (driven setup lists item)
-  driven_to setup lists item gone =
+  landed_doing_to : (setup : Setup) (lists : TaskLists) (item : Item Pad) (gone : ℕ) → landed_doing setup (lists_to to lists) (item_to to item) ≡ doing_to to gone (landed_doing setup lists item)
+  landed_doing_to setup lists item gone =
       let at = landed (tree_at setup item.bio.dev) item.bio in
       ap (λ b. asks_at setup (lists_to to lists) (record item { bio = b; share = share_to item.share }) (tree_at setup b.dev)) (landed_to (tree_at setup item.bio.dev) item.bio)
       ∙ asks_to setup lists (record item { bio = at }) gone (tree_at setup at.dev)
@@ -97,7 +97,7 @@ module _ (to : Places) where
   settled_to setup gone [] = refl
   settled_to setup gone (item ∷ waiting) =
       let lists : TaskLists = record { list0 = []; list1 = waiting } in
-      ap (λ doing. record { doing = doing; lists = lists_to to lists }) (driven_to setup lists item gone)
+      ap (λ doing. record { doing = doing; lists = lists_to to lists }) (landed_doing_to setup lists item gone)
 
   pub goes_to : (setup : Setup) (gone : ℕ) (dev : DevId) (lists : TaskLists) → goes_on setup dev (lists_to to lists) ≡ line_to to gone (goes_on setup dev lists)
   goes_to setup gone dev lists = ap (settled setup) (order_to dev lists) ∙ settled_to setup gone (order dev lists)

@@ -25,7 +25,7 @@ use Rattle.block_core.proofs.sound.Facts.{Fair}
 use Rattle.block_core.proofs.sound.Orders.{Ground}
 use Rattle.block_core.proofs.sound.Wholes.{Whole, step_whole, start_whole}
 use Rattle.block_core.proofs.start.FactsAtStart.{start_opened}
-use Rattle.block_core.proofs.start.PlacesAtStart.{start_roomy}
+use Rattle.block_core.proofs.start.RoomAtStart.{start_roomy}
 use Rattle.block_core.proofs.unrefused.NodeNeeds.{Needs, needs_known}
 use Rattle.block_core.proofs.unrefused.RoomKept.{runs_roomy}
 use Rattle.trace_replay.specs.Names.{Names, no_names, names_after, event_placed, placed}

@@ -1,5 +1,4 @@
-use Rattle.block_core.proofs.stuck.NeverStuck.{no_allowed_state_is_stuck}
-use Rattle.block_core.proofs.sound.Wholes.{no_state_is_stuck}
+use Rattle.block_core.proofs.stuck.NeverStuck.{no_state_is_stuck, no_allowed_state_is_stuck}
 use Rattle.block_core.proofs.laws.no_state_is_stuck.Goals as goal
 
 -- src/laws.rt

@@ -2,7 +2,7 @@ use Rattle.std.proofs.Common.{◌<◌, length, get_or, arith}
 use Rattle.std.proofs.lemmas.List.Elements.{Contains-get_or}
 use Rattle.std.proofs.lemmas.List.Sums.{sum_by_more}
 use Rattle.layout_model.specs.declared.write.Write.{Write}
-use Rattle.layout_model.specs.Needs.{elements, parts}
+use Rattle.layout_model.specs.NeedCounts.{elements, parts}
 use Rattle.layout_model.specs.Writes.{IsWrite}
 use Rattle.layout_model.proofs.WriteSizes.{elements_small, parts_le_elements}
 use Rattle.layout_model.proofs.totals.bound.Goals as goal

@@ -6,7 +6,7 @@ use Rattle.object_things.specs.Books.{book_replied}
 use Rattle.object_things.specs.Stamps.{stage_in}
 use Rattle.object_things.specs.declared.book.BookSaid.{BookSaid}
 use Rattle.object_things.specs.declared.stamp.Replied.{Replied}
-use Rattle.task_core.proofs.Keeping.{node_is, drops_is}
+use Rattle.task_core.proofs.StageBooks.{node_is, drops_is}
 use Rattle.object_things.proofs.book.drop_one.Goals as goal
 
 pub returns-clause-owed : goal.returns-clause-owed

@@ -7,7 +7,7 @@ use Rattle.object_things.specs.Books.{book_replied}
 use Rattle.object_things.specs.declared.book.BookSaid.{BookSaid}
 use Rattle.object_things.specs.declared.stamp.Replied.{Replied}
 use Rattle.object_things.specs.Stamps.{stage_in}
-use Rattle.task_core.proofs.Keeping.{links_is}
+use Rattle.task_core.proofs.StageBooks.{links_is}
 use Rattle.object_things.proofs.book.link.Goals as goal
 
 pub returns-clause-owed : goal.returns-clause-owed

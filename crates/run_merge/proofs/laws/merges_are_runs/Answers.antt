@@ -1,4 +1,4 @@
-use Rattle.run_merge.proofs.merging.Merged.{merges_are_runs}
+use Rattle.run_merge.proofs.merging.MergeIsRun.{merges_are_runs}
 use Rattle.run_merge.proofs.laws.merges_are_runs.Goals as goal
 
 -- src/laws.rt

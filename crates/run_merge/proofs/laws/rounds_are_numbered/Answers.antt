@@ -1,4 +1,4 @@
-use Rattle.run_merge.proofs.products.Numbers.{rounds_are_numbered}
+use Rattle.run_merge.proofs.products.RoundOrder.{rounds_are_numbered}
 use Rattle.run_merge.proofs.laws.rounds_are_numbered.Goals as goal
 
 -- src/laws.rt

@@ -2,7 +2,7 @@
 use Rattle.std.proofs.Common.{subst, Err}
 use Rattle.plain_core.specs.declared.fault.CoreFault.{CoreFault}
 use Rattle.plain_core.specs.Cores.{Applies}
-use Rattle.trace_replay.specs.Named.{names_in_entries}
+use Rattle.trace_replay.specs.KeptNames.{names_in_entries}
 use Rattle.trace_replay.proofs.WalkLemmas.{none_other, none_placed}
 use Rattle.trace_replay.proofs.walk.apply_line.Goals as goal
 

@@ -9,7 +9,7 @@ use Rattle.trace_replay.specs.declared.extents.Extent.{Extent}
 use Rattle.trace_replay.specs.Lines.{told_in, told_lines}
 use Rattle.trace_replay.specs.Replay.{wider}
 use Rattle.trace_replay.specs.Names.{Names, no_names}
-use Rattle.trace_replay.specs.Named.{names_in_entries}
+use Rattle.trace_replay.specs.KeptNames.{names_in_entries}
 use Rattle.trace_replay.specs.Walks.{AppliesLine, HasCome}
 use Rattle.trace_replay.proofs.LineLemmas.{told_here}
 use Rattle.trace_replay.proofs.WalkLemmas.{comes, kept_whole, comes_to_bad, comes_to_end, applied_on, passed_on, told_none}

@@ -3,7 +3,7 @@ use Rattle.decl_text.specs.Text.{lines}
 use Rattle.decl_text.specs.Places.{left}
 use Rattle.plain_core.specs.Cores.{scene_of_core, state_of_core}
 use Rattle.trace_replay.specs.Lines.{told_in, told_lines}
-use Rattle.trace_replay.specs.Named.{names_in_entries}
+use Rattle.trace_replay.specs.KeptNames.{names_in_entries}
 use Rattle.trace_replay.specs.Walks.{HasCome}
 use Rattle.trace_replay.proofs.walk.follow.Given as goal
 

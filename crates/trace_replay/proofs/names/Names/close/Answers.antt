@@ -1,6 +1,6 @@
 -- A name is free again.
 use Rattle.std.proofs.Common.{None}
-use Rattle.trace_replay.specs.Named.{opened_by}
+use Rattle.trace_replay.specs.KeptNames.{opened_by}
 use Rattle.trace_replay.proofs.NameLemmas.{place_on}
 use Rattle.trace_replay.proofs.names.Names.close.Goals as goal
 

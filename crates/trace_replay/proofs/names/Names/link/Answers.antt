@@ -1,7 +1,7 @@
 -- A count and a name.
 use Rattle.std.proofs.Common.{◌≡◌, ◌+◌, ℕ, ap, ◌∙◌, Some, arith}
 use Rattle.run_machine.specs.Maps.{upd}
-use Rattle.trace_replay.specs.Named.{opened_by, place_in}
+use Rattle.trace_replay.specs.KeptNames.{opened_by, place_in}
 use Rattle.trace_replay.proofs.NameLemmas.{count_on, place_on}
 use Rattle.trace_replay.proofs.names.Names.link.Goals as goal
 

@@ -3,7 +3,7 @@ use Rattle.std.proofs.lemmas.Bool.{lt-ltb, le-ltb, ltb-false}
 use Rattle.std.specs.List.{list_any, range_with_len}
 use Rattle.stack_base.specs.Tree.{size, tree}
 use Rattle.layout_model.specs.Bound.{most_elements, all_elements}
-use Rattle.layout_model.specs.Needs.{elements}
+use Rattle.layout_model.specs.NeedCounts.{elements}
 use Rattle.decl_text.specs.Checks.{shares}
 use Rattle.decl_text.specs.Known.{present}
 use Rattle.work_text.specs.Draft.{known_so_far}

@@ -1,5 +1,5 @@
 -- Parts of sums, and what events do to elements.
-use Rattle.std.proofs.Common.{◌≡◌, ◌+◌, ◌-◌, ◌*◌, ◌<◌, ◌≤◌, ◌==◌, ◌++◌, if◌then◌else◌, ℕ, zero, suc, Bool, true, false, List, [], ◌∷◌, Option, None, Some, inl, inr, refl, ◌∙◌, ap, subst, arith}
+use Rattle.std.proofs.Common.{◌≡◌, ◌+◌, ◌-◌, ◌*◌, ◌<◌, ◌≤◌, ◌==◌, ◌++◌, if◌then◌else◌, ℕ, Bool, true, false, List, [], ◌∷◌, Option, None, Some, inl, inr, refl, ◌∙◌, ap, subst, arith}
 use Rattle.std.specs.Prelude.{sum_by}
 use Rattle.std.proofs.lemmas.List.Sums.{sum_by-cons, sum_by_push}
 use Rattle.stack_base.specs.declared.ids.DevId.{DevId}
@@ -14,28 +14,20 @@ use Rattle.bio_records.specs.Items.{Item}
 use Rattle.bio_split.specs.Split.{split_rest}
 use Rattle.bio_books.specs.declared.node.Role.{Role}
 use Rattle.bio_books.specs.declared.node.Role.TheVariants as role
-use Rattle.bio_books.specs.Books.{Node, VectorItem, Holding, node_at, top_node, keeping, told}
+use Rattle.bio_books.specs.Books.{Node, VectorItem, Holding, node_at, top_node, told}
 use Rattle.run_machine.specs.Maps.{upd}
 use Rattle.run_machine.specs.Scene.{Setup, Scene, tree_at}
 use Rattle.bioset_pools.specs.Sets.{waits_first}
 use Rattle.run_machine.specs.Lines.{Takes, Doing, Copies, rests, settled, goes_on, copies, legs_of}
-use Rattle.run_machine.specs.Tasks.{TaskState, Writer, Rescuer, Completer, Keeper, Todo, Carried, Empty, Brings, Carries, Fails}
+use Rattle.run_machine.specs.Tasks.{TaskState, Writer, Completer, Todo, Carried, Empty, Brings, Carries, Fails}
 use Rattle.run_machine.specs.Runs.{State}
-use Rattle.block_core.specs.Weights.{Weight, Lined, total, sum_at, one, doing_weight, task_weight, line_weight, carried_weight, elements_of_pool, holding_elements, names_node}
+use Rattle.block_core.specs.Weights.{Weight, Lined, total, one, doing_weight, task_weight, line_weight, carried_weight, elements_of_pool, holding_elements, names_node}
 use Rattle.block_core.proofs.moves.Moves.{limit_of, HasLine, gathered_of, filled_of, vector_of, cut_lists, IsTake, Tells, Hands, piece}
-use Rattle.block_core.proofs.moves.Sums.{weight-upd, one-same, same_or_not}
+use Rattle.block_core.proofs.moves.Sums.{weight-upd, one-same}
+use Rattle.block_core.proofs.moves.Totals.{task_part, line_part as line_in_task}
 use Rattle.block_core.proofs.moves.Listed.{IsBlind, goes_weight, first_weight}
 use Rattle.block_core.specs.Roles.{named}
 use Rattle.block_core.proofs.sound.Facts.{away, own_part, own_of, Kept}
-
-pub sum_at-ge : {X : Type 0} (w : ℕ → X → ℕ) (n : ℕ) (f : ℕ → X) (i : ℕ) → i < n → w i (f i) ≤ sum_at w n f
-unfolding sum_at
-sum_at-ge w zero f i h = absurd (omega arith)
-sum_at-ge w (suc n) f i h =
-    elim (same_or_not i n) [
-      | inl e ↦ let a : w i (f i) ≡ w n (f n) = ap (λ j. w j (f j)) e in omega arith
-      | inr ne ↦ omega (arith, sum_at-ge w n f i (omega arith))
-    ]
 
 taken_out : (pool : PoolState) (move : PoolMove) → IsTake move → (after_move pool move).facts.out ≡ pool.facts.out + 1
 taken_out pool takes_ordinary h = refl
@@ -108,16 +100,7 @@ copies_weight w blind limit setup lists bio master leg =
 pub line_part : (scene : Scene) (w : Weight) (s : State) (place : ℕ) (x : TaskState) (doing : Doing) (lists : TaskLists) → place < scene.tasks → s.task place ≡ x
     → HasLine x doing lists → doing_weight w (limit_of x) doing ≤ total scene w s
 line_part scene w s place x doing lists lt is h =
-    let a : task_weight w place (s.task place) ≡ task_weight w place x = ap (task_weight w place) is in
-    let b = sum_at-ge (task_weight w) scene.tasks s.task place lt in
-    let c = line_in w place x doing lists h in
-    omega arith
-  where
-    line_in : (w : Weight) (place : ℕ) (x : TaskState) (doing : Doing) (lists : TaskLists) → HasLine x doing lists → doing_weight w (limit_of x) doing ≤ task_weight w place x
-    line_in w place (Writer number todo taken line) doing lists h = let q = ap (line_weight w 32) h in omega (arith, q)
-    line_in w place (Rescuer dev line) doing lists h = let q = ap (line_weight w dev.0) h in omega (arith, q)
-    line_in w place (Completer disk carried) doing lists h = absurd h
-    line_in w place (Keeper keeping) doing lists h = absurd h
+    omega (arith, line_in_task w place x doing lists h, task_part scene w s place x lt is)
 
 -- A bio that a task's driver has names a node whose own part is away, and which is no master.
 pub named_away : (scene : Scene) (s : State) (bio : Item Pad) (node : Node) → Kept scene s → node_at (s.objects.book bio.bio.writer) bio.bio.node ≡ Some node
@@ -143,10 +126,7 @@ pub brought_away : (scene : Scene) (s : State) (place : ℕ) (disk : DevId) (bio
     → place < scene.tasks → s.task place ≡ Completer disk (Brings bio status) → node_at (s.objects.book bio.bio.writer) bio.bio.node ≡ Some node
     → (node.held.bio ≡ None) × (own_part node.role None ≡ 1)
 brought_away scene s place disk bio status node i lt is at =
-    let w = named bio.bio.writer bio.bio.node in
-    let a : task_weight w place (s.task place) ≡ names_node bio.bio.writer bio.bio.node bio = ap (task_weight w place) is in
-    let b = sum_at-ge (task_weight w) scene.tasks s.task place lt in
-    named_away scene s bio node i at (omega arith)
+    named_away scene s bio node i at (task_part scene (named bio.bio.writer bio.bio.node) s place (Completer disk (Brings bio status)) lt is)
 
 -- what a node holds once it was told
 pub told_elements : (q writer key : ℕ) (status : Status) (part : Option (Item Pad)) (carried : Carried) (node : Node) → Tells carried writer key status part

@@ -19,7 +19,7 @@ use Rattle.block_core.proofs.claim.Runnable.{accepted_texts_are_runnable, steps_
 use Rattle.object_things.specs.Histories.{Call, drawn_in}
 use Rattle.seat_lock.specs.History.{calls_by}
 use Rattle.shared_objects.specs.Calls.{calls_at, calls_to}
-use Rattle.shared_objects.specs.Closed.{history_in, object_left_in, names_in}
+use Rattle.shared_objects.specs.ClosedByName.{history_in, object_left_in, names_in}
 use Rattle.shared_objects.specs.Closes.{Returned, ClosesAs}
 use Rattle.shared_objects.specs.Holding.{calls_of}
 use Rattle.shared_objects.specs.Desks.{DeskState}
@@ -43,7 +43,7 @@ use Rattle.run_merge.proofs.closes.Sorting.{picks_mine}
 use Rattle.run_merge.proofs.closing.Counts.{merge_length}
 use Rattle.run_merge.proofs.leaving.Counted.{all_tasks, sums_stop}
 use Rattle.run_merge.proofs.leaving.Left.{pools_in, pools_are, disks_are}
-use Rattle.run_merge.proofs.leaving.Named.{run_named}
+use Rattle.run_merge.proofs.leaving.StackHasNamed.{run_named}
 use Rattle.run_merge.proofs.leaving.Traced.{trace_is}
 use Rattle.run_merge.proofs.merging.Picked.{is_by}
 

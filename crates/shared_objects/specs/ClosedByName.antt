@@ -1,9 +1,8 @@
 -- What a close shows, by the names of objects.
-use Rattle.std.specs.Prelude.{◌≡◌, ◌++◌, ℕ, Bool, not, List, [], ◌∷◌, map, filter}
+use Rattle.std.specs.Prelude.{◌++◌, List, [], ◌∷◌, map}
 use Rattle.stack_base.specs.declared.ids.PoolId.TheVariants.{FsVecs}
 use Rattle.stack_base.specs.PoolId.{pool_number}
 use Rattle.run_machine.specs.Laws.{Object, OfPool, OfRescuer, OfDisk, OfBook, OfTally, OfNone}
-use Rattle.run_machine.specs.Opened.{at}
 use Rattle.task_core.specs.declared.plain.Plain.{Plain}
 use Rattle.task_core.specs.Plains.{no_book, no_disk, no_pool}
 use Rattle.task_core.specs.Tables.{look_up}

@@ -15,7 +15,7 @@ use Rattle.run_machine.proofs.Able.{Needs, can_of}
 use Rattle.block_core.specs.Scenarios.{IsScenario, IsNaming}
 use Rattle.shared_objects.specs.Calls.{struck}
 use Rattle.run_merge.specs.Entries.{Entry}
-use Rattle.run_merge.specs.Numbers.{round_told, rounds_told, RoundsAreNumbered}
+use Rattle.run_merge.specs.RoundNumbers.{round_told, rounds_told, RoundsAreNumbered}
 use Rattle.run_merge.specs.Products.{is_next_round}
 use Rattle.run_merge.proofs.products.Asking.{is_keeping, writer_keeps_none, rescuer_keeps_none, completer_keeps_none}
 use Rattle.run_merge.proofs.products.Behind.{Behind, entry_of, at_start, one_more}
