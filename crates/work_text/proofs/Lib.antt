@@ -1,4 +1,5 @@
 pub mod MarkLemmas
+pub mod MarkPages
 pub mod NameLemmas
 pub mod PoolLemmas
 pub mod Rounds

@@ -1,6 +1,6 @@
 -- What the marks of sectors tell of the writes so far.
-use Rattle.std.specs.Prelude.{◌≡◌, ◌+◌, ◌<◌, ◌≤◌, ◌==◌, ◌&&◌, if◌then◌else◌, nat_le, nat_lt, Bool, false, List, ℕ, length, slice_get, slice_index_or, Some}
-use Rattle.std.specs.List.{list_any}
+use Rattle.std.specs.Prelude.{◌≡◌, ◌⊎◌, ◌+◌, ◌*◌, ◌^◌, ◌/◌, ◌%◌, ◌<◌, ◌≤◌, ◌==◌, ◌&&◌, if◌then◌else◌, nat_le, nat_lt, Bool, false, List, [], ℕ, length, map, slice_get, slice_index_or, Some}
+use Rattle.std.specs.List.{list_any, range_with_len}
 use Rattle.stack_base.specs.Tree.{tree, size}
 use Rattle.stack_base.specs.declared.stack.Stack.{Stack}
 use Rattle.decl_text.specs.Accepting.{shown_devices}
@@ -21,6 +21,27 @@ pub record IsRow (stack : Stack) (mark : ℕ) (writes : List Written) (dev : ℕ
   pub long : is_member stack dev ≡ false → length row ≡ size (tree stack dev)
   pub told : (at : ℕ) → at < length row → (slice_index_or row at 0 == mark) ≡ list_any (covers dev at) writes
   pub past : (at : ℕ) → at < length row → slice_index_or row at 0 ≤ mark
+
+-- The marks of a device by pages of 4,096 sectors. A page is empty up to the first mark that is set in it.
+abbrev pub mark_in : List (List ℕ) → ℕ → ℕ
+mark_in pages at = slice_index_or (slice_index_or pages (at / 4096) []) (at % 4096) 0
+
+abbrev pub marks_in : ℕ → List (List ℕ) → List ℕ
+marks_in count pages = map (mark_in pages) (range_with_len 0 count)
+
+-- there is a page for each of so many sectors, as many as a word counts
+pub record ArePages (count : ℕ) (pages : List (List ℕ)) : Type 0 where
+  pub there : count ≤ 4096 * length pages
+  pub small : count < 2 ^ 64
+
+-- a page has room for its marks, and all of them or none
+pub record IsPage (capacity count : ℕ) : Type 0 where
+  pub room : 4096 ≤ capacity
+  pub whole : (count ≡ 0) ⊎ (count ≡ 4096)
+
+-- the mark at this place is set, and the others are as before
+abbrev pub IsSetAt : ℕ → ℕ → (ℕ → ℕ) → (ℕ → ℕ) → Type 0
+IsSetAt place mark old new = (at : ℕ) → new at ≡ (if at == place then mark else old at)
 
 -- the mark stands at `count` places from `start` on, and the others are as before
 abbrev pub IsMarked : ℕ → ℕ → ℕ → List ℕ → List ℕ → Type 0

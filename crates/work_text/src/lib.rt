@@ -13,6 +13,7 @@ mod draft;
 mod generator;
 pub mod laws;
 mod limits;
+mod mark_page;
 mod marks;
 mod names;
 mod pools;

@@ -1,9 +1,10 @@
 //! Which sectors of a device have a write of the present round.
-ghost use Rattle.std.specs.Prelude.{◌≡◌, ◌+◌, ◌==◌, ◌<◌, ◌≤◌, [], IfOk, length, replicate, slice_index_or};
+ghost use Rattle.std.specs.Prelude.{◌≡◌, ◌+◌, ◌*◌, ◌/◌, ◌==◌, ◌<◌, ◌≤◌, [], IfOk, length, replicate, slice_index_or};
 ghost use Rattle.std.specs.List.{list_any, range_with_len};
 ghost use Rattle.stack_base.specs.Stack.{IsStack};
-ghost use Rattle.work_text.specs.Marks.{AreMarks, IsMarked, IsRow};
+ghost use Rattle.work_text.specs.Marks.{AreMarks, IsMarked, IsRow, IsSetAt, mark_in};
 
+use crate::mark_page::{PAGE, Page};
 use crate::names::is_member;
 use stack_base::{DevId, Stack};
 use std::alloc::{AllocError, Global};
@@ -35,18 +36,53 @@ fn no_mark_of(alloc: Global, stack: &Stack, dev: DevId) -> Result<Marks, AllocEr
     Marks::none(alloc, sectors)
 }
 
-/// A mark for each sector of a device: a number for each round, and 0 where there is no mark.
+/// A mark for each sector of a device: a number for each round, and 0 where there is no mark. They are kept by pages, of which most stay empty where
+/// a disk is large: a page takes time only once a mark is set in it.
 #[derive(Drop)]
 pub(crate) struct Marks {
-    sectors: Vec<u32>,
+    count: u64,
+    pages: Vec<Page>,
 }
 
 impl Model for Marks {
     ghost use Rattle.std.specs.Prelude.{List, ℕ};
+    ghost use Rattle.work_text.specs.Marks.{ArePages, marks_in};
 
     ghost Value = { List ℕ };
 
-    ghost view = { λ marks. marks.sectors.items };
+    ghost view = { λ marks. marks_in marks.count marks.pages.items };
+
+    ghost invariant = { λ marks. ArePages marks.count marks.pages.items };
+}
+
+// Empty pages for so many sectors.
+fn empty_pages(alloc: Global, sectors: u64) -> Result<Vec<Page>, AllocError>
+    ensures { IfOk result (λ pages. (pages.items ≡ replicate (length pages.items) []) × (sectors ≤ 4096 * length pages.items)) }
+{
+    let mut pages = Vec::new(alloc);
+    for _ in 0..sectors.div_ceil(PAGE) {
+        pages.push(Page::empty(alloc)?)?;
+    }
+    Ok(pages)
+}
+
+// The mark of a sector.
+fn mark_in(pages: &[Page], at: u64) -> u32
+    ensures { result ≡ mark_in pages.now at }
+{
+    match pages.get((at / PAGE) as usize) {
+        Some(page) => page.at(at % PAGE),
+        None => 0,
+    }
+}
+
+// Sets the mark of a sector.
+fn set_in(pages: &mut Vec<Page>, at: u64, mark: u32)
+    requires { at / 4096 < length pages.old.items }
+    ensures long { length pages.new.items ≡ length pages.old.items }
+    ensures set { IsSetAt at mark (mark_in pages.old.items) (mark_in pages.new.items) }
+{
+    pages[(at / PAGE) as usize].set(at % PAGE, mark);
 }
 
 impl Marks {
@@ -54,8 +90,11 @@ impl Marks {
     pub(crate) fn none(alloc: Global, sectors: u64) -> Result<Marks, AllocError>
         ensures { IfOk result (λ marks. marks ≡ replicate sectors 0) }
     {
-        let sectors = vec![in alloc; 0; sectors as usize]?;
-        Ok(Marks { sectors })
+        let pages = empty_pages(alloc, sectors)?;
+        Ok(Marks {
+            count: sectors,
+            pages,
+        })
     }
 
     /// Whether one of the `count` sectors from `start` on has this mark.
@@ -63,9 +102,13 @@ impl Marks {
         requires { start + count ≤ length self.now }
         ensures { result ≡ list_any (λ at. slice_index_or self.now at 0 == mark) (range_with_len start count) }
     {
-        let (_, from) = self.sectors.split_at(start as usize);
-        let (run, _) = from.split_at(count as usize);
-        has_mark(run, mark)
+        let pages = &self.pages;
+        'looking: for at in start..start + count {
+            if mark_in(pages, at) == mark {
+                return true;
+            }
+        }
+        false
     }
 
     /// Sets this mark at the `count` sectors from `start` on.
@@ -74,16 +117,9 @@ impl Marks {
         ensures long { length self.new ≡ length self.old }
         ensures marked { IsMarked mark start count self.old self.new }
     {
-        let sectors = &mut self.sectors;
-        for at in start..start + count {
-            sectors[at as usize] = mark;
+        let pages = &mut self.pages;
+        'setting: for at in start..start + count {
+            set_in(pages, at, mark);
         }
     }
-}
-
-// Whether one of these is this mark.
-fn has_mark(run: &[u32], mark: u32) -> bool
-    ensures { result ≡ list_any (λ one. one == mark) run.now }
-{
-    run.iter().any(|one| *one == mark)
 }

@@ -1,9 +1,10 @@
-use Rattle.std.proofs.Common.{◌≡◌, ℕ, cond, length, get_or}
+use Rattle.std.proofs.Common.{◌≡◌, ℕ, cond, length}
+use Rattle.work_text.specs.Marks.{mark_in}
 use Rattle.work_text.proofs.MarkLemmas.{inside}
 use Rattle.work_text.proofs.marks.Marks.set.Given as goal
 
-abbrev pub invariant-loop-at : goal.invariant-loop-at
-invariant-loop-at l = record {
-  long : length l.sectors.items ≡ length l.initial.sectors.items;
-  marked : (k : ℕ) → get_or l.sectors.items k 0 ≡ cond (inside l.start l.at k) l.mark (get_or l.initial.sectors.items k 0);
+abbrev pub invariant-setting : goal.invariant-setting
+invariant-setting l = record {
+  long : length l.pages.items ≡ length l.initial.pages.items;
+  marked : (at : ℕ) → mark_in l.pages.items at ≡ cond (inside l.start l.at at) l.mark (mark_in l.initial.pages.items at);
 }
